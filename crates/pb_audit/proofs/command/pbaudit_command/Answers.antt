@@ -1,0 +1,13 @@
+use Rattle.std.proofs.Common.{codes, refl}
+use Rattle.clap.specs.Words.{new_app}
+use Rattle.pb_audit.specs.Commands.{pbaudit}
+use Rattle.pb_audit.proofs.Building.{adds_command, gains_version, same_command}
+use Rattle.pb_audit.proofs.command.pbaudit_command.Goals as goal
+
+pub returns : goal.returns
+unfolding pbaudit
+returns c =
+    let versioned = gains_version c.new.result _ (new_app (codes "pbaudit")) (c.new.ensures.app, c.new.ensures.local) c.version.ensures in
+    let is-0 = same_command c.version.result _ _ _ versioned c.about.ensures refl refl in
+    let is-1 = adds_command _ _ c.in_ok-subcommand.field-0 _ _ is-0 c.in_ok-read_command.ensures c.in_ok-subcommand.ensures in
+    same_command _ _ _ _ is-1 c.after_help.ensures refl refl

@@ -1,0 +1,30 @@
+-- The table of commands, as a simple command of clap.
+use Rattle.std.specs.Prelude.{◌≡◌, false, true, List, [], ◌∷◌, codes, fold}
+use Rattle.clap.specs.Words.{App, Rule, Text, app_of, new_app, new_rule}
+use Rattle.clap.specs.Words.{with_rule, with_subcommand}
+use Rattle.clap.specs.declared.builder.command.Command.{Command}
+use Rattle.clap.specs.declared.builder.command.Command.TheViews.{out-Command}
+
+-- the command reads words as `app` says, and no argument of it is global
+abbrev pub IsCommand : App → Command → Type 0
+IsCommand app c = (app_of c ≡ app) × ((out-Command c).has_globals ≡ false)
+
+-- a path that the command needs
+abbrev pub path_rule : Text → Rule
+path_rule id = record (new_rule id) { value_names = 1; required = true }
+
+abbrev pub command_of : Text → List Rule → App
+command_of name rules = fold with_rule (new_app name) rules
+
+-- the command answers `--version`
+abbrev pub with_version : App → App
+with_version a = record a { top = record a.top { has_version = true } }
+
+-- `read ELECTION`
+unfoldable pub read_app : App
+read_app = command_of (codes "read") (path_rule (codes "election") ∷ [])
+
+-- `pbaudit`, with its commands
+unfoldable pub pbaudit : App
+pbaudit = fold (λ a (s : App). with_subcommand a s.top) (with_version (new_app (codes "pbaudit")))
+    (read_app ∷ [])

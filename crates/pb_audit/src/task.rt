@@ -1,0 +1,127 @@
+//! The task that a line of words asks for.
+ghost use Rattle.std.specs.Prelude.{◌≡◌, ◌⊎◌, [], Some, IfErr, IfOk, codes, map, option_map, string_bytes, true};
+ghost use Rattle.clap.specs.Words.{
+  fault_of,
+  first_of,
+  found_of,
+  kind_of,
+  rows_of,
+  subcommand_rows_of,
+  takes,
+};
+ghost use Rattle.clap.specs.declared.error.kind.ErrorKind.TheVariants.{OutOfMemory};
+ghost use Rattle.pb_audit.specs.Commands.{pbaudit};
+ghost use Rattle.pb_audit.specs.declared.task.UsageFault.TheVariants.{Memory};
+ghost use Rattle.pb_audit.specs.Tasks.{FitsKind, IsFaultOf, TaskOf, asked, asked_by, asked_in};
+
+use crate::command::pbaudit_command;
+use clap::error::ErrorKind;
+use clap::{ArgMatches, Error};
+use std::alloc::{AllocError, Global};
+
+/// What a line of words asks for. Each text is a path, as it stands among the words.
+#[derive(Debug, Drop)]
+pub enum Task {
+    /// Read this election, or the one on standard input.
+    Read(Option<String>),
+}
+
+/// Why a line of words gives no task.
+#[derive(Debug, Drop)]
+pub enum UsageFault {
+    /// Help or the version was asked for. Its text is for standard output.
+    Help(String),
+    /// The words are not understood. The text is for standard error.
+    Usage(String),
+    /// Memory ran out.
+    Memory,
+}
+
+impl From<AllocError> for UsageFault {
+    ghost from_gives = { λ _ e. e ≡ Memory };
+
+    fn from(_error: AllocError) -> UsageFault {
+        UsageFault::Memory
+    }
+}
+
+/// The task that the words ask for, the first of which is the program's name.
+///
+/// # Errors
+/// `Help` where the words ask for help or the version, `Usage` where they are no line of a
+/// command, and `Memory` where memory ran out.
+pub fn task_of(alloc: Global, words: Vec<String>) -> Result<Task, UsageFault>
+    ensures task { IfOk result (λ t. Some (asked t) ≡ TaskOf (map string_bytes words.items)) }
+    ensures taken { takes pbaudit (map string_bytes words.items) ≡ true
+        → IfErr result (λ e. e ≡ UsageFault.Memory) }
+    ensures accepted { IfOk result (λ _. fault_of pbaudit (map string_bytes words.items) ≡ []) }
+    ensures refused { IfErr result (IsFaultOf (fault_of pbaudit (map string_bytes words.items))) }
+{
+    let command = pbaudit_command(alloc)?;
+    match command.try_get_matches_from(words.as_slice()) {
+        Ok(matches) => match task_in(alloc, &matches)? {
+            Some(task) => Ok(task),
+            None => unreachable!(),
+        },
+        Err(error) => Err(fault_in(alloc, &error)),
+    }
+}
+
+/// The fault that clap's error stands for.
+fn fault_in(alloc: Global, error: &Error) -> UsageFault
+    ensures memory { kind_of error.now ≡ OutOfMemory → result ≡ UsageFault.Memory }
+    ensures kind { (result ≡ UsageFault.Memory) ⊎ FitsKind (kind_of error.now) result }
+{
+    let text = match error.to_string(alloc) {
+        Ok(text) => text,
+        Err(_) => return UsageFault::Memory,
+    };
+    match error.kind() {
+        ErrorKind::OutOfMemory => UsageFault::Memory,
+        ErrorKind::DisplayHelp | ErrorKind::DisplayVersion => UsageFault::Help(text),
+        _ => UsageFault::Usage(text),
+    }
+}
+
+/// The task of the matches, where they are those of a command with its paths.
+fn task_in(alloc: Global, matches: &ArgMatches<'_>) -> Result<Option<Task>, AllocError>
+    ensures { IfOk result (λ t. option_map asked t ≡ asked_in (subcommand_rows_of matches.now)) }
+{
+    match matches.subcommand() {
+        Some((name, inner)) => command_task(alloc, name, inner),
+        None => Ok(Some(Task::Read(None))),
+    }
+}
+
+/// The task of the command `name`, by its matches.
+fn command_task(
+    alloc: Global,
+    name: &str,
+    matches: &ArgMatches<'_>,
+) -> Result<Option<Task>, AllocError>
+    ensures { IfOk result (λ t. option_map asked t ≡ asked_by name.now (rows_of (found_of matches.now))) }
+{
+    match name {
+        "read" => read_task(alloc, matches),
+        _ => Ok(None),
+    }
+}
+
+fn read_task(alloc: Global, matches: &ArgMatches<'_>) -> Result<Option<Task>, AllocError>
+    ensures { IfOk result (λ t. option_map asked t ≡ asked_by (codes "read") (rows_of (found_of matches.now))) }
+{
+    match path_of(alloc, matches, "election")? {
+        Some(election) => Ok(Some(Task::Read(Some(election)))),
+        None => Ok(None),
+    }
+}
+
+/// The path that the words give for the argument.
+fn path_of(alloc: Global, matches: &ArgMatches<'_>, id: &str) -> Result<Option<String>, AllocError>
+    ensures { IfOk result (λ o. option_map string_bytes o ≡ first_of id.now (rows_of (found_of matches.now))) }
+{
+    match matches.get_str(id) {
+        Some(path) => Ok(Some(String::from_str(alloc, path)?)),
+        None => Ok(None),
+    }
+}

@@ -1,0 +1,438 @@
+-- A beginning and one more record, at which no fault stands.
+use Rattle.std.proofs.Common.{◌≡◌, ◌≤◌, ◌∙◌, ◌+◌, ◌++◌, ℕ, List, [], ◌∷◌, refl, sym, ap, arith, inl, inr, Bool, true, false, Option, Some, None, append_assoc, length, length-append}
+use Rattle.std.specs.Prelude.{IfSome, IsSomeAnd, IsTrue, ◌||◌, count_by, find, if◌then◌else◌, is_some, map, Result, Ok, Err}
+use Rattle.std.specs.List.{AllByRecursion, IsDistinct, list_any}
+use Rattle.std.specs.Option.{option_map, option_map_or, option_or}
+use Rattle.std.specs.Str.{bytes_eq}
+use Rattle.std.proofs.lemmas.Bool.{cases_Bool}
+use Rattle.std.proofs.lemmas.Cmp.{nat_list_eq_equiv}
+use Rattle.std.proofs.lemmas.List.{length-map, map-append}
+use Rattle.std.proofs.lemmas.List.Folds.{find-append, list_any-append}
+use Rattle.std.proofs.lemmas.List.Sums.{sum_by-append}
+use Rattle.std.proofs.lemmas.Map.Keys.{IsDistinct-push}
+use Rattle.pb_money.specs.Money.{IsMoney, millionths, money_of}
+use Rattle.pb_money.specs.declared.MoneyFault.{MoneyFault}
+use Rattle.pb_money.proofs.Laws.{is-money}
+use Rattle.pb_election.specs.Records.{Field, Rec}
+use Rattle.pb_election.specs.Instance.{approvals}
+use Rattle.pb_election.specs.declared.keys.Key.{Key}
+use Rattle.pb_election.specs.declared.keys.Key.TheVariants.{Budget, NumProjects, NumVotes, VoteType}
+use Rattle.pb_election.specs.declared.sections.Section.{Section}
+use Rattle.pb_election.specs.declared.sections.Section.TheVariants.{Meta, Projects, Votes}
+use Rattle.pb_election.specs.Cells.{is_among, is_marker, is_text, marker_of, marks}
+use Rattle.pb_election.specs.Rows.{ballot_in, ballots_in, columns_of, cost_in, costs_in, funded_in, has_key, id_in, ids_in, is_approval, is_id, is_known, is_yes, key_in, others_in, says_neither, selected_in, stated, value_in, vote_column}
+use Rattle.pb_election.specs.Faults.{is_no_money, keys_in, lowest, stood}
+use Rattle.pb_election.specs.Text.{EachKeyOnce, IsPart, lines, Part}
+use Rattle.pb_election.specs.SoFar.{next, seen}
+use Rattle.pb_election.specs.Beginnings.{Beginning, AtStart, AfterMeta, InMeta, AfterProjects, InProjects, AfterVotes, InVotes, AllMeta, Good, GoodMeta, GoodProjects, GoodVotes, so_far_of, text_of}
+use Rattle.pb_election.proofs.KeyLemmas.{count-append, none-found, once-at, once-by, or-false, stood-is}
+use Rattle.pb_election.proofs.Taken.{taken-first, taken-header, taken-meta-row, taken-project-row, taken-projects-marker, taken-vote-row, taken-votes-marker}
+
+abbrev pub part_of : Rec → Rec → Part
+part_of m h = record { marker = m; header = h; rows = [] }
+
+abbrev pub more : Part → Rec → Part
+more a r = record a { rows = a.rows ++ (r ∷ []) }
+
+abbrev pub extend : Beginning → Rec → Beginning
+extend AtStart r = AfterMeta r
+extend (AfterMeta m) r = InMeta (part_of m r)
+extend (InMeta a) r = if is_marker r then AfterProjects a r else InMeta (more a r)
+extend (AfterProjects a m) r = InProjects a (part_of m r)
+extend (InProjects a b) r = if is_marker r then AfterVotes a b r else InProjects a (more b r)
+extend (AfterVotes a b m) r = InVotes a b (part_of m r)
+extend (InVotes a b c) r = InVotes a b (more c r)
+
+pub text-extend : (x : Beginning) (r : Rec) → text_of (extend x r) ≡ text_of x ++ (r ∷ [])
+text-extend AtStart r = refl
+text-extend (AfterMeta m) r = refl
+text-extend (InMeta a) r = by (is_marker r)
+  where
+    by : (t : Bool) → text_of (if t then AfterProjects a r else InMeta (more a r)) ≡ lines a ++ (r ∷ [])
+    by true = refl
+    by false = refl
+text-extend (AfterProjects a m) r = sym (append_assoc (lines a) (m ∷ []) (r ∷ []))
+text-extend (InProjects a b) r = by (is_marker r)
+  where
+    by : (t : Bool) → text_of (if t then AfterVotes a b r else InProjects a (more b r)) ≡ (lines a ++ lines b) ++ (r ∷ [])
+    by true = sym (append_assoc (lines a) (lines b) (r ∷ []))
+    by false = sym (append_assoc (lines a) (lines b) (r ∷ []))
+text-extend (AfterVotes a b m) r = sym (append_assoc (lines a) (lines b ++ (m ∷ [])) (r ∷ []) ∙ ap (λ l. lines a ++ l) (append_assoc (lines b) (m ∷ []) (r ∷ [])))
+text-extend (InVotes a b c) r = sym (append_assoc (lines a) (lines b ++ lines c) (r ∷ []) ∙ ap (λ l. lines a ++ l) (append_assoc (lines b) (lines c) (r ∷ [])))
+
+marks-section : (s : Section) (r : Rec) → marks s r ≡ true → marker_of r ≡ Some s
+marks-section s r h = by (marker_of r) s refl h
+  where
+    by : (o : Option Section) (s : Section) → marker_of r ≡ o → marks s r ≡ true → marker_of r ≡ Some s
+    by None s e h = cc (rw e at h)
+    by (Some Meta) Meta e h = e
+    by (Some Meta) Projects e h = cc (rw e at h)
+    by (Some Meta) Votes e h = cc (rw e at h)
+    by (Some Projects) Meta e h = cc (rw e at h)
+    by (Some Projects) Projects e h = e
+    by (Some Projects) Votes e h = cc (rw e at h)
+    by (Some Votes) Meta e h = cc (rw e at h)
+    by (Some Votes) Projects e h = cc (rw e at h)
+    by (Some Votes) Votes e h = e
+
+no-marker : (r : Rec) → is_marker r ≡ false → marker_of r ≡ None
+no-marker r h = by (marker_of r) refl h
+  where
+    by : (o : Option Section) → marker_of r ≡ o → is_some (marker_of r) ≡ false → marker_of r ≡ None
+    by None e h = e
+    by (Some s) e h = cc (rw e at h)
+
+pub all-push : (P : Rec → Type 0) (xs : List Rec) (x : Rec) → AllByRecursion P xs → P x → AllByRecursion P (xs ++ (x ∷ []))
+all-push P [] x h p = (p, tt)
+all-push P (y ∷ ys) x h p = (h.0, all-push P ys x h.1 p)
+
+part-more : (s : Section) (a : Part) (r : Rec) → IsPart s a → marker_of r ≡ None → IsPart s (more a r)
+part-more s a r h e = record { marker = h.marker; others = (h.others.0, all-push _ a.rows r h.others.1 e) }
+
+part-new : (s : Section) (m h : Rec) → marker_of m ≡ Some s → is_marker h ≡ false → IsPart s (part_of m h)
+part-new s m h e k = record { marker = e; others = (no-marker h k, tt) }
+
+-- One more row of META.
+
+any-other : (p : Rec → Bool) (xs : List Rec) (r : Rec) → p r ≡ false → list_any p (xs ++ (r ∷ [])) ≡ list_any p xs
+any-other p xs r e = list_any-append p xs (r ∷ []) ∙ rw e (or-no (list_any p xs))
+  where
+    or-no : (b : Bool) → (b || (false || false)) ≡ b
+    or-no true = refl
+    or-no false = refl
+
+any-new : (p : Rec → Bool) (xs : List Rec) (r : Rec) → p r ≡ true → list_any p (xs ++ (r ∷ [])) ≡ true
+any-new p xs r e = list_any-append p xs (r ∷ []) ∙ rw e (or-yes (list_any p xs))
+  where
+    or-yes : (b : Bool) → (b || (true || false)) ≡ true
+    or-yes true = refl
+    or-yes false = refl
+
+stated-other : (key : Key) (xs : List Rec) (r : Rec) → has_key key r ≡ false → stated key (xs ++ (r ∷ [])) ≡ stated key xs
+stated-other key xs r e =
+    let found : find (has_key key) (xs ++ (r ∷ [])) ≡ find (has_key key) xs = find-append (has_key key) xs (r ∷ []) ∙ rw e (or-none (find (has_key key) xs)) in
+    ap (option_map value_in) found
+  where
+    or-none : (o : Option Rec) → option_or o None ≡ o
+    or-none None = refl
+    or-none (Some x) = refl
+
+stated-new : (key : Key) (xs : List Rec) (r : Rec) → list_any (has_key key) xs ≡ false → has_key key r ≡ true → stated key (xs ++ (r ∷ [])) ≡ Some (value_in r)
+stated-new key xs r none e =
+    let found : find (has_key key) (xs ++ (r ∷ [])) ≡ Some r = find-append (has_key key) xs (r ∷ []) ∙ rw (none-found (has_key key) xs none, e) refl in
+    ap (option_map value_in) found
+
+count-push : (p : Rec → Bool) (xs : List Rec) (r : Rec) → count_by p xs ≤ 1 → (p r ≡ true → list_any p xs ≡ false) → count_by p (xs ++ (r ∷ [])) ≤ 1
+count-push p xs r h new =
+    elim (cases_Bool (p r)) [
+      | inl e ↦
+          let one : count_by p (r ∷ []) ≡ 1 = rw e refl in
+          omega (arith, count-append p xs (r ∷ []), one, none-count xs (new e))
+      | inr e ↦
+          let one : count_by p (r ∷ []) ≡ 0 = rw e refl in
+          omega (arith, count-append p xs (r ∷ []), one)
+    ]
+  where
+    none-count : (xs : List Rec) → list_any p xs ≡ false → count_by p xs ≡ 0
+    none-count [] k = refl
+    none-count (y ∷ ys) k =
+        let o = or-false (p y) (list_any p ys) k in
+        rw o.0 (none-count ys o.1)
+
+has-it : (r : Rec) (key : Key) (o : Option Key) → key_in r ≡ o → has_key key r ≡ true → o ≡ Some key
+has-it r Budget None e h = cc (rw e at h)
+has-it r VoteType None e h = cc (rw e at h)
+has-it r NumProjects None e h = cc (rw e at h)
+has-it r NumVotes None e h = cc (rw e at h)
+has-it r Budget (Some Budget) e h = refl
+has-it r Budget (Some VoteType) e h = cc (rw e at h)
+has-it r Budget (Some NumProjects) e h = cc (rw e at h)
+has-it r Budget (Some NumVotes) e h = cc (rw e at h)
+has-it r VoteType (Some Budget) e h = cc (rw e at h)
+has-it r VoteType (Some VoteType) e h = refl
+has-it r VoteType (Some NumProjects) e h = cc (rw e at h)
+has-it r VoteType (Some NumVotes) e h = cc (rw e at h)
+has-it r NumProjects (Some Budget) e h = cc (rw e at h)
+has-it r NumProjects (Some VoteType) e h = cc (rw e at h)
+has-it r NumProjects (Some NumProjects) e h = refl
+has-it r NumProjects (Some NumVotes) e h = cc (rw e at h)
+has-it r NumVotes (Some Budget) e h = cc (rw e at h)
+has-it r NumVotes (Some VoteType) e h = cc (rw e at h)
+has-it r NumVotes (Some NumProjects) e h = cc (rw e at h)
+has-it r NumVotes (Some NumVotes) e h = refl
+
+-- a key that did not stand before
+new-key : (xs : List Rec) (r : Rec) (key : Key) → option_map_or (stood (keys_in xs)) (key_in r) false ≡ false → has_key key r ≡ true → list_any (has_key key) xs ≡ false
+new-key xs r key h e =
+    let k = has-it r key (key_in r) refl e in
+    sym (stood-is xs key) ∙ rw k at h
+
+once-push : (xs : List Rec) (r : Rec) → EachKeyOnce xs → option_map_or (stood (keys_in xs)) (key_in r) false ≡ false → EachKeyOnce (xs ++ (r ∷ []))
+once-push xs r h new = once-by (xs ++ (r ∷ [])) (λ key. count-push (has_key key) xs r (once-at xs key h) (new-key xs r key new))
+
+-- what is stated keeps its rule with one more row, whose value keeps it where it has the key
+stated-push : (key : Key) (P : Field → Type 0) (xs : List Rec) (r : Rec) → IfSome (stated key xs) P → option_map_or (stood (keys_in xs)) (key_in r) false ≡ false → (has_key key r ≡ true → P (value_in r))
+    → IfSome (stated key (xs ++ (r ∷ []))) P
+stated-push key P xs r h new here =
+    elim (cases_Bool (has_key key r)) [
+      | inl e ↦ rw (stated-new key xs r (new-key xs r key new e) e) (here e)
+      | inr e ↦ rw (stated-other key xs r e) h
+    ]
+
+money-is : (text : Field) → is_no_money text ≡ false → IsMoney text
+money-is text h = by (money_of text) refl
+  where
+    by : (o : Result ℕ MoneyFault) → money_of text ≡ o → IsMoney text
+    by (Err f) e = cc (rw e at h)
+    by (Ok v) e =
+        let m = is-money text v e in
+        rw m.value at m
+
+good-meta : (a : Part) (r : Rec) → GoodMeta a → marker_of r ≡ None → option_map_or (stood (keys_in a.rows)) (key_in r) false ≡ false
+    → (has_key VoteType r ≡ true → IsTrue (is_approval (value_in r))) → (has_key Budget r ≡ true → is_no_money (value_in r) ≡ false) → GoodMeta (more a r)
+good-meta a r h m new type money =
+    record {
+      part = part-more Meta a r h.part m;
+      once = once-push a.rows r h.once new;
+      budget = stated-push Budget IsMoney a.rows r h.budget new (λ e. money-is (value_in r) (money e));
+      vote_type = stated-push VoteType (λ value. IsTrue (is_approval value)) a.rows r h.vote_type new type;
+    }
+
+-- what is read of one more row of META
+next-meta : (a : Part) (r : Rec) (o : Option Key) → key_in r ≡ o → is_marker r ≡ false → option_map_or (stood (keys_in a.rows)) o false ≡ false
+    → next (so_far_of (InMeta a)) r ≡ so_far_of (InMeta (more a r))
+next-meta a r None e m new =
+    let no : (key : Key) → has_key key r ≡ false = λ key. rw e refl in
+    rw (
+      m,
+      e,
+      any-other (has_key Budget) a.rows r (no Budget),
+      any-other (has_key VoteType) a.rows r (no VoteType),
+      any-other (has_key NumProjects) a.rows r (no NumProjects),
+      any-other (has_key NumVotes) a.rows r (no NumVotes),
+      stated-other Budget a.rows r (no Budget),
+      stated-other NumProjects a.rows r (no NumProjects),
+      stated-other NumVotes a.rows r (no NumVotes),
+    ) refl
+next-meta a r (Some Budget) e m new =
+    let is : has_key Budget r ≡ true = rw e refl in
+    let b : has_key VoteType r ≡ false = rw e refl in
+    let c : has_key NumProjects r ≡ false = rw e refl in
+    let d : has_key NumVotes r ≡ false = rw e refl in
+    let none : list_any (has_key Budget) a.rows ≡ false = new in
+    rw (
+      m,
+      e,
+      any-new (has_key Budget) a.rows r is,
+      any-other (has_key VoteType) a.rows r b,
+      any-other (has_key NumProjects) a.rows r c,
+      any-other (has_key NumVotes) a.rows r d,
+      stated-new Budget a.rows r none is,
+      stated-other NumProjects a.rows r c,
+      stated-other NumVotes a.rows r d,
+    ) refl
+next-meta a r (Some VoteType) e m new =
+    let b : has_key Budget r ≡ false = rw e refl in
+    let is : has_key VoteType r ≡ true = rw e refl in
+    let c : has_key NumProjects r ≡ false = rw e refl in
+    let d : has_key NumVotes r ≡ false = rw e refl in
+    rw (
+      m,
+      e,
+      any-other (has_key Budget) a.rows r b,
+      any-new (has_key VoteType) a.rows r is,
+      any-other (has_key NumProjects) a.rows r c,
+      any-other (has_key NumVotes) a.rows r d,
+      stated-other Budget a.rows r b,
+      stated-other NumProjects a.rows r c,
+      stated-other NumVotes a.rows r d,
+    ) refl
+next-meta a r (Some NumProjects) e m new =
+    let b : has_key Budget r ≡ false = rw e refl in
+    let c : has_key VoteType r ≡ false = rw e refl in
+    let is : has_key NumProjects r ≡ true = rw e refl in
+    let d : has_key NumVotes r ≡ false = rw e refl in
+    let none : list_any (has_key NumProjects) a.rows ≡ false = new in
+    rw (
+      m,
+      e,
+      any-other (has_key Budget) a.rows r b,
+      any-other (has_key VoteType) a.rows r c,
+      any-new (has_key NumProjects) a.rows r is,
+      any-other (has_key NumVotes) a.rows r d,
+      stated-other Budget a.rows r b,
+      stated-new NumProjects a.rows r none is,
+      stated-other NumVotes a.rows r d,
+    ) refl
+next-meta a r (Some NumVotes) e m new =
+    let b : has_key Budget r ≡ false = rw e refl in
+    let c : has_key VoteType r ≡ false = rw e refl in
+    let d : has_key NumProjects r ≡ false = rw e refl in
+    let is : has_key NumVotes r ≡ true = rw e refl in
+    let none : list_any (has_key NumVotes) a.rows ≡ false = new in
+    rw (
+      m,
+      e,
+      any-other (has_key Budget) a.rows r b,
+      any-other (has_key VoteType) a.rows r c,
+      any-other (has_key NumProjects) a.rows r d,
+      any-new (has_key NumVotes) a.rows r is,
+      stated-other Budget a.rows r b,
+      stated-other NumProjects a.rows r d,
+      stated-new NumVotes a.rows r none is,
+    ) refl
+
+-- META with a budget and the vote type is whole
+some-stated : (key : Key) (P : Field → Type 0) (xs : List Rec) → IfSome (stated key xs) P → list_any (has_key key) xs ≡ true → IsSomeAnd (stated key xs) P
+some-stated key P xs h any = by (find (has_key key) xs) refl
+  where
+    is-found : (xs : List Rec) → list_any (has_key key) xs ≡ true → is_some (find (has_key key) xs) ≡ true
+    is-found [] k = cc k
+    is-found (x ∷ xs) k =
+        elim (cases_Bool (has_key key x)) [
+          | inl e ↦ rw e refl
+          | inr e ↦ rw e (is-found xs (rw e at k))
+        ]
+
+    by : (o : Option Rec) → find (has_key key) xs ≡ o → IsSomeAnd (stated key xs) P
+    by None e = let f = is-found xs any in cc (rw e at f)
+    by (Some r) e = rw e (rw e at h)
+
+pub all-meta : (a : Part) → GoodMeta a → list_any (has_key Budget) a.rows ≡ true → list_any (has_key VoteType) a.rows ≡ true → AllMeta a
+all-meta a h budget type =
+    record {
+      part = h.part;
+      rows = record {
+        once = h.once;
+        budget = some-stated Budget IsMoney a.rows h.budget budget;
+        vote_type = some-stated VoteType (λ value. IsTrue (is_approval value)) a.rows h.vote_type type;
+      };
+    }
+
+-- One more row of PROJECTS.
+
+good-projects : (b : Part) (r : Rec) → GoodProjects b → marker_of r ≡ None → IsTrue (is_id (id_in (columns_of b.header) r)) → is_no_money (cost_in (columns_of b.header) r) ≡ false
+    → is_among (ids_in (columns_of b.header) b.rows) (id_in (columns_of b.header) r) ≡ false → length (ids_in (columns_of b.header) b.rows) + 1 ≤ 20000 → GoodProjects (more b r)
+good-projects b r h m id money new few =
+    let columns = columns_of b.header in
+    let ids : ids_in columns (b.rows ++ (r ∷ [])) ≡ ids_in columns b.rows ++ (id_in columns r ∷ []) = map-append (id_in columns) b.rows (r ∷ []) in
+    record {
+      part = part-more Projects b r h.part m;
+      header = h.header;
+      rows = record {
+        ids = all-push (λ row. IsTrue (is_id (id_in columns row))) b.rows r h.rows.ids id;
+        costs = all-push (λ row. IsMoney (cost_in columns row)) b.rows r h.rows.costs (money-is (cost_in columns r) money);
+        distinct = rw ids (IsDistinct-push nat_list_eq_equiv (ids_in columns b.rows) (id_in columns r) h.rows.distinct new);
+        few = omega (arith, length-append b.rows (r ∷ []), length-map b.rows (id_in columns), few);
+      };
+    }
+
+next-project : (a b : Part) (r : Rec) → is_marker r ≡ false → next (so_far_of (InProjects a b)) r ≡ so_far_of (InProjects a (more b r))
+next-project a b r m =
+    let columns = columns_of b.header in
+    let ids : ids_in columns (b.rows ++ (r ∷ [])) ≡ ids_in columns b.rows ++ (id_in columns r ∷ []) = map-append (id_in columns) b.rows (r ∷ []) in
+    let costs : costs_in columns (b.rows ++ (r ∷ [])) ≡ costs_in columns b.rows ++ (millionths (cost_in columns r) ∷ []) = map-append (λ row. millionths (cost_in columns row)) b.rows (r ∷ []) in
+    let marks : map (λ row. is_yes (selected_in columns row)) (b.rows ++ (r ∷ [])) ≡ map (λ row. is_yes (selected_in columns row)) b.rows ++ (is_yes (selected_in columns r) ∷ []) = map-append (λ row. is_yes (selected_in columns row)) b.rows (r ∷ []) in
+    let funded : funded_in columns (b.rows ++ (r ∷ [])) ≡ option_map (λ ms. ms ++ (is_yes (selected_in columns r) ∷ [])) (funded_in columns b.rows) = fund (is_some columns.selected) _ _ _ marks in
+    let others : others_in columns (b.rows ++ (r ∷ [])) ≡ others_in columns b.rows + (if says_neither columns r then 1 else 0) =
+    count-append (says_neither columns) b.rows (r ∷ []) ∙ ap (λ n. others_in columns b.rows + n) (one (says_neither columns r)) in
+    rw (m, ids, costs, funded, others) refl
+  where
+    fund : (b : Bool) (xs ys : List Bool) (y : Bool) → ys ≡ xs ++ (y ∷ []) → (if b then Some ys else None) ≡ option_map (λ ms. ms ++ (y ∷ [])) (if b then Some xs else None)
+    fund true xs ys y e = ap Some e
+    fund false xs ys y e = refl
+
+    one : (b : Bool) → 0 + (if b then 1 else 0) ≡ (if b then 1 else 0)
+    one true = refl
+    one false = refl
+
+-- One more row of VOTES.
+
+good-votes : (b c : Part) (r : Rec) → GoodVotes b c → marker_of r ≡ None → IsTrue (is_known (vote_column c.header) (ids_in (columns_of b.header) b.rows) r)
+    → length (ballots_in (vote_column c.header) (ids_in (columns_of b.header) b.rows) c.rows) + 1 ≤ 1000000
+    → approvals (ballots_in (vote_column c.header) (ids_in (columns_of b.header) b.rows) c.rows) + length (ballot_in (vote_column c.header) (ids_in (columns_of b.header) b.rows) r) ≤ 20000000
+    → GoodVotes b (more c r)
+good-votes b c r h m known few sizes =
+    let ids = ids_in (columns_of b.header) b.rows in
+    let vote = vote_column c.header in
+    let split : ballots_in vote ids (c.rows ++ (r ∷ [])) ≡ ballots_in vote ids c.rows ++ (ballot_in vote ids r ∷ []) = map-append (ballot_in vote ids) c.rows (r ∷ []) in
+    let total = sum_by-append length (ballots_in vote ids c.rows) (ballot_in vote ids r ∷ []) in
+    record {
+      part = part-more Votes c r h.part m;
+      header = h.header;
+      rows = record {
+        known = all-push (λ row. IsTrue (is_known vote ids row)) c.rows r h.rows.known known;
+        few = omega (arith, length-append c.rows (r ∷ []), length-map c.rows (ballot_in vote ids), few);
+        few_approvals = rw split (omega (arith, total, sizes));
+      };
+    }
+
+next-vote : (a b c : Part) (r : Rec) → next (so_far_of (InVotes a b c)) r ≡ so_far_of (InVotes a b (more c r))
+next-vote a b c r =
+    let ids = ids_in (columns_of b.header) b.rows in
+    let vote = vote_column c.header in
+    let split : ballots_in vote ids (c.rows ++ (r ∷ [])) ≡ ballots_in vote ids c.rows ++ (ballot_in vote ids r ∷ []) = map-append (ballot_in vote ids) c.rows (r ∷ []) in
+    let total : approvals (ballots_in vote ids c.rows ++ (ballot_in vote ids r ∷ [])) ≡ approvals (ballots_in vote ids c.rows) + length (ballot_in vote ids r) = omega (arith, sum_by-append length (ballots_in vote ids c.rows) (ballot_in vote ids r ∷ [])) in
+    rw (split, total) refl
+
+-- One more record.
+
+pub record Extends (x : Beginning) (r : Rec) : Type 0 where
+  pub good : Good (extend x r)
+  pub next : next (so_far_of x) r ≡ so_far_of (extend x r)
+  pub text : is_text r ≡ true
+
+distinct-nil : IsDistinct bytes_eq []
+unfolding IsDistinct
+distinct-nil = tt
+
+extends-meta : (a : Part) (r : Rec) → GoodMeta a → lowest (seen (so_far_of (InMeta a))) r ≡ None → Extends (InMeta a) r
+extends-meta a r h l =
+    elim (cases_Bool (is_marker r)) [
+      | inl m ↦
+          let t = taken-projects-marker (seen (so_far_of (InMeta a))) r refl m l in
+          record { good = rw m (all-meta a h t.2 t.3, marks-section Projects r t.1); next = rw m refl; text = t.0 }
+      | inr m ↦
+          let t = taken-meta-row (seen (so_far_of (InMeta a))) r refl m l in
+          let same : so_far_of (InMeta (more a r)) ≡ so_far_of (extend (InMeta a) r) = rw m refl in
+          record { good = rw m (good-meta a r h (no-marker r m) t.1 t.2 t.3); next = next-meta a r (key_in r) refl m t.1 ∙ same; text = t.0 }
+    ]
+
+extends-projects : (a b : Part) (r : Rec) → AllMeta a → GoodProjects b → lowest (seen (so_far_of (InProjects a b))) r ≡ None → Extends (InProjects a b) r
+extends-projects a b r h k l =
+    elim (cases_Bool (is_marker r)) [
+      | inl m ↦
+          let t = taken-votes-marker (seen (so_far_of (InProjects a b))) r refl m l in
+          record { good = rw m (h, k, marks-section Votes r t.1); next = rw m refl; text = t.0 }
+      | inr m ↦
+          let t = taken-project-row (seen (so_far_of (InProjects a b))) r refl m l in
+          let same : so_far_of (InProjects a (more b r)) ≡ so_far_of (extend (InProjects a b) r) = rw m refl in
+          record { good = rw m (h, good-projects b r k (no-marker r m) t.1 t.2 t.3 t.4); next = next-project a b r m ∙ same; text = t.0 }
+    ]
+
+pub extends : (x : Beginning) (r : Rec) → Good x → lowest (seen (so_far_of x)) r ≡ None → Extends x r
+extends AtStart r h l =
+    let t = taken-first (seen (so_far_of AtStart)) r refl l in
+    record { good = marks-section Meta r t.1; next = refl; text = t.0 }
+extends (AfterMeta m) r h l =
+    let t = taken-header Meta (seen (so_far_of (AfterMeta m))) r refl l in
+    record { good = record { part = part-new Meta m r h t.1; once = (omega arith, (omega arith, (omega arith, (omega arith, tt)))); budget = tt; vote_type = tt }; next = refl; text = t.0 }
+extends (InMeta a) r h l = extends-meta a r h l
+extends (AfterProjects a m) r h l =
+    let t = taken-header Projects (seen (so_far_of (AfterProjects a m))) r refl l in
+    record {
+      good = (h.0, record { part = part-new Projects m r h.1 t.1; header = t.2; rows = record { ids = tt; costs = tt; distinct = distinct-nil; few = omega arith } });
+      next = refl;
+      text = t.0;
+    }
+extends (InProjects a b) r h l = extends-projects a b r h.0 h.1 l
+extends (AfterVotes a b m) r h l =
+    let t = taken-header Votes (seen (so_far_of (AfterVotes a b m))) r refl l in
+    record {
+      good = (h.0, h.1, record { part = part-new Votes m r h.2 t.1; header = t.2; rows = record { known = tt; few = omega arith; few_approvals = omega arith } });
+      next = refl;
+      text = t.0;
+    }
+extends (InVotes a b c) r h l =
+    let t = taken-vote-row (seen (so_far_of (InVotes a b c))) r refl l in
+    record { good = (h.0, h.1, good-votes b c r h.2 (no-marker r t.1) t.2 t.3 t.4); next = next-vote a b c r; text = t.0 }

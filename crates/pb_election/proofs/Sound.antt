@@ -1,0 +1,124 @@
+-- An election that has a text is within the limits, and its ids and ballots keep their rules.
+use Rattle.std.proofs.Common.{◌≡◌, ◌≤◌, ◌∙◌, ◌+◌, ◌++◌, ℕ, zero, suc, List, [], ◌∷◌, refl, sym, arith, Bool, true, false, Option, Some, None, length}
+use Rattle.std.specs.Prelude.{IfSome, IsSomeAnd, IsTrue, ◌&&◌, filter, if◌then◌else◌, is_some, map, unwrap_or}
+use Rattle.std.specs.List.{AllByRecursion, enumerate_from, list_all}
+use Rattle.std.specs.Option.{option_map_or}
+use Rattle.std.specs.Str.{chars, is_utf8}
+use Rattle.std.proofs.lemmas.List.{length-map}
+use Rattle.std.proofs.lemmas.List.Sums.{count_by-le-length}
+use Rattle.csv.specs.Records.{field_at}
+use Rattle.pb_money.specs.Digits.{drop_back, drop_front}
+use Rattle.pb_money.specs.Money.{IsMoney, millionths, most_money}
+use Rattle.pb_election.specs.Records.{Field, Rec}
+use Rattle.pb_election.specs.Instance.{Instance, IsSet}
+use Rattle.pb_election.specs.declared.columns.Columns.{Columns}
+use Rattle.pb_election.specs.declared.keys.Key.TheVariants.{Budget}
+use Rattle.pb_election.specs.Cells.{clean, is_among, is_text}
+use Rattle.pb_election.specs.Rows.{ballot_in, ballots_in, columns_of, cost_in, costs_in, funded_in, id_in, ids_in, is_id, is_yes, names_in, positions_of, says_neither, selected_in, stated, under, vote_column}
+use Rattle.pb_election.specs.Text.{IsElection, IsId, PbText, lines}
+use Rattle.pb_election.proofs.Cleaning.{clean-clean, is_utf8-clean}
+
+-- Ballots.
+
+set-lower : (low low' high : ℕ) (xs : List ℕ) → low' ≤ low → IsSet low high xs → IsSet low' high xs
+set-lower low low' high [] l h = tt
+set-lower low low' high (x ∷ xs) l h = (omega (arith, h.0), h.1, h.2)
+
+-- the positions of the ids that pass a test are a set
+positions-set : (test : ℕ × Field → Bool) (n m : ℕ) (ids : List Field) → n + length ids ≤ m + 1 → IsSet n m (map (λ (p : ℕ × Field). p.0) (filter test (enumerate_from n ids)))
+positions-set test n m [] l = tt
+positions-set test n m (id ∷ ids) l = by (test (n, id)) (positions-set test (n + 1) m ids (omega arith))
+  where
+    rest : List ℕ
+    rest = map (λ (p : ℕ × Field). p.0) (filter test (enumerate_from (n + 1) ids))
+
+    by : (b : Bool) → IsSet (n + 1) m rest → IsSet n m (map (λ (p : ℕ × Field). p.0) (if b then (n, id) ∷ filter test (enumerate_from (n + 1) ids) else filter test (enumerate_from (n + 1) ids)))
+    by true h = (omega arith, omega arith, h)
+    by false h = set-lower (n + 1) n m rest (omega arith) h
+
+ballot-set : (names ids : List Field) → IsSet 1 (length ids) (positions_of names ids)
+unfolding positions_of
+ballot-set names ids = positions-set (λ p. is_among names p.1) 1 (length ids) ids (omega arith)
+
+ballots-sets : (vote : Option ℕ) (ids : List Field) (rows : List Rec) → AllByRecursion (IsSet 1 (length ids)) (ballots_in vote ids rows)
+ballots-sets vote ids [] = tt
+ballots-sets vote ids (r ∷ rs) = (ballot-set (names_in (under vote r)) ids, ballots-sets vote ids rs)
+
+-- Ids.
+
+and-true : (a b : Bool) → (a && b) ≡ true → (a ≡ true) × (b ≡ true)
+and-true true b h = (refl, h)
+and-true false b h = cc h
+
+utf8-nil : is_utf8 [] ≡ true
+unfolding is_utf8 chars
+utf8-nil = refl
+
+clean-nil : clean [] ≡ []
+unfolding drop_back drop_front
+clean-nil = refl
+
+field-text : (r : Rec) (i : ℕ) → is_text r ≡ true → is_utf8 (unwrap_or (field_at r i) []) ≡ true
+unfolding is_text field_at
+field-text [] i h = utf8-nil
+field-text (f ∷ fs) zero h = (and-true (is_utf8 f) (list_all is_utf8 fs) h).0
+field-text (f ∷ fs) (suc i) h = field-text fs i (and-true (is_utf8 f) (list_all is_utf8 fs) h).1
+
+under-id : (o : Option ℕ) (r : Rec) → is_text r ≡ true → IsTrue (is_id (under o r)) → IsId (under o r)
+under-id None r t h = record { text = utf8-nil; clean = clean-nil; bytes = h }
+under-id (Some i) r t h =
+    record {
+      text = is_utf8-clean (unwrap_or (field_at r i) []) (field-text r i t);
+      clean = clean-clean (unwrap_or (field_at r i) []);
+      bytes = h;
+    }
+
+ids-are : (columns : Columns) (rows : List Rec) → AllByRecursion (λ r. IsTrue (is_text r)) rows → AllByRecursion (λ row. IsTrue (is_id (id_in columns row))) rows → AllByRecursion IsId (ids_in columns rows)
+ids-are columns [] t h = tt
+ids-are columns (r ∷ rs) t h = (under-id columns.id r t.0 h.0, ids-are columns rs t.1 h.1)
+
+-- Costs, marks and counts.
+
+costs-small : (columns : Columns) (rows : List Rec) → AllByRecursion (λ row. IsMoney (cost_in columns row)) rows → AllByRecursion (λ c. c ≤ most_money) (costs_in columns rows)
+costs-small columns [] h = tt
+costs-small columns (r ∷ rs) h = (h.0.small, costs-small columns rs h.1)
+
+marks-many : (columns : Columns) (rows : List Rec) → IfSome (funded_in columns rows) (λ marks. length marks ≡ length (ids_in columns rows))
+marks-many columns rows = by (is_some columns.selected)
+  where
+    by : (b : Bool) → IfSome (if b then Some (map (λ row. is_yes (selected_in columns row)) rows) else None) (λ marks. length marks ≡ length (ids_in columns rows))
+    by true = length-map rows (λ row. is_yes (selected_in columns row)) ∙ sym (length-map rows (id_in columns))
+    by false = tt
+
+limit-small : (o : Option Field) → IsSomeAnd o IsMoney → option_map_or millionths o 0 ≤ most_money
+limit-small None h = absurd h
+limit-small (Some text) h = h.small
+
+all-back : (P : Rec → Type 0) (xs ys : List Rec) → AllByRecursion P (xs ++ ys) → AllByRecursion P ys
+all-back P [] ys h = h
+all-back P (x ∷ xs) ys h = all-back P xs ys h.1
+
+all-front : (P : Rec → Type 0) (xs ys : List Rec) → AllByRecursion P (xs ++ ys) → AllByRecursion P xs
+all-front P [] ys h = tt
+all-front P (x ∷ xs) ys h = (h.0, all-front P xs ys h.1)
+
+pub sound : (recs : List Rec) (e : Instance) → PbText recs e → IsElection e
+sound recs e p =
+    let columns = columns_of p.projects.header in
+    let ids = ids_in columns p.projects.rows in
+    let many : length ids ≡ length p.projects.rows = length-map p.projects.rows (id_in columns) in
+    let text : AllByRecursion (λ r. IsTrue (is_text r)) (lines p.meta ++ (lines p.projects ++ lines p.votes)) = rw p.cut at p.text in
+    let of_projects = all-front (λ r. IsTrue (is_text r)) (lines p.projects) (lines p.votes) (all-back (λ r. IsTrue (is_text r)) (lines p.meta) (lines p.projects ++ lines p.votes) text) in
+    rw p.states (record {
+      limit = limit-small (stated Budget p.meta.rows) p.meta_rows.budget;
+      ids = ids-are columns p.projects.rows of_projects.1.1 p.project_rows.ids;
+      distinct = p.project_rows.distinct;
+      as_many_costs = length-map p.projects.rows (λ row. millionths (cost_in columns row)) ∙ sym many;
+      costs = costs-small columns p.projects.rows p.project_rows.costs;
+      as_many_selected = marks-many columns p.projects.rows;
+      other_selected = rw many (count_by-le-length (says_neither columns) p.projects.rows);
+      ballots = ballots-sets (vote_column p.votes.header) ids p.votes.rows;
+      few_projects = rw many p.project_rows.few;
+      few_voters = rw (length-map p.votes.rows (ballot_in (vote_column p.votes.header) ids)) p.vote_rows.few;
+      few_approvals = p.vote_rows.few_approvals;
+    })

@@ -1,0 +1,109 @@
+-- The ways in which the text of an election can begin, and what has been read of each. The contract of the reader's
+-- draft cites this; what a file states is said in Text and Faults.
+use Rattle.std.specs.Prelude.{◌≡◌, ◌++◌, IfSome, IsTrue, List, [], ◌∷◌, Some}
+use Rattle.std.specs.List.{AllByRecursion}
+use Rattle.std.specs.Option.{option_map_or}
+use Rattle.pb_money.specs.Money.{IsMoney, millionths}
+use Rattle.pb_election.specs.Records.{Rec}
+use Rattle.pb_election.specs.Instance.{approvals}
+use Rattle.pb_election.specs.declared.keys.Key.TheVariants.{Budget, NumProjects, NumVotes, VoteType}
+use Rattle.pb_election.specs.declared.sections.Role.{Role}
+use Rattle.pb_election.specs.declared.sections.Role.TheVariants.{First, Header, Inside}
+use Rattle.pb_election.specs.declared.sections.Section.TheVariants.{Meta, Projects, Votes}
+use Rattle.pb_election.specs.Cells.{is_text, marker_of}
+use Rattle.pb_election.specs.Rows.{ballots_in, columns_of, costs_in, declared, funded_in, ids_in, is_approval, others_in, stated, vote_column}
+use Rattle.pb_election.specs.Faults.{keys_in}
+use Rattle.pb_election.specs.Text.{AreMetaRows, AreProjectRows, AreVoteRows, EachKeyOnce, IsHeader, IsPart, Part, lines}
+use Rattle.pb_election.specs.SoFar.{SoFar}
+
+pub data Beginning : Type 0 where
+  AtStart : Beginning
+  AfterMeta : Rec → Beginning
+  InMeta : Part → Beginning
+  AfterProjects : Part → Rec → Beginning
+  InProjects : Part → Part → Beginning
+  AfterVotes : Part → Part → Rec → Beginning
+  InVotes : Part → Part → Part → Beginning
+
+abbrev pub text_of : Beginning → List Rec
+text_of AtStart = []
+text_of (AfterMeta r) = r ∷ []
+text_of (InMeta a) = lines a
+text_of (AfterProjects a r) = lines a ++ (r ∷ [])
+text_of (InProjects a b) = lines a ++ lines b
+text_of (AfterVotes a b r) = lines a ++ (lines b ++ (r ∷ []))
+text_of (InVotes a b c) = lines a ++ (lines b ++ lines c)
+
+-- a section of which nothing was read
+abbrev pub no_part : Part
+no_part = record { marker = []; header = []; rows = [] }
+
+-- what three sections state so far
+abbrev pub so_far_in : Role → Part → Part → Part → SoFar
+so_far_in role a b c =
+    let columns = columns_of b.header in
+    let ids = ids_in columns b.rows in
+    let ballots = ballots_in (vote_column c.header) ids c.rows in
+    record {
+      role = role;
+      keys = keys_in a.rows;
+      limit = option_map_or millionths (stated Budget a.rows) 0;
+      declared_projects = declared NumProjects a.rows;
+      declared_votes = declared NumVotes a.rows;
+      columns = columns;
+      ids = ids;
+      costs = costs_in columns b.rows;
+      selected = funded_in columns b.rows;
+      other_selected = others_in columns b.rows;
+      vote = vote_column c.header;
+      ballots = ballots;
+      approvals = approvals ballots;
+    }
+
+abbrev pub so_far_of : Beginning → SoFar
+so_far_of AtStart = so_far_in First no_part no_part no_part
+so_far_of (AfterMeta r) = so_far_in (Header Meta) no_part no_part no_part
+so_far_of (InMeta a) = so_far_in (Inside Meta) a no_part no_part
+so_far_of (AfterProjects a r) = so_far_in (Header Projects) a no_part no_part
+so_far_of (InProjects a b) = so_far_in (Inside Projects) a b no_part
+so_far_of (AfterVotes a b r) = so_far_in (Header Votes) a b no_part
+so_far_of (InVotes a b c) = so_far_in (Inside Votes) a b c
+
+-- the rows of META keep its rules so far
+pub record GoodMeta (a : Part) : Type 0 where
+  pub part : IsPart Meta a
+  pub once : EachKeyOnce a.rows
+  pub budget : IfSome (stated Budget a.rows) IsMoney
+  pub vote_type : IfSome (stated VoteType a.rows) (λ value. IsTrue (is_approval value))
+
+-- META is whole
+pub record AllMeta (a : Part) : Type 0 where
+  pub part : IsPart Meta a
+  pub rows : AreMetaRows a.rows
+
+pub record GoodProjects (b : Part) : Type 0 where
+  pub part : IsPart Projects b
+  pub header : IsHeader Projects b.header
+  pub rows : AreProjectRows (columns_of b.header) b.rows
+
+pub record GoodVotes (b c : Part) : Type 0 where
+  pub part : IsPart Votes c
+  pub header : IsHeader Votes c.header
+  pub rows : AreVoteRows (vote_column c.header) (ids_in (columns_of b.header) b.rows) c.rows
+
+abbrev pub Good : Beginning → Type 0
+Good AtStart = Unit {0}
+Good (AfterMeta r) = marker_of r ≡ Some Meta
+Good (InMeta a) = GoodMeta a
+Good (AfterProjects a r) = AllMeta a × (marker_of r ≡ Some Projects)
+Good (InProjects a b) = AllMeta a × GoodProjects b
+Good (AfterVotes a b r) = AllMeta a × GoodProjects b × (marker_of r ≡ Some Votes)
+Good (InVotes a b c) = AllMeta a × GoodProjects b × GoodVotes b c
+
+-- these records, and no others, have been read
+pub record HasRead (s : SoFar) (recs : List Rec) : Type 0 where
+  pub beginning : Beginning
+  pub good : Good beginning
+  pub same : s ≡ so_far_of beginning
+  pub records : recs ≡ text_of beginning
+  pub text : AllByRecursion (λ r. IsTrue (is_text r)) recs

@@ -1,0 +1,19 @@
+-- What callers see of an `Election`.
+use Rattle.std.specs.Prelude.{map}
+use Rattle.std.specs.Option.{option_map}
+use Rattle.pb_election.specs.Ids.{ids_kept}
+use Rattle.pb_election.specs.Instance.{Instance}
+use Rattle.pb_election.specs.declared.election.Election.TheInside.{Inside}
+
+abbrev pub instance_of : Inside → Instance
+instance_of a =
+    record {
+      limit = a.limit;
+      ids = ids_kept a.ids.keys;
+      costs = a.costs.items;
+      selected = option_map (λ marks. marks.items) a.selected;
+      other_selected = a.other_selected;
+      declared_projects = a.declared_projects;
+      declared_votes = a.declared_votes;
+      ballots = map (λ ballot. ballot.items) a.ballots.items;
+    }

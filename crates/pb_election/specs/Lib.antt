@@ -1,0 +1,16 @@
+pub mod Records
+pub mod Cells
+pub mod FirstFault
+pub mod Instance
+pub mod Ids
+pub mod Rows
+pub mod Text
+pub mod Faults
+pub mod Loading
+pub mod Outcome
+pub mod SoFar
+pub mod Beginnings
+pub mod RecordReader
+pub mod Drafts
+pub mod ProjectRows
+pub mod ElectionView

@@ -1,0 +1,164 @@
+-- What the header and the rows of a section state.
+use Rattle.std.specs.Prelude.{◌==◌, ◌&&◌, ◌||◌, not, nat_lt, if◌then◌else◌, Bool, true, false, ℕ, List, [], ◌∷◌, map, find, filter, count_by, Option, Some, None, is_some, codes}
+use Rattle.std.specs.Option.{option_and_then, option_map, option_map_or}
+use Rattle.std.specs.Result.{result_ok}
+use Rattle.std.specs.List.{enumerate_from, list_all, list_any, position_from}
+use Rattle.std.specs.Str.{byte, bytes_eq}
+use Rattle.pb_money.specs.Digits.{is_empty}
+use Rattle.pb_money.specs.Money.{millionths}
+use Rattle.pb_money.specs.Whole.{whole_of}
+use Rattle.pb_election.specs.Records.{Field, Rec}
+use Rattle.pb_election.specs.Cells.{cell, clean, cut_at, is_among, lower}
+use Rattle.pb_election.specs.declared.columns.Columns.{Columns}
+use Rattle.pb_election.specs.declared.keys.Key.{Key}
+use Rattle.pb_election.specs.declared.keys.Key.TheVariants.{Budget, NumProjects, NumVotes, VoteType}
+use Rattle.pb_election.specs.declared.sections.Section.{Section}
+use Rattle.pb_election.specs.declared.sections.Section.TheVariants.{Meta, Projects, Votes}
+
+-- META: a row has a key and a value
+
+abbrev pub key_named : Field → Option Key
+key_named name =
+    if bytes_eq name (codes "budget") then Some Budget
+    else if bytes_eq name (codes "vote_type") then Some VoteType
+    else if bytes_eq name (codes "num_projects") then Some NumProjects
+    else if bytes_eq name (codes "num_votes") then Some NumVotes
+    else None
+
+-- the key of a row, where it is one that is read
+unfoldable pub key_in : Rec → Option Key
+key_in row = key_named (lower (cell 0 row))
+
+abbrev pub value_in : Rec → Field
+value_in row = cell 1 row
+
+-- the keys that are read
+abbrev pub read_keys : List Key
+read_keys = Budget ∷ VoteType ∷ NumProjects ∷ NumVotes ∷ []
+
+abbrev pub same_key : Key → Key → Bool
+same_key Budget Budget = true
+same_key VoteType VoteType = true
+same_key NumProjects NumProjects = true
+same_key NumVotes NumVotes = true
+same_key _ _ = false
+
+-- whether a row has this key
+abbrev pub has_key : Key → Rec → Bool
+has_key key row = option_map_or (same_key key) (key_in row) false
+
+-- the value of a key, where it stands
+abbrev pub stated : Key → List Rec → Option Field
+stated key rows = option_map value_in (find (has_key key) rows)
+
+abbrev pub is_approval : Field → Bool
+is_approval value = bytes_eq (lower value) (codes "approval")
+
+-- the count that a value declares: a whole number of at most 10^18, and else none
+unfoldable pub count_in : Field → Option ℕ
+count_in value = result_ok (whole_of 1000000000000000000 value)
+
+abbrev pub declared : Key → List Rec → Option ℕ
+declared key rows = option_and_then count_in (stated key rows)
+
+-- PROJECTS and VOTES: the header names the columns
+
+abbrev pub is_named : Field → Field → Bool
+is_named name field = bytes_eq (lower (clean field)) name
+
+-- the columns that a section's header must have, and those that are read
+abbrev pub needed_columns : Section → List Field
+needed_columns Meta = []
+needed_columns Projects = codes "project_id" ∷ codes "cost" ∷ []
+needed_columns Votes = codes "vote" ∷ []
+
+abbrev pub read_columns : Section → List Field
+read_columns Meta = []
+read_columns Projects = codes "project_id" ∷ codes "cost" ∷ codes "selected" ∷ []
+read_columns Votes = codes "vote" ∷ []
+
+-- how many columns have a name
+abbrev pub times : Field → Rec → ℕ
+times name header = count_by (is_named name) header
+
+-- the place of the column of a name
+abbrev pub column : Field → Rec → Option ℕ
+column name header = position_from (is_named name) 0 header
+
+-- the field of a row in a column, empty where the row is too short
+abbrev pub under : Option ℕ → Rec → Field
+under None row = []
+under (Some i) row = cell i row
+
+-- PROJECTS
+
+-- the places of the columns that are read
+abbrev pub columns_of : Rec → Columns
+columns_of header =
+    record { id = column (codes "project_id") header; cost = column (codes "cost") header; selected = column (codes "selected") header }
+
+abbrev pub id_in : Columns → Rec → Field
+id_in columns row = under columns.id row
+
+abbrev pub cost_in : Columns → Rec → Field
+cost_in columns row = under columns.cost row
+
+abbrev pub selected_in : Columns → Rec → Field
+selected_in columns row = under columns.selected row
+
+-- an id is not empty, and has no byte below 32 and no byte 127
+abbrev pub is_control : ℕ → Bool
+is_control b = nat_lt b 32 || (b == 127)
+
+unfoldable pub is_id : Field → Bool
+is_id id = not (is_empty id) && not (list_any is_control id)
+
+abbrev pub ids_in : Columns → List Rec → List Field
+ids_in columns rows = map (id_in columns) rows
+
+abbrev pub costs_in : Columns → List Rec → List ℕ
+costs_in columns rows = map (λ row. millionths (cost_in columns row)) rows
+
+-- whether a project is funded, and whether the file says neither yes nor no
+abbrev pub is_yes : Field → Bool
+is_yes field = bytes_eq field (codes "1")
+
+abbrev pub is_neither : Field → Bool
+is_neither field = not (is_yes field) && not (bytes_eq field (codes "0"))
+
+-- which projects are funded, where there is a column for it
+abbrev pub funded_in : Columns → List Rec → Option (List Bool)
+funded_in columns rows =
+    if is_some columns.selected then Some (map (λ row. is_yes (selected_in columns row)) rows) else None
+
+-- whether there is the column, and it says neither yes nor no of a project
+abbrev pub says_neither : Columns → Rec → Bool
+says_neither columns row = is_some columns.selected && is_neither (selected_in columns row)
+
+-- of how many projects
+abbrev pub others_in : Columns → List Rec → ℕ
+others_in columns rows = count_by (says_neither columns) rows
+
+-- VOTES
+
+abbrev pub vote_column : Rec → Option ℕ
+vote_column header = column (codes "vote") header
+
+-- the ids that a vote names: its pieces between commas, cleaned, but for the empty ones
+unfoldable pub names_in : Field → List Field
+names_in vote = filter (λ name. not (is_empty name)) (map clean (cut_at (λ b. b == byte ",") vote))
+
+-- the positions, from 1 and rising, of the ids that are named
+unfoldable pub positions_of : List Field → List Field → List ℕ
+positions_of names ids = map (λ p. p.0) (filter (λ p. is_among names p.1) (enumerate_from 1 ids))
+
+-- the ballot of a row: the set of the projects that its vote names
+abbrev pub ballot_in : Option ℕ → List Field → Rec → List ℕ
+ballot_in vote ids row = positions_of (names_in (under vote row)) ids
+
+abbrev pub ballots_in : Option ℕ → List Field → List Rec → List (List ℕ)
+ballots_in vote ids rows = map (ballot_in vote ids) rows
+
+-- whether each piece of a row's vote is the id of a project
+unfoldable pub is_known : Option ℕ → List Field → Rec → Bool
+is_known vote ids row = list_all (is_among ids) (names_in (under vote row))

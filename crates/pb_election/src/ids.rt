@@ -1,0 +1,61 @@
+//! The ids of projects.
+ghost use Rattle.std.specs.Prelude.{◌≡◌, ◌≤◌, ◌∷◌, ◌++◌, [], false, length, IfSome, OnOk, OnErr};
+ghost use Rattle.std.specs.List.{list_any, position_from, slice_index_or};
+ghost use Rattle.std.specs.Str.{bytes_eq};
+ghost use Rattle.pb_election.specs.Cells.{is_among};
+ghost use Rattle.pb_election.specs.Ids.{ids_kept};
+ghost use Rattle.pb_election.specs.Rows as rows;
+
+use indexmap::IndexSet;
+use std::alloc::{AllocError, Global};
+
+fn has_control(text: &str) -> bool
+    ensures { result ≡ list_any rows.is_control text.now }
+{
+    text.as_bytes().iter().any(|byte| byte.is_ascii_control())
+}
+
+/// Whether a text may be the id of a project: it is not empty, and has no control byte.
+pub(crate) fn is_id(id: &str) -> bool
+    ensures { result ≡ rows.is_id id.now }
+{
+    !id.is_empty() && !has_control(id)
+}
+
+/// Whether an id is among those kept.
+pub(crate) fn has_id(ids: &IndexSet<String>, id: &str) -> bool
+    ensures { result ≡ is_among (ids_kept ids.now.keys) id.now }
+{
+    ids.contains(id)
+}
+
+/// Adds a new id at the end.
+pub(crate) fn add_id(alloc: Global, ids: &mut IndexSet<String>, id: &str) -> Result<(), AllocError>
+    requires { is_among (ids_kept ids.old.keys) id.now ≡ false }
+    ensures added { OnOk result (ids_kept ids.new.keys ≡ ids_kept ids.old.keys ++ id.now ∷ []) }
+    ensures kept { OnErr result (ids_kept ids.new.keys ≡ ids_kept ids.old.keys) }
+{
+    let key = String::from_str(alloc, id)?;
+    ids.insert(key)?;
+    Ok(())
+}
+
+/// The position of an id, from 1, if it is kept.
+pub(crate) fn position_of(ids: &IndexSet<String>, id: &str) -> Option<usize>
+    ensures value { result ≡ position_from (bytes_eq id.now) 1 (ids_kept ids.now.keys) }
+    ensures within { IfSome result (λ place. place ≤ length (ids_kept ids.now.keys)) }
+{
+    let index = ids.get_index_of(id)?;
+    prove!(index < ids.len());
+    Some(index + 1)
+}
+
+/// The id at an index, from 0, and the empty text behind the last.
+pub(crate) fn id_at(ids: &IndexSet<String>, index: usize) -> &str
+    ensures { result.now ≡ slice_index_or (ids_kept ids.now.keys) index [] }
+{
+    match ids.get_index(index) {
+        Some(id) => id.as_str(),
+        None => "",
+    }
+}

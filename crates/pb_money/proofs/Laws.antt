@@ -1,0 +1,45 @@
+-- A text is money exactly where `money_of` gives its amount.
+use Rattle.std.proofs.Common.{◌≡◌, ◌∙◌, ℕ, List, [], ◌∷◌, Bool, true, false, refl, length, cond}
+use Rattle.std.proofs.lemmas.Bool.{le-ltb, ltb-false}
+use Rattle.std.specs.Prelude.{Ok, Err, Result, nat_lt, not}
+use Rattle.pb_money.specs.Digits.{is_empty}
+use Rattle.pb_money.specs.Money.{MoneyText, fraction, is_number, millionths, money_of, most_money}
+use Rattle.pb_money.specs.declared.money.MoneyFault.{MoneyFault}
+use Rattle.pb_money.specs.declared.money.MoneyFault.TheVariants as fault
+
+pub money-is : (text : List ℕ) (v : ℕ) → MoneyText text v → money_of text ≡ Ok v
+unfolding money_of
+money-is [] v m = cc m.number
+money-is (b ∷ bs) v m =
+    rw (m.number, le-ltb 6 (length (fraction (b ∷ bs))) m.fine, le-ltb most_money (millionths (b ∷ bs)) (rw (← m.value) m.small), m.value) refl
+
+-- what is answered where the text is an amount
+pub answers-only : (text : List ℕ) (r : Result ℕ MoneyFault) → r ≡ money_of text → (v : ℕ) → MoneyText text v → r ≡ Ok v
+answers-only text r e v m = e ∙ money-is text v m
+
+-- a choice that gave Ok did not fail
+chosen : (b : Bool) (f : MoneyFault) (r : Result ℕ MoneyFault) (v : ℕ) → cond b (Err f) r ≡ Ok v → (b ≡ false) × (r ≡ Ok v)
+chosen true f r v h = cc h
+chosen false f r v h = (refl, h)
+
+is-true : (b : Bool) → not b ≡ false → b ≡ true
+is-true true h = refl
+is-true false h = cc h
+
+pub is-money : (text : List ℕ) (v : ℕ) → money_of text ≡ Ok v → MoneyText text v
+unfolding money_of
+is-money text v h =
+    let large : Result ℕ MoneyFault = cond (nat_lt most_money (millionths text)) (Err fault.TooLarge) (Ok (millionths text)) in
+    let fine : Result ℕ MoneyFault = cond (nat_lt 6 (length (fraction text))) (Err fault.TooFine) large in
+    let number : Result ℕ MoneyFault = cond (not (is_number text)) (Err fault.NotNumber) fine in
+    let a = chosen (is_empty text) fault.Empty number v h in
+    let b = chosen (not (is_number text)) fault.NotNumber fine v a.1 in
+    let c = chosen (nat_lt 6 (length (fraction text))) fault.TooFine large v b.1 in
+    let d = chosen (nat_lt most_money (millionths text)) fault.TooLarge (Ok (millionths text)) v c.1 in
+    let e : v ≡ millionths text = cc d.1 in
+    record {
+      number = is-true (is_number text) b.0;
+      fine = ltb-false 6 (length (fraction text)) c.0;
+      value = e;
+      small = rw e (ltb-false most_money (millionths text) d.0);
+    }

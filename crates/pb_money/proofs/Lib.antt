@@ -1,0 +1,6 @@
+pub mod Amounts
+pub mod Fractions
+pub mod Laws
+pub mod Marks
+pub mod Numbers
+pub mod Wholes

@@ -1,0 +1,71 @@
+-- Digits, one more at a time.
+use Rattle.std.proofs.Common.{◌≡◌, ◌≤◌, ◌<◌, ◌∙◌, ◌+◌, ◌*◌, ◌-◌, ℕ, suc, zero, List, [], ◌∷◌, refl, sym, ap, arith, Bool, true, false, cond, length, take, drop, get_or, take-append-drop}
+use Rattle.std.proofs.lemmas.Bool.{and_parts}
+use Rattle.std.proofs.lemmas.Bool.Decides.{nat_tests}
+use Rattle.std.proofs.lemmas.List.Sums.{fold-append, fold_more}
+use Rattle.std.specs.Char.{is_ascii_digit}
+use Rattle.std.specs.List.{fold, list_all}
+use Rattle.std.specs.Prelude.{◌==◌, nat_le, None, Some}
+use Rattle.std.specs.Str.{all_ascii_digits, byte}
+use Rattle.pb_money.specs.Digits.{is_empty, number_of, up_to}
+
+-- a number, and one more digit behind it
+abbrev pub append_digit : ℕ → ℕ → ℕ
+append_digit n d = n * 10 + (d - byte "0")
+
+-- more digits never make a number less
+grows : (n : ℕ) (digits : List ℕ) → n ≤ fold append_digit n digits
+grows n [] = omega arith
+grows n (d ∷ ds) = omega (arith, grows (append_digit n d) ds)
+
+pub number-more : (digits : List ℕ) (i : ℕ) → i < length digits → number_of (take (i + 1) digits) ≡ append_digit (number_of (take i digits)) (get_or digits i 0)
+number-more digits i h = fold_more append_digit 0 digits i 0 h
+
+number-take : (digits : List ℕ) (i : ℕ) → number_of (take i digits) ≤ number_of digits
+number-take digits i =
+    let whole : number_of digits ≡ fold append_digit (number_of (take i digits)) (drop i digits) = ap number_of (sym (take-append-drop i digits)) ∙ fold-append append_digit 0 (take i digits) (drop i digits) in
+    omega (arith, grows (number_of (take i digits)) (drop i digits))
+
+-- a part of the digits that is already too large, and then the whole number
+pub too-large : (digits : List ℕ) (i n most : ℕ) → n ≡ number_of (take i digits) → most < n → None ≡ up_to most (number_of digits)
+too-large digits i n most e h =
+    let l : n ≤ number_of digits = rw e (number-take digits i) in
+    grind (arith, nat_tests)
+
+-- what an answer of `up_to` tells
+beyond-by : (b : Bool) (most n : ℕ) → nat_le n most ≡ b → None ≡ cond b (Some n) None → most < n
+beyond-by true most n e h = cc h
+beyond-by false most n e h = grind (arith, nat_tests)
+
+pub beyond : (most n : ℕ) → None ≡ up_to most n → most < n
+beyond most n h = beyond-by (nat_le n most) most n refl h
+
+same-by : (b : Bool) (n v : ℕ) → Some v ≡ cond b (Some n) None → v ≡ n
+same-by true n v h = cc h
+same-by false n v h = cc h
+
+pub same : (most n v : ℕ) → Some v ≡ up_to most n → v ≡ n
+same most n v h = same-by (nat_le n most) n v h
+
+not-zero : (n : ℕ) → (suc n == 0) ≡ false
+not-zero n = grind (arith, nat_tests)
+
+pub is-empty : (text : List ℕ) → is_empty text ≡ (length text == 0)
+is-empty [] = refl
+is-empty (b ∷ bs) = sym (not-zero (length bs))
+
+pub all-digits : (text : List ℕ) → all_ascii_digits text ≡ list_all is_ascii_digit text
+all-digits [] = refl
+all-digits (b ∷ bs) = rw (all-digits bs) refl
+
+-- the tests of the code and those of the definitions
+pub ruleset digit_tests = (is-empty, all-digits)
+
+digit-range : (d : ℕ) → is_ascii_digit d ≡ true → (byte "0" ≤ d) × (d ≤ byte "9")
+digit-range d h = grind (arith, nat_tests)
+
+-- each byte of a text of digits is one
+pub digit-at : (digits : List ℕ) (i : ℕ) → all_ascii_digits digits ≡ true → i < length digits → (byte "0" ≤ get_or digits i 0) × (get_or digits i 0 ≤ byte "9")
+digit-at [] i e h = absurd (omega arith)
+digit-at (d ∷ ds) zero e h = digit-range d (and_parts (is_ascii_digit d) (all_ascii_digits ds) e).0
+digit-at (d ∷ ds) (suc i) e h = digit-at ds i (and_parts (is_ascii_digit d) (all_ascii_digits ds) e).1 (omega arith)

@@ -1,0 +1,99 @@
+//! Readers and writers that fail.
+use super::fakes::{EndlessReader, FakeReader, FakeWriter, WhenFull};
+use super::samples::ELECTION;
+use pb_audit::{Fault, Status, run_read};
+use pb_election::{Input, LoadFault, Output, load};
+use std::test::Fail;
+
+#[test]
+fn reader_fails_after_five_bytes(rt: HostRuntime) -> Result<(), Fail> {
+    let alloc = rt.alloc();
+    let reader = FakeReader {
+        rest: b"META\n",
+        most: usize::MAX,
+        fails: true,
+    };
+    let mut writer = FakeWriter::new(alloc);
+    let status = run_read(
+        alloc,
+        &mut Input::new(reader),
+        &mut Output::new(&mut writer),
+    )?;
+    assert!(rt; status == Status::Refused);
+    assert!(rt; writer.written.as_slice() == b"refused election 18 Read record 0\n".as_slice());
+    Ok(())
+}
+
+#[test]
+fn reader_gives_one_byte_at_a_time(rt: HostRuntime) -> Result<(), Fail> {
+    let alloc = rt.alloc();
+    let reader = FakeReader {
+        rest: ELECTION.as_bytes(),
+        most: 1,
+        fails: false,
+    };
+    let mut writer = FakeWriter::new(alloc);
+    let status = run_read(
+        alloc,
+        &mut Input::new(reader),
+        &mut Output::new(&mut writer),
+    )?;
+    assert!(rt; status == Status::Yes);
+    assert!(rt; writer.written.as_slice() == b"read 3 voters 3 projects 2 funded\n".as_slice());
+    Ok(())
+}
+
+#[test]
+fn reader_never_ends(rt: HostRuntime) -> Result<(), Fail> {
+    let mut reader = EndlessReader { reads: 0 };
+    let loaded = load(rt.alloc(), &mut Input::new(&mut reader), 1000);
+    assert!(rt; matches!(loaded, Err(LoadFault::TooLong)));
+    assert!(rt; reader.reads <= 1001);
+    Ok(())
+}
+
+#[test]
+fn writer_fails(rt: HostRuntime) -> Result<(), Fail> {
+    let alloc = rt.alloc();
+    let line = "read 3 voters 3 projects 2 funded\n";
+    for (room, most, when_full, flush_fails, want, written) in [
+        (5, 5, WhenFull::Fails, false, Err(Fault::Write), "read "),
+        (5, 1, WhenFull::TakesNone, false, Err(Fault::Write), "read "),
+        (0, 1, WhenFull::TakesNone, false, Err(Fault::Write), ""),
+        (99, 99, WhenFull::Fails, true, Err(Fault::Write), line),
+        (99, 1, WhenFull::Fails, false, Ok(Status::Yes), line),
+    ] {
+        let mut writer = FakeWriter {
+            written: Vec::new(alloc),
+            room,
+            most,
+            when_full,
+            flush_fails,
+        };
+        let mut file = ELECTION.as_bytes();
+        let got = run_read(
+            alloc,
+            &mut Input::new(&mut file),
+            &mut Output::new(&mut writer),
+        );
+        assert!(rt; got == want, "{room} {most}");
+        assert!(rt;
+            writer.written.as_slice() == written.as_bytes(),
+            "{room} {most}"
+        );
+    }
+    Ok(())
+}
+
+#[test]
+fn faults_as_text(rt: HostRuntime) -> Result<(), Fail> {
+    let alloc = rt.alloc();
+    for (fault, want) in [
+        (Fault::Memory, "fault memory"),
+        (Fault::Write, "fault write"),
+    ] {
+        let text = fault.to_string(alloc)?;
+        assert!(rt; text.as_str() == want);
+    }
+    Ok(())
+}

@@ -1,0 +1,17 @@
+META
+key;value
+description;Sample
+num_projects;3
+num_votes;3
+budget;10
+vote_type;approval
+PROJECTS
+project_id;cost;name;selected
+a;6;Park;1
+b;4;Library;1
+c;9;Pool;0
+VOTES
+voter_id;vote
+1;a,b
+2;a
+3;b,c
