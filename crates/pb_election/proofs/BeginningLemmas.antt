@@ -33,10 +33,6 @@ found-nil : (s : Section) → found s [] ≡ []
 unfolding behind_marker up_to_marker
 found-nil s = refl
 
-up-nil : up_to_marker [] ≡ []
-unfolding up_to_marker
-up-nil = refl
-
 -- the section that a list of records begins with, up to its end or up to the next marker
 found-all : (s : Section) (a : Part) → IsPart s a → found s (lines a) ≡ behind a
 found-all s a h = ap up_to_marker (behind-here s a.marker (behind a) (marks-its s a.marker h.marker)) ∙ up-all (behind a) h.others

@@ -1,6 +1,6 @@
 //! The ids of projects.
 ghost use Rattle.std.specs.Prelude.{◌≡◌, ◌≤◌, ◌∷◌, ◌++◌, [], false, length, IfSome, OnOk, OnErr};
-ghost use Rattle.std.specs.List.{list_any, position_from, slice_index_or};
+ghost use Rattle.std.specs.List.{list_any, position_from};
 ghost use Rattle.std.specs.Str.{bytes_eq};
 ghost use Rattle.pb_election.specs.Cells.{is_among};
 ghost use Rattle.pb_election.specs.Ids.{ids_kept};
@@ -48,14 +48,4 @@ pub(crate) fn position_of(ids: &IndexSet<String>, id: &str) -> Option<usize>
     let index = ids.get_index_of(id)?;
     prove!(index < ids.len());
     Some(index + 1)
-}
-
-/// The id at an index, from 0, and the empty text behind the last.
-pub(crate) fn id_at(ids: &IndexSet<String>, index: usize) -> &str
-    ensures { result.now ≡ slice_index_or (ids_kept ids.now.keys) index [] }
-{
-    match ids.get_index(index) {
-        Some(id) => id.as_str(),
-        None => "",
-    }
 }

@@ -1,0 +1,41 @@
+-- Where no fault stands among the records that are not blank, none stands at any place.
+use Rattle.std.proofs.Common.{◌≡◌, ℕ, zero, suc, ◌+◌, ◌≤◌, Bool, true, false, cond, List, [], ◌∷◌, ◌++◌, length, refl, sym, ◌∙◌, subst, arith, Some, None, append_assoc, append-nil}
+use Rattle.std.specs.Prelude.{not, take, slice_get}
+use Rattle.std.proofs.lemmas.List.Elements.{filter-append}
+use Rattle.pb_election.specs.Records.{Rec}
+use Rattle.pb_election.specs.Cells.{is_blank, nonblank}
+use Rattle.pb_election.specs.FirstFault.{Form, IsFirstFault, fault_after, fault_at}
+use Rattle.pb_certificate.specs.declared.refusal.CertFault.{CertFault}
+
+-- no fault stands from here on, after the records before that are not blank
+abbrev pub ClearFrom : Form CertFault → List Rec → List Rec → Type 0
+ClearFrom form before [] = form before None ≡ None
+ClearFrom form before (r ∷ rs) = (form before (Some r) ≡ None) × ClearFrom form (before ++ (r ∷ [])) rs
+
+pub none-anywhere : (form : Form CertFault) (pre recs : List Rec) → ClearFrom form (nonblank pre) (nonblank recs) → (k : ℕ) → k ≤ length recs → fault_after form (pre ++ take k recs) (slice_get recs k) ≡ None
+none-anywhere form pre [] h zero within = rw append-nil h
+none-anywhere form pre [] h (suc k) within = absurd (omega arith)
+none-anywhere form pre (r ∷ rs) h zero within = rw append-nil (go (is_blank r) refl h)
+  where
+    go : (b : Bool) → is_blank r ≡ b → ClearFrom form (nonblank pre) (cond (not b) (r ∷ nonblank rs) (nonblank rs)) → cond b None (form (nonblank pre) (Some r)) ≡ None
+    go true e k = refl
+    go false e k = k.0
+none-anywhere form pre (r ∷ rs) h (suc k) within =
+    let rest = none-anywhere form (pre ++ (r ∷ [])) rs (go (is_blank r) refl h) k (omega arith) in
+    subst (λ (xs : List Rec). fault_after form xs (slice_get rs k) ≡ None) (append_assoc pre (r ∷ []) (take k rs)) rest
+  where
+    joined : nonblank (pre ++ (r ∷ [])) ≡ nonblank pre ++ nonblank (r ∷ [])
+    joined = filter-append (λ x. not (is_blank x)) pre (r ∷ [])
+
+    go : (b : Bool) → is_blank r ≡ b → ClearFrom form (nonblank pre) (cond (not b) (r ∷ nonblank rs) (nonblank rs)) → ClearFrom form (nonblank (pre ++ (r ∷ []))) (nonblank rs)
+    go true e k = rw (joined, e, append-nil) k
+    go false e k = rw (joined, e) k.1
+
+-- so nothing is refused
+pub none-refused : (form : Form CertFault) (recs : List Rec) → ClearFrom form [] (nonblank recs) → (place : ℕ) (f : CertFault) → IsFirstFault form recs place f → ⊥
+none-refused form recs h zero f r = let some : Some f ≡ None = sym r.here in cc
+none-refused form recs h (suc k) f r =
+    let within : suc k ≤ length recs + 1 = r.within in
+    let none : fault_at form recs (suc k) ≡ None = none-anywhere form [] recs h k (omega arith) in
+    let some : Some f ≡ None = sym r.here ∙ none in
+    cc

@@ -1,0 +1,88 @@
+-- What a text states is one thing.
+use Rattle.std.proofs.Common.{◌≡◌, ℕ, zero, suc, ◌+◌, ◌^◌, ◌≤◌, Bool, true, false, cond, List, [], ◌∷◌, length, refl, sym, ◌∙◌, ap, subst, arith, Option, Some}
+use Rattle.std.specs.Prelude.{◌==◌, map, filter}
+use Rattle.std.specs.List.{list_any, range_with_len}
+use Rattle.std.proofs.lemmas.List.FromFn.{length-map-range_with_len}
+use Rattle.pb_election.specs.Instance.{Instance, IsSet, all_projects, all_voters, projects, voters}
+use Rattle.pb_election.specs.Records.{Field, Rec}
+use Rattle.pb_certificate.specs.Prices.{Prices}
+use Rattle.pb_certificate.specs.Fields.{fields, whole_within}
+use Rattle.pb_certificate.specs.PriceText.{IsPriceText, payment_of, payments_stated}
+use Rattle.pb_certificate.specs.GroupText.{IsViolationText, is_named, named_of}
+use Rattle.pb_certificate.specs.GroupText.Named.{Member, Demanded}
+use Rattle.pb_certificate.specs.OutcomeText.{IsOutcomeText, funded_of}
+
+map-Some : {A : Type 0} (xs ys : List A) → map Some xs ≡ map Some ys → xs ≡ ys
+map-Some [] [] h = refl
+map-Some [] (y ∷ ys) h = cc
+map-Some (x ∷ xs) [] h = cc
+map-Some (x ∷ xs) (y ∷ ys) h = let first : x ≡ y = cc in let rest : map Some xs ≡ map Some ys = cc in let same : xs ≡ ys = map-Some xs ys rest in cc
+
+-- the same rows state the same things
+rows-same : {A : Type 0} (f : Rec → Option A) (rows rows' : List Rec) (xs ys : List A) → rows ≡ rows' → map f rows ≡ map Some xs → map f rows' ≡ map Some ys → xs ≡ ys
+rows-same f rows rows' xs ys e h k = map-Some xs ys (sym h ∙ ap (map f) e ∙ k)
+
+-- the value of a head record
+value-same : (r r' : Rec) (name f f' : Field) (least most n n' : ℕ) → r ≡ r' → fields r ≡ name ∷ f ∷ [] → fields r' ≡ name ∷ f' ∷ [] → whole_within least most f ≡ Some n → whole_within least most f' ≡ Some n' → n ≡ n'
+value-same r r' name f f' least most n n' e h h' k k' =
+    let both : name ∷ f ∷ [] ≡ name ∷ f' ∷ [] = sym h ∙ ap fields e ∙ h' in
+    let same : f ≡ f' = cc in
+    let some : Some n ≡ Some n' = sym k ∙ ap (whole_within least most) same ∙ k' in
+    cc
+
+prices-by : ℕ → ℕ → ℕ → List (List (ℕ × ℕ)) → Prices
+prices-by m d b ps = record { projects = m; denominator = d; budget = b; payments = ps }
+
+prices-same : (p q : Prices) → p.projects ≡ q.projects → p.denominator ≡ q.denominator → p.budget ≡ q.budget → p.payments ≡ q.payments → p ≡ q
+unfolding prices-by
+prices-same p q m d b ps = ap (λ x. prices-by x p.denominator p.budget p.payments) m ∙ ap (λ x. prices-by q.projects x p.budget p.payments) d ∙ ap (λ x. prices-by q.projects q.denominator x p.payments) b ∙ ap (λ x. prices-by q.projects q.denominator q.budget x) ps
+
+pub price-text-same : (recs : List Rec) (e : Instance) (p q : Prices) → IsPriceText recs e p → IsPriceText recs e q → p ≡ q
+price-text-same recs e p q t u =
+    let cut : t.head ∷ t.denominator ∷ t.budget ∷ t.columns ∷ t.rows ≡ u.head ∷ u.denominator ∷ u.budget ∷ u.columns ∷ u.rows = sym t.cut ∙ u.cut in
+    let denominators : t.denominator ≡ u.denominator = cc in
+    let budgets : t.budget ≡ u.budget = cc in
+    let rows : t.rows ≡ u.rows = cc in
+    let payments : t.payments ≡ u.payments = rows-same (payment_of e) t.rows u.rows t.payments u.payments rows t.each_row u.each_row in
+    prices-same p q (t.each_project ∙ sym u.each_project)
+    (value-same t.denominator u.denominator _ t.is_denominator.0 u.is_denominator.0 1 (10 ^ 9) p.denominator q.denominator denominators t.is_denominator.1 u.is_denominator.1 t.is_denominator.2 u.is_denominator.2)
+    (value-same t.budget u.budget _ t.is_budget.0 u.is_budget.0 0 (10 ^ 21) p.budget q.budget budgets t.is_budget.1 u.is_budget.1 t.is_budget.2 u.is_budget.2)
+    (t.same_payments ∙ ap (λ qs. map (payments_stated e qs) (all_voters e)) payments ∙ sym u.same_payments)
+
+pub group-text-same : (recs : List Rec) (e : Instance) (s t s' t' : List ℕ) → IsViolationText recs e s t → IsViolationText recs e s' t' → (s ≡ s') × (t ≡ t')
+group-text-same recs e s t s' t' a b =
+    let cut : a.head ∷ a.rows ≡ b.head ∷ b.rows = sym a.cut ∙ b.cut in
+    let rows : a.rows ≡ b.rows = cc in
+    let names : a.names ≡ b.names = rows-same (named_of e) a.rows b.rows a.names b.names rows a.each_row b.each_row in (
+      a.same_group ∙ ap (λ ns. filter (λ i. is_named ns (Member i)) (all_voters e)) names ∙ sym b.same_group,
+      a.same_demand ∙ ap (λ ns. filter (λ j. is_named ns (Demanded j)) (all_projects e)) names ∙ sym b.same_demand,
+    )
+
+pub outcome-text-same : (recs : List Rec) (e : Instance) (w w' : List Bool) → IsOutcomeText recs e w → IsOutcomeText recs e w' → w ≡ w'
+outcome-text-same recs e w w' a b =
+    let cut : a.head ∷ a.rows ≡ b.head ∷ b.rows = sym a.cut ∙ b.cut in
+    let rows : a.rows ≡ b.rows = cc in
+    let names : a.names ≡ b.names = rows-same (funded_of e) a.rows b.rows a.names b.names rows a.each_row b.each_row in
+    a.same_outcome ∙ ap (λ ns. map (λ j. list_any (λ k. k == j) ns) (all_projects e)) names ∙ sym b.same_outcome
+
+-- the numbers of a range that pass a test are a set
+set-lower : (low lower high : ℕ) (t : List ℕ) → lower ≤ low → IsSet low high t → IsSet lower high t
+set-lower low lower high [] l h = tt
+set-lower low lower high (x ∷ xs) l h = let low_is : low ≤ x = h.0 in (omega arith, h.1, h.2)
+
+pub filter-set : (q : ℕ → Bool) (n a high : ℕ) → a + n ≤ high + 1 → IsSet a high (filter q (range_with_len a n))
+filter-set q zero a high b = tt
+filter-set q (suc n) a high b = go (q a) (filter-set q n (a + 1) high (omega arith))
+  where
+    go : (r : Bool) → IsSet (a + 1) high (filter q (range_with_len (a + 1) n)) → IsSet a high (cond r (a ∷ filter q (range_with_len (a + 1) n)) (filter q (range_with_len (a + 1) n)))
+    go true rest = (omega arith, omega arith, rest)
+    go false rest = set-lower (a + 1) a high (filter q (range_with_len (a + 1) n)) (omega arith) rest
+
+pub group-text-sets : (recs : List Rec) (e : Instance) (s t : List ℕ) → IsViolationText recs e s t → IsSet 1 (voters e) s × IsSet 1 (projects e) t
+group-text-sets recs e s t a = (
+  subst (IsSet 1 (voters e)) (sym a.same_group) (filter-set (λ i. is_named a.names (Member i)) (voters e) 1 (voters e) (omega arith)),
+  subst (IsSet 1 (projects e)) (sym a.same_demand) (filter-set (λ j. is_named a.names (Demanded j)) (projects e) 1 (projects e) (omega arith)),
+)
+
+pub outcome-text-length : (recs : List Rec) (e : Instance) (w : List Bool) → IsOutcomeText recs e w → length w ≡ projects e
+outcome-text-length recs e w a = ap length a.same_outcome ∙ length-map-range_with_len (λ j. list_any (λ k. k == j) a.names) 1 (projects e)

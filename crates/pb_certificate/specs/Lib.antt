@@ -1,0 +1,16 @@
+pub mod Prices
+pub mod Fields
+pub mod PriceText
+pub mod Claim
+pub mod PriceRows
+pub mod Tables
+pub mod PriceDrafts
+pub mod GroupText
+pub mod OutcomeText
+pub mod Faults
+pub mod Canon
+pub mod RecordWriter
+pub mod Samples
+pub mod Marks
+pub mod OutcomeDrafts
+pub mod ViolationDrafts

@@ -1,0 +1,67 @@
+-- The text of a price certificate.
+use Rattle.std.specs.Prelude.{◌≡◌, ◌≤◌, ◌^◌, ◌==◌, ◌&&◌, nat_lt, if◌then◌else◌, Bool, IsTrue, ℕ, List, [], ◌∷◌, length, map, filter_map, Option, Some, None, option_and_then, option_map, codes}
+use Rattle.std.specs.List.{AllByRecursion, IsDistinct}
+use Rattle.std.specs.List.Sorted.{IsNonDecreasing}
+use Rattle.pb_election.specs.Instance.{Instance, all_projects, all_voters, projects}
+use Rattle.pb_election.specs.Records.{Field, Rec}
+use Rattle.pb_election.specs.Cells.{is_text, nonblank}
+use Rattle.pb_certificate.specs.Prices.{Prices}
+use Rattle.pb_certificate.specs.Fields.{StatesNumber, fields, project_in, voter_in, whole_within}
+
+-- a payment that a row states
+pub record Payment : Type 0 where
+  pub voter : ℕ
+  pub project : ℕ
+  pub numerator : ℕ
+
+abbrev pub numerator_of : Field → Option ℕ
+numerator_of f = whole_within 0 (10 ^ 21) f
+
+-- the payment of three fields: a voter, a project and a numerator
+abbrev pub payment_by : Instance → List Field → Option Payment
+payment_by e [] = None
+payment_by e (v ∷ []) = None
+payment_by e (v ∷ c ∷ []) = None
+payment_by e (v ∷ c ∷ x ∷ []) =
+    option_and_then (λ i. option_and_then (λ j. option_map (λ n. record { voter = i; project = j; numerator = n }) (numerator_of x)) (project_in e c)) (voter_in e v)
+payment_by e (v ∷ c ∷ x ∷ y ∷ ys) = None
+
+abbrev pub payment_of : Instance → Rec → Option Payment
+payment_of e r = payment_by e (fields r)
+
+-- whether two payments are of one voter for one project
+abbrev pub same_pair : Payment → Payment → Bool
+same_pair a b = (a.voter == b.voter) && (a.project == b.project)
+
+-- what the payments state for a voter and a project: 0 where they say nothing
+abbrev pub stated : List Payment → ℕ → ℕ → ℕ
+stated [] i j = 0
+stated (q ∷ qs) i j = if (q.voter == i) && (q.project == j) then q.numerator else stated qs i j
+
+-- of a voter, each project that it pays for, with the numerator
+abbrev pub above_0 : ℕ → ℕ → Option (ℕ × ℕ)
+above_0 j x = if nat_lt 0 x then Some (j, x) else None
+
+abbrev pub payments_stated : Instance → List Payment → ℕ → List (ℕ × ℕ)
+payments_stated e qs i = filter_map (λ j. above_0 j (stated qs i j)) (all_projects e)
+
+-- the records are the text of these prices
+pub record IsPriceText (recs : List Rec) (e : Instance) (p : Prices) : Type 0 where
+  pub head : Rec
+  pub denominator : Rec
+  pub budget : Rec
+  pub columns : Rec
+  pub rows : List Rec
+  pub payments : List Payment
+  pub cut : nonblank recs ≡ head ∷ denominator ∷ budget ∷ columns ∷ rows
+  pub text : AllByRecursion (λ r. IsTrue (is_text r)) (nonblank recs)
+  pub is_head : fields head ≡ codes "pb-prices" ∷ codes "1" ∷ []
+  pub is_denominator : StatesNumber (codes "denominator") 1 (10 ^ 9) denominator p.denominator
+  pub is_budget : StatesNumber (codes "voter_budget") 0 (10 ^ 21) budget p.budget
+  pub is_columns : fields columns ≡ codes "voter" ∷ codes "project" ∷ codes "payment" ∷ []
+  pub each_row : map (payment_of e) rows ≡ map Some payments
+  pub in_order : IsNonDecreasing (map (λ q. q.voter) payments)
+  pub once : IsDistinct same_pair payments
+  pub few : length rows ≤ 10000000
+  pub each_project : p.projects ≡ projects e
+  pub same_payments : p.payments ≡ map (payments_stated e payments) (all_voters e)

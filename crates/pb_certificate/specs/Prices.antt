@@ -1,0 +1,83 @@
+-- Price systems: a budget that is the same for all voters, and what each voter pays for each project.
+use Rattle.std.specs.Prelude.{◌≡◌, ◌<◌, ◌≤◌, ◌-◌, ◌^◌, ◌==◌, if◌then◌else◌, ℕ, ℤ, pos, ◌-ℤ◌, List, [], ◌∷◌, length, map, sum_by, slice_index_or, max, All}
+use Rattle.pb_money.specs.Grains.{cost_grains, payment_grains}
+use Rattle.pb_election.specs.Instance.{Instance, IsSet, all_projects, all_voters, cost_of, projects, voters}
+
+-- Amounts of a price system are fractions over one denominator D. The payments are kept by voter: of each
+-- voter the projects that it pays for, rising, each with the numerator, which is not 0.
+pub record Prices : Type 0 where
+  pub projects : ℕ  -- how many projects can be paid for
+  pub denominator : ℕ
+  pub budget : ℕ  -- the numerator of the budget of each voter
+  pub payments : List (List (ℕ × ℕ))
+
+-- the payments that a voter makes
+abbrev pub payments_of : Prices → ℕ → List (ℕ × ℕ)
+payments_of p i = slice_index_or p.payments (i - 1) []
+
+-- the numerator that a list of payments has for a project, and 0 where it has none
+abbrev pub numerator_in : List (ℕ × ℕ) → ℕ → ℕ
+numerator_in [] j = 0
+numerator_in (q ∷ qs) j = if q.0 == j then q.1 else numerator_in qs j
+
+-- the numerator that voter i pays for project j
+abbrev pub payment : Prices → ℕ → ℕ → ℕ
+payment p i j = numerator_in (payments_of p i) j
+
+-- what one voter pays is a map from projects to numerators above 0
+pub record IsPaymentMap (most_project : ℕ) (qs : List (ℕ × ℕ)) : Type 0 where
+  pub projects_rise : IsSet 1 most_project (map (λ q. q.0) qs)
+  pub none_zero : All (λ q. 0 < q.1) qs
+  pub none_large : All (λ q. q.1 ≤ 10 ^ 21) qs
+
+-- what holds of each price system, whatever the election
+pub record IsPriceSystem (p : Prices) : Type 0 where
+  pub denominator : (1 ≤ p.denominator) × (p.denominator ≤ 10 ^ 9)
+  pub budget : p.budget ≤ 10 ^ 21
+  pub maps : All (IsPaymentMap p.projects) p.payments
+  pub few : sum_by length p.payments ≤ 10000000
+
+-- the prices speak of as many voters and projects as the election has
+pub record Fits (p : Prices) (e : Instance) : Type 0 where
+  pub each_voter : length p.payments ≡ voters e
+  pub each_project : p.projects ≡ projects e
+
+-- the prices are those of a price system for this election
+pub record ArePrices (e : Instance) (p : Prices) : Type 0 where
+  pub system : IsPriceSystem p
+  pub fits : Fits p e
+
+-- Below, amounts are whole numbers of grains. A grain is 1 / (10^6 * D) of the currency.
+
+-- what a project costs
+abbrev pub cost : Instance → Prices → ℕ → ℕ
+cost e p c = cost_grains (cost_of e c) p.denominator
+
+-- the budget of each voter
+abbrev pub beta : Prices → ℕ
+beta p = payment_grains p.budget
+
+-- what voter i pays for project c
+abbrev pub pays : Prices → ℕ → ℕ → ℕ
+pays p i c = payment_grains (payment p i c)
+
+-- what a voter pays over all projects
+abbrev pub spent : Instance → Prices → ℕ → ℕ
+spent e p i = sum_by (λ c. pays p i c) (all_projects e)
+
+-- what all voters pay for a project
+abbrev pub paid : Instance → Prices → ℕ → ℕ
+paid e p c = sum_by (λ i. pays p i c) (all_voters e)
+
+-- what a voter has left of its budget, which is negative where it spent more
+abbrev pub left : Instance → Prices → ℕ → ℤ
+left e p i = pos (beta p) -ℤ pos (spent e p i)
+
+-- the largest value of f on a list, and 0 on the empty list
+abbrev pub largest_by : (ℕ → ℕ) → List ℕ → ℕ
+largest_by f [] = 0
+largest_by f (x ∷ xs) = max (f x) (largest_by f xs)
+
+-- the most that a voter pays for one project
+abbrev pub top : Instance → Prices → ℕ → ℕ
+top e p i = largest_by (λ c. pays p i c) (all_projects e)

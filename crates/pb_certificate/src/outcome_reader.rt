@@ -1,0 +1,34 @@
+//! Outcome files.
+ghost use Rattle.std.specs.Prelude.{◌≡◌, ◌⊎◌, Bool, List, IfOk, IfErr, MatchResult};
+ghost use Rattle.pb_election.specs.Outcome.{Fits, funds};
+ghost use Rattle.pb_certificate.specs.Faults.{Refuses, certificate_records, no_memory, outcome_form};
+ghost use Rattle.pb_certificate.specs.OutcomeText.{IsOutcomeText};
+
+use crate::CertRefusal;
+use crate::outcome_draft::OutcomeDraft;
+use pb_election::{Election, Outcome, take_all};
+use std::alloc::Global;
+
+/// The outcome that the bytes of an outcome file state for an election, or the first fault: the one at the least record,
+/// and of those there the one with the lowest number. Want of memory comes only where a growth was refused.
+pub fn read_outcome(
+    alloc: Global,
+    bytes: &[u8],
+    election: &Election,
+) -> Result<Outcome, CertRefusal>
+    ensures found { IfOk result (λ w. IsOutcomeText (certificate_records bytes.now) election.now w.marks) }
+    ensures funds { IfOk result (λ w. w ≡ funds w.marks election.now) }
+    ensures fits { IfOk result (λ w. Fits w election.now) }
+    ensures refused { IfErr result (λ r. (r ≡ no_memory) ⊎ Refuses (outcome_form election.now) bytes.now r) }
+
+    // Where the bytes state an outcome, that one is answered, memory aside.
+    ensures only { (marks : List Bool) → IsOutcomeText (certificate_records bytes.now) election.now marks → MatchResult result (λ w. w ≡ funds marks election.now) (λ r. r ≡ no_memory) }
+{
+    let Ok(mut draft) = OutcomeDraft::new(alloc, election) else {
+        return Err(CertRefusal::NO_MEMORY);
+    };
+    match take_all(alloc, bytes, b',', election, &mut draft) {
+        Ok(()) => Ok(Outcome::of(draft.into_marks(), election)),
+        Err(stop) => Err(CertRefusal::of(stop)),
+    }
+}

@@ -1,0 +1,45 @@
+//! The rows of a price certificate.
+ghost use Rattle.std.specs.Prelude.{◌≡◌, None, Some, MatchResult, IfOk};
+ghost use Rattle.csv.specs.Records.{fields_of};
+ghost use Rattle.pb_election.specs.Instance.{IsProject, IsVoter};
+ghost use Rattle.pb_certificate.specs.PriceText.{payment_of};
+ghost use Rattle.pb_certificate.specs.PriceRows.{as_payment, row_fault};
+
+use crate::CertFault;
+use crate::fields::{MOST_NUMERATOR, voter_in, whole_within, width};
+use csv::StringRecord;
+use pb_election::{Election, cell};
+
+/// A row: what a voter pays for a project.
+#[derive(Clone, Copy, Debug, PartialEq, Eq)]
+pub struct PriceRow {
+    /// The voter's number, from 1.
+    pub voter: u32,
+    /// The project's position, from 1.
+    pub project: u32,
+    /// The numerator of the payment, at most 10^21. It may be 0.
+    pub payment: u128,
+}
+
+/// The row that a record states, or why it states none, whatever rows stand before it.
+pub fn price_row(row: &StringRecord, election: &Election) -> Result<PriceRow, CertFault>
+    ensures row { MatchResult result (λ q. payment_of election.now (fields_of row.now) ≡ Some (as_payment q)) (λ f. row_fault election.now (fields_of row.now) ≡ Some f) }
+    ensures none { IfOk result (λ q. row_fault election.now (fields_of row.now) ≡ None) }
+    ensures voter { IfOk result (λ q. IsVoter election.now q.voter) }
+    ensures project { IfOk result (λ q. IsProject election.now q.project) }
+{
+    if width(row) != 3 {
+        return Err(CertFault::BadRow);
+    }
+    let voter = voter_in(cell(row, 0), election)?;
+    let payment = whole_within(0, MOST_NUMERATOR, cell(row, 2)).ok_or(CertFault::BadNumber)?;
+    let voter = voter.ok_or(CertFault::UnknownVoter)?;
+    let project = election
+        .find(cell(row, 1))
+        .ok_or(CertFault::UnknownProject)?;
+    Ok(PriceRow {
+        voter,
+        project,
+        payment,
+    })
+}

@@ -1,0 +1,142 @@
+//! Price systems.
+ghost use Rattle.std.specs.Prelude.{◌≡◌, ◌≤◌, ◌^◌, ◌↔◌, ◌⊎◌, IsTrue, IfOk, IfErr, MatchResult, length, map};
+ghost use Rattle.pb_certificate.specs.Faults.{Refuses, certificate_records, no_memory, price_form};
+ghost use Rattle.pb_certificate.specs.Prices as spec;
+ghost use Rattle.pb_certificate.specs.Prices.{ArePrices, Fits, IsPaymentMap, IsPriceSystem};
+ghost use Rattle.pb_certificate.specs.PriceText.{IsPriceText};
+
+use crate::CertRefusal;
+use crate::price_draft::PriceDraft;
+use pb_election::{Election, take_all};
+use std::alloc::Global;
+use std::marker::Model;
+
+/// A price system: a budget that is the same for all voters, and what each voter pays for each project. The amounts are
+/// numerators over one denominator.
+#[derive(Drop)]
+pub struct Prices {
+    projects: u32,
+    denominator: u32,
+    budget: u128,
+    payments: Vec<Vec<(u32, u128)>>,
+}
+
+impl Model for Prices {
+    ghost use Rattle.std.specs.Prelude.{map};
+    ghost use Rattle.pb_certificate.specs.Prices as spec;
+    ghost use Rattle.pb_certificate.specs.Prices.{IsPriceSystem};
+
+    ghost Value = { spec.Prices };
+
+    ghost view = { λ a. record {
+      projects = a.projects;
+      denominator = a.denominator;
+      budget = a.budget;
+      payments = map (λ v. v.items) a.payments.items;
+    } };
+
+    ghost invariant = { λ a. IsPriceSystem (record {
+      projects = a.projects;
+      denominator = a.denominator;
+      budget = a.budget;
+      payments = map (λ v. v.items) a.payments.items;
+    }) };
+}
+
+// The numerator of a project in a voter's payments, and 0 where it is not among them.
+fn numerator_in(payments: &[(u32, u128)], project: u32) -> u128
+    ensures { result ≡ spec.numerator_in payments.now project }
+{
+    for payment in payments {
+        if payment.0 == project {
+            return payment.1;
+        }
+    }
+    0
+}
+
+impl Prices {
+    /// The prices that the bytes of a price certificate state for an election, or the first fault: the one at the least
+    /// record, and of those there the one with the lowest number. Want of memory comes only where a growth was refused.
+    pub fn read(alloc: Global, bytes: &[u8], election: &Election) -> Result<Prices, CertRefusal>
+        ensures found { IfOk result (λ p. IsPriceText (certificate_records bytes.now) election.now p) }
+        ensures sound { IfOk result (λ p. ArePrices election.now p) }
+        ensures refused { IfErr result (λ r. (r ≡ no_memory) ⊎ Refuses (price_form election.now) bytes.now r) }
+
+        // Where the bytes state prices, those are answered, memory aside.
+        ensures only { (p : spec.Prices) → IsPriceText (certificate_records bytes.now) election.now p → MatchResult result (λ found. found ≡ p) (λ r. r ≡ no_memory) }
+    {
+        let Ok(mut draft) = PriceDraft::new(alloc, election) else {
+            return Err(CertRefusal::NO_MEMORY);
+        };
+        match take_all(alloc, bytes, b',', election, &mut draft) {
+            Ok(()) => Ok(draft.into_prices()),
+            Err(stop) => Err(CertRefusal::of(stop)),
+        }
+    }
+
+    // The prices of these parts. The payments are those of each voter, by rising project.
+    pub(crate) fn new(
+        projects: u32,
+        denominator: u32,
+        budget: u128,
+        payments: Vec<Vec<(u32, u128)>>,
+    ) -> Prices
+        requires { IsPriceSystem (record { projects = projects; denominator = denominator; budget = budget; payments = map (λ v. v.items) payments.items }) }
+        ensures { result ≡ record { projects = projects; denominator = denominator; budget = budget; payments = map (λ v. v.items) payments.items } }
+    {
+        Prices {
+            projects,
+            denominator,
+            budget,
+            payments,
+        }
+    }
+
+    /// The denominator of all amounts, from 1 to 10^9.
+    pub fn denominator(&self) -> u32
+        ensures value { result ≡ (self.now).denominator }
+        ensures low { 1 ≤ result }
+        ensures high { result ≤ 10 ^ 9 }
+    {
+        self.denominator
+    }
+
+    /// The numerator of the budget of each voter, at most 10^21.
+    pub fn budget(&self) -> u128
+        ensures value { result ≡ (self.now).budget }
+        ensures high { result ≤ 10 ^ 21 }
+    {
+        self.budget
+    }
+
+    /// The numerator of what voter i pays for project j, both from 1. It is 0 where the voter pays nothing, and at most
+    /// 10^21.
+    pub fn payment(&self, i: u32, j: u32) -> u128
+        requires low_voter { 1 ≤ i }
+        requires high_voter { i ≤ length (self.now).payments }
+        requires low_project { 1 ≤ j }
+        requires high_project { j ≤ (self.now).projects }
+        ensures value { result ≡ spec.payment self.now i j }
+        ensures high { result ≤ 10 ^ 21 }
+    {
+        numerator_in(self.payments_of(i), j)
+    }
+
+    /// What voter i, from 1, pays: the projects, rising, each with the numerator, which is not 0.
+    pub fn payments_of(&self, i: u32) -> &[(u32, u128)]
+        requires low { 1 ≤ i }
+        requires high { i ≤ length (self.now).payments }
+        ensures value { result.now ≡ spec.payments_of self.now i }
+        ensures map { IsPaymentMap (self.now).projects result.now }
+    {
+        &self.payments[i as usize - 1]
+    }
+
+    /// Whether these prices are for as many voters and projects as the election has.
+    pub fn fits(&self, election: &Election) -> bool
+        ensures { IsTrue result ↔ Fits self.now election.now }
+    {
+        self.payments.len() == election.voters() as usize && self.projects == election.projects()
+    }
+}

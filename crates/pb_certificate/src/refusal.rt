@@ -1,0 +1,96 @@
+//! Why a file is refused.
+ghost use Rattle.std.specs.Prelude.{◌≡◌};
+ghost use Rattle.pb_certificate.specs.Faults.{fault_name, fault_number, refusal_of};
+
+use pb_election::{FaultAt, Stop};
+
+/// Why a file is refused as a certificate or as an outcome file.
+#[derive(Clone, Copy, Debug, PartialEq, Eq)]
+pub enum CertFault {
+    /// A field of the record is not UTF-8.
+    NotUtf8,
+    /// A head record is missing, or has another name or another number of fields.
+    BadHead,
+    /// A row has another number of fields than three in a price certificate and two in the other files, or begins with a
+    /// word that is no kind of row in this file.
+    BadRow,
+    /// The denominator is not a whole number from 1 to 10^9, the voter budget or a payment none up to 10^21, or a voter
+    /// is not written in digits.
+    BadNumber,
+    /// A voter's number is 0, or more than the election has voters.
+    UnknownVoter,
+    /// An id is that of no project of the election.
+    UnknownProject,
+    /// A price row has a lower voter than the row before it.
+    OutOfOrder,
+    /// A pair of voter and project, a voter or a project stood before.
+    Repeated,
+    /// A price certificate has more than 10,000,000 rows.
+    TooMany,
+    /// Memory was wanted and a growth was refused.
+    Memory,
+}
+
+/// Why a file is refused, and at which record: they count from 1, blank ones too, and the place behind the last is the
+/// end. Want of memory has the place 0.
+#[derive(Clone, Copy, Debug, PartialEq, Eq)]
+pub struct CertRefusal {
+    /// Why it is refused.
+    pub fault: CertFault,
+    /// The record, from 1, or 0 for want of memory.
+    pub place: u64,
+}
+
+impl CertRefusal {
+    /// Want of memory.
+    pub(crate) const NO_MEMORY: CertRefusal = CertRefusal {
+        fault: CertFault::Memory,
+        place: 0,
+    };
+
+    /// The refusal of a file whose reading stopped.
+    pub(crate) fn of(stop: Stop<FaultAt<CertFault>>) -> CertRefusal
+        ensures { result ≡ refusal_of stop }
+    {
+        match stop {
+            Stop::Fault(FaultAt { fault, place }) => CertRefusal { fault, place },
+            Stop::Memory => CertRefusal::NO_MEMORY,
+        }
+    }
+
+    /// The number that stands for the fault in a report, from 20 to 29.
+    pub fn number(&self) -> u32
+        ensures { result ≡ fault_number (self.now).fault }
+    {
+        match self.fault {
+            CertFault::NotUtf8 => 20,
+            CertFault::BadHead => 21,
+            CertFault::BadRow => 22,
+            CertFault::BadNumber => 23,
+            CertFault::UnknownVoter => 24,
+            CertFault::UnknownProject => 25,
+            CertFault::OutOfOrder => 26,
+            CertFault::Repeated => 27,
+            CertFault::TooMany => 28,
+            CertFault::Memory => 29,
+        }
+    }
+
+    /// The name that stands for the fault in a report.
+    pub fn name(&self) -> &'static str
+        ensures { result.now ≡ fault_name (self.now).fault }
+    {
+        match self.fault {
+            CertFault::NotUtf8 => "NotUtf8",
+            CertFault::BadHead => "BadHead",
+            CertFault::BadRow => "BadRow",
+            CertFault::BadNumber => "BadNumber",
+            CertFault::UnknownVoter => "UnknownVoter",
+            CertFault::UnknownProject => "UnknownProject",
+            CertFault::OutOfOrder => "OutOfOrder",
+            CertFault::Repeated => "Repeated",
+            CertFault::TooMany => "TooMany",
+            CertFault::Memory => "Memory",
+        }
+    }
+}

@@ -1,0 +1,5 @@
+//! Certificates whose answers were worked out by hand.
+mod canonical;
+mod outcomes;
+mod prices;
+mod violations;

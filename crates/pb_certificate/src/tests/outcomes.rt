@@ -1,0 +1,45 @@
+//! Outcome files for three voters and the projects a, b and c.
+use crate::read_outcome;
+use pb_election::Election;
+use std::test::Fail;
+
+const SAMPLE: &[u8] =
+    b"META\nkey;value\ndescription;Sample\nnum_projects;3\nnum_votes;3\nbudget;10\nvote_type;approval\nPROJECTS\nproject_id;cost;name;selected\na;6;Park;1\nb;4;Library;1\nc;9;Pool;0\nVOTES\nvoter_id;vote\n1;a,b\n2;a\n3;b,c\n";
+
+#[test]
+fn reads_outcomes(rt: HostRuntime) -> Result<(), Fail> {
+    let election = Election::read(rt.alloc(), SAMPLE)?;
+    // As it should be, and with blanks, an empty line and an empty field at the end.
+    for text in [
+        "pb-outcome,1\nproject,b\nproject,a\n",
+        " pb-outcome,1 \n\n,\nproject,b,\nproject, a\n",
+    ] {
+        let outcome = read_outcome(rt.alloc(), text.as_bytes(), &election)?;
+        assert!(rt; outcome.fits(&election));
+        assert_eq!(rt; election.projects(), 3);
+        assert_eq!(rt;
+            [outcome.has(1), outcome.has(2), outcome.has(3)],
+            [true, true, false]
+        );
+        assert_eq!(rt; outcome.total(), 10_000_000);
+    }
+    Ok(())
+}
+
+#[test]
+fn refuses_outcomes(rt: HostRuntime) -> Result<(), Fail> {
+    let election = Election::read(rt.alloc(), SAMPLE)?;
+    let samples = [
+        ("", 21, 1),
+        ("pb-outcome,2\n", 21, 1),
+        ("pb-outcome,1\nvoter,1\n", 22, 2),
+        ("pb-outcome,1\nproject,d\n", 25, 2),
+        ("pb-outcome,1\nproject,a\nproject,a\n", 27, 3),
+    ];
+    for (text, number, place) in samples {
+        let found = read_outcome(rt.alloc(), text.as_bytes(), &election);
+        let refusal = found.err().map(|refusal| (refusal.number(), refusal.place));
+        assert_eq!(rt; refusal, Some((number, place)), "at {text}");
+    }
+    Ok(())
+}

@@ -1,0 +1,53 @@
+//! Violation certificates for four voters and the projects x1, x2 and y.
+use crate::Violation;
+use pb_election::Election;
+use std::test::Fail;
+
+const SAMPLE: &[u8] =
+    b"META\nkey;value\nbudget;8\nvote_type;approval\nPROJECTS\nproject_id;cost;selected\nx1;2;0\nx2;2;0\ny;8;1\nVOTES\nvoter_id;vote\n1;x1,x2\n2;x1,x2\n3;y\n4;y\n";
+
+#[test]
+fn reads_violations(rt: HostRuntime) -> Result<(), Fail> {
+    let election = Election::read(rt.alloc(), SAMPLE)?;
+    // As it should be, and in another order, with blanks, a leading zero and an empty field at the end.
+    for text in [
+        "pb-violation,1\nproject,x1\nproject,x2\nvoter,1\nvoter,2\n",
+        "pb-violation,1\nvoter,02\nproject,x2,\n\nvoter, 1\nproject,x1\n",
+    ] {
+        let violation = Violation::read(rt.alloc(), text.as_bytes(), &election)?;
+        assert!(rt; violation.fits(&election));
+        assert_eq!(rt; violation.group(), [1, 2].as_slice());
+        assert_eq!(rt; violation.demand(), [1, 2].as_slice());
+    }
+    Ok(())
+}
+
+#[test]
+fn refuses_violations(rt: HostRuntime) -> Result<(), Fail> {
+    let election = Election::read(rt.alloc(), SAMPLE)?;
+    let samples = [
+        ("pb-violation,2\n", 21, 1),
+        ("pb-violation,1\nproject,x1\nproject,x2\nvoter,5\n", 24, 4),
+        ("pb-violation,1\nproject,x1\nproject,x2\nvoter,0\n", 24, 4),
+        (
+            "pb-violation,1\nvoter,99999999999999999999999999999999999999999\n",
+            24,
+            2,
+        ),
+        ("pb-violation,1\nproject,x1\nproject,x2\nvoter,x\n", 23, 4),
+        ("pb-violation,1\nproject,x1\nproject,x2\nvoter,\n", 22, 4),
+        ("pb-violation,1\nproject,x1\nproject,x2\ngroup,1\n", 22, 4),
+        ("pb-violation,1\nproject,z\n", 25, 2),
+        (
+            "pb-violation,1\nproject,x1\nproject,x2\nvoter,1\nvoter,2\nvoter,1\n",
+            27,
+            6,
+        ),
+    ];
+    for (text, number, place) in samples {
+        let found = Violation::read(rt.alloc(), text.as_bytes(), &election);
+        let refusal = found.err().map(|refusal| (refusal.number(), refusal.place));
+        assert_eq!(rt; refusal, Some((number, place)), "at {text}");
+    }
+    Ok(())
+}

@@ -1,0 +1,105 @@
+//! Violation certificates.
+ghost use Rattle.std.specs.Prelude.{◌≡◌, ◌↔◌, ◌⊎◌, ℕ, List, IsTrue, IfOk, IfErr, MatchResult, length};
+ghost use Rattle.pb_election.specs.Instance.{IsSet, projects, voters};
+ghost use Rattle.pb_certificate.specs.Claim.{Fits};
+ghost use Rattle.pb_certificate.specs.Faults.{Refuses, certificate_records, no_memory, violation_form};
+ghost use Rattle.pb_certificate.specs.GroupText.{IsViolationText};
+ghost use Rattle.pb_certificate.specs.Marks.{marked};
+
+use crate::CertRefusal;
+use crate::marks::marked;
+use crate::violation_draft::ViolationDraft;
+use pb_election::{Election, take_all};
+use std::alloc::{AllocError, Global};
+use std::marker::Model;
+
+/// What a violation certificate claims: a group of voters, and the projects that it demands.
+#[derive(Drop)]
+pub struct Violation {
+    voters: u32,
+    projects: u32,
+    group: Vec<u32>,
+    demand: Vec<u32>,
+}
+
+impl Model for Violation {
+    ghost use Rattle.pb_certificate.specs.Claim.{Claim, IsClaim};
+
+    ghost Value = { Claim };
+
+    ghost view = { λ a. record { voters = a.voters; projects = a.projects; group = a.group.items; demand = a.demand.items } };
+
+    ghost invariant = { λ a. IsClaim (record { voters = a.voters; projects = a.projects; group = a.group.items; demand = a.demand.items }) };
+}
+
+impl Violation {
+    /// The group and the demand that the bytes of a violation certificate state for an election, or the first fault: the
+    /// one at the least record, and of those there the one with the lowest number. Want of memory comes only where a
+    /// growth was refused.
+    pub fn read(alloc: Global, bytes: &[u8], election: &Election) -> Result<Violation, CertRefusal>
+        ensures found { IfOk result (λ v. IsViolationText (certificate_records bytes.now) election.now v.group v.demand) }
+        ensures fits { IfOk result (λ v. Fits v election.now) }
+        ensures refused { IfErr result (λ r. (r ≡ no_memory) ⊎ Refuses (violation_form election.now) bytes.now r) }
+
+        // Where the bytes state a group and a demand, those are answered, memory aside.
+        ensures only { (s t : List ℕ) → IsViolationText (certificate_records bytes.now) election.now s t → MatchResult result (λ v. (v.group ≡ s) × (v.demand ≡ t)) (λ r. r ≡ no_memory) }
+    {
+        let Ok(mut draft) = ViolationDraft::new(alloc, election) else {
+            return Err(CertRefusal::NO_MEMORY);
+        };
+        if let Err(stop) = take_all(alloc, bytes, b',', election, &mut draft) {
+            return Err(CertRefusal::of(stop));
+        }
+        match Violation::of(alloc, &draft, election) {
+            Ok(violation) => Ok(violation),
+            Err(_) => Err(CertRefusal::NO_MEMORY),
+        }
+    }
+
+    // The violation that the rows state which a draft has taken.
+    fn of(
+        alloc: Global,
+        draft: &ViolationDraft,
+        election: &Election,
+    ) -> Result<Violation, AllocError>
+        requires group { length draft.now.group.items ≡ voters election.now }
+        requires demand { length draft.now.demand.items ≡ projects election.now }
+        ensures group { IfOk result (λ v. v.group ≡ marked draft.now.group.items) }
+        ensures demand { IfOk result (λ v. v.demand ≡ marked draft.now.demand.items) }
+        ensures fits { IfOk result (λ v. Fits v election.now) }
+    {
+        let voters = election.voters();
+        let projects = election.projects();
+        let group = marked(alloc, &draft.group)?;
+        let demand = marked(alloc, &draft.demand)?;
+        Ok(Violation {
+            voters,
+            projects,
+            group,
+            demand,
+        })
+    }
+
+    /// The voters of the group, rising, from 1.
+    pub fn group(&self) -> &[u32]
+        ensures value { result.now ≡ (self.now).group }
+        ensures rising { IsSet 1 (self.now).voters result.now }
+    {
+        &self.group
+    }
+
+    /// The projects that are demanded, rising, from 1.
+    pub fn demand(&self) -> &[u32]
+        ensures value { result.now ≡ (self.now).demand }
+        ensures rising { IsSet 1 (self.now).projects result.now }
+    {
+        &self.demand
+    }
+
+    /// Whether this is a claim on as many voters and projects as the election has.
+    pub fn fits(&self, election: &Election) -> bool
+        ensures { IsTrue result ↔ Fits self.now election.now }
+    {
+        self.voters == election.voters() && self.projects == election.projects()
+    }
+}
