@@ -1,0 +1,13 @@
+pub mod Sums
+pub mod Sets
+pub mod Amounts
+pub mod Plain
+pub mod Stable
+pub mod Reaches
+pub mod Justified
+pub mod Culprits
+pub mod Verdicts
+pub mod Ballots
+pub mod Totals
+pub mod Firsts
+pub mod Loops

@@ -1,0 +1,33 @@
+use Rattle.std.proofs.Common.{◌≡◌, ◌<◌, ℕ, Bool, List, true, false, get_or, filter, sym, ◌∙◌, ap, subst, arith}
+use Rattle.std.specs.Prelude.{nat_le}
+use Rattle.std.proofs.lemmas.Bool.{le-leb, lt-leb}
+use Rattle.pb_election.specs.Instance.{Instance, IsSet, ballot_of, projects, voters}
+use Rattle.pb_election.specs.Outcome.{has}
+use Rattle.pb_cohesion.specs.Groups.{gets, sat}
+use Rattle.pb_cohesion.proofs.Ballots.{gets-ballot}
+use Rattle.pb_cohesion.proofs.Firsts.{filter-first, filter-more}
+use Rattle.pb_cohesion.proofs.Loops.{set-at}
+use Rattle.pb_cohesion.proofs.violations.first_satisfied.Goals as goal
+
+-- what the funded projects of a ballot are worth is what its voter gets
+worth-is : (worth : ℕ → ℕ) (e : Instance) (w : List Bool) (i : ℕ) (b : List ℕ) (n : ℕ) → b ≡ ballot_of e i → IsSet 1 (projects e) b → n ≡ sat worth (filter (has w) b) → n ≡ sat worth (gets e w i)
+worth-is worth e w i b n is rises worth_is =
+    let set : IsSet 1 (projects e) (ballot_of e i) = subst (λ xs. IsSet 1 (projects e) xs) is rises in
+    worth_is ∙ ap (λ xs. sat worth (filter (has w) xs)) is ∙ ap (sat worth) (sym (gets-ballot e w i set))
+
+pub ballot-requires : goal.ballot-requires
+ballot-requires g c = set-at 1 (voters c.args.election.now) c.args.group.now c.loop-i.i-index c.requires.group c.loop-i-test.true
+
+pub returns-then-demanded-worth_of_funded : goal.returns-then-demanded-worth_of_funded
+returns-then-demanded-worth_of_funded g c =
+    let is = worth-is (g.S.Satisfaction.meaning c.args.satisfaction.now c.args.election.now) c.args.election.now c.args.outcome.now.marks (get_or c.args.group.now c.loop-i.i-index 0) c.ballot.result.now c.worth_of_funded.result c.ballot.ensures.value c.ballot.ensures.rising c.worth_of_funded.ensures.value in
+    let enough : nat_le c.args.demanded (sat (g.S.Satisfaction.meaning c.args.satisfaction.now c.args.election.now) (gets c.args.election.now c.args.outcome.now.marks (get_or c.args.group.now c.loop-i.i-index 0))) ≡ true
+    = ap (nat_le c.args.demanded) (sym is) ∙ le-leb _ _ c.if-demanded-worth_of_funded.true in
+    sym (filter-first (λ (i : ℕ). nat_le c.args.demanded (sat (g.S.Satisfaction.meaning c.args.satisfaction.now c.args.election.now) (gets c.args.election.now c.args.outcome.now.marks i))) c.args.group.now c.loop-i.i-index c.loop-i.invariant c.loop-i-test.true enough)
+
+pub loop-i-preserved : goal.loop-i-preserved
+loop-i-preserved g c =
+    let is = worth-is (g.S.Satisfaction.meaning c.args.satisfaction.now c.args.election.now) c.args.election.now c.args.outcome.now.marks (get_or c.args.group.now c.loop-i.i-index 0) c.ballot.result.now c.worth_of_funded.result c.ballot.ensures.value c.ballot.ensures.rising c.worth_of_funded.ensures.value in
+    let less : nat_le c.args.demanded (sat (g.S.Satisfaction.meaning c.args.satisfaction.now c.args.election.now) (gets c.args.election.now c.args.outcome.now.marks (get_or c.args.group.now c.loop-i.i-index 0))) ≡ false
+    = ap (nat_le c.args.demanded) (sym is) ∙ lt-leb _ _ c.if-demanded-worth_of_funded.false in
+    filter-more (λ (i : ℕ). nat_le c.args.demanded (sat (g.S.Satisfaction.meaning c.args.satisfaction.now c.args.election.now) (gets c.args.election.now c.args.outcome.now.marks i))) c.args.group.now c.loop-i.i-index c.loop-i.invariant c.loop-i-test.true less

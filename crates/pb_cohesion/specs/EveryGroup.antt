@@ -1,0 +1,28 @@
+-- What the conditions promise of every group of voters.
+use Rattle.std.specs.Prelude.{◌≤◌, ◌*◌, ◌+◌, ℕ, pos, ◌≤ℤ◌, ◌<ℤ◌, Bool, List, length, sum_by}
+use Rattle.pb_election.specs.Instance.{Instance, supporters}
+use Rattle.pb_certificate.specs.Prices.{Prices, beta, cost, left}
+use Rattle.pb_cohesion.specs.Conditions.{sum_ℤ}
+use Rattle.pb_cohesion.specs.Groups.{Blocks, IsGroupWithin, reach}
+use Rattle.pb_cohesion.specs.Outcome.{IsUnfunded}
+
+-- no group of supporters of an unfunded project has more left than it costs
+abbrev pub NoGroupHasMoreLeft : Instance → List Bool → Prices → Type 0
+NoGroupHasMoreLeft e w p = (s : List ℕ) (c : ℕ) → IsUnfunded e w c → IsGroupWithin e s c → sum_ℤ (left e p) s ≤ℤ pos (cost e p c)
+
+-- the supporters of project c are a group that has more left than it costs
+abbrev pub SupportersHaveMoreLeft : Instance → Prices → ℕ → Type 0
+SupportersHaveMoreLeft e p c = IsGroupWithin e (supporters e c) c × (pos (cost e p c) <ℤ sum_ℤ (left e p) (supporters e c))
+
+-- no group blocks for any project, whatever its members offer
+abbrev pub NothingBlocks : Instance → List Bool → Prices → Type 0
+NothingBlocks e w p = (s : List ℕ) (c : ℕ) (x : ℕ → ℕ) → Blocks e w p s c x → ⊥
+
+-- the supporters of project c have offers by which they block for it
+abbrev pub SupportersBlock : Instance → List Bool → Prices → ℕ → Type 0
+SupportersBlock e w p c = (x : ℕ → ℕ) × Blocks e w p (supporters e c) c x
+
+-- the budgets of a group of supporters of an unfunded project come to at most its cost and that of the group's reach
+abbrev pub BudgetsAreWithinReach : Instance → List Bool → Prices → Type 0
+BudgetsAreWithinReach e w p = (s : List ℕ) (c : ℕ) → IsUnfunded e w c → IsGroupWithin e s c
+    → length s * beta p ≤ cost e p c + sum_by (cost e p) (reach e w s)

@@ -1,0 +1,5 @@
+pub mod Outcome
+pub mod Conditions
+pub mod Groups
+pub mod EveryGroup
+pub mod FirstV

@@ -1,0 +1,79 @@
+//! Laws on groups of voters, whatever the election, the outcome and the prices are.
+
+ghost use Rattle.std.specs.Prelude.{◌≡◌, ◌≢◌, ◌+◌, ◌*◌, ◌<◌, ◌≤◌, ◌⊎◌, ◌↔◌, ◌≤ℤ◌, ◌<ℤ◌, [], ℕ, pos, All, Any, Bool, Contains, List, filter, length, sum_by, None};
+ghost use Rattle.pb_election.specs.Instance.{Approves, Instance, all_projects, all_voters, supporters};
+ghost use Rattle.pb_election.specs.Outcome.{Fits, funds};
+ghost use Rattle.pb_election.specs.Text.{IsElection};
+ghost use Rattle.pb_certificate.specs.Prices.{Prices, beta, cost, left, paid, spent};
+ghost use Rattle.pb_cohesion.specs.Conditions.{C1, C2, C3, C4, C5, Exhaustive, S5, culprits_of_C1, culprits_of_C2, culprits_of_C3, culprits_of_C4, culprits_of_C5, culprits_of_Exhaustive, culprits_of_S5, most_of, sum_ℤ};
+ghost use Rattle.pb_cohesion.specs.EveryGroup.{BudgetsAreWithinReach, NoGroupHasMoreLeft, NothingBlocks, SupportersBlock, SupportersHaveMoreLeft};
+ghost use Rattle.pb_cohesion.specs.FirstV.{FirstV};
+ghost use Rattle.pb_cohesion.specs.Groups.{AreProjects, Blocks, IsGroup, IsGroupWithin, Offer, Violates, gets, reach};
+ghost use Rattle.pb_cohesion.specs.Outcome.{IsUnfunded, total};
+
+/// The total of an outcome for an election is what its funded projects cost.
+pub fn outcomes_cost_their_projects()
+    ensures { (e : Instance) (w : List Bool) → IsElection e → Fits (funds w e) e → (funds w e).total ≡ total e w }
+{}
+
+/// The sum over a part of a list is at most the sum over the list.
+pub fn parts_sum_to_less()
+    ensures { (f : ℕ → ℕ) (test : ℕ → Bool) (xs : List ℕ) → sum_by f (filter test xs) ≤ sum_by f xs }
+{}
+
+/// What a voter offers is at most the larger of its largest payment and what it has left.
+pub fn offers_are_limited()
+    ensures { (e : Instance) (w : List Bool) (p : Prices) (i x : ℕ) → Offer e w p i x → pos x ≤ℤ most_of e p i }
+{}
+
+/// The sum over voters of sums over projects is the sum over projects of sums over voters.
+pub fn double_sums_exchange()
+    ensures sums { (f : ℕ → ℕ → ℕ) (voters projects : List ℕ) → sum_by (λ i. sum_by (λ c. f i c) projects) voters ≡ sum_by (λ c. sum_by (λ i. f i c) voters) projects }
+    // What all voters spend is what is paid for all projects.
+    ensures payments { (e : Instance) (p : Prices) → sum_by (spent e p) (all_voters e) ≡ sum_by (paid e p) (all_projects e) }
+{}
+
+/// Under the plain form no group of supporters of an unfunded project has more left than it costs.
+pub fn no_group_has_more_left()
+    ensures every_group { (e : Instance) (w : List Bool) (p : Prices) → C2 e p → C5 e w p → NoGroupHasMoreLeft e w p }
+    // At a culprit the supporters together have more.
+    ensures at_culprit { (e : Instance) (w : List Bool) (p : Prices) (c : ℕ) → Contains (culprits_of_C5 e w p) c → SupportersHaveMoreLeft e p c }
+{}
+
+/// The stable form holds exactly where no group blocks.
+pub fn stable_where_nothing_blocks()
+    ensures exactly { (e : Instance) (w : List Bool) (p : Prices) → C1 e p → C2 e p → C3 e w p → C4 e w p
+        → S5 e w p ↔ NothingBlocks e w p }
+    // At a culprit the supporters together block.
+    ensures at_culprit { (e : Instance) (w : List Bool) (p : Prices) (c : ℕ) → C1 e p → C2 e p → C3 e w p → C4 e w p
+        → Contains (culprits_of_S5 e w p) c → SupportersBlock e w p c }
+{}
+
+/// The budgets of a group of supporters of an unfunded project come to at most its cost and that of the group's reach.
+pub fn budgets_within_reach()
+    ensures { (e : Instance) (w : List Bool) (p : Prices) → C1 e p → C2 e p → C3 e w p → C4 e w p → C5 e w p ⊎ S5 e w p → BudgetsAreWithinReach e w p }
+{}
+
+/// Stable prices are fair: where the budgets of a group come to more than what a set of projects costs, and all
+/// members approve the set, some member approves at least as many funded projects.
+pub fn stable_prices_are_fair()
+    ensures { (e : Instance) (w : List Bool) (p : Prices) (s t : List ℕ) → C1 e p → C2 e p → C3 e w p → C4 e w p → S5 e w p
+        → IsGroup e s → s ≢ [] → AreProjects e t → All (λ i. All (λ j. Approves e i j) t) s
+        → sum_by (cost e p) t < length s * beta p → Any (λ i. length t ≤ length (gets e w i)) s }
+{}
+
+/// Each condition holds exactly where it has no culprit.
+pub fn conditions_have_culprits()
+    ensures exhaustive { (e : Instance) (w : List Bool) → (culprits_of_Exhaustive e w ≡ []) ↔ Exhaustive e w }
+    ensures c1 { (e : Instance) (p : Prices) → (culprits_of_C1 e p ≡ []) ↔ C1 e p }
+    ensures c2 { (e : Instance) (p : Prices) → (culprits_of_C2 e p ≡ []) ↔ C2 e p }
+    ensures c3 { (e : Instance) (w : List Bool) (p : Prices) → (culprits_of_C3 e w p ≡ []) ↔ C3 e w p }
+    ensures c4 { (e : Instance) (w : List Bool) (p : Prices) → (culprits_of_C4 e w p ≡ []) ↔ C4 e w p }
+    ensures c5 { (e : Instance) (w : List Bool) (p : Prices) → (culprits_of_C5 e w p ≡ []) ↔ C5 e w p }
+    ensures s5 { (e : Instance) (w : List Bool) (p : Prices) → (culprits_of_S5 e w p ≡ []) ↔ S5 e w p }
+{}
+
+/// A group and its demand are a violation exactly where no test fails, whatever each project is worth.
+pub fn violation_where_no_test_fails()
+    ensures { (worth : ℕ → ℕ) (e : Instance) (w : List Bool) (s t : List ℕ) → (FirstV worth e w s t ≡ None) ↔ Violates worth e w s t }
+{}

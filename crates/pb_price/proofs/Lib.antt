@@ -1,0 +1,6 @@
+pub mod Verdicts
+pub mod Groups
+pub mod Payments
+pub mod Parts
+pub mod Culprits
+pub mod Left

@@ -1,0 +1,10 @@
+use Rattle.std.proofs.Common.{ℕ, ◌≡◌, ◌≤◌, ◌-◌, ◌*◌, ◌^◌, filter}
+use Rattle.std.specs.Prelude.{sum_by}
+use Rattle.std.specs.List.{range_with_len}
+use Rattle.pb_election.specs.Instance.{approves, voters}
+use Rattle.pb_cohesion.proofs.Stable.{most_ℕ}
+use Rattle.pb_price.proofs.amounts.offers_of_supporters.Given as goal
+
+abbrev pub invariant-loop-i : goal.invariant-loop-i
+invariant-loop-i l =
+    (l.offers ≡ sum_by (most_ℕ l.election l.prices) (filter (λ (i : ℕ). approves l.election i l.j) (range_with_len 1 (l.i - 1)))) × (l.offers ≤ (l.i - 1) * 10 ^ 27) × (l.i - 1 ≤ voters l.election)
