@@ -13,7 +13,7 @@ use Rattle.clap.specs.Faults.{check_fault, defaults_fault, entered_fault, fault_
 use Rattle.clap.specs.Walk.{Held, Names, Outcome, Row, Rule, Step, Text, Waiting, Walk, after_flag, after_step, answers_to, arg_by_index, arg_by_long, bundle, done, first_of, long_met, long_or_other, next, nothing_held, option, plain_word, rows_after, settled, short_or_plain, subcommand, subcommand_met, subcommand_or_other, to_positional, trailing, value, waits, walk, walk_from, walked, walked_from, word_met}
 use Rattle.pb_audit.specs.Commands.{pbaudit}
 use Rattle.pb_audit.proofs.Written.{commands_written}
-use Rattle.pb_audit.specs.Tasks.{TaskOf, asked_by, asked_in}
+use Rattle.pb_audit.specs.Tasks.{Asked, TaskOf, asked_by, asked_in, from_both}
 use Rattle.pb_audit.proofs.Places.{IsFull, IsPlaced, found_row_full, level_full}
 
 or_else_none : (a b : Kinds) → or_else a b ≡ [] → (a ≡ []) × (b ≡ [])
@@ -149,9 +149,19 @@ map_some : {X Y : Type 0} (f : X → Y) (o : Option X) → is_some o ≡ true �
 map_some f None e = cc
 map_some f (Some x) e = refl
 
+both_some : (f : Text → Text → Asked) (a b : Option Text) → is_some a ≡ true → is_some b ≡ true → is_some (from_both f a b) ≡ true
+both_some f None b ea eb = cc
+both_some f (Some x) None ea eb = cc
+both_some f (Some x) (Some y) ea eb = refl
+
 one_given : (a : Bool) → (not a || false) ≡ false → a ≡ true
 one_given true e = refl
 one_given false e = cc
+
+two_given : (a b : Bool) → (not a || (not b || false)) ≡ false → (a ≡ true) × (b ≡ true)
+two_given true true e = (refl, refl)
+two_given true false e = cc
+two_given false b e = cc
 
 sub_of : Text → Shape
 sub_of name = unwrap_or (find (λ s. bytes_eq s.name name) (built pbaudit).subs) help_shape
@@ -163,6 +173,35 @@ read_asks n met other rest e =
     let rows = rows_after s.rules [] rest in
     let given = one_given (is_given (codes "election") rows) (last_passes false false _ (level_check s [] rest e)) in
     map_some _ (first_of (codes "election") rows) (given_first (codes "election") s rest refl given)
+
+-- a command of two paths
+pair_asks : (make : Text → Text → Asked) (s : Shape) (rest : List Text) → IsPlaced (codes "election") s.rules → IsPlaced (codes "certificate") s.rules
+    → let rows = rows_after s.rules [] rest in
+    (not (is_given (codes "election") rows) || (not (is_given (codes "certificate") rows) || false)) ≡ false
+    → is_some (from_both make (first_of (codes "election") rows) (first_of (codes "certificate") rows)) ≡ true
+pair_asks make s rest election certificate e =
+    let rows = rows_after s.rules [] rest in
+    let given = two_given (is_given (codes "election") rows) (is_given (codes "certificate") rows) e in
+    both_some make (first_of (codes "election") rows) (first_of (codes "certificate") rows)
+    (given_first (codes "election") s rest election given.0) (given_first (codes "certificate") s rest certificate given.1)
+
+prices_asks : AsksByName (sub_of (codes "prices"))
+unfolding sub_of commands_written
+prices_asks n met other rest e =
+    let s = sub_of (codes "prices") in
+    pair_asks _ s rest refl refl (last_passes false false _ (level_check s [] rest e))
+
+violation_asks : AsksByName (sub_of (codes "violation"))
+unfolding sub_of commands_written
+violation_asks n met other rest e =
+    let s = sub_of (codes "violation") in
+    pair_asks _ s rest refl refl (last_passes false false _ (level_check s [] rest e))
+
+tidy_asks : AsksByName (sub_of (codes "tidy"))
+unfolding sub_of commands_written
+tidy_asks n met other rest e =
+    let s = sub_of (codes "tidy") in
+    pair_asks _ s rest refl refl (last_passes false false _ (level_check s [] rest e))
 
 or_no : (a : Bool) → (a || false) ≡ true → a ≡ true
 or_no true e = refl
@@ -177,7 +216,7 @@ help_asks n met other rest e =
 
 all_ask : AllAsk (built pbaudit).subs
 unfolding sub_of commands_written
-all_ask = (read_asks, (help_asks, tt))
+all_ask = (read_asks, (prices_asks, (violation_asks, (tidy_asks, (help_asks, tt)))))
 
 stop_asks : (o : Option (Text × List Text)) → IsNotHelp o → entered_fault (built pbaudit) o ≡ [] → is_some (asked_in (entered (built pbaudit) o)) ≡ true
 unfolding asked_in

@@ -1,11 +1,11 @@
 -- The definitions at words that are written out.
-use Rattle.std.proofs.Common.{◌≡◌, refl, true, List, [], ◌∷◌, Some, None, codes}
+use Rattle.std.proofs.Common.{◌≡◌, refl, false, true, List, [], ◌∷◌, Some, None, codes}
 use Rattle.clap.specs.Words.{Text, fault_of, takes}
 use Rattle.clap.specs.declared.error.kind.ErrorKind.TheVariants as kind
 use Rattle.clap.proofs.OnLiterals.{clap_on_literals}
 use Rattle.pb_audit.specs.Commands.{pbaudit}
 use Rattle.pb_audit.proofs.Written.{commands_written}
-use Rattle.pb_audit.specs.Tasks.{TaskOf, asked_in, read}
+use Rattle.pb_audit.specs.Tasks.{TaskOf, asked_in, prices, read, tidy, violation}
 
 bare_task : TaskOf (codes "pbaudit" ∷ []) ≡ Some (read None)
 unfolding clap_on_literals commands_written asked_in
@@ -25,6 +25,50 @@ read_task = refl
 read_taken : takes pbaudit read_words ≡ true
 unfolding clap_on_literals commands_written
 read_taken = refl
+
+abbrev stable_words : List Text
+stable_words = codes "pbaudit" ∷ codes "prices" ∷ codes "e.pb" ∷ codes "c.csv" ∷ codes "--stable" ∷ []
+
+stable_task : TaskOf stable_words ≡ Some (prices (codes "e.pb") (codes "c.csv") None (record { stable = true; exhaustive = true }))
+unfolding clap_on_literals commands_written asked_in
+stable_task = refl
+
+stable_taken : takes pbaudit stable_words ≡ true
+unfolding clap_on_literals commands_written
+stable_taken = refl
+
+abbrev outcome_words : List Text
+outcome_words = codes "pbaudit" ∷ codes "prices" ∷ codes "e.pb" ∷ codes "c.csv" ∷ codes "--outcome" ∷ codes "o.csv" ∷ codes "--no-exhaustive" ∷ []
+
+outcome_task : TaskOf outcome_words ≡ Some (prices (codes "e.pb") (codes "c.csv") (Some (codes "o.csv")) (record { stable = false; exhaustive = false }))
+unfolding clap_on_literals commands_written asked_in
+outcome_task = refl
+
+one_path : fault_of pbaudit (codes "pbaudit" ∷ codes "prices" ∷ codes "e.pb" ∷ []) ≡ kind.MissingRequiredArgument ∷ []
+unfolding clap_on_literals commands_written
+one_path = refl
+
+abbrev violation_words : List Text
+violation_words = codes "pbaudit" ∷ codes "violation" ∷ codes "e.pb" ∷ codes "v.csv" ∷ codes "--outcome" ∷ codes "o.csv" ∷ []
+
+violation_task : TaskOf violation_words ≡ Some (violation (codes "e.pb") (codes "v.csv") (Some (codes "o.csv")))
+unfolding clap_on_literals commands_written asked_in
+violation_task = refl
+
+violation_taken : takes pbaudit violation_words ≡ true
+unfolding clap_on_literals commands_written
+violation_taken = refl
+
+abbrev tidy_words : List Text
+tidy_words = codes "pbaudit" ∷ codes "tidy" ∷ codes "e.pb" ∷ codes "c.csv" ∷ []
+
+tidy_task : TaskOf tidy_words ≡ Some (tidy (codes "e.pb") (codes "c.csv"))
+unfolding clap_on_literals commands_written asked_in
+tidy_task = refl
+
+tidy_taken : takes pbaudit tidy_words ≡ true
+unfolding clap_on_literals commands_written
+tidy_taken = refl
 
 no_path : fault_of pbaudit (codes "pbaudit" ∷ codes "read" ∷ []) ≡ kind.MissingRequiredArgument ∷ []
 unfolding clap_on_literals commands_written

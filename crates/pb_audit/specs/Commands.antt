@@ -1,7 +1,8 @@
 -- The table of commands, as a simple command of clap.
-use Rattle.std.specs.Prelude.{◌≡◌, false, true, List, [], ◌∷◌, codes, fold}
+use Rattle.std.specs.Prelude.{◌≡◌, false, true, List, [], ◌∷◌, Some, codes, fold}
 use Rattle.clap.specs.Words.{App, Rule, Text, app_of, new_app, new_rule}
 use Rattle.clap.specs.Words.{with_rule, with_subcommand}
+use Rattle.clap.specs.declared.builder.action.ArgAction.TheVariants.{SetTrue}
 use Rattle.clap.specs.declared.builder.command.Command.{Command}
 use Rattle.clap.specs.declared.builder.command.Command.TheViews.{out-Command}
 
@@ -12,6 +13,14 @@ IsCommand app c = (app_of c ≡ app) × ((out-Command c).has_globals ≡ false)
 -- a path that the command needs
 abbrev pub path_rule : Text → Rule
 path_rule id = record (new_rule id) { value_names = 1; required = true }
+
+-- a switch, `--name`
+abbrev pub switch_rule : Text → Rule
+switch_rule name = record (new_rule name) { long = Some name; action = Some SetTrue }
+
+-- `--outcome FILE`
+abbrev pub outcome_rule : Rule
+outcome_rule = record (new_rule (codes "outcome")) { long = Some (codes "outcome"); value_names = 1 }
 
 abbrev pub command_of : Text → List Rule → App
 command_of name rules = fold with_rule (new_app name) rules
@@ -24,7 +33,21 @@ with_version a = record a { top = record a.top { has_version = true } }
 unfoldable pub read_app : App
 read_app = command_of (codes "read") (path_rule (codes "election") ∷ [])
 
+-- `prices ELECTION CERTIFICATE [--stable] [--no-exhaustive] [--outcome FILE]`
+unfoldable pub prices_app : App
+prices_app = command_of (codes "prices") (path_rule (codes "election") ∷ path_rule (codes "certificate")
+    ∷ switch_rule (codes "stable") ∷ switch_rule (codes "no-exhaustive") ∷ outcome_rule ∷ [])
+
+-- `violation ELECTION CERTIFICATE [--outcome FILE]`
+unfoldable pub violation_app : App
+violation_app = command_of (codes "violation")
+    (path_rule (codes "election") ∷ path_rule (codes "certificate") ∷ outcome_rule ∷ [])
+
+-- `tidy ELECTION CERTIFICATE`
+unfoldable pub tidy_app : App
+tidy_app = command_of (codes "tidy") (path_rule (codes "election") ∷ path_rule (codes "certificate") ∷ [])
+
 -- `pbaudit`, with its commands
 unfoldable pub pbaudit : App
 pbaudit = fold (λ a (s : App). with_subcommand a s.top) (with_version (new_app (codes "pbaudit")))
-    (read_app ∷ [])
+    (read_app ∷ prices_app ∷ violation_app ∷ tidy_app ∷ [])

@@ -1,13 +1,11 @@
 //! Answers, and how they are written.
 ghost use Rattle.std.specs.Prelude.{◌≡◌, OnErr, IfErr, IfOk, OnOk, Some};
 ghost use Rattle.std.specs.Io.KnownBytes.{Appends};
-ghost use Rattle.pb_audit.specs.Answers.{answer_of, refused};
 ghost use Rattle.pb_audit.specs.Answers as spec;
-ghost use Rattle.pb_audit.specs.Inputs.{refusal_of};
 ghost use Rattle.pb_election.specs.Loading.{AppendsFront, Rises};
 ghost use Rattle.pb_audit.specs.declared.status.Fault.TheVariants.{Write};
 
-use crate::input::{InputFault, InputName, Stop};
+use crate::input::Stop;
 use crate::lines::{push_line, refusal_line};
 use crate::{Fault, Status};
 use pb_election::{Sink, put};
@@ -49,16 +47,19 @@ pub(crate) fn settled(alloc: Global, work: Result<Answer, Stop>) -> Result<Answe
 {
     match work {
         Ok(answer) => Ok(answer),
-        Err(Stop::Refused { input, fault }) => refused_answer(alloc, input, &fault),
-        Err(Stop::Memory) => Err(AllocError {}),
+        Err(stop) => stopped(alloc, &stop),
     }
 }
 
-fn refused_answer(alloc: Global, input: InputName, fault: &InputFault) -> Result<Answer, AllocError>
-    ensures { IfOk result (λ answer. answer ≡ answer_of (refused (refusal_of input fault.now))) }
+/// The line of the input that was refused.
+pub(crate) fn stopped(alloc: Global, stop: &Stop) -> Result<Answer, AllocError>
+    ensures { IfOk result (λ answer. spec.stopped stop.now ≡ Some answer) }
 {
+    let Stop::Refused { input, fault } = stop else {
+        return Err(AllocError {});
+    };
     let mut text = Vec::new(alloc);
-    push_line(&mut text, &refusal_line(alloc, input, fault)?)?;
+    push_line(&mut text, &refusal_line(alloc, *input, fault)?)?;
     Ok(Answer {
         text,
         status: Status::Refused,

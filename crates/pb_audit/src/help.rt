@@ -8,14 +8,18 @@ it waits for one: type or paste it, and end it with Ctrl-D on a line of its own.
 A path that begins with '-' needs '--' before it: pbaudit read -- -town.pb
 
 Exit statuses:
-  0  read: the file is an election
+  0  yes: the answer is yes, or what was asked for is printed
+  1  no: a condition or a test failed; the first that failed is printed
   2  refused: a file is not what it has to be; the first thing wrong is printed
   3  usage: the words of the command line were not understood
   4  fault: memory ran out, or the answer could not be written
 
 Examples:
   pbaudit read town.pb
-  pbaudit < town.pb";
+  pbaudit < town.pb
+  pbaudit prices town.pb prices.csv --stable
+  pbaudit violation town.pb violation.csv
+  pbaudit tidy town.pb prices.csv > canonical.csv";
 
 /// What `read` prints.
 pub(crate) const READ_NOTES: &str = "\
@@ -32,3 +36,93 @@ Exit statuses: 0 read, 2 refused, 3 usage, 4 fault.
 
 Example:
   pbaudit read town.pb";
+
+/// What `prices` checks.
+pub(crate) const PRICES_NOTES: &str = "\
+A price certificate gives every voter the same budget and says what each voter
+pays for each project; 'pbaudit tidy --help' shows its form. It supports the
+outcome where these conditions hold, which are tried in this order:
+  Feasible    the funded projects cost no more than the budget limit in all
+  Exhaustive  no unfunded project still fits within the budget limit
+  C1          a voter pays only for projects of the voter's own ballot
+  C2          a voter pays no more than the voter budget in all
+  C3          the payments for a funded project add up to its cost
+  C4          nobody pays for an unfunded project
+  C5          what the supporters of an unfunded project have left over adds up
+              to no more than its cost
+  S5          the same sum, where for each supporter the largest single payment
+              counts if it is more than what is left over
+C5 is tried without --stable, S5 with it. The supporters of a project are the
+voters whose ballots hold it.
+
+Prints 'supported priceable' or 'supported stable', or the first condition that
+fails, with the lowest voter and then the lowest project where it names one:
+  failed C5 project pool
+A no speaks of these payments alone: other payments may support the outcome.
+
+An outcome file has the record pb-outcome,1 and then a record project,ID for
+each funded project.
+
+Exit statuses: 0 supported, 1 failed, 2 refused, 3 usage, 4 fault.
+
+Examples:
+  pbaudit prices town.pb prices.csv
+  pbaudit prices town.pb prices.csv --stable --outcome outcome.csv";
+
+/// What `violation` tests.
+pub(crate) const VIOLATION_NOTES: &str = "\
+A violation certificate is a file of records such as
+  pb-violation,1
+  project,park
+  voter,1
+  voter,2
+Its voters are the group, numbered from 1 by their rows in the election; its
+projects are the demand, named by their ids. The two show a violation of extended
+justified representation (EJR) where each of these tests is passed:
+  V1  the group has at least one voter
+  V2  every voter of the group approves every project of the demand
+  V3  the group's share of the budget limit, by its share of all voters, covers
+      the costs of the demand
+  V4  every voter of the group approves fewer funded projects than are demanded
+They are tried in this order.
+
+Prints 'violation', or the first test that fails, with the lowest voter and then
+its lowest project where it names one:
+  failed V2 voter 1 project park
+A no speaks of this group and demand alone: another pair may be a violation.
+
+An outcome file has the record pb-outcome,1 and then a record project,ID for
+each funded project.
+
+Exit statuses: 0 violation, 1 failed, 2 refused, 3 usage, 4 fault.
+
+Examples:
+  pbaudit violation town.pb violation.csv
+  pbaudit violation town.pb violation.csv --outcome outcome.csv";
+
+/// What `tidy` prints.
+pub(crate) const TIDY_NOTES: &str = "\
+A price certificate is a file of records such as
+  pb-prices,1
+  denominator,2
+  voter_budget,9
+  voter,project,payment
+  1,park,3
+  2,park,9
+Here every voter has a budget of 9/2, voter 1 pays 3/2 for the project 'park'
+and voter 2 pays 9/2. Voters are numbered from 1 by their rows in the election,
+whatever its column 'voter_id' says.
+
+The canonical form has a row for each payment that is not 0, by rising voter and
+then as the projects stand in the election, its numbers without leading zeros.
+It states the same denominator, voter budget and payments.
+
+A file that is not an election, or not a price certificate for it, is refused.
+The line names the first thing wrong and its record, counted from 1 without
+empty lines:
+  refused certificate 27 Repeated record 6
+
+Exit statuses: 0 printed, 2 refused, 3 usage, 4 fault.
+
+Example:
+  pbaudit tidy town.pb prices.csv > canonical.csv";

@@ -2,10 +2,12 @@
 ghost use Rattle.std.specs.Prelude.{◌≡◌, IfOk, IfErr};
 ghost use Rattle.pb_election.specs.Loading.{Delivered};
 ghost use Rattle.pb_election.specs.Loading as delivery;
-ghost use Rattle.pb_audit.specs.Inputs.{Gives, IfTaken, IsUnloaded, StatesElection, delivery_of, most_bytes, name_of, reading, refusal_of, stop_of};
+ghost use Rattle.pb_audit.specs.Inputs.{IsUnloaded, delivery_of, most_bytes, name_of, refusal_of, wants_memory};
+ghost use Rattle.pb_audit.specs.Inputs as spec;
 ghost use Rattle.pb_audit.specs.declared.input.Stop.TheVariants.{Memory};
 
-use pb_election::{Election, ElectionFault, LoadFault, Refusal, Source, load};
+use pb_certificate::{CertFault, CertRefusal};
+use pb_election::{ElectionFault, LoadFault, Refusal, Source, load};
 use std::alloc::{AllocError, Global};
 
 /// How many bytes an input has at most: 2^28.
@@ -26,6 +28,8 @@ pub(crate) enum Loaded {
 #[derive(Clone, Copy)]
 pub(crate) enum InputName {
     Election,
+    Outcome,
+    Certificate,
 }
 
 /// Why an input is refused.
@@ -35,8 +39,10 @@ pub(crate) enum InputFault {
     Unread,
     /// It has more than 2^28 bytes.
     TooLong,
-    /// It is no election.
+    /// It is no election, or an election without an outcome of its own.
     Election(Refusal),
+    /// It is no certificate, or no outcome file, for the election.
+    Certificate(CertRefusal),
 }
 
 /// Why the work on the inputs ended early.
@@ -62,6 +68,8 @@ impl InputName {
     {
         match self {
             InputName::Election => "election",
+            InputName::Outcome => "outcome",
+            InputName::Certificate => "certificate",
         }
     }
 }
@@ -75,6 +83,7 @@ impl InputFault {
             InputFault::Unread => 18,
             InputFault::TooLong => 19,
             InputFault::Election(refusal) => refusal.number(),
+            InputFault::Certificate(refusal) => refusal.number(),
         }
     }
 
@@ -85,6 +94,7 @@ impl InputFault {
             InputFault::Unread => "Read",
             InputFault::TooLong => "TooLong",
             InputFault::Election(refusal) => refusal.name(),
+            InputFault::Certificate(refusal) => refusal.name(),
         }
     }
 
@@ -95,16 +105,30 @@ impl InputFault {
         match self {
             InputFault::Unread | InputFault::TooLong => 0,
             InputFault::Election(refusal) => refusal.place,
+            InputFault::Certificate(refusal) => refusal.place,
+        }
+    }
+
+    /// Whether the fault is not one of the input: a growth was refused.
+    fn wants_memory(&self) -> bool
+        ensures { result ≡ wants_memory self.now }
+    {
+        match self {
+            InputFault::Unread | InputFault::TooLong => false,
+            InputFault::Election(refusal) => matches!(refusal.fault, ElectionFault::Memory),
+            InputFault::Certificate(refusal) => matches!(refusal.fault, CertFault::Memory),
         }
     }
 }
 
-/// The election that a reader delivers.
-pub(crate) fn take_election<R: Source>(alloc: Global, source: &mut R) -> Result<Election, Stop>
-    ensures { IfTaken result (Gives StatesElection (reading R.left R.counts source.old source.new)) }
+/// Why the work stops at an input that gave no value.
+pub(crate) fn stop_at(input: InputName, fault: InputFault) -> Stop
+    ensures { result ≡ spec.stop_at input fault }
 {
-    let loaded = load_input(alloc, source)?;
-    election_of(alloc, &loaded)
+    if fault.wants_memory() {
+        return Stop::Memory;
+    }
+    Stop::Refused { input, fault }
 }
 
 /// What a reader delivers.
@@ -120,7 +144,7 @@ pub(crate) fn load_input<R: Source>(alloc: Global, source: &mut R) -> Result<Loa
 }
 
 /// The bytes of an input of this name, where they were delivered.
-fn bytes_of(input: InputName, loaded: &Loaded) -> Result<&[u8], Stop>
+pub(crate) fn bytes_of(input: InputName, loaded: &Loaded) -> Result<&[u8], Stop>
     ensures bytes { IfOk result (λ bytes. delivery_of loaded.now ≡ delivery.Bytes bytes.now) }
     ensures refused { IfErr result (IsUnloaded input (delivery_of loaded.now)) }
 {
@@ -134,29 +158,5 @@ fn bytes_of(input: InputName, loaded: &Loaded) -> Result<&[u8], Stop>
             input,
             fault: InputFault::TooLong,
         }),
-    }
-}
-
-/// The election that an input states.
-pub(crate) fn election_of(alloc: Global, loaded: &Loaded) -> Result<Election, Stop>
-    ensures { IfTaken result (StatesElection (delivery_of loaded.now)) }
-{
-    let bytes = bytes_of(InputName::Election, loaded)?;
-    match Election::read(alloc, bytes) {
-        Ok(election) => Ok(election),
-        Err(refusal) => Err(election_stop(refusal)),
-    }
-}
-
-/// Why an election was not read: a growth was refused, or the input is.
-pub(crate) fn election_stop(refusal: Refusal) -> Stop
-    ensures { result ≡ stop_of refusal }
-{
-    if refusal.fault == ElectionFault::Memory {
-        return Stop::Memory;
-    }
-    Stop::Refused {
-        input: InputName::Election,
-        fault: InputFault::Election(refusal),
     }
 }

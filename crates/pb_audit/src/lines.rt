@@ -1,6 +1,6 @@
 //! The lines of the answers.
 ghost use Rattle.std.specs.Prelude.{◌≡◌, ◌∷◌, ◌++◌, [], IfOk, OnOk, decimal};
-ghost use Rattle.pb_audit.specs.Answers.{line_end, text_of};
+ghost use Rattle.pb_audit.specs.Answers.{text_of};
 ghost use Rattle.pb_audit.specs.Inputs.{refusal_of};
 ghost use Rattle.pb_audit.specs.Lines as spec;
 
@@ -18,7 +18,7 @@ pub(crate) fn push_line(text: &mut Vec<u8>, line: &[u8]) -> Result<(), AllocErro
 }
 
 /// Adds a number to a line, decimal and without leading zeros.
-fn push_number(line: &mut Vec<u8>, number: u64) -> Result<(), AllocError>
+pub(crate) fn push_number(line: &mut Vec<u8>, number: u64) -> Result<(), AllocError>
     ensures { OnOk result (line.new.items ≡ line.old.items ++ decimal number) }
 {
     let mut digits = Buffer::new();

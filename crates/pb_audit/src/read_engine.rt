@@ -7,8 +7,9 @@ ghost use Rattle.pb_audit.specs.Writing.{IsCutShort, IsWritten};
 ghost use Rattle.pb_election.specs.Loading.{Rises};
 
 use crate::answer::{Answer, settled};
-use crate::input::{Stop, take_election};
+use crate::input::Stop;
 use crate::lines::{push_line, push_notes, read_line};
+use crate::taking::take_election;
 use crate::{Fault, Status};
 use pb_election::{Election, Outcome, Sink, Source};
 use std::alloc::{AllocError, Global};

@@ -9,9 +9,9 @@ use thiserror::Error;
 /// How an answer ends.
 #[derive(Clone, Copy, Debug, PartialEq, Eq)]
 pub enum Status {
-    /// The election was read, the prices support the outcome, the group is a violation, or the text was written.
+    /// The inputs are what they should be, and all that was asked holds.
     Yes,
-    /// A condition or a test failed.
+    /// The inputs are what they should be, and something that was asked does not hold.
     No,
     /// An input is not what it should be.
     Refused,

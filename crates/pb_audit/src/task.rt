@@ -12,11 +12,12 @@ ghost use Rattle.clap.specs.Words.{
 ghost use Rattle.clap.specs.declared.error.kind.ErrorKind.TheVariants.{OutOfMemory};
 ghost use Rattle.pb_audit.specs.Commands.{pbaudit};
 ghost use Rattle.pb_audit.specs.declared.task.UsageFault.TheVariants.{Memory};
-ghost use Rattle.pb_audit.specs.Tasks.{FitsKind, IsFaultOf, TaskOf, asked, asked_by, asked_in};
+ghost use Rattle.pb_audit.specs.Tasks.{FitsKind, IsFaultOf, TaskOf, asked, asked_by, asked_in, is_on, mode_in};
 
 use crate::command::pbaudit_command;
 use clap::error::ErrorKind;
 use clap::{ArgMatches, Error};
+use pb_price::Mode;
 use std::alloc::{AllocError, Global};
 
 /// What a line of words asks for. Each text is a path, as it stands among the words.
@@ -24,6 +25,25 @@ use std::alloc::{AllocError, Global};
 pub enum Task {
     /// Read this election, or the one on standard input.
     Read(Option<String>),
+    /// Check a price certificate for the outcome of an outcome file, or for the election's own
+    /// outcome where none is named.
+    Prices {
+        election: String,
+        certificate: String,
+        outcome: Option<String>,
+        mode: Mode,
+    },
+    /// Check a violation certificate, with the outcome as for prices.
+    Violation {
+        election: String,
+        certificate: String,
+        outcome: Option<String>,
+    },
+    /// Write a price certificate in its canonical form.
+    Tidy {
+        election: String,
+        certificate: String,
+    },
 }
 
 /// Why a line of words gives no task.
@@ -103,6 +123,9 @@ fn command_task(
 {
     match name {
         "read" => read_task(alloc, matches),
+        "prices" => prices_task(alloc, matches),
+        "violation" => violation_task(alloc, matches),
+        "tidy" => tidy_task(alloc, matches),
         _ => Ok(None),
     }
 }
@@ -116,6 +139,53 @@ fn read_task(alloc: Global, matches: &ArgMatches<'_>) -> Result<Option<Task>, Al
     }
 }
 
+fn prices_task(alloc: Global, matches: &ArgMatches<'_>) -> Result<Option<Task>, AllocError>
+    ensures { IfOk result (λ t. option_map asked t ≡ asked_by (codes "prices") (rows_of (found_of matches.now))) }
+{
+    let election = path_of(alloc, matches, "election")?;
+    let certificate = path_of(alloc, matches, "certificate")?;
+    let outcome = path_of(alloc, matches, "outcome")?;
+    match (election, certificate) {
+        (Some(election), Some(certificate)) => Ok(Some(Task::Prices {
+            election,
+            certificate,
+            outcome,
+            mode: mode_of(matches),
+        })),
+        _ => Ok(None),
+    }
+}
+
+fn violation_task(alloc: Global, matches: &ArgMatches<'_>) -> Result<Option<Task>, AllocError>
+    ensures { IfOk result (λ t. option_map asked t ≡ asked_by (codes "violation") (rows_of (found_of matches.now))) }
+{
+    let election = path_of(alloc, matches, "election")?;
+    let certificate = path_of(alloc, matches, "certificate")?;
+    let outcome = path_of(alloc, matches, "outcome")?;
+    match (election, certificate) {
+        (Some(election), Some(certificate)) => Ok(Some(Task::Violation {
+            election,
+            certificate,
+            outcome,
+        })),
+        _ => Ok(None),
+    }
+}
+
+fn tidy_task(alloc: Global, matches: &ArgMatches<'_>) -> Result<Option<Task>, AllocError>
+    ensures { IfOk result (λ t. option_map asked t ≡ asked_by (codes "tidy") (rows_of (found_of matches.now))) }
+{
+    let election = path_of(alloc, matches, "election")?;
+    let certificate = path_of(alloc, matches, "certificate")?;
+    match (election, certificate) {
+        (Some(election), Some(certificate)) => Ok(Some(Task::Tidy {
+            election,
+            certificate,
+        })),
+        _ => Ok(None),
+    }
+}
+
 /// The path that the words give for the argument.
 fn path_of(alloc: Global, matches: &ArgMatches<'_>, id: &str) -> Result<Option<String>, AllocError>
     ensures { IfOk result (λ o. option_map string_bytes o ≡ first_of id.now (rows_of (found_of matches.now))) }
@@ -124,4 +194,21 @@ fn path_of(alloc: Global, matches: &ArgMatches<'_>, id: &str) -> Result<Option<S
         Some(path) => Ok(Some(String::from_str(alloc, path)?)),
         None => Ok(None),
     }
+}
+
+/// The mode that the switches choose: plain and exhaustive without any.
+fn mode_of(matches: &ArgMatches<'_>) -> Mode
+    ensures { result ≡ mode_in (rows_of (found_of matches.now)) }
+{
+    Mode {
+        stable: is_given(matches, "stable"),
+        exhaustive: !is_given(matches, "no-exhaustive"),
+    }
+}
+
+/// Whether the switch is among the words.
+fn is_given(matches: &ArgMatches<'_>, id: &str) -> bool
+    ensures { result ≡ is_on (rows_of (found_of matches.now)) id.now }
+{
+    matches.get_one::<bool>(id).unwrap_or(false)
 }

@@ -6,7 +6,7 @@ mod file;
 
 use end::End;
 use file::FileReader;
-use pb_audit::{Fault, Status, Task, run_read, task_of};
+use pb_audit::{Fault, Status, Task, run_prices, run_read, run_tidy, run_violation, task_of};
 use pb_election::{Input, Output};
 use std::env;
 use std::io::ErrorKind;
@@ -50,12 +50,53 @@ fn run(rt: &HostRuntime, task: &Task) -> Result<Status, Fault> {
     match task {
         Task::Read(None) => run_read(alloc, &mut Input::new(rt.stdin()), &mut out),
         Task::Read(Some(election)) => run_read(alloc, &mut input(rt, election), &mut out),
+        Task::Prices {
+            election,
+            certificate,
+            outcome,
+            mode,
+        } => run_prices(
+            alloc,
+            &mut input(rt, election),
+            &mut optional_input(rt, outcome),
+            &mut input(rt, certificate),
+            *mode,
+            &mut out,
+        ),
+        Task::Violation {
+            election,
+            certificate,
+            outcome,
+        } => run_violation(
+            alloc,
+            &mut input(rt, election),
+            &mut optional_input(rt, outcome),
+            &mut input(rt, certificate),
+            &mut out,
+        ),
+        Task::Tidy {
+            election,
+            certificate,
+        } => run_tidy(
+            alloc,
+            &mut input(rt, election),
+            &mut input(rt, certificate),
+            &mut out,
+        ),
     }
 }
 
 /// The file at a path.
 fn input(rt: &HostRuntime, path: &str) -> Input<FileReader> {
     Input::new(FileReader::open(rt, path))
+}
+
+/// The file at a path, where one is given.
+fn optional_input(rt: &HostRuntime, path: &Option<String>) -> Option<Input<FileReader>> {
+    match path {
+        Some(path) => Some(input(rt, path)),
+        None => None,
+    }
 }
 
 #[cfg(test)]

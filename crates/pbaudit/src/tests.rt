@@ -3,5 +3,8 @@ mod failing;
 mod fakes;
 mod files;
 mod library;
+mod price_rows;
 mod read_rows;
 mod samples;
+mod tidy_rows;
+mod violation_rows;

@@ -1,5 +1,5 @@
 //! Lines of words, and what each asks for.
-use crate::{Task, UsageFault, task_of};
+use crate::{UsageFault, task_of};
 use std::alloc::{AllocError, Global};
 use std::test::Fail;
 
@@ -28,6 +28,22 @@ fn gives_each_task(rt: HostRuntime) -> Result<(), Fail> {
         ("pbaudit", "Read(None)"),
         ("pbaudit read e.pb", "Read(Some(\"e.pb\"))"),
         ("pbaudit read -- -e.pb", "Read(Some(\"-e.pb\"))"),
+        (
+            "pbaudit prices e.pb c.csv --stable",
+            "Prices { election: \"e.pb\", certificate: \"c.csv\", outcome: None, mode: Mode { stable: true, exhaustive: true } }",
+        ),
+        (
+            "pbaudit prices --no-exhaustive --outcome o.csv -- -e.pb -c.csv",
+            "Prices { election: \"-e.pb\", certificate: \"-c.csv\", outcome: Some(\"o.csv\"), mode: Mode { stable: false, exhaustive: false } }",
+        ),
+        (
+            "pbaudit violation e.pb v.csv --outcome=o.csv",
+            "Violation { election: \"e.pb\", certificate: \"v.csv\", outcome: Some(\"o.csv\") }",
+        ),
+        (
+            "pbaudit tidy e.pb c.csv",
+            "Tidy { election: \"e.pb\", certificate: \"c.csv\" }",
+        ),
     ] {
         let got = shown(alloc, line)?;
         assert!(rt; got.as_str() == want, "{line}: {got}");
@@ -45,6 +61,11 @@ fn tells_help_from_usage(rt: HostRuntime) -> Result<(), Fail> {
         ("pbaudit --version", "help\npbaudit "),
         ("pbaudit read", "usage\n"),
         ("pbaudit read e.pb f.pb", "usage\n"),
+        ("pbaudit prices e.pb", "usage\n"),
+        ("pbaudit prices e.pb c.csv --cover", "usage\n"),
+        ("pbaudit prices e.pb c.csv --outcome", "usage\n"),
+        ("pbaudit violation e.pb v.csv --stable", "usage\n"),
+        ("pbaudit tidy e.pb", "usage\n"),
         ("pbaudit read -e.pb", "usage\n"),
         ("pbaudit e.pb", "usage\n"),
     ] {

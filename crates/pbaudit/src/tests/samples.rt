@@ -56,6 +56,124 @@ VOTES
 voter_id;vote
 ";
 
+/// A price certificate for the sample election: 8 lines, which are its records.
+pub const PRICES: &str = "\
+pb-prices,1
+denominator,1
+voter_budget,4
+voter,project,payment
+1,a,2
+1,b,2
+2,a,4
+3,b,2
+";
+
+/// The sample election and its price certificate with the id a"1 in place of a.
+pub const QUOTED_ELECTION: &str = "\
+META
+key;value
+description;Sample
+num_projects;3
+num_votes;3
+budget;10
+vote_type;approval
+PROJECTS
+project_id;cost;name;selected
+a\"1;6;Park;1
+b;4;Library;1
+c;9;Pool;0
+VOTES
+voter_id;vote
+1;a\"1,b
+2;a\"1
+3;b,c
+";
+
+pub const QUOTED_PRICES: &str = "\
+pb-prices,1
+denominator,1
+voter_budget,4
+voter,project,payment
+1,\"a\"\"1\",2
+1,b,2
+2,\"a\"\"1\",4
+3,b,2
+";
+
+/// An election in which three voters share one project of cost 1.
+pub const SHARED_ELECTION: &str = "\
+META
+key;value
+budget;1
+vote_type;approval
+PROJECTS
+project_id;cost;selected
+x;1;1
+VOTES
+voter_id;vote
+1;x
+2;x
+3;x
+";
+
+/// An election of two projects, each with one supporter.
+pub const SPLIT_ELECTION: &str = "\
+META
+key;value
+budget;10
+vote_type;approval
+PROJECTS
+project_id;cost;selected
+a;5;1
+c;5;0
+VOTES
+voter_id;vote
+1;a
+2;c
+";
+
+/// An election in which half of the voters get nothing.
+pub const UNFAIR_ELECTION: &str = "\
+META
+key;value
+budget;8
+vote_type;approval
+PROJECTS
+project_id;cost;selected
+x1;2;0
+x2;2;0
+y;8;1
+VOTES
+voter_id;vote
+1;x1,x2
+2;x1,x2
+3;y
+4;y
+";
+
+/// A violation certificate for it: 5 lines, which are its records.
+pub const VIOLATION: &str = "\
+pb-violation,1
+project,x1
+project,x2
+voter,1
+voter,2
+";
+
+/// An election with the largest amounts.
+pub const LARGEST_ELECTION: &str = "\
+META
+key;value
+budget;1000000000000
+vote_type;approval
+PROJECTS
+project_id;cost;selected
+x;1000000000000;1
+VOTES
+voter_id;vote
+1;x
+";
+
 /// A text whose first `kept` lines are kept, with `new` in place of the next `removed` lines.
 pub fn with_lines(
     alloc: Global,

@@ -10,4 +10,7 @@ returns c =
     let versioned = gains_version c.new.result _ (new_app (codes "pbaudit")) (c.new.ensures.app, c.new.ensures.local) c.version.ensures in
     let is-0 = same_command c.version.result _ _ _ versioned c.about.ensures refl refl in
     let is-1 = adds_command _ _ c.in_ok-subcommand.field-0 _ _ is-0 c.in_ok-read_command.ensures c.in_ok-subcommand.ensures in
-    same_command _ _ _ _ is-1 c.after_help.ensures refl refl
+    let is-2 = adds_command _ _ c.in_ok-subcommand-2.field-0 _ _ is-1 c.in_ok-prices_command.ensures c.in_ok-subcommand-2.ensures in
+    let is-3 = adds_command _ _ c.in_ok-subcommand-3.field-0 _ _ is-2 c.in_ok-violation_command.ensures c.in_ok-subcommand-3.ensures in
+    let is-4 = adds_command _ _ c.in_ok-subcommand-4.field-0 _ _ is-3 c.in_ok-tidy_command.ensures c.in_ok-subcommand-4.ensures in
+    same_command _ _ _ _ is-4 c.after_help.ensures refl refl

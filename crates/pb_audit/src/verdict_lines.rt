@@ -1,0 +1,157 @@
+//! The lines of verdicts.
+ghost use Rattle.std.specs.Prelude.{◌≡◌, ◌++◌, IfOk, IfSome, OnOk};
+ghost use Rattle.pb_audit.specs.Answers as answers;
+ghost use Rattle.pb_audit.specs.Lines as spec;
+ghost use Rattle.pb_audit.specs.Named.{NamesProject, PricesNameProject, ViolationNamesProject};
+ghost use Rattle.pb_election.specs.Instance.{IsProject};
+
+use crate::Status;
+use crate::lines::push_number;
+use pb_cohesion::{ViolationFailure, ViolationVerdict};
+use pb_election::Election;
+use pb_price::{Failure, Verdict};
+use std::alloc::{AllocError, Global};
+use std::marker::Model;
+
+/// A condition or a test that fails, with the voter and the project at which it does.
+#[derive(Drop)]
+struct FailedAt {
+    name: &'static str,
+    voter: Option<u32>,
+    project: Option<u32>,
+}
+
+impl Model for FailedAt {
+    ghost use Rattle.pb_audit.specs.Lines.{Failed};
+
+    ghost Value = { Failed };
+
+    ghost view = { λ f. record { name = f.name.now; voter = f.voter; project = f.project } };
+}
+
+fn failed_at(name: &'static str, voter: Option<u32>, project: Option<u32>) -> FailedAt
+    ensures { result ≡ record { name = name.entry.now; voter = voter; project = project } }
+{
+    FailedAt {
+        name,
+        voter,
+        project,
+    }
+}
+
+fn price_failed(failure: Failure) -> FailedAt
+    ensures { result ≡ spec.price_failed failure }
+{
+    match failure {
+        Failure::Feasible => failed_at("Feasible", None, None),
+        Failure::Exhaustive(j) => failed_at("Exhaustive", None, Some(j)),
+        Failure::C1(i, j) => failed_at("C1", Some(i), Some(j)),
+        Failure::C2(i) => failed_at("C2", Some(i), None),
+        Failure::C3(j) => failed_at("C3", None, Some(j)),
+        Failure::C4(j) => failed_at("C4", None, Some(j)),
+        Failure::C5(j) => failed_at("C5", None, Some(j)),
+        Failure::S5(j) => failed_at("S5", None, Some(j)),
+    }
+}
+
+fn violation_failed(failure: ViolationFailure) -> FailedAt
+    ensures { result ≡ spec.violation_failed failure }
+{
+    match failure {
+        ViolationFailure::V1 => failed_at("V1", None, None),
+        ViolationFailure::V2(i, j) => failed_at("V2", Some(i), Some(j)),
+        ViolationFailure::V3 => failed_at("V3", None, None),
+        ViolationFailure::V4(i) => failed_at("V4", Some(i), None),
+    }
+}
+
+/// The line of a verdict on prices, in the stable form or the plain one.
+pub(crate) fn price_line(
+    alloc: Global,
+    election: &Election,
+    verdict: Verdict,
+    stable: bool,
+) -> Result<Vec<u8>, AllocError>
+    requires { PricesNameProject election.now verdict }
+    ensures { IfOk result (λ line. line.items ≡ spec.price_line stable election.now verdict) }
+{
+    match verdict {
+        Verdict::Supported if stable => Vec::from_slice(alloc, b"supported stable"),
+        Verdict::Supported => Vec::from_slice(alloc, b"supported priceable"),
+        Verdict::Failed(failure) => failed_line(alloc, election, &price_failed(failure)),
+    }
+}
+
+pub(crate) fn price_status(verdict: Verdict) -> Status
+    ensures { result ≡ answers.price_status verdict }
+{
+    match verdict {
+        Verdict::Supported => Status::Yes,
+        Verdict::Failed(_) => Status::No,
+    }
+}
+
+/// The line of a verdict on a violation certificate.
+pub(crate) fn violation_line(
+    alloc: Global,
+    election: &Election,
+    verdict: ViolationVerdict,
+) -> Result<Vec<u8>, AllocError>
+    requires { ViolationNamesProject election.now verdict }
+    ensures { IfOk result (λ line. line.items ≡ spec.violation_line election.now verdict) }
+{
+    match verdict {
+        ViolationVerdict::Violation => Vec::from_slice(alloc, b"violation"),
+        ViolationVerdict::Failed(failure) => failed_line(
+            alloc,
+            election,
+            &violation_failed(failure),
+        ),
+    }
+}
+
+pub(crate) fn violation_status(verdict: ViolationVerdict) -> Status
+    ensures { result ≡ answers.violation_status verdict }
+{
+    match verdict {
+        ViolationVerdict::Violation => Status::Yes,
+        ViolationVerdict::Failed(_) => Status::No,
+    }
+}
+
+/// The line of a condition or a test that fails.
+fn failed_line(alloc: Global, election: &Election, failed: &FailedAt) -> Result<Vec<u8>, AllocError>
+    requires { NamesProject election.now failed.now }
+    ensures { IfOk result (λ line. line.items ≡ spec.failed_line election.now failed.now) }
+{
+    let mut line = Vec::from_slice(alloc, b"failed ")?;
+    line.extend_from_slice(failed.name.as_bytes())?;
+    push_voter(&mut line, failed.voter)?;
+    push_project(&mut line, election, failed.project)?;
+    Ok(line)
+}
+
+fn push_voter(line: &mut Vec<u8>, voter: Option<u32>) -> Result<(), AllocError>
+    ensures { OnOk result (line.new.items ≡ line.old.items ++ spec.voter_words voter) }
+{
+    let Some(i) = voter else {
+        return Ok(());
+    };
+    line.extend_from_slice(b" voter ")?;
+    push_number(line, u64::from(i))
+}
+
+fn push_project(
+    line: &mut Vec<u8>,
+    election: &Election,
+    project: Option<u32>,
+) -> Result<(), AllocError>
+    requires { IfSome project (IsProject election.now) }
+    ensures { OnOk result (line.new.items ≡ line.old.items ++ spec.project_words election.now project) }
+{
+    let Some(j) = project else {
+        return Ok(());
+    };
+    line.extend_from_slice(b" project ")?;
+    line.extend_from_slice(election.id(j).as_bytes())
+}

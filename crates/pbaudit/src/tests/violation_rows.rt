@@ -1,0 +1,86 @@
+//! What is printed on violation certificates.
+use super::fakes::FakeWriter;
+use super::samples::{UNFAIR_ELECTION, VIOLATION, with_lines};
+use pb_audit::{Status, run_violation};
+use pb_election::{Input, Output};
+use std::alloc::Global;
+use std::test::Fail;
+
+/// What is printed on a violation certificate, and how it ends.
+fn audit(
+    alloc: Global,
+    mut election: &[u8],
+    mut certificate: &[u8],
+) -> Result<(String, Status), Fail> {
+    let mut outcome: Option<Input<&[u8]>> = None;
+    let mut writer = FakeWriter::new(alloc);
+    let status = run_violation(
+        alloc,
+        &mut Input::new(&mut election),
+        &mut outcome,
+        &mut Input::new(&mut certificate),
+        &mut Output::new(&mut writer),
+    )?;
+    Ok((String::from_utf8(writer.written)?, status))
+}
+
+#[test]
+fn verdicts(rt: HostRuntime) -> Result<(), Fail> {
+    let alloc = rt.alloc();
+    for (kept, removed, new, want) in [
+        (5, 0, "", "violation\n"),
+        (3, 2, "", "failed V1\n"),
+        (
+            1,
+            4,
+            "project,y\nvoter,1\n",
+            "failed V2 voter 1 project y\n",
+        ),
+        (4, 1, "", "failed V3\n"),
+        (1, 2, "", "failed V4 voter 1\n"),
+    ] {
+        let certificate = with_lines(alloc, VIOLATION, kept, removed, new.as_bytes())?;
+        let (printed, status) = audit(alloc, UNFAIR_ELECTION.as_bytes(), &certificate)?;
+        let wanted = if want == "violation\n" {
+            Status::Yes
+        } else {
+            Status::No
+        };
+        assert!(rt; printed.as_str() == want, "{new}: {printed}");
+        assert!(rt; status == wanted, "{new}: {printed}");
+    }
+    Ok(())
+}
+
+#[test]
+fn member_that_gets_enough(rt: HostRuntime) -> Result<(), Fail> {
+    let alloc = rt.alloc();
+    let election = with_lines(alloc, UNFAIR_ELECTION, 12, 1, b"2;x1,x2,y\n")?;
+    let certificate = with_lines(alloc, VIOLATION, 2, 1, b"")?;
+    let (printed, status) = audit(alloc, &election, &certificate)?;
+    assert!(rt; printed.as_str() == "failed V4 voter 2\n", "{printed}");
+    assert!(rt; status == Status::No);
+    Ok(())
+}
+
+#[test]
+fn one_change_one_refusal(rt: HostRuntime) -> Result<(), Fail> {
+    let alloc = rt.alloc();
+    for (kept, removed, new, want) in [
+        (5, 0, "voter,1\n", "27 Repeated record 6"),
+        (0, 1, "pb-violation,2\n", "21 BadHead record 1"),
+        (3, 1, "voter,5\n", "24 UnknownVoter record 4"),
+        (3, 1, "voter,0\n", "24 UnknownVoter record 4"),
+        (3, 1, "voter,x\n", "23 BadNumber record 4"),
+        (3, 1, "voter,\n", "22 BadRow record 4"),
+        (3, 1, "group,1\n", "22 BadRow record 4"),
+        (1, 1, "project,z\n", "25 UnknownProject record 2"),
+    ] {
+        let certificate = with_lines(alloc, VIOLATION, kept, removed, new.as_bytes())?;
+        let (printed, status) = audit(alloc, UNFAIR_ELECTION.as_bytes(), &certificate)?;
+        let line = format!(in alloc; "refused certificate {want}\n")?;
+        assert!(rt; printed.as_str() == line.as_str(), "{new}: {printed}");
+        assert!(rt; status == Status::Refused, "{new}: {printed}");
+    }
+    Ok(())
+}

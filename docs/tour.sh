@@ -1,0 +1,30 @@
+#!/usr/bin/env bash
+# Runs each command that the README shows behind '$ ', at the repository's top, and compares what it writes with the lines
+# that stand under it there, up to the next blank line. The last line is 'N passed, M failed'.
+set -euo pipefail
+cd "$(dirname "$0")/.."
+passed=0 failed=0 command="" wanted=""
+
+compare() {
+  [ -n "$command" ] || return 0
+  local written
+  written=$(bash -c "$command" 2>&1) || true
+  if [ "$written" = "${wanted%$'\n'}" ]; then
+    passed=$((passed + 1))
+  else
+    failed=$((failed + 1))
+    printf '%s\nwanted:\n%s\nwritten:\n%s\n' "$command" "$wanted" "$written"
+  fi
+  command=""
+}
+
+while IFS= read -r line; do
+  case "$line" in
+    '    $ '*) compare; command=${line#'    $ '} wanted="" ;;
+    '    '*) wanted+="${line#'    '}"$'\n' ;;
+    *) compare ;;
+  esac
+done < README.md
+compare
+echo "$passed passed, $failed failed"
+[ "$failed" = 0 ] && [ "$passed" != 0 ]
