@@ -1,7 +1,6 @@
 -- Price systems: a budget that is the same for all voters, and what each voter pays for each project.
-use Rattle.std.specs.Prelude.{◌≡◌, ◌<◌, ◌≤◌, ◌-◌, ◌^◌, ◌==◌, if◌then◌else◌, ℕ, ℤ, pos, ◌-ℤ◌, List, [], ◌∷◌, length, map, sum_by, slice_index_or, max, All}
-use Rattle.pb_money.specs.Grains.{cost_grains, payment_grains}
-use Rattle.pb_election.specs.Instance.{Instance, IsSet, all_projects, all_voters, cost_of, projects, voters}
+use Rattle.std.specs.Prelude.{◌≡◌, ◌<◌, ◌≤◌, ◌-◌, ◌^◌, ◌==◌, if◌then◌else◌, ℕ, List, [], ◌∷◌, length, map, sum_by, slice_index_or, All}
+use Rattle.pb_election.specs.Instance.{Instance, IsSet, projects, voters}
 
 -- Amounts of a price system are fractions over one denominator D. The payments are kept by voter: of each
 -- voter the projects that it pays for, rising, each with the numerator, which is not 0.
@@ -46,38 +45,3 @@ pub record Fits (p : Prices) (e : Instance) : Type 0 where
 pub record ArePrices (e : Instance) (p : Prices) : Type 0 where
   pub system : IsPriceSystem p
   pub fits : Fits p e
-
--- Below, amounts are whole numbers of grains. A grain is 1 / (10^6 * D) of the currency.
-
--- what a project costs
-abbrev pub cost : Instance → Prices → ℕ → ℕ
-cost e p c = cost_grains (cost_of e c) p.denominator
-
--- the budget of each voter
-abbrev pub beta : Prices → ℕ
-beta p = payment_grains p.budget
-
--- what voter i pays for project c
-abbrev pub pays : Prices → ℕ → ℕ → ℕ
-pays p i c = payment_grains (payment p i c)
-
--- what a voter pays over all projects
-abbrev pub spent : Instance → Prices → ℕ → ℕ
-spent e p i = sum_by (λ c. pays p i c) (all_projects e)
-
--- what all voters pay for a project
-abbrev pub paid : Instance → Prices → ℕ → ℕ
-paid e p c = sum_by (λ i. pays p i c) (all_voters e)
-
--- what a voter has left of its budget, which is negative where it spent more
-abbrev pub left : Instance → Prices → ℕ → ℤ
-left e p i = pos (beta p) -ℤ pos (spent e p i)
-
--- the largest value of f on a list, and 0 on the empty list
-abbrev pub largest_by : (ℕ → ℕ) → List ℕ → ℕ
-largest_by f [] = 0
-largest_by f (x ∷ xs) = max (f x) (largest_by f xs)
-
--- the most that a voter pays for one project
-abbrev pub top : Instance → Prices → ℕ → ℕ
-top e p i = largest_by (λ c. pays p i c) (all_projects e)

@@ -1,14 +1,12 @@
 -- Loops over all voters or all projects, which count from 1.
-use Rattle.std.proofs.Common.{◌≡◌, ℕ, zero, suc, ◌+◌, ◌-◌, ◌<◌, ◌≤◌, Bool, true, false, cond, List, [], ◌∷◌, ◌++◌, length, get_or, take, refl, sym, ◌∙◌, ap, subst, inl, inr, arith}
-use Rattle.std.specs.Prelude.{Option, Some, None, filter, flat_map, slice_get, sum_by}
+use Rattle.std.proofs.Common.{◌≡◌, ℕ, zero, suc, ◌+◌, ◌-◌, ◌<◌, ◌≤◌, Bool, true, false, List, [], ◌∷◌, length, get_or, take, refl, sym, ◌∙◌, ap, subst, arith}
+use Rattle.std.specs.Prelude.{Some, None, filter, flat_map, slice_get, sum_by}
 use Rattle.std.specs.List.{range_with_len}
-use Rattle.std.proofs.lemmas.Bool.{cases_Bool}
 use Rattle.std.proofs.lemmas.List.Elements.{filter-append}
 use Rattle.std.proofs.lemmas.List.FromFn.{get_or-range_with_len, length-range_with_len}
 use Rattle.std.proofs.lemmas.List.Sums.{sum_by-append, sum_by_push}
 use Rattle.pb_election.specs.Instance.{IsSet}
-use Rattle.pb_cohesion.proofs.Firsts.{filter-end, filter-first, filter-more, lists-end, lists-first, lists-more, range-next, take-range}
-use Rattle.pb_cohesion.proofs.Sums.{where_passes}
+use Rattle.pb_cohesion.proofs.Firsts.{filter-first, lists-first, lists-more, range-next, take-range}
 
 -- the number at a place of a range that starts at 1
 at-place : (n j : ℕ) → 1 ≤ j → j ≤ n → get_or (range_with_len 1 n) (j - 1) 0 ≡ j

@@ -5,7 +5,8 @@ use Rattle.std.proofs.lemmas.Int.{ints}
 use Rattle.std.proofs.lemmas.List.Elements.{All-contains, All-filter, All-from_recursion, filter_passes, recursion_from_All}
 use Rattle.std.proofs.lemmas.Bool.{cases_Bool, cases_lt}
 use Rattle.pb_election.specs.Instance.{Instance, IsProject, IsVoter, projects, supporters, voters}
-use Rattle.pb_certificate.specs.Prices.{Prices, beta, cost, paid, pays, spent, top}
+use Rattle.pb_certificate.specs.Prices.{Prices}
+use Rattle.pb_cohesion.specs.Amounts.{beta, cost, paid, pays, spent, top}
 use Rattle.pb_election.specs.Outcome.{has}
 use Rattle.pb_cohesion.specs.Outcome.{IsUnfunded, unfunded}
 use Rattle.pb_cohesion.specs.Conditions.{C2, C4, S5, culprits_of_S5, most_of, sum_ℤ}

@@ -2,7 +2,8 @@
 use Rattle.std.specs.Prelude.{◌≡◌, ◌<◌, ◌≤◌, ◌+◌, ◌==◌, ◌&&◌, not, nat_lt, nat_le, int_lt, ℕ, ℤ, pos, ◌+ℤ◌, ◌≤ℤ◌, Bool, false, IsTrue, List, [], ◌∷◌, map, filter, flat_map}
 use Rattle.std.specs.Int.{int_max}
 use Rattle.pb_election.specs.Instance.{Approves, Instance, IsProject, IsVoter, all_projects, all_voters, approves, cost_of, supporters}
-use Rattle.pb_certificate.specs.Prices.{Prices, beta, cost, left, paid, payment, spent, top}
+use Rattle.pb_certificate.specs.Prices.{Prices, payment}
+use Rattle.pb_cohesion.specs.Amounts.{beta, cost, left, paid, spent, top}
 use Rattle.pb_cohesion.specs.Outcome.{IsFunded, IsUnfunded, funded, total, unfunded}
 
 -- a sum of integers, some of which may be negative

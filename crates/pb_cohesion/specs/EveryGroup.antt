@@ -1,7 +1,8 @@
 -- What the conditions promise of every group of voters.
 use Rattle.std.specs.Prelude.{◌≤◌, ◌*◌, ◌+◌, ℕ, pos, ◌≤ℤ◌, ◌<ℤ◌, Bool, List, length, sum_by}
 use Rattle.pb_election.specs.Instance.{Instance, supporters}
-use Rattle.pb_certificate.specs.Prices.{Prices, beta, cost, left}
+use Rattle.pb_certificate.specs.Prices.{Prices}
+use Rattle.pb_cohesion.specs.Amounts.{beta, cost, left}
 use Rattle.pb_cohesion.specs.Conditions.{sum_ℤ}
 use Rattle.pb_cohesion.specs.Groups.{Blocks, IsGroupWithin, reach}
 use Rattle.pb_cohesion.specs.Outcome.{IsUnfunded}

@@ -1,4 +1,5 @@
 pub mod Outcome
+pub mod Amounts
 pub mod Conditions
 pub mod Groups
 pub mod EveryGroup

@@ -4,7 +4,8 @@ ghost use Rattle.std.specs.Prelude.{◌≡◌, ◌≢◌, ◌+◌, ◌*◌, ◌<
 ghost use Rattle.pb_election.specs.Instance.{Approves, Instance, all_projects, all_voters, supporters};
 ghost use Rattle.pb_election.specs.Outcome.{Fits, funds};
 ghost use Rattle.pb_election.specs.Text.{IsElection};
-ghost use Rattle.pb_certificate.specs.Prices.{Prices, beta, cost, left, paid, spent};
+ghost use Rattle.pb_certificate.specs.Prices.{Prices};
+ghost use Rattle.pb_cohesion.specs.Amounts.{beta, cost, left, paid, spent};
 ghost use Rattle.pb_cohesion.specs.Conditions.{C1, C2, C3, C4, C5, Exhaustive, S5, culprits_of_C1, culprits_of_C2, culprits_of_C3, culprits_of_C4, culprits_of_C5, culprits_of_Exhaustive, culprits_of_S5, most_of, sum_ℤ};
 ghost use Rattle.pb_cohesion.specs.EveryGroup.{BudgetsAreWithinReach, NoGroupHasMoreLeft, NothingBlocks, SupportersBlock, SupportersHaveMoreLeft};
 ghost use Rattle.pb_cohesion.specs.FirstV.{FirstV};

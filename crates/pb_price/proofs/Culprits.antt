@@ -3,7 +3,8 @@ use Rattle.std.proofs.Common.{◌≡◌, ℕ, Bool, List}
 use Rattle.std.specs.Prelude.{◌&&◌, ◌==◌, ◌+◌, filter, int_lt, map, nat_le, nat_lt, not, pos}
 use Rattle.pb_election.specs.Instance.{Instance, all_projects, approves, cost_of, supporters}
 use Rattle.pb_election.specs.Outcome.{has}
-use Rattle.pb_certificate.specs.Prices.{Prices, cost, left, paid, payment}
+use Rattle.pb_certificate.specs.Prices.{Prices, payment}
+use Rattle.pb_cohesion.specs.Amounts.{cost, left, paid}
 use Rattle.pb_cohesion.specs.Conditions.{culprits_of_C3, culprits_of_C4, culprits_of_C5, culprits_of_Exhaustive, culprits_of_S5, most_of, sum_ℤ}
 use Rattle.pb_cohesion.specs.Outcome.{total}
 use Rattle.pb_cohesion.proofs.Culprits.{filter-filter}

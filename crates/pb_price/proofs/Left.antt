@@ -3,7 +3,8 @@ use Rattle.std.proofs.Common.{◌≡◌, ℕ, ◌≤◌, ◌∙◌, arith}
 use Rattle.std.specs.Prelude.{pos}
 use Rattle.std.proofs.lemmas.Int.{ints}
 use Rattle.pb_election.specs.Instance.{Instance}
-use Rattle.pb_certificate.specs.Prices.{Prices, beta, left, spent, top}
+use Rattle.pb_certificate.specs.Prices.{Prices}
+use Rattle.pb_cohesion.specs.Amounts.{beta, left, spent, top}
 use Rattle.pb_cohesion.specs.Conditions.{most_of}
 use Rattle.pb_cohesion.proofs.Amounts.{max-is, sub-is}
 use Rattle.pb_cohesion.proofs.Plain.{left_ℕ}

@@ -7,7 +7,8 @@ use Rattle.std.proofs.lemmas.List.Elements.{recursion_from_All}
 use Rattle.std.proofs.lemmas.List.Sums.{sum_by-cons}
 use Rattle.pb_money.specs.Grains.{payment_grains}
 use Rattle.pb_election.specs.Instance.{Instance, IsSet, all_projects, projects}
-use Rattle.pb_certificate.specs.Prices.{IsPaymentMap, Prices, largest_by, numerator_in, payment, payments_of, spent, top}
+use Rattle.pb_certificate.specs.Prices.{IsPaymentMap, Prices, numerator_in, payment, payments_of}
+use Rattle.pb_cohesion.specs.Amounts.{largest_by, spent, top}
 use Rattle.std.proofs.lemmas.List.{length-map}
 use Rattle.pb_cohesion.proofs.Culprits.{filter-filter}
 use Rattle.pb_cohesion.proofs.Firsts.{filter-end, filter-first, filter-more}

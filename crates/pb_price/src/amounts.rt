@@ -5,6 +5,7 @@ ghost use Rattle.std.specs.Prelude.{◌≡◌, ◌≤◌, ◌*◌, ◌^◌, pos}
 ghost use Rattle.pb_election.specs.Instance.{IsProject, IsVoter, supporters};
 ghost use Rattle.pb_election.specs.Outcome as outcomes;
 ghost use Rattle.pb_certificate.specs.Prices as spec;
+ghost use Rattle.pb_cohesion.specs.Amounts as sums;
 ghost use Rattle.pb_cohesion.specs.Conditions.{C2, most_of, sum_ℤ};
 ghost use Rattle.pb_cohesion.specs.Outcome.{total};
 
@@ -40,8 +41,8 @@ pub(crate) struct Spending {
 pub(crate) fn spending_of(election: &Election, prices: &Prices, i: u32) -> Spending
     requires prices { spec.Fits prices.now election.now }
     requires voter { IsVoter election.now i }
-    ensures total { result.total ≡ spec.spent election.now prices.now i }
-    ensures largest { result.largest ≡ spec.top election.now prices.now i }
+    ensures total { result.total ≡ sums.spent election.now prices.now i }
+    ensures largest { result.largest ≡ sums.top election.now prices.now i }
     ensures small { result.largest ≤ 10 ^ 27 }
 {
     // No voter pays for more projects than the election has, so the sum fits.
@@ -60,7 +61,7 @@ pub(crate) fn spending_of(election: &Election, prices: &Prices, i: u32) -> Spend
 pub(crate) fn grains_paid(election: &Election, prices: &Prices, j: u32) -> u128
     requires prices { spec.Fits prices.now election.now }
     requires project { IsProject election.now j }
-    ensures value { result ≡ spec.paid election.now prices.now j }
+    ensures value { result ≡ sums.paid election.now prices.now j }
     ensures small { result ≤ 10 ^ 6 * 10 ^ 27 }
 {
     let mut paid = 0;
@@ -75,7 +76,7 @@ pub(crate) fn grains_left(election: &Election, prices: &Prices, i: u32) -> u128
     requires prices { spec.Fits prices.now election.now }
     requires within_budget { C2 election.now prices.now }
     requires voter { IsVoter election.now i }
-    ensures value { pos result ≡ spec.left election.now prices.now i }
+    ensures value { pos result ≡ sums.left election.now prices.now i }
     ensures small { result ≤ 10 ^ 27 }
 {
     payment_grains(prices.budget()) - spending_of(election, prices, i).total
@@ -98,7 +99,7 @@ pub(crate) fn left_to_supporters(election: &Election, prices: &Prices, j: u32) -
     requires prices { spec.Fits prices.now election.now }
     requires within_budget { C2 election.now prices.now }
     requires project { IsProject election.now j }
-    ensures { pos result ≡ sum_ℤ (spec.left election.now prices.now) (supporters election.now j) }
+    ensures { pos result ≡ sum_ℤ (sums.left election.now prices.now) (supporters election.now j) }
 {
     let mut left = 0;
     for i in 1..=election.voters() {

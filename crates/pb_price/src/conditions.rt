@@ -5,6 +5,7 @@ ghost use Rattle.pb_election.specs.Instance.{IsProject, IsVoter, all_projects, a
 ghost use Rattle.pb_election.specs.Outcome as outcomes;
 ghost use Rattle.pb_election.specs.Outcome.{has};
 ghost use Rattle.pb_certificate.specs.Prices as spec;
+ghost use Rattle.pb_cohesion.specs.Amounts as sums;
 ghost use Rattle.pb_cohesion.specs.Conditions.{C2, culprits_of_C1, culprits_of_C2, culprits_of_C3, culprits_of_C4, culprits_of_C5, culprits_of_Exhaustive, culprits_of_S5, most_of, sum_ℤ};
 ghost use Rattle.pb_cohesion.specs.Outcome.{total};
 
@@ -109,7 +110,7 @@ fn is_not_paid_exactly(election: &Election, outcome: &Outcome, prices: &Prices, 
     requires outcome { outcomes.Fits outcome.now election.now }
     requires prices { spec.Fits prices.now election.now }
     requires project { IsProject election.now j }
-    ensures { result ≡ (has (outcome.now).marks j && not (spec.paid election.now prices.now j == spec.cost election.now prices.now j)) }
+    ensures { result ≡ (has (outcome.now).marks j && not (sums.paid election.now prices.now j == sums.cost election.now prices.now j)) }
 {
     outcome.has(j)
         && grains_paid(election, prices, j) != cost_grains(election.cost(j), prices.denominator())
@@ -138,7 +139,7 @@ fn is_paid_in_vain(election: &Election, outcome: &Outcome, prices: &Prices, j: u
     requires outcome { outcomes.Fits outcome.now election.now }
     requires prices { spec.Fits prices.now election.now }
     requires project { IsProject election.now j }
-    ensures { result ≡ (not (has (outcome.now).marks j) && not (spec.paid election.now prices.now j == 0)) }
+    ensures { result ≡ (not (has (outcome.now).marks j) && not (sums.paid election.now prices.now j == 0)) }
 {
     !outcome.has(j) && grains_paid(election, prices, j) != 0
 }
@@ -168,7 +169,7 @@ fn have_more_left(election: &Election, outcome: &Outcome, prices: &Prices, j: u3
     requires prices { spec.Fits prices.now election.now }
     requires within_budget { C2 election.now prices.now }
     requires project { IsProject election.now j }
-    ensures { result ≡ (not (has (outcome.now).marks j) && int_lt (pos (spec.cost election.now prices.now j)) (sum_ℤ (spec.left election.now prices.now) (supporters election.now j))) }
+    ensures { result ≡ (not (has (outcome.now).marks j) && int_lt (pos (sums.cost election.now prices.now j)) (sum_ℤ (sums.left election.now prices.now) (supporters election.now j))) }
 {
     !outcome.has(j)
         && cost_grains(election.cost(j), prices.denominator())
@@ -200,7 +201,7 @@ fn can_offer_more(election: &Election, outcome: &Outcome, prices: &Prices, j: u3
     requires prices { spec.Fits prices.now election.now }
     requires within_budget { C2 election.now prices.now }
     requires project { IsProject election.now j }
-    ensures { result ≡ (not (has (outcome.now).marks j) && int_lt (pos (spec.cost election.now prices.now j)) (sum_ℤ (most_of election.now prices.now) (supporters election.now j))) }
+    ensures { result ≡ (not (has (outcome.now).marks j) && int_lt (pos (sums.cost election.now prices.now j)) (sum_ℤ (most_of election.now prices.now) (supporters election.now j))) }
 {
     !outcome.has(j)
         && cost_grains(election.cost(j), prices.denominator())

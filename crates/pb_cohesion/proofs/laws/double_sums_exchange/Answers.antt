@@ -1,5 +1,5 @@
 use Rattle.pb_election.specs.Instance.{all_projects, all_voters}
-use Rattle.pb_certificate.specs.Prices.{pays}
+use Rattle.pb_cohesion.specs.Amounts.{pays}
 use Rattle.pb_cohesion.proofs.Sums.{sum-exchange}
 use Rattle.pb_cohesion.proofs.laws.double_sums_exchange.Goals as goal
 

@@ -1,7 +1,7 @@
-use Rattle.std.proofs.Common.{◌≡◌, List, ℕ, Bool, sym, ◌∙◌, refl, ap}
-use Rattle.std.specs.Prelude.{◌↔◌, Option, None, Some}
+use Rattle.std.proofs.Common.{◌≡◌, List, ℕ, Bool, sym, ◌∙◌, refl}
+use Rattle.std.specs.Prelude.{◌↔◌, None, Some}
 use Rattle.pb_election.specs.Instance.{Instance}
-use Rattle.pb_cohesion.specs.FirstV.{FirstV, verdict_of}
+use Rattle.pb_cohesion.specs.FirstV.{FirstV}
 use Rattle.pb_cohesion.specs.Groups.{Violates}
 use Rattle.pb_cohesion.specs.declared.ViolationFailure.{ViolationFailure}
 use Rattle.pb_cohesion.specs.declared.ViolationVerdict.TheVariants as verdict

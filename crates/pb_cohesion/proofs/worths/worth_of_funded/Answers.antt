@@ -1,4 +1,4 @@
-use Rattle.std.proofs.Common.{◌≤◌, get_or, arith}
+use Rattle.std.proofs.Common.{get_or, arith}
 use Rattle.pb_election.specs.Instance.{IsProject, projects}
 use Rattle.pb_cohesion.proofs.Loops.{set-at}
 use Rattle.pb_cohesion.proofs.worths.worth_of_funded.Goals as goal

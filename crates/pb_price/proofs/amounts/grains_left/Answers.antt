@@ -1,6 +1,6 @@
 use Rattle.std.proofs.Common.{◌≡◌, ◌≤◌, ◌-◌, sym, ◌∙◌, ap, arith}
 use Rattle.std.specs.Prelude.{pos}
-use Rattle.pb_certificate.specs.Prices.{beta, spent}
+use Rattle.pb_cohesion.specs.Amounts.{beta, spent}
 use Rattle.pb_cohesion.proofs.Amounts.{sub-is}
 use Rattle.pb_price.proofs.amounts.grains_left.Goals as goal
 

@@ -2,7 +2,7 @@ use Rattle.std.proofs.Common.{ℕ, ◌≡◌, ◌≤◌, ◌-◌, ◌*◌, ◌^�
 use Rattle.std.specs.Prelude.{sum_by}
 use Rattle.std.specs.List.{range_with_len}
 use Rattle.pb_election.specs.Instance.{voters}
-use Rattle.pb_certificate.specs.Prices.{pays}
+use Rattle.pb_cohesion.specs.Amounts.{pays}
 use Rattle.pb_price.proofs.amounts.grains_paid.Given as goal
 
 abbrev pub invariant-loop-i : goal.invariant-loop-i

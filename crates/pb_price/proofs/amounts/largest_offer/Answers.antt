@@ -1,6 +1,6 @@
 use Rattle.std.proofs.Common.{◌≡◌, ◌-◌, max, sym, ◌∙◌, ap, arith}
 use Rattle.std.specs.Prelude.{pos}
-use Rattle.pb_certificate.specs.Prices.{beta, spent, top}
+use Rattle.pb_cohesion.specs.Amounts.{beta, spent, top}
 use Rattle.pb_cohesion.proofs.Amounts.{max-is}
 use Rattle.pb_price.proofs.amounts.largest_offer.Goals as goal
 

@@ -1,7 +1,7 @@
 use Rattle.std.proofs.Common.{◌≡◌, ◌+◌, ◌<◌, ◌≤◌, ℕ, nat_lt, sym, arith}
 use Rattle.std.proofs.lemmas.Bool.{le-ltb, lt-ltb}
 use Rattle.pb_election.specs.Instance.{voters}
-use Rattle.pb_certificate.specs.Prices.{beta, spent}
+use Rattle.pb_cohesion.specs.Amounts.{beta, spent}
 use Rattle.pb_cohesion.proofs.Loops.{range-end, range-first, range-more}
 use Rattle.pb_price.proofs.conditions.first_over_budget.Goals as goal
 

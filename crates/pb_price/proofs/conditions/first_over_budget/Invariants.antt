@@ -1,6 +1,6 @@
 use Rattle.std.proofs.Common.{◌≡◌, ◌-◌, [], filter, nat_lt}
 use Rattle.std.specs.List.{range_with_len}
-use Rattle.pb_certificate.specs.Prices.{beta, spent}
+use Rattle.pb_cohesion.specs.Amounts.{beta, spent}
 use Rattle.pb_price.proofs.conditions.first_over_budget.Given as goal
 
 abbrev pub invariant-loop-i : goal.invariant-loop-i

@@ -1,7 +1,7 @@
 use Rattle.std.proofs.Common.{◌≤◌, ℕ, [], ◌∷◌, refl, arith, inr}
 use Rattle.std.proofs.lemmas.List.Elements.{All-from_recursion}
 use Rattle.pb_election.specs.Instance.{Approves}
-use Rattle.pb_certificate.specs.Prices.{pays}
+use Rattle.pb_cohesion.specs.Amounts.{pays}
 use Rattle.pb_certificate.specs.Samples.{e1_costs, p1, w1}
 use Rattle.pb_cohesion.specs.Conditions.{S5}
 use Rattle.pb_cohesion.specs.Groups.{Blocks, IsGroupWithin, Offer}
