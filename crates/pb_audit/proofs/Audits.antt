@@ -1,5 +1,5 @@
 -- The answers on several inputs.
-use Rattle.std.proofs.Common.{◌≡◌, ◌∙◌, ap, refl, subst, sym, Bool, Option, List, ℕ}
+use Rattle.std.proofs.Common.{◌≡◌, ap, refl, subst, sym, Bool, Option, List, ℕ}
 use Rattle.std.specs.Prelude.{IfOk, Result, Ok, Err, Some, None}
 use Rattle.pb_election.specs.Instance.{Instance, IsSet, projects}
 use Rattle.pb_election.specs.Loading.{Delivery, ReadCounts}
@@ -7,7 +7,7 @@ use Rattle.pb_certificate.specs.Faults.{certificate_records}
 use Rattle.pb_certificate.specs.GroupText.{IsViolationText}
 use Rattle.pb_certificate.specs.Prices.{Prices}
 use Rattle.pb_certificate.proofs.Unique.{group-text-sets}
-use Rattle.pb_audit.specs.Answers.{Answer, AnswersAudit, AnswersTidy, HoldsOfInputs, Reply, TidyInputs, TidyOut, answer_of, refused, settled, with_input}
+use Rattle.pb_audit.specs.Answers.{Answer, AnswersAudit, AnswersTidy, Reply, TidyInputs, TidyOut, answer_of, refused, with_input}
 use Rattle.pb_audit.specs.Inputs.{FileReading, Gives, IfTaken, InTurn, IsUntouched, Reading, Stated, StatesElection, StatesOutcome, file_reading, reading, refusal_of}
 use Rattle.pb_audit.specs.Lines.{Refusal}
 use Rattle.pb_audit.specs.Taking.{AuditsOutcome, TakesOutcome}
@@ -16,7 +16,6 @@ use Rattle.pb_audit.specs.declared.input.Stop.{Stop}
 use Rattle.pb_audit.specs.declared.input.Stop.TheVariants as stop
 use Rattle.pb_audit.specs.declared.status.Fault.{Fault}
 use Rattle.pb_audit.specs.declared.status.Status.{Status}
-use Rattle.pb_audit.specs.declared.status.Status.TheVariants.{Yes, No, Refused}
 
 -- where the election is refused, the certificate may state anything
 pub tidy_refused : (election certificate : Reading) (r : Refusal) → Gives StatesElection election (Err r) → IsUntouched certificate → AnswersTidy election certificate (answer_of (refused r))
@@ -85,39 +84,6 @@ pub all_accepted : {A : Type 0} (states : Instance → Delivery → Stated A →
     → Gives StatesElection election (Ok e) → AuditsOutcome e outcome (Ok w) → Gives (states e) certificate (Ok c) → answer ≡ answer_of (reply e w c) → AnswersAudit states reply election outcome certificate answer
 all_accepted states reply election outcome certificate e w c answer given taken certificate_is is =
     subst (λ (a : Answer). AnswersAudit states reply election outcome certificate a) (sym is) (certificate_taken states reply election outcome certificate e w (Ok c) given taken certificate_is)
-
--- what holds of the values that were taken holds of the inputs
-pub all_hold : {A : Type 0} (states : Instance → Delivery → Stated A → Type 0) (holds : Instance → List Bool → A → Type 0) (election : Reading) (outcome : FileReading) (certificate : Reading) (e : Instance) (w : List Bool) (c : A)
-    → Gives StatesElection election (Ok e) → AuditsOutcome e outcome (Ok w) → Gives (states e) certificate (Ok c) → holds e w c → HoldsOfInputs states holds election outcome certificate
-all_hold states holds election outcome certificate e w c given taken certificate_is here = record {
-  e = e;
-  file = taken.file;
-  w = w;
-  c = c;
-  given = record {
-    election_given = given;
-    outcome_given = taken.given;
-    certificate_given = subst (λ (o : Stated (List Bool)). InTurn o (λ marks. Gives (states e) certificate (Ok c)) (IsUntouched certificate)) taken.is certificate_is;
-  };
-  outcome_is = sym taken.is;
-  here = here;
-}
-
--- a yes is the work's own answer
-abbrev ends_of : Option Answer → Status
-ends_of None = No
-ends_of (Some a) = a.status
-
-own_yes : (Q P : Type 0) (work : Result Answer Stop) (answer : Answer) → settled work ≡ Some answer → answer.status ≡ Yes → IfOk work (λ own. own.status ≡ Yes → Q → P) → Q → P
-own_yes Q P (Ok own) answer is ends from q = from (ap ends_of is ∙ ends) q
-own_yes Q P (Err (stop.Refused input why)) answer is ends from q = let same : Refused ≡ Yes = ap ends_of is ∙ ends in cc
-own_yes Q P (Err stop.Memory) answer is ends from q = cc
-
-pub yes_is_own : (Q P : Type 0) (work : Result Answer Stop) (answer : Answer) (result : Result Status Fault) → settled work ≡ Some answer → IfOk result (λ status. status ≡ answer.status) → result ≡ Ok Yes
-    → IfOk work (λ own. own.status ≡ Yes → Q → P) → Q → P
-yes_is_own Q P work answer result is ended wrote from q =
-    let same : Yes ≡ answer.status = subst (λ (r : Result Status Fault). IfOk r (λ status. status ≡ answer.status)) wrote ended in
-    own_yes Q P work answer is (sym same) from q
 
 -- what is demanded is a set of projects
 pub demand_set : (bytes : List ℕ) (e : Instance) (group demand : List ℕ) → IsViolationText (certificate_records bytes) e group demand → IsSet 1 (projects e) demand

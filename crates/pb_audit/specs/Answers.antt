@@ -131,9 +131,6 @@ pub record HoldsOfInputs {A : Type 0} (states : Instance → Delivery → Stated
   pub outcome_is : audited e file ≡ Ok w
   pub here : holds e w c
 
-abbrev pub HoldsOfPrices : (Instance → List Bool → Prices → Type 0) → Reading → FileReading → Reading → Type 0
-HoldsOfPrices holds election outcome certificate = HoldsOfInputs StatesPrices holds election outcome certificate
-
 -- the answer that some work came to: its own, or the line of the input that was refused; there is none where memory was
 -- wanted
 abbrev pub stopped : Stop → Option Answer

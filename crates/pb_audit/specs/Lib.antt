@@ -5,4 +5,5 @@ pub mod Named
 pub mod Inputs
 pub mod Taking
 pub mod Answers
+pub mod Promises
 pub mod Writing

@@ -1,11 +1,11 @@
 //! Auditing prices: whether they support an outcome.
-ghost use Rattle.std.specs.Prelude.{◌≡◌, IfOk, IfSome, IsErrOf, IsFalse, IsTrue, Ok};
-ghost use Rattle.pb_audit.specs.Answers.{AnswersPrices, HoldsOfPrices, answer_of};
+ghost use Rattle.std.specs.Prelude.{◌≡◌, ◌≢◌, IfOk, IfSome, IsErrOf};
+ghost use Rattle.pb_audit.specs.Answers.{AnswersPrices, HoldsOfInputs, answer_of};
 ghost use Rattle.pb_audit.specs.Answers as spec;
-ghost use Rattle.pb_audit.specs.Inputs.{file_reading, reading};
+ghost use Rattle.pb_audit.specs.Inputs.{StatesPrices, file_reading, reading};
+ghost use Rattle.pb_audit.specs.Promises.{PricesPromise};
 ghost use Rattle.pb_audit.specs.Writing.{IsCutShort, IsWritten};
 ghost use Rattle.pb_certificate.specs.Prices as certificates;
-ghost use Rattle.pb_cohesion.specs.EveryGroup.{NoGroupHasMoreLeft, NothingBlocks};
 ghost use Rattle.pb_election.specs.Loading.{Rises};
 ghost use Rattle.pb_election.specs.Outcome as outcomes;
 
@@ -41,9 +41,8 @@ pub fn run_prices<E: Source, O: Source, C: Source, W: Sink>(
     // Where memory was wanted, nothing was written.
     ensures memory { IsErrOf result Fault.Memory → out.new ≡ out.old }
 
-    // A yes speaks of every group of supporters of an unfunded project.
-    ensures plain_yes { result ≡ Ok Status.Yes → IsFalse mode.stable → HoldsOfPrices NoGroupHasMoreLeft (reading E.left E.counts election.old election.new) (file_reading O.left O.counts outcome.old outcome.new) (reading C.left C.counts certificate.old certificate.new) }
-    ensures stable_yes { result ≡ Ok Status.Yes → IsTrue mode.stable → HoldsOfPrices NothingBlocks (reading E.left E.counts election.old election.new) (file_reading O.left O.counts outcome.old outcome.new) (reading C.left C.counts certificate.old certificate.new) }
+    // Where no input is refused, the status is yes exactly where the prices support the outcome, and a verdict speaks of every group.
+    ensures promises { IfOk result (λ status. status ≢ Status.Refused → HoldsOfInputs StatesPrices (PricesPromise mode status) (reading E.left E.counts election.old election.new) (file_reading O.left O.counts outcome.old outcome.new) (reading C.left C.counts certificate.old certificate.new)) }
 {
     let work = price_work(alloc, election, outcome, certificate, mode);
     let answer = settled(alloc, work)?;
@@ -51,7 +50,7 @@ pub fn run_prices<E: Source, O: Source, C: Source, W: Sink>(
 }
 
 /// The answer on the election, the outcome and the prices.
-#[tactic(auto, using(crate::proofs::Audits::election_refused, crate::proofs::Audits::outcome_refused, crate::proofs::Audits::certificate_refused, crate::proofs::Audits::all_accepted, crate::proofs::Audits::all_hold))]
+#[tactic(auto, using(crate::proofs::Audits::election_refused, crate::proofs::Audits::outcome_refused, crate::proofs::Audits::certificate_refused, crate::proofs::Audits::all_accepted))]
 fn price_work<E: Source, O: Source, C: Source>(
     alloc: Global,
     election: &mut E,
@@ -59,9 +58,7 @@ fn price_work<E: Source, O: Source, C: Source>(
     certificate: &mut C,
     mode: Mode,
 ) -> Result<Answer, Stop>
-    ensures answers { IfSome (spec.settled result) (AnswersPrices mode (reading E.left E.counts election.old election.new) (file_reading O.left O.counts outcome.old outcome.new) (reading C.left C.counts certificate.old certificate.new)) }
-    ensures plain_yes { IfOk result (λ answer. answer.status ≡ Status.Yes → IsFalse mode.stable → HoldsOfPrices NoGroupHasMoreLeft (reading E.left E.counts election.old election.new) (file_reading O.left O.counts outcome.old outcome.new) (reading C.left C.counts certificate.old certificate.new)) }
-    ensures stable_yes { IfOk result (λ answer. answer.status ≡ Status.Yes → IsTrue mode.stable → HoldsOfPrices NothingBlocks (reading E.left E.counts election.old election.new) (file_reading O.left O.counts outcome.old outcome.new) (reading C.left C.counts certificate.old certificate.new)) }
+    ensures { IfSome (spec.settled result) (AnswersPrices mode (reading E.left E.counts election.old election.new) (file_reading O.left O.counts outcome.old outcome.new) (reading C.left C.counts certificate.old certificate.new)) }
 {
     let election = take_election(alloc, election)?;
     let outcome = take_outcome(alloc, outcome, &election)?;
@@ -80,9 +77,7 @@ fn price_answer(
 ) -> Result<Answer, AllocError>
     requires outcome { outcomes.Fits outcome.now election.now }
     requires prices { certificates.Fits prices.now election.now }
-    ensures answer { IfOk result (λ answer. answer ≡ answer_of (spec.price_reply mode election.now (outcome.now).marks prices.now)) }
-    ensures plain_yes { IfOk result (λ answer. answer.status ≡ Status.Yes → IsFalse mode.stable → NoGroupHasMoreLeft election.now (outcome.now).marks prices.now) }
-    ensures stable_yes { IfOk result (λ answer. answer.status ≡ Status.Yes → IsTrue mode.stable → NothingBlocks election.now (outcome.now).marks prices.now) }
+    ensures { IfOk result (λ answer. answer ≡ answer_of (spec.price_reply mode election.now (outcome.now).marks prices.now)) }
 {
     let verdict = check(alloc, election, outcome, prices, mode)?;
     let mut text = Vec::new(alloc);

@@ -1,8 +1,9 @@
 //! Auditing violations: whether a group was treated worse than it deserves.
-ghost use Rattle.std.specs.Prelude.{◌≡◌, IfOk, IfSome, IsErrOf};
-ghost use Rattle.pb_audit.specs.Answers.{AnswersViolation, answer_of};
+ghost use Rattle.std.specs.Prelude.{◌≡◌, ◌≢◌, IfOk, IfSome, IsErrOf};
+ghost use Rattle.pb_audit.specs.Answers.{AnswersViolation, HoldsOfInputs, answer_of};
 ghost use Rattle.pb_audit.specs.Answers as spec;
-ghost use Rattle.pb_audit.specs.Inputs.{file_reading, reading};
+ghost use Rattle.pb_audit.specs.Inputs.{StatesViolation, file_reading, reading};
+ghost use Rattle.pb_audit.specs.Promises.{ViolationPromises};
 ghost use Rattle.pb_audit.specs.Writing.{IsCutShort, IsWritten};
 ghost use Rattle.pb_certificate.specs.Claim as claims;
 ghost use Rattle.pb_election.specs.Instance.{IsSet, projects};
@@ -39,6 +40,9 @@ pub fn run_violation<E: Source, O: Source, C: Source, W: Sink>(
 
     // Where memory was wanted, nothing was written.
     ensures memory { IsErrOf result Fault.Memory → out.new ≡ out.old }
+
+    // Where no input is refused, the status is yes exactly where the group and its demand are a violation.
+    ensures promises { IfOk result (λ status. status ≢ Status.Refused → HoldsOfInputs StatesViolation (ViolationPromises status) (reading E.left E.counts election.old election.new) (file_reading O.left O.counts outcome.old outcome.new) (reading C.left C.counts certificate.old certificate.new)) }
 {
     let work = violation_work(alloc, election, outcome, certificate);
     let answer = settled(alloc, work)?;
