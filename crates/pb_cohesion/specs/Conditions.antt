@@ -1,10 +1,15 @@
--- When a price system supports an outcome: each condition, and its culprits in order.
-use Rattle.std.specs.Prelude.{◌≡◌, ◌<◌, ◌≤◌, ◌+◌, ◌==◌, ◌&&◌, not, nat_lt, nat_le, int_lt, ℕ, ℤ, pos, ◌+ℤ◌, ◌≤ℤ◌, Bool, false, IsTrue, List, [], ◌∷◌, map, filter, flat_map}
+-- When a price system supports an outcome: each condition, and its culprits in order. C1 to C5 are after Peters,
+-- Pierczyński and Skowron (2021), and S5 is after the stable form that Peters, Pierczyński, Shah and Skowron (2021) give for
+-- committees. The form of S5 for projects with costs, Feasible and Exhaustive are this project's own.
+use Rattle.std.specs.Prelude.{◌≡◌, ◌<◌, ◌≤◌, ◌+◌, ◌==◌, ◌&&◌, not, nat_lt, nat_le, int_lt, ℕ, ℤ, pos, ◌+ℤ◌, ◌≤ℤ◌, Bool, IsFalse, IsTrue, List, [], ◌∷◌, map, filter, flat_map}
 use Rattle.std.specs.Int.{int_max}
 use Rattle.pb_election.specs.Instance.{Approves, Instance, IsProject, IsVoter, all_projects, all_voters, approves, cost_of, supporters}
 use Rattle.pb_certificate.specs.Prices.{Prices, payment}
 use Rattle.pb_cohesion.specs.Amounts.{beta, cost, left, paid, spent, top}
 use Rattle.pb_cohesion.specs.Outcome.{IsFunded, IsUnfunded, funded, total, unfunded}
+
+-- Throughout, e is an election, w an outcome as the marks of its funded projects, p a price system, i a voter and c a
+-- project. Amounts are in grains, but those of Feasible and Exhaustive in millionths.
 
 -- a sum of integers, some of which may be negative
 abbrev pub sum_ℤ : (ℕ → ℤ) → List ℕ → ℤ
@@ -77,5 +82,5 @@ pub record Supports (stable exhaustive : Bool) (e : Instance) (w : List Bool) (p
   pub within_budget : C2 e p
   pub paid_for : C3 e w p
   pub none_wasted : C4 e w p
-  pub plain : stable ≡ false → C5 e w p
+  pub plain : IsFalse stable → C5 e w p
   pub stable_form : IsTrue stable → S5 e w p

@@ -1,4 +1,4 @@
--- The tests of a violation certificate, in their order.
+-- The tests of a violation of EJR by a group s that demands the projects t, in their order.
 use Rattle.std.specs.Prelude.{◌*◌, ◌==◌, not, nat_lt, nat_le, if◌then◌else◌, ℕ, Bool, List, [], ◌∷◌, ◌++◌, length, map, filter, flat_map, slice_get, Option, Some, None}
 use Rattle.pb_election.specs.Instance.{Instance, approves, cost_of_all, voters}
 use Rattle.pb_cohesion.specs.Groups.{gets, sat}

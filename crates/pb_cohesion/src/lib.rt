@@ -1,4 +1,5 @@
-//! Groups of voters: satisfactions, violations, and laws on groups.
+//! Groups of voters: satisfactions, violations of extended justified representation (EJR) after Peters, Pierczyński and
+//! Skowron (2021), and laws on groups.
 #![tactic(auto)]
 
 pub mod laws;

@@ -1,9 +1,11 @@
-//! The verdict on a price system: whether it supports an outcome.
+//! The verdict on a price system: whether it supports an outcome. The conditions are after Peters, Pierczyński and Skowron
+//! (2021), and S5 after Peters, Pierczyński, Shah and Skowron (2021), each in this project's form for projects with costs.
 #![tactic(auto)]
 
 mod amounts;
 mod checking;
 mod conditions;
+pub mod laws;
 mod samples;
 #[cfg(test)]
 mod tests;
