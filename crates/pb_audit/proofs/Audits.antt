@@ -8,9 +8,9 @@ use Rattle.pb_certificate.specs.GroupText.{IsViolationText}
 use Rattle.pb_certificate.specs.Prices.{Prices}
 use Rattle.pb_certificate.proofs.Unique.{group-text-sets}
 use Rattle.pb_audit.specs.Answers.{Answer, AnswersAudit, AnswersTidy, Reply, TidyInputs, TidyOut, answer_of, refused, with_input}
-use Rattle.pb_audit.specs.Inputs.{FileReading, Gives, IfTaken, InTurn, IsUntouched, Reading, Stated, StatesElection, StatesOutcome, file_reading, reading, refusal_of}
+use Rattle.pb_audit.specs.Inputs.{FileReading, Gives, InTurn, IsUntouched, Reading, Stated, StatesElection, StatesOutcome, file_reading, reading, refusal_of}
+use Rattle.pb_audit.specs.Taking.{AuditsOutcome, IfTaken, TakesOutcome}
 use Rattle.pb_audit.specs.Lines.{Refusal}
-use Rattle.pb_audit.specs.Taking.{AuditsOutcome, TakesOutcome}
 use Rattle.pb_audit.specs.Writing.{IsCutShort, IsWritten}
 use Rattle.pb_audit.specs.declared.input.Stop.{Stop}
 use Rattle.pb_audit.specs.declared.input.Stop.TheVariants as stop

@@ -13,7 +13,8 @@ use Rattle.pb_price.specs.declared.Failure.{Failure}
 use Rattle.pb_price.specs.declared.Mode.{Mode}
 use Rattle.pb_price.proofs.Groups.{budgets, plain-no, plain-yes, stable-no, stable-yes}
 use Rattle.pb_price.proofs.Verdicts.{supports-iff}
-use Rattle.pb_audit.specs.Answers.{Answer, AnswersAudit, AuditInputs, AuditOut, HoldsOfInputs, Reply, answer_of, price_reply, price_status, settled, violation_reply, violation_status, with_input}
+use Rattle.pb_audit.specs.Answers.{Answer, AnswersAudit, AuditInputs, AuditOut, HoldsOfInputs, Reply, answer_of, price_reply, price_status, violation_reply, violation_status, with_input}
+use Rattle.pb_audit.specs.Taking.{settled}
 use Rattle.pb_audit.specs.Inputs.{FileReading, Reading, Stated, audited}
 use Rattle.pb_audit.specs.Promises.{PricesPromise, ViolationPromises}
 use Rattle.pb_audit.specs.declared.input.Stop.{Stop}

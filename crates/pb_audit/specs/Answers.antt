@@ -1,5 +1,5 @@
 -- What each command answers: a text, and how it ends, from what its inputs state.
-use Rattle.std.specs.Prelude.{◌≡◌, Bool, ℕ, List, [], ◌∷◌, ◌++◌, flat_map, Option, Some, None, Result, Ok, Err}
+use Rattle.std.specs.Prelude.{◌≡◌, Bool, ℕ, List, [], ◌∷◌, ◌++◌, flat_map, Option, Ok, Err}
 use Rattle.pb_election.specs.Instance.{Instance}
 use Rattle.pb_election.specs.Loading.{Delivery}
 use Rattle.pb_certificate.specs.Canon.{Canon, line_end}
@@ -12,10 +12,8 @@ use Rattle.pb_price.specs.First.{First, verdict_of}
 use Rattle.pb_price.specs.declared.Mode.{Mode}
 use Rattle.pb_price.specs.declared.Verdict.{Verdict}
 use Rattle.pb_price.specs.declared.Verdict.TheVariants as verdict
-use Rattle.pb_audit.specs.Inputs.{FileReading, Gives, GivesFile, InTurn, IsUntouched, Reading, Stated, StatesElection, StatesOutcome, StatesPrices, StatesViolation, audited, refusal_of}
+use Rattle.pb_audit.specs.Inputs.{FileReading, Gives, GivesFile, InTurn, IsUntouched, Reading, Stated, StatesElection, StatesOutcome, StatesPrices, StatesViolation, audited}
 use Rattle.pb_audit.specs.Lines.{Refusal, Text, notes, price_line, read_line, refusal_line, violation_line}
-use Rattle.pb_audit.specs.declared.input.Stop.{Stop}
-use Rattle.pb_audit.specs.declared.input.Stop.TheVariants as stop
 use Rattle.pb_audit.specs.declared.status.Status.{Status}
 use Rattle.pb_audit.specs.declared.status.Status.TheVariants.{Yes, No, Refused}
 
@@ -130,13 +128,3 @@ pub record HoldsOfInputs {A : Type 0} (states : Instance → Delivery → Stated
   pub given : AuditInputs states election outcome certificate (Ok e) file (Ok c)
   pub outcome_is : audited e file ≡ Ok w
   pub here : holds e w c
-
--- the answer that some work came to: its own, or the line of the input that was refused; there is none where memory was
--- wanted
-abbrev pub stopped : Stop → Option Answer
-stopped (stop.Refused input why) = Some (answer_of (refused (refusal_of input why)))
-stopped stop.Memory = None
-
-abbrev pub settled : Result Answer Stop → Option Answer
-settled (Ok own) = Some own
-settled (Err why) = stopped why

@@ -1,5 +1,5 @@
 -- What the inputs state, by what the readers deliver of them.
-use Rattle.std.specs.Prelude.{◌≡◌, ◌^◌, if◌then◌else◌, Bool, true, false, ℕ, List, Option, Some, None, Result, Ok, Err, codes}
+use Rattle.std.specs.Prelude.{◌≡◌, ◌^◌, Bool, ℕ, List, Option, Some, None, Result, Ok, Err, codes}
 use Rattle.std.specs.Option.{option_map}
 use Rattle.pb_election.specs.FirstFault.{Form}
 use Rattle.pb_election.specs.Instance.{Instance}
@@ -8,8 +8,6 @@ use Rattle.pb_election.specs.Faults.{Refuses}
 use Rattle.pb_election.specs.Faults as elections
 use Rattle.pb_election.specs.Loading.{Delivered, Delivery, ReadCounts}
 use Rattle.pb_election.specs.Loading as delivery
-use Rattle.pb_election.specs.declared.refusal.ElectionFault.{ElectionFault}
-use Rattle.pb_election.specs.declared.refusal.ElectionFault.TheVariants as election_fault
 use Rattle.pb_election.specs.declared.refusal.Refusal as election
 use Rattle.pb_certificate.specs.Faults.{certificate_records, outcome_form, price_form, violation_form}
 use Rattle.pb_certificate.specs.Faults as certificates
@@ -18,17 +16,12 @@ use Rattle.pb_certificate.specs.OutcomeText.{IsOutcomeText}
 use Rattle.pb_certificate.specs.Prices.{Prices}
 use Rattle.pb_certificate.specs.PriceText.{IsPriceText}
 use Rattle.pb_certificate.specs.declared.refusal.CertFault.{CertFault}
-use Rattle.pb_certificate.specs.declared.refusal.CertFault.TheVariants as cert_fault
 use Rattle.pb_certificate.specs.declared.refusal.CertRefusal.{CertRefusal}
 use Rattle.pb_audit.specs.Lines.{Refusal, Text}
 use Rattle.pb_audit.specs.declared.input.InputFault.{InputFault}
 use Rattle.pb_audit.specs.declared.input.InputFault.TheVariants as fault
 use Rattle.pb_audit.specs.declared.input.InputName.{InputName}
 use Rattle.pb_audit.specs.declared.input.InputName.TheVariants as name
-use Rattle.pb_audit.specs.declared.input.Loaded.{Loaded}
-use Rattle.pb_audit.specs.declared.input.Loaded.TheVariants as loaded
-use Rattle.pb_audit.specs.declared.input.Stop.{Stop}
-use Rattle.pb_audit.specs.declared.input.Stop.TheVariants as stop
 
 -- an input is what it states, or why it is refused
 abbrev pub Stated : Type 0 → Type 0
@@ -141,41 +134,3 @@ IsUntouched r = r.after ≡ r.before
 abbrev pub InTurn : {A : Type 0} → Stated A → (A → Type 0) → Type 0 → Type 0
 InTurn (Ok a) taken untouched = taken a
 InTurn (Err r) taken untouched = untouched
-
--- What the code's values stand for.
-
-abbrev pub delivery_of : Loaded → Delivery
-delivery_of (loaded.Bytes bytes) = delivery.Bytes bytes.items
-delivery_of loaded.Unread = delivery.Read
-delivery_of loaded.TooLong = delivery.TooLong
-
--- what an input that was taken states, memory aside
-abbrev pub IfTaken : {A : Type 0} → Result A Stop → (Stated A → Type 0) → Type 0
-IfTaken (Ok a) is_stated = is_stated (Ok a)
-IfTaken (Err (stop.Refused input why)) is_stated = is_stated (Err (refusal_of input why))
-IfTaken (Err stop.Memory) is_stated = Unit {0}
-
--- an input of this name was not delivered whole, and the work on it stops so
-abbrev pub IsUnloaded : InputName → Delivery → Stop → Type 0
-IsUnloaded input (delivery.Bytes bytes) why = ⊥
-IsUnloaded input delivery.Read why = why ≡ stop.Refused input fault.Unread
-IsUnloaded input delivery.TooLong why = why ≡ stop.Refused input fault.TooLong
-
--- whether a fault is want of memory, and not one of the input
-abbrev pub is_election_memory : ElectionFault → Bool
-is_election_memory election_fault.Memory = true
-is_election_memory _ = false
-
-abbrev pub is_certificate_memory : CertFault → Bool
-is_certificate_memory cert_fault.Memory = true
-is_certificate_memory _ = false
-
-abbrev pub wants_memory : InputFault → Bool
-wants_memory fault.Unread = false
-wants_memory fault.TooLong = false
-wants_memory (fault.Election r) = is_election_memory r.fault
-wants_memory (fault.Certificate r) = is_certificate_memory r.fault
-
--- what the work on an input stops for
-abbrev pub stop_at : InputName → InputFault → Stop
-stop_at input why = if wants_memory why then stop.Memory else stop.Refused input why

@@ -3,7 +3,7 @@ pub mod Tasks
 pub mod Lines
 pub mod Named
 pub mod Inputs
-pub mod Taking
 pub mod Answers
 pub mod Promises
+pub mod Taking
 pub mod Writing

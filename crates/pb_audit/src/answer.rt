@@ -1,7 +1,7 @@
 //! Answers, and how they are written.
 ghost use Rattle.std.specs.Prelude.{◌≡◌, OnErr, IfErr, IfOk, OnOk, Some};
 ghost use Rattle.std.specs.Io.KnownBytes.{Appends};
-ghost use Rattle.pb_audit.specs.Answers as spec;
+ghost use Rattle.pb_audit.specs.Taking as spec;
 ghost use Rattle.pb_election.specs.Loading.{AppendsFront, Rises};
 ghost use Rattle.pb_audit.specs.declared.status.Fault.TheVariants.{Write};
 

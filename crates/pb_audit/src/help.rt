@@ -40,8 +40,15 @@ Example:
 /// What `prices` checks.
 pub(crate) const PRICES_NOTES: &str = "\
 A price certificate gives every voter the same budget and says what each voter
-pays for each project; 'pbaudit tidy --help' shows its form. It supports the
-outcome where these conditions hold, which are tried in this order:
+pays for each project, all as whole numbers over one denominator:
+  pb-prices,1
+  denominator,2
+  voter_budget,9
+  voter,project,payment
+  1,park,3
+Here every voter has a budget of 9/2, and voter 1 pays 3/2 for the project
+'park'. The certificate supports the outcome where these conditions hold, which
+are tried in this order:
   Feasible    the funded projects cost no more than the budget limit in all
   Exhaustive  no unfunded project still fits within the budget limit
   C1          a voter pays only for projects of the voter's own ballot

@@ -2,8 +2,9 @@
 ghost use Rattle.std.specs.Prelude.{◌≡◌, IfOk, IfErr};
 ghost use Rattle.pb_election.specs.Loading.{Delivered};
 ghost use Rattle.pb_election.specs.Loading as delivery;
-ghost use Rattle.pb_audit.specs.Inputs.{IsUnloaded, delivery_of, most_bytes, name_of, refusal_of, wants_memory};
-ghost use Rattle.pb_audit.specs.Inputs as spec;
+ghost use Rattle.pb_audit.specs.Inputs.{most_bytes, name_of, refusal_of};
+ghost use Rattle.pb_audit.specs.Taking.{IsUnloaded, delivery_of, wants_memory};
+ghost use Rattle.pb_audit.specs.Taking as spec;
 ghost use Rattle.pb_audit.specs.declared.input.Stop.TheVariants.{Memory};
 
 use pb_certificate::{CertFault, CertRefusal};

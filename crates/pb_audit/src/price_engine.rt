@@ -4,6 +4,7 @@ ghost use Rattle.pb_audit.specs.Answers.{AnswersPrices, HoldsOfInputs, answer_of
 ghost use Rattle.pb_audit.specs.Answers as spec;
 ghost use Rattle.pb_audit.specs.Inputs.{StatesPrices, file_reading, reading};
 ghost use Rattle.pb_audit.specs.Promises.{PricesPromise};
+ghost use Rattle.pb_audit.specs.Taking as taken;
 ghost use Rattle.pb_audit.specs.Writing.{IsCutShort, IsWritten};
 ghost use Rattle.pb_certificate.specs.Prices as certificates;
 ghost use Rattle.pb_election.specs.Loading.{Rises};
@@ -58,7 +59,7 @@ fn price_work<E: Source, O: Source, C: Source>(
     certificate: &mut C,
     mode: Mode,
 ) -> Result<Answer, Stop>
-    ensures { IfSome (spec.settled result) (AnswersPrices mode (reading E.left E.counts election.old election.new) (file_reading O.left O.counts outcome.old outcome.new) (reading C.left C.counts certificate.old certificate.new)) }
+    ensures { IfSome (taken.settled result) (AnswersPrices mode (reading E.left E.counts election.old election.new) (file_reading O.left O.counts outcome.old outcome.new) (reading C.left C.counts certificate.old certificate.new)) }
 {
     let election = take_election(alloc, election)?;
     let outcome = take_outcome(alloc, outcome, &election)?;

@@ -1,6 +1,7 @@
 //! Reading an election and telling what is in it.
 ghost use Rattle.std.specs.Prelude.{◌≡◌, IfOk, IfSome, IsErrOf};
-ghost use Rattle.pb_audit.specs.Answers.{AnswersRead, ReadOut, settled};
+ghost use Rattle.pb_audit.specs.Answers.{AnswersRead, ReadOut};
+ghost use Rattle.pb_audit.specs.Taking.{settled};
 ghost use Rattle.pb_audit.specs.Inputs.{reading};
 ghost use Rattle.pb_audit.specs.Lines as spec;
 ghost use Rattle.pb_audit.specs.Writing.{IsCutShort, IsWritten};

@@ -4,8 +4,8 @@ ghost use Rattle.pb_election.specs.Instance.{IsSet, projects};
 ghost use Rattle.pb_election.specs.Outcome as outcomes;
 ghost use Rattle.pb_certificate.specs.Claim as claims;
 ghost use Rattle.pb_certificate.specs.Prices.{Fits};
-ghost use Rattle.pb_audit.specs.Inputs.{Gives, IfTaken, StatesElection, StatesOutcome, StatesPrices, StatesViolation, delivery_of, file_reading, its_outcome, reading};
-ghost use Rattle.pb_audit.specs.Taking.{TakesOutcome, claimed, marked};
+ghost use Rattle.pb_audit.specs.Inputs.{Gives, StatesElection, StatesOutcome, StatesPrices, StatesViolation, file_reading, its_outcome, reading};
+ghost use Rattle.pb_audit.specs.Taking.{IfTaken, TakesOutcome, claimed, delivery_of, marked};
 
 use crate::input::{InputFault, InputName, Loaded, Stop, bytes_of, load_input, stop_at};
 use pb_certificate::{Prices, Violation, read_outcome};

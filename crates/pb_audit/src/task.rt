@@ -28,20 +28,29 @@ pub enum Task {
     /// Check a price certificate for the outcome of an outcome file, or for the election's own
     /// outcome where none is named.
     Prices {
+        /// The election.
         election: String,
+        /// The price certificate.
         certificate: String,
+        /// The outcome file.
         outcome: Option<String>,
+        /// Which conditions are asked for.
         mode: Mode,
     },
     /// Check a violation certificate, with the outcome as for prices.
     Violation {
+        /// The election.
         election: String,
+        /// The violation certificate.
         certificate: String,
+        /// The outcome file.
         outcome: Option<String>,
     },
     /// Write a price certificate in its canonical form.
     Tidy {
+        /// The election.
         election: String,
+        /// The price certificate.
         certificate: String,
     },
 }

@@ -3,6 +3,7 @@ ghost use Rattle.std.specs.Prelude.{◌≡◌, IfErr, IfOk, IfSome, IsErrOf, Ok}
 ghost use Rattle.pb_audit.specs.Answers.{AnswersTidy, TidyInputs};
 ghost use Rattle.pb_audit.specs.Answers as spec;
 ghost use Rattle.pb_audit.specs.Inputs.{reading};
+ghost use Rattle.pb_audit.specs.Taking as taken;
 ghost use Rattle.pb_audit.specs.Writing.{IsCutShort, IsWritten};
 ghost use Rattle.pb_certificate.specs.Prices.{Fits};
 ghost use Rattle.pb_election.specs.Loading.{Rises};
@@ -49,7 +50,7 @@ fn take_inputs<E: Source, C: Source>(
 ) -> Result<(Election, Prices), Stop>
     ensures accepted { IfOk result (λ both. TidyInputs (reading E.left E.counts election.old election.new) (reading C.left C.counts certificate.old certificate.new) (Ok both.0) (Ok both.1)) }
     ensures fits { IfOk result (λ both. Fits both.1 both.0) }
-    ensures refused { IfErr result (λ stop. IfSome (spec.stopped stop) (AnswersTidy (reading E.left E.counts election.old election.new) (reading C.left C.counts certificate.old certificate.new))) }
+    ensures refused { IfErr result (λ stop. IfSome (taken.stopped stop) (AnswersTidy (reading E.left E.counts election.old election.new) (reading C.left C.counts certificate.old certificate.new))) }
 {
     let election = take_election(alloc, election)?;
     let prices = take_prices(alloc, certificate, &election)?;

@@ -4,6 +4,7 @@ ghost use Rattle.pb_audit.specs.Answers.{AnswersViolation, HoldsOfInputs, answer
 ghost use Rattle.pb_audit.specs.Answers as spec;
 ghost use Rattle.pb_audit.specs.Inputs.{StatesViolation, file_reading, reading};
 ghost use Rattle.pb_audit.specs.Promises.{ViolationPromises};
+ghost use Rattle.pb_audit.specs.Taking as taken;
 ghost use Rattle.pb_audit.specs.Writing.{IsCutShort, IsWritten};
 ghost use Rattle.pb_certificate.specs.Claim as claims;
 ghost use Rattle.pb_election.specs.Instance.{IsSet, projects};
@@ -57,7 +58,7 @@ fn violation_work<E: Source, O: Source, C: Source>(
     outcome: &mut Option<O>,
     certificate: &mut C,
 ) -> Result<Answer, Stop>
-    ensures { IfSome (spec.settled result) (AnswersViolation (reading E.left E.counts election.old election.new) (file_reading O.left O.counts outcome.old outcome.new) (reading C.left C.counts certificate.old certificate.new)) }
+    ensures { IfSome (taken.settled result) (AnswersViolation (reading E.left E.counts election.old election.new) (file_reading O.left O.counts outcome.old outcome.new) (reading C.left C.counts certificate.old certificate.new)) }
 {
     let election = take_election(alloc, election)?;
     let outcome = take_outcome(alloc, outcome, &election)?;
