@@ -1,4 +1,4 @@
-//! Readers and writers that fail.
+//! Readers and writers that are short, fail or never end.
 use std::alloc::Global;
 use std::io;
 use std::io::{ErrorKind, Read, Write};

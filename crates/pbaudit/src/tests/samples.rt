@@ -1,5 +1,21 @@
-//! Sample files.
+//! Sample files, and the modes of a check of prices.
+use pb_price::Mode;
 use std::alloc::{AllocError, Global};
+
+pub const PLAIN: Mode = Mode {
+    stable: false,
+    exhaustive: true,
+};
+
+pub const STABLE: Mode = Mode {
+    stable: true,
+    exhaustive: true,
+};
+
+pub const NOT_EXHAUSTIVE: Mode = Mode {
+    stable: false,
+    exhaustive: false,
+};
 
 /// The sample election: 17 lines, which are its records.
 pub const ELECTION: &str = "\
@@ -65,6 +81,21 @@ voter,project,payment
 1,a,2
 1,b,2
 2,a,4
+3,b,2
+";
+
+/// The same prices with blanks, leading zeros, an empty line, empty fields at the end, a payment of 0, and a voter's
+/// rows in another order.
+pub const UNTIDY_PRICES: &str = "\
+pb-prices, 1
+denominator,1
+voter_budget,04
+
+voter,project,payment
+1,b,2
+1,a,002
+2,a,4,,
+2,b,0
 3,b,2
 ";
 

@@ -1,6 +1,6 @@
 //! What is printed on a price certificate that is to be written in its canonical form.
 use super::fakes::{EndlessReader, FakeWriter};
-use super::samples::{ELECTION, PRICES, QUOTED_ELECTION, QUOTED_PRICES, with_lines};
+use super::samples::{ELECTION, PRICES, QUOTED_ELECTION, QUOTED_PRICES, UNTIDY_PRICES, with_lines};
 use pb_audit::{Status, run_tidy};
 use pb_election::{Input, Output};
 use std::alloc::Global;
@@ -25,10 +25,8 @@ fn tidy(
 #[test]
 fn canonical_texts(rt: HostRuntime) -> Result<(), Fail> {
     let alloc = rt.alloc();
-    let untidy =
-        "pb-prices, 1\ndenominator,1\nvoter_budget,04\n\nvoter,project,payment\n1,b,2\n1,a,002\n2,a,4,,\n2,b,0\n3,b,2\n";
     for (election, certificate, want) in [
-        (ELECTION, untidy, PRICES),
+        (ELECTION, UNTIDY_PRICES, PRICES),
         (QUOTED_ELECTION, QUOTED_PRICES, QUOTED_PRICES),
     ] {
         let (printed, status) = tidy(alloc, election.as_bytes(), certificate.as_bytes())?;
