@@ -1,6 +1,7 @@
 //! How a run of the program ends.
 use pb_audit::{Fault, Status, UsageFault};
 use pb_election::{Output, put};
+use std::io::Write;
 use std::process::ExitCode;
 
 /// How a run of the program ends.
@@ -29,39 +30,34 @@ impl From<UsageFault> for End {
 }
 
 impl End {
-    /// Says what is left to say, and gives the exit status. What standard error does not take is lost.
+    /// Says what is left to say, and gives the exit status.
     pub fn tell(&self, rt: &HostRuntime) -> ExitCode {
+        ExitCode::from(self.tell_on(&mut rt.stdout(), &mut rt.stderr()))
+    }
+
+    /// The exit status, once help is written on `out`, or what went wrong on `err`. What `err` does not take is lost.
+    pub fn tell_on<O: Write, E: Write>(&self, out: &mut O, err: &mut E) -> u8 {
         match self {
-            End::Answered(status) => ExitCode::from(status_code(*status)),
-            End::Help(text) => tell_help(rt, text),
-            End::Usage(text) => tell_usage(rt, text),
-            End::NotText => tell_usage(rt, "error: a word of the command line is not UTF-8\n"),
-            End::Faulted(fault) => tell_fault(rt, *fault),
+            End::Answered(Status::Yes) => 0,
+            End::Answered(Status::No) => 1,
+            End::Answered(Status::Refused) => 2,
+            End::Help(text) => match put(text.as_bytes(), &mut Output::new(out)) {
+                Ok(()) => 0,
+                Err(fault) => tell_fault(Fault::from(fault), err),
+            },
+            End::Usage(text) => tell_usage(text, err),
+            End::NotText => tell_usage("error: a word of the command line is not UTF-8\n", err),
+            End::Faulted(fault) => tell_fault(*fault, err),
         }
     }
 }
 
-fn status_code(status: Status) -> u8 {
-    match status {
-        Status::Yes => 0,
-        Status::No => 1,
-        Status::Refused => 2,
-    }
+fn tell_usage<E: Write>(text: &str, err: &mut E) -> u8 {
+    let _ = err.write_all(text.as_bytes());
+    3
 }
 
-fn tell_help(rt: &HostRuntime, text: &str) -> ExitCode {
-    match put(text.as_bytes(), &mut Output::new(rt.stdout())) {
-        Ok(()) => ExitCode::SUCCESS,
-        Err(fault) => tell_fault(rt, Fault::from(fault)),
-    }
-}
-
-fn tell_usage(rt: &HostRuntime, text: &str) -> ExitCode {
-    let _ = eprint!(rt; "{text}");
-    ExitCode::from(3)
-}
-
-fn tell_fault(rt: &HostRuntime, fault: Fault) -> ExitCode {
-    let _ = eprintln!(rt; "{fault}");
-    ExitCode::from(4)
+fn tell_fault<E: Write>(fault: Fault, err: &mut E) -> u8 {
+    let _ = writeln!(err, "{fault}");
+    4
 }
