@@ -4,7 +4,7 @@ use Rattle.std.specs.Prelude.{IfOk, Result, Ok, Err, Some, None}
 use Rattle.pb_election.specs.Instance.{Instance, IsSet, projects}
 use Rattle.pb_election.specs.Loading.{Delivery, ReadCounts}
 use Rattle.pb_certificate.specs.Faults.{certificate_records}
-use Rattle.pb_certificate.specs.GroupText.{IsViolationText}
+use Rattle.pb_certificate.specs.ViolationText.{IsViolationText}
 use Rattle.pb_certificate.specs.Prices.{Prices}
 use Rattle.pb_certificate.proofs.Unique.{group-text-sets}
 use Rattle.pb_audit.specs.Answers.{Answer, AnswersAudit, AnswersTidy, Reply, TidyInputs, TidyOut, answer_of, refused, with_input}

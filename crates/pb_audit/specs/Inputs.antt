@@ -11,7 +11,7 @@ use Rattle.pb_election.specs.Loading as delivery
 use Rattle.pb_election.specs.declared.refusal.Refusal as election
 use Rattle.pb_certificate.specs.Faults.{certificate_records, outcome_form, price_form, violation_form}
 use Rattle.pb_certificate.specs.Faults as certificates
-use Rattle.pb_certificate.specs.GroupText.{IsViolationText}
+use Rattle.pb_certificate.specs.ViolationText.{IsViolationText}
 use Rattle.pb_certificate.specs.OutcomeText.{IsOutcomeText}
 use Rattle.pb_certificate.specs.Prices.{Prices}
 use Rattle.pb_certificate.specs.PriceText.{IsPriceText}

@@ -11,8 +11,8 @@ use Rattle.pb_election.specs.Records.{Field, Rec}
 use Rattle.pb_election.specs.Cells.{cell, is_text}
 use Rattle.pb_election.specs.FirstFault.{IsFirstFault}
 use Rattle.pb_certificate.specs.Fields.{fields, number, project_in, voter_in, whole_in}
-use Rattle.pb_certificate.specs.GroupText.{IsViolationText, Named, named_by, named_of, same_named}
-use Rattle.pb_certificate.specs.GroupText.Named.{Member, Demanded}
+use Rattle.pb_certificate.specs.ViolationText.{IsViolationText, Named, named_by, named_of, same_named}
+use Rattle.pb_certificate.specs.ViolationText.Named.{Member, Demanded}
 use Rattle.pb_certificate.specs.Faults.{is_kind, same_name, violation_fault_stands, violation_form}
 use Rattle.pb_certificate.specs.declared.refusal.CertFault.{CertFault}
 use Rattle.pb_certificate.specs.declared.refusal.CertFault.TheVariants as fault

@@ -7,7 +7,7 @@ use Rattle.std.proofs.lemmas.Bool.{and_parts, eqb-true, ne_eqb}
 use Rattle.std.proofs.lemmas.Slice.Eq.{bytes_eq-Decides}
 use Rattle.pb_election.specs.Records.{Field, Rec}
 use Rattle.pb_election.specs.Cells.{cell}
-use Rattle.pb_certificate.specs.Fields.{StatesNumber, fields, has_three, has_two, head_number, same_fields, whole_within}
+use Rattle.pb_certificate.specs.Fields.{StatesNumber, fields, head_number, same_fields, whole_within}
 use Rattle.pb_certificate.specs.Faults.{is_value_of}
 use Rattle.pb_certificate.specs.declared.refusal.CertFault.{CertFault}
 use Rattle.pb_certificate.specs.declared.refusal.CertFault.TheVariants as fault
@@ -44,11 +44,11 @@ three-by (x ∷ y ∷ z ∷ []) a b c = three-plain (bytes_eq x a) (bytes_eq y b
 three-by (x ∷ y ∷ z ∷ w ∷ ws) a b c = rw (ne_eqb (length (x ∷ y ∷ z ∷ w ∷ ws)) 3 (λ e. omega arith), and-false (bytes_eq z c), and-false (bytes_eq y b), and-false (bytes_eq x a)) refl
 
 -- the same by the record's cells
-pub two-cells : (r : Rec) (a b : Field) → same_fields (fields r) (a ∷ b ∷ []) ≡ has_two a b r
-two-cells r a b = two-by (fields r) a b ∙ rw (field-cell r 0, field-cell r 1) refl
+pub two_cells : (r : Rec) (a b : Field) → same_fields (fields r) (a ∷ b ∷ []) ≡ ((length (fields r) == 2) && bytes_eq (cell 0 r) a && bytes_eq (cell 1 r) b)
+two_cells r a b = two-by (fields r) a b ∙ rw (field-cell r 0, field-cell r 1) refl
 
-pub three-cells : (r : Rec) (a b c : Field) → same_fields (fields r) (a ∷ b ∷ c ∷ []) ≡ has_three a b c r
-three-cells r a b c = three-by (fields r) a b c ∙ rw (field-cell r 0, field-cell r 1, field-cell r 2) refl
+pub three_cells : (r : Rec) (a b c : Field) → same_fields (fields r) (a ∷ b ∷ c ∷ []) ≡ ((length (fields r) == 3) && bytes_eq (cell 0 r) a && bytes_eq (cell 1 r) b && bytes_eq (cell 2 r) c)
+three_cells r a b c = three-by (fields r) a b c ∙ rw (field-cell r 0, field-cell r 1, field-cell r 2) refl
 
 pub same-is : (fs gs : List Field) → same_fields fs gs ≡ true → fs ≡ gs
 same-is [] [] h = refl

@@ -13,7 +13,7 @@ use Rattle.pb_election.specs.Drafts.{StopsAt, Takes}
 use Rattle.pb_election.specs.FirstFault.{NoFault}
 use Rattle.pb_election.specs.declared.drafts.Stop.TheVariants.{Fault}
 use Rattle.pb_certificate.proofs.Positions.{found-project}
-use Rattle.pb_certificate.specs.Fields.{fields, has_two, project_in, same_fields}
+use Rattle.pb_certificate.specs.Fields.{fields, project_in, same_fields}
 use Rattle.pb_certificate.specs.Faults.{is_kind, outcome_form, same_name}
 use Rattle.pb_certificate.specs.Marks.{is_marked, marks_after, with_mark}
 use Rattle.pb_certificate.specs.OutcomeDrafts.{OutcomeRows, OutcomeStands, OutcomeTaken, after_outcome_row}
@@ -21,7 +21,7 @@ use Rattle.pb_certificate.specs.OutcomeText.{IsOutcomeText, funded_by, funded_of
 use Rattle.pb_certificate.specs.declared.refusal.CertFault.{CertFault}
 use Rattle.pb_certificate.specs.declared.refusal.CertFault.TheVariants as fault
 use Rattle.pb_certificate.proofs.Ends.{none-at-end}
-use Rattle.pb_certificate.proofs.Heads.{pair-is, same-is, two-cells}
+use Rattle.pb_certificate.proofs.Heads.{pair-is, same-is}
 use Rattle.pb_certificate.proofs.MarkLemmas.{all-push, distinct-push, mark-is, one-more-mark, was-marked}
 use Rattle.pb_certificate.proofs.OutcomeClear.{Row, joined-by, names-differ, row-id, row-kind, row-of}
 
@@ -163,28 +163,27 @@ taken-at : (e : Instance) (b b' : Bool) (marks : List Bool) (before : List Rec) 
     → OutcomeTaken e b' marks (before ++ (r ∷ []))
 taken-at e b b' marks before r is text all s = (all-push (λ x. is_text x ≡ true) before r all text, subst (λ x. OutcomeStands e x marks (before ++ (r ∷ []))) (sym is) s)
 
-pub head-refused : (e : Instance) (b : Bool) (marks : List Bool) (r : Rec) → is_text r ≡ true → b ≡ false → has_two (codes "pb-outcome") (codes "1") r ≡ false → StopsAt (outcome_form e) (OutcomeTaken e b marks) r (Fault fault.BadHead)
+pub head-refused : (e : Instance) (b : Bool) (marks : List Bool) (r : Rec) → is_text r ≡ true → b ≡ false → same_fields (fields r) (codes "pb-outcome" ∷ codes "1" ∷ []) ≡ false → StopsAt (outcome_form e) (OutcomeTaken e b marks) r (Fault fault.BadHead)
 head-refused e b marks r text at is before h =
     let s = stands-at e b false marks before at h in
-    rw s.0 (form-at-head e r false text (two-cells r (codes "pb-outcome") (codes "1") ∙ is))
+    rw s.0 (form-at-head e r false text is)
 
-pub head-taken : (e : Instance) (b : Bool) (marks : List Bool) (r : Rec) → is_text r ≡ true → b ≡ false → has_two (codes "pb-outcome") (codes "1") r ≡ true
+pub head-taken : (e : Instance) (b : Bool) (marks : List Bool) (r : Rec) → is_text r ≡ true → b ≡ false → same_fields (fields r) (codes "pb-outcome" ∷ codes "1" ∷ []) ≡ true
     → Takes (outcome_form e) (OutcomeTaken e b marks) (OutcomeTaken e true marks) r
 unfolding IsDistinct
 head-taken e b marks r text at is before h =
     let s = stands-at e b false marks before at h in
-    let same = two-cells r (codes "pb-outcome") (codes "1") ∙ is in
     let rows : OutcomeRows e marks (before ++ (r ∷ [])) = record {
       head = r;
       rows = [];
       names = [];
       cut = ap (λ (rs : List Rec). rs ++ (r ∷ [])) s.0;
-      is_head = same-is (fields r) (codes "pb-outcome" ∷ codes "1" ∷ []) same;
+      is_head = same-is (fields r) (codes "pb-outcome" ∷ codes "1" ∷ []) is;
       each_row = refl;
       once = tt;
       same_marks = s.1;
     } in
-    (rw s.0 (form-at-head e r true text same), taken-at e true true marks before r refl text h.0 rows)
+    (rw s.0 (form-at-head e r true text is), taken-at e true true marks before r refl text h.0 rows)
 
 pub row-refused : (e : Instance) (b : Bool) (marks : List Bool) (r : Rec) (f : CertFault) → is_text r ≡ true → b ≡ true → after_outcome_row e marks r ≡ Err f → StopsAt (outcome_form e) (OutcomeTaken e b marks) r (Fault f)
 unfolding fault_of

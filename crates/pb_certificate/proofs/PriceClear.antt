@@ -1,9 +1,8 @@
 -- The text of a price certificate has no fault.
-use Rattle.std.proofs.Common.{◌≡◌, ℕ, zero, suc, ◌+◌, ◌-◌, ◌^◌, ◌<◌, ◌≤◌, Bool, true, false, cond, List, [], ◌∷◌, ◌++◌, length, refl, sym, ◌∙◌, ap, subst, inl, inr, arith, Option, Some, None}
+use Rattle.std.proofs.Common.{◌≡◌, ℕ, zero, suc, ◌+◌, ◌^◌, ◌<◌, ◌≤◌, Bool, true, false, cond, List, [], ◌∷◌, ◌++◌, length, refl, sym, ◌∙◌, ap, subst, inl, inr, arith, Option, Some, None}
 use Rattle.std.specs.Prelude.{not, ◌&&◌, ◌==◌, map, nat_lt, nat_le, is_none, unwrap_or, codes, ⊤}
 use Rattle.std.specs.List.{AllByRecursion, IsDistinct, last_or, list_any}
 use Rattle.std.specs.List.Sorted.{IsNonDecreasing}
-use Rattle.std.specs.Option.{option_and_then, option_map}
 use Rattle.std.specs.Str.{bytes_eq}
 use Rattle.std.proofs.lemmas.Bool.{and_from, and_left, and_parts, and_right, cases_Bool, eq-eqb, eqb-true, false≢true, le-ltb, lt-leb, ne_eqb}
 use Rattle.std.proofs.lemmas.List.Elements.{All-from_recursion}
@@ -21,7 +20,7 @@ use Rattle.pb_certificate.specs.declared.refusal.CertFault.{CertFault}
 use Rattle.pb_certificate.specs.declared.refusal.CertFault.TheVariants as fault
 use Rattle.pb_certificate.proofs.Cells.{cell-is}
 use Rattle.pb_certificate.proofs.Sweep.{ClearFrom, none-refused}
-use Rattle.pb_certificate.proofs.Texts.{map-some}
+use Rattle.pb_certificate.proofs.Texts.{payment-parts}
 use Rattle.pb_certificate.proofs.OutcomeClear.{apart-more, each-nil, joined-by, no-fault, or-false}
 
 -- what a row says: its three fields, and its payment
@@ -34,27 +33,21 @@ pub record Row (e : Instance) (r : Rec) (q : Payment) : Type 0 where
   pub project : project_in e c ≡ Some q.project
   pub numerator : numerator_of x ≡ Some q.numerator
 
-of_three : ℕ → ℕ → ℕ → Payment
-of_three i j n = record { voter = i; project = j; numerator = n }
-
 row-by : (e : Instance) (r : Rec) (q : Payment) (fs : List Field) → fields r ≡ fs → payment_by e fs ≡ Some q → Row e r q
-unfolding of_three
 row-by e r q [] s h = cc
 row-by e r q (v ∷ []) s h = cc
 row-by e r q (v ∷ c ∷ []) s h = cc
 row-by e r q (v ∷ c ∷ x ∷ []) s h =
-    option_and_then_some (λ i. option_and_then (λ j. option_map (λ n. of_three i j n) (numerator_of x)) (project_in e c)) (voter_in e v) q h
-    (λ i is_i k. option_and_then_some (λ j. option_map (λ n. of_three i j n) (numerator_of x)) (project_in e c) q k
-    (λ j is_j l. (let found = map-some (λ n. of_three i j n) (numerator_of x) q l in
+    let parts = payment-parts (voter_in e v) (project_in e c) (numerator_of x) q h in
     record {
       v = v;
       c = c;
       x = x;
       shape = s;
-      voter = is_i ∙ ap Some (ap (λ (p : Payment). p.voter) found.2);
-      project = is_j ∙ ap Some (ap (λ (p : Payment). p.project) found.2);
-      numerator = found.1 ∙ ap Some (ap (λ (p : Payment). p.numerator) found.2);
-    })))
+      voter = parts.0;
+      project = parts.1;
+      numerator = parts.2;
+    }
 row-by e r q (v ∷ c ∷ x ∷ y ∷ ys) s h = cc
 
 pub row-of : (e : Instance) (r : Rec) (q : Payment) → payment_of e r ≡ Some q → Row e r q
@@ -202,7 +195,7 @@ row-clear e h d b c r done q ms low text row taken apart below rises few fault.U
 row-clear e h d b c r done q ms low text row taken apart below rises few fault.OutOfOrder =
     and_right _ _ (ap (λ n. at_record (last_or None done) (λ k. nat_lt n (number (cell 0 k)))) (row-number e r q row) ∙ below q.voter rises)
 row-clear e h d b c r done q ms low text row taken apart below rises few fault.Repeated = and_right _ _ (none-repeated e r q done ms row taken apart)
-row-clear e h d b c r done q ms low text row taken apart below rises few fault.TooMany = and_right _ _ (lt-leb 10000000 (length (h ∷ d ∷ b ∷ c ∷ done) - 4) (omega arith))
+row-clear e h d b c r done q ms low text row taken apart below rises few fault.TooMany = and_right _ _ (lt-leb 10000000 (length done) few)
 row-clear e h d b c r done q ms low text row taken apart below rises few fault.Memory = refl
 
 end-clear : (e : Instance) (h d b c : Rec) (done : List Rec) (f : CertFault) → price_fault_stands e (h ∷ d ∷ b ∷ c ∷ done) None f ≡ false

@@ -11,7 +11,7 @@ use Rattle.pb_election.specs.Cells.{cell, is_text}
 use Rattle.pb_election.specs.Drafts.{StopsAt, Takes}
 use Rattle.pb_election.specs.declared.drafts.Stop.{Stop}
 use Rattle.pb_election.specs.declared.drafts.Stop.TheVariants.{Fault, Memory}
-use Rattle.pb_certificate.specs.Fields.{StatesNumber, fields, has_three, has_two, head_number, number, project_in, whole_within}
+use Rattle.pb_certificate.specs.Fields.{StatesNumber, fields, head_number, number, project_in, same_fields, whole_within}
 use Rattle.pb_certificate.specs.PriceText.{Payment, payment_of, same_pair}
 use Rattle.pb_certificate.specs.PriceRows.{last_number, last_voter, payment_fault, row_fault}
 use Rattle.pb_certificate.specs.Tables.{Adds, Holds}
@@ -23,7 +23,7 @@ use Rattle.pb_certificate.specs.declared.refusal.CertFault.{CertFault}
 use Rattle.pb_certificate.specs.declared.refusal.CertFault.TheVariants as fault
 use Rattle.pb_certificate.proofs.Cells.{cell-is}
 use Rattle.pb_certificate.proofs.Found.{found_is}
-use Rattle.pb_certificate.proofs.Heads.{number-refused, number-taken, same-is, states-number, three-cells, two-cells}
+use Rattle.pb_certificate.proofs.Heads.{number-refused, number-taken, same-is, states-number}
 use Rattle.pb_certificate.proofs.OutcomeClear.{joined-by}
 use Rattle.pb_certificate.proofs.PriceClear.{row-number, row-of}
 use Rattle.pb_certificate.proofs.RowFaults.{form-at-budget, form-at-columns, form-at-denominator, form-at-end, form-at-name, form-at-row, place_fault}
@@ -41,19 +41,18 @@ one-more : (before heads : List Rec) (r : Rec) → before ≡ heads → before +
 one-more before heads r e = ap (λ (xs : List Rec). xs ++ (r ∷ [])) e
 
 -- the name
-pub name-refused : (d : State) (r : Rec) → is_text r ≡ true → d.awaited ≡ Name → has_two (codes "pb-prices") (codes "1") r ≡ false → StopsAt (price_form d.election) (HasTaken d) r (Fault fault.BadHead)
+pub name-refused : (d : State) (r : Rec) → is_text r ≡ true → d.awaited ≡ Name → same_fields (fields r) (codes "pb-prices" ∷ codes "1" ∷ []) ≡ false → StopsAt (price_form d.election) (HasTaken d) r (Fault fault.BadHead)
 name-refused d r text at is before h =
     let s : Stands d Name before = stands-at d Name before at h in
-    rw s.0 (form-at-name d.election r false text (two-cells r (codes "pb-prices") (codes "1") ∙ is))
+    rw s.0 (form-at-name d.election r false text is)
 
-pub name-taken : (d new : State) (r : Rec) → is_text r ≡ true → d.awaited ≡ Name → has_two (codes "pb-prices") (codes "1") r ≡ true → new.awaited ≡ Denominator → new.table ≡ d.table
+pub name-taken : (d new : State) (r : Rec) → is_text r ≡ true → d.awaited ≡ Name → same_fields (fields r) (codes "pb-prices" ∷ codes "1" ∷ []) ≡ true → new.awaited ≡ Denominator → new.table ≡ d.table
     → Takes (price_form d.election) (HasTaken d) (HasTaken new) r
 name-taken d new r text at is awaits same before h =
     let s : Stands d Name before = stands-at d Name before at h in
-    let is_name = two-cells r (codes "pb-prices") (codes "1") ∙ is in
-    let named : fields r ≡ codes "pb-prices" ∷ codes "1" ∷ [] = same-is (fields r) (codes "pb-prices" ∷ codes "1" ∷ []) is_name in
+    let named : fields r ≡ codes "pb-prices" ∷ codes "1" ∷ [] = same-is (fields r) (codes "pb-prices" ∷ codes "1" ∷ []) is in
     let stands : Stands new Denominator (before ++ (r ∷ [])) = (r, one-more before [] r s.0, named, subst (λ t. Holds t []) (sym same) s.1) in
-    (rw s.0 (form-at-name d.election r true text is_name), taken-at new Denominator before r awaits text h.0 stands)
+    (rw s.0 (form-at-name d.election r true text is), taken-at new Denominator before r awaits text h.0 stands)
 
 -- the denominator
 pub denominator-refused : (d : State) (r : Rec) (f : CertFault) → is_text r ≡ true → d.awaited ≡ Denominator → Err f ≡ head_number (codes "denominator") 1 (10 ^ 9) r
@@ -96,17 +95,16 @@ budget-taken d new r text at is awaits kept same before h =
     (rw s.2 (form-at-budget d.election s.0 s.1 r true false text taken.0 (ap is_none taken.1)), taken-at new Columns before r awaits text h.0 stands)
 
 -- the columns
-pub columns-refused : (d : State) (r : Rec) → is_text r ≡ true → d.awaited ≡ Columns → has_three (codes "voter") (codes "project") (codes "payment") r ≡ false
+pub columns-refused : (d : State) (r : Rec) → is_text r ≡ true → d.awaited ≡ Columns → same_fields (fields r) (codes "voter" ∷ codes "project" ∷ codes "payment" ∷ []) ≡ false
     → StopsAt (price_form d.election) (HasTaken d) r (Fault fault.BadHead)
 columns-refused d r text at is before h =
     let s : Stands d Columns before = stands-at d Columns before at h in
-    rw s.3 (form-at-columns d.election s.0 s.1 s.2 r false text (three-cells r (codes "voter") (codes "project") (codes "payment") ∙ is))
+    rw s.3 (form-at-columns d.election s.0 s.1 s.2 r false text is)
 
-pub columns-taken : (d new : State) (r : Rec) → is_text r ≡ true → d.awaited ≡ Columns → has_three (codes "voter") (codes "project") (codes "payment") r ≡ true → new.awaited ≡ Row
+pub columns-taken : (d new : State) (r : Rec) → is_text r ≡ true → d.awaited ≡ Columns → same_fields (fields r) (codes "voter" ∷ codes "project" ∷ codes "payment" ∷ []) ≡ true → new.awaited ≡ Row
     → new.denominator ≡ d.denominator → new.budget ≡ d.budget → new.table ≡ d.table → Takes (price_form d.election) (HasTaken d) (HasTaken new) r
 columns-taken d new r text at is awaits kept kept_budget same before h =
     let s : Stands d Columns before = stands-at d Columns before at h in
-    let columns = three-cells r (codes "voter") (codes "project") (codes "payment") ∙ is in
     let stands : Stands new Row (before ++ (r ∷ [])) =
     record {
       name = s.0;
@@ -119,11 +117,11 @@ columns-taken d new r text at is awaits kept kept_budget same before h =
       is_name = s.4;
       is_denominator = subst (StatesNumber (codes "denominator") 1 (10 ^ 9) s.1) (sym kept) s.5;
       is_budget = subst (StatesNumber (codes "voter_budget") 0 (10 ^ 21) s.2) (sym kept_budget) s.6;
-      are_columns = same-is (fields r) (codes "voter" ∷ codes "project" ∷ codes "payment" ∷ []) columns;
+      are_columns = same-is (fields r) (codes "voter" ∷ codes "project" ∷ codes "payment" ∷ []) is;
       each_row = refl;
       holds = subst (λ t. Holds t []) (sym same) s.7;
     } in
-    (rw s.3 (form-at-columns d.election s.0 s.1 s.2 r true text columns), taken-at new Row before r awaits text h.0 stands)
+    (rw s.3 (form-at-columns d.election s.0 s.1 s.2 r true text is), taken-at new Row before r awaits text h.0 stands)
 
 -- a row, among the rows before it
 lower-by : (v n : ℕ) (o : Option Rec) (e : Instance) (done : List Rec) (qs : List Payment) → at_record o (λ d. nat_lt v (number (cell 0 d))) ≡ nat_lt v n → map (payment_of e) done ≡ map Some qs

@@ -1,5 +1,5 @@
 -- The fault at each place of a price certificate, by what stands before it.
-use Rattle.std.proofs.Common.{◌≡◌, ◌<◌, ◌-◌, ◌^◌, ℕ, Bool, true, false, cond, List, [], ◌∷◌, length, refl, arith, Option, Some, None}
+use Rattle.std.proofs.Common.{◌≡◌, ◌<◌, ◌^◌, ℕ, Bool, true, false, cond, List, [], ◌∷◌, length, refl, arith, Option, Some, None}
 use Rattle.std.specs.Prelude.{not, ◌==◌, ◌&&◌, ◌||◌, nat_lt, nat_le, is_none, is_some, codes}
 use Rattle.std.specs.List.{last_or, list_any}
 use Rattle.std.proofs.lemmas.Bool.{le-ltb, ne_eqb}
@@ -38,9 +38,6 @@ past h d b c done n l = ne_eqb (length (h ∷ d ∷ b ∷ c ∷ done)) n (λ e. 
 not-short : (h d b c : Rec) (done : List Rec) → nat_lt (length (h ∷ d ∷ b ∷ c ∷ done)) 4 ≡ false
 not-short h d b c done = le-ltb (length (h ∷ d ∷ b ∷ c ∷ done)) 4 (omega arith)
 
-rows-behind : (h d b c : Rec) (done : List Rec) → length (h ∷ d ∷ b ∷ c ∷ done) - 4 ≡ length done
-rows-behind h d b c done = omega arith
-
 -- the four faults that a row has by itself, and the three that it has by its place
 by-parts : (a n1 n2 v1 v2 j : Bool) (rest : Option CertFault) → v1 ≡ not n1
     → cond a (Some fault.BadRow) (cond (n1 || n2) (Some fault.BadNumber) (cond (v1 && v2) (Some fault.UnknownVoter) (cond j (Some fault.UnknownProject) rest)))
@@ -59,7 +56,7 @@ some-not-none (Some n) = refl
 pub form-at-row : (e : Instance) (h d b c : Rec) (done : List Rec) (r : Rec) → is_text r ≡ true
     → price_form e (h ∷ d ∷ b ∷ c ∷ done) (Some r) ≡ or_else (row_fault e r) (place_fault r done)
 form-at-row e h d b c done r text =
-    rw (text, past h d b c done 0 (omega arith), past h d b c done 1 (omega arith), past h d b c done 2 (omega arith), past h d b c done 3 (omega arith), not-short h d b c done, enough h d b c done, rows-behind h d b c done)
+    rw (text, past h d b c done 0 (omega arith), past h d b c done 1 (omega arith), past h d b c done 2 (omega arith), past h d b c done 3 (omega arith), not-short h d b c done, enough h d b c done)
     (by-parts (not (length (fields r) == 3)) (is_none (whole_in (cell 0 r))) (is_none (numerator_of (cell 2 r))) (is_some (whole_in (cell 0 r))) (is_none (voter_in e (cell 0 r))) (is_none (project_in e (cell 1 r))) (place_fault r done) (some-not-none (whole_in (cell 0 r))))
 
 pub form-at-end : (e : Instance) (h d b c : Rec) (done : List Rec) → price_form e (h ∷ d ∷ b ∷ c ∷ done) None ≡ None

@@ -6,13 +6,13 @@ use Rattle.std.proofs.lemmas.Bool.{and_parts, cases_eq, cases_lt, eq-eqb, leb-tr
 use Rattle.std.proofs.lemmas.List.Elements.{All-from_recursion}
 use Rattle.std.proofs.lemmas.List.Sums.{sum_by-cons}
 use Rattle.std.proofs.lemmas.List.FromFn.{get_or-map-range_with_len, length-map-range_with_len}
-use Rattle.std.specs.Option.{option_and_then, option_map}
+use Rattle.std.specs.Option.{option_map}
 use Rattle.std.proofs.lemmas.Option.{option_and_then_some}
 use Rattle.pb_election.specs.Instance.{Instance, IsProject, IsSet, IsVoter, all_voters, projects, voters}
 use Rattle.pb_election.specs.Records.{Field, Rec}
 use Rattle.pb_certificate.specs.Prices.{ArePrices, IsPaymentMap, Prices, numerator_in, payment}
 use Rattle.pb_certificate.specs.Fields.{fields, only_if, project_in, voter_in, whole_in, whole_within}
-use Rattle.pb_certificate.specs.PriceText.{IsPriceText, Payment, above_0, numerator_of, payment_by, payment_of, payments_stated, stated}
+use Rattle.pb_certificate.specs.PriceText.{IsPriceText, Payment, above_0, numerator_of, payment_by, payment_from, payment_of, payments_stated, stated}
 
 -- the pairs of a range of projects with their numerators, where these aren't 0
 abbrev pub pairs : (ℕ → ℕ) → ℕ → ℕ → List (ℕ × ℕ)
@@ -85,19 +85,21 @@ pub map-some : {A B : Type 0} (g : A → B) (o : Option A) (b : B) → option_ma
 map-some g None b h = cc
 map-some g (Some a) b h = (a, refl, cc)
 
+-- what a payment was made of
+pub payment-parts : (i j n : Option ℕ) (q : Payment) → payment_from i j n ≡ Some q → (i ≡ Some q.voter) × (j ≡ Some q.project) × (n ≡ Some q.numerator)
+payment-parts None j n q h = cc
+payment-parts (Some i) None n q h = cc
+payment-parts (Some i) (Some j) None q h = cc
+payment-parts (Some i) (Some j) (Some n) q h =
+    let made : Payment = record { voter = i; project = j; numerator = n } in
+    let same : made ≡ q = cc in
+    (ap (λ (p : Payment). Some p.voter) same, ap (λ (p : Payment). Some p.project) same, ap (λ (p : Payment). Some p.numerator) same)
+
 payment-bounded : (e : Instance) (fs : List Field) (q : Payment) → payment_by e fs ≡ Some q → q.numerator ≤ 10 ^ 21
 payment-bounded e [] q h = cc
 payment-bounded e (v ∷ []) q h = cc
 payment-bounded e (v ∷ c ∷ []) q h = cc
-payment-bounded e (v ∷ c ∷ x ∷ []) q h =
-    option_and_then_some (λ i. option_and_then (λ j. option_map (λ n. of_three i j n) (numerator_of x)) (project_in e c)) (voter_in e v) q h
-    (λ i is_i k. option_and_then_some (λ j. option_map (λ n. of_three i j n) (numerator_of x)) (project_in e c) q k
-    (λ j is_j l. (let found = map-some (λ n. of_three i j n) (numerator_of x) q l in
-    let bound : found.0 ≤ 10 ^ 21 = (within-some 0 (10 ^ 21) x found.0 found.1).1 in
-    let same : found.0 ≡ q.numerator = ap (λ (r : Payment). r.numerator) found.2 in subst (λ n. n ≤ 10 ^ 21) same bound)))
-  where
-    of_three : ℕ → ℕ → ℕ → Payment
-    of_three i j n = record { voter = i; project = j; numerator = n }
+payment-bounded e (v ∷ c ∷ x ∷ []) q h = (within-some 0 (10 ^ 21) x q.numerator (payment-parts (voter_in e v) (project_in e c) (numerator_of x) q h).2).1
 payment-bounded e (v ∷ c ∷ x ∷ y ∷ ys) q h = cc
 
 rows-bounded : (e : Instance) (rows : List Rec) (qs : List Payment) → map (payment_of e) rows ≡ map Some qs → AllByRecursion (λ q. q.numerator ≤ 10 ^ 21) qs

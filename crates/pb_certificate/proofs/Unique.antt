@@ -8,8 +8,8 @@ use Rattle.pb_election.specs.Records.{Field, Rec}
 use Rattle.pb_certificate.specs.Prices.{Prices}
 use Rattle.pb_certificate.specs.Fields.{fields, whole_within}
 use Rattle.pb_certificate.specs.PriceText.{IsPriceText, payment_of, payments_stated}
-use Rattle.pb_certificate.specs.GroupText.{IsViolationText, is_named, named_of}
-use Rattle.pb_certificate.specs.GroupText.Named.{Member, Demanded}
+use Rattle.pb_certificate.specs.ViolationText.{IsViolationText, was_named, named_of}
+use Rattle.pb_certificate.specs.ViolationText.Named.{Member, Demanded}
 use Rattle.pb_certificate.specs.OutcomeText.{IsOutcomeText, funded_of}
 
 map-Some : {A : Type 0} (xs ys : List A) → map Some xs ≡ map Some ys → xs ≡ ys
@@ -54,8 +54,8 @@ group-text-same recs e s t s' t' a b =
     let cut : a.head ∷ a.rows ≡ b.head ∷ b.rows = sym a.cut ∙ b.cut in
     let rows : a.rows ≡ b.rows = cc in
     let names : a.names ≡ b.names = rows-same (named_of e) a.rows b.rows a.names b.names rows a.each_row b.each_row in (
-      a.same_group ∙ ap (λ ns. filter (λ i. is_named ns (Member i)) (all_voters e)) names ∙ sym b.same_group,
-      a.same_demand ∙ ap (λ ns. filter (λ j. is_named ns (Demanded j)) (all_projects e)) names ∙ sym b.same_demand,
+      a.same_group ∙ ap (λ ns. filter (λ i. was_named ns (Member i)) (all_voters e)) names ∙ sym b.same_group,
+      a.same_demand ∙ ap (λ ns. filter (λ j. was_named ns (Demanded j)) (all_projects e)) names ∙ sym b.same_demand,
     )
 
 pub outcome-text-same : (recs : List Rec) (e : Instance) (w w' : List Bool) → IsOutcomeText recs e w → IsOutcomeText recs e w' → w ≡ w'
@@ -80,8 +80,8 @@ filter-set q (suc n) a high b = go (q a) (filter-set q n (a + 1) high (omega ari
 
 pub group-text-sets : (recs : List Rec) (e : Instance) (s t : List ℕ) → IsViolationText recs e s t → IsSet 1 (voters e) s × IsSet 1 (projects e) t
 group-text-sets recs e s t a = (
-  subst (IsSet 1 (voters e)) (sym a.same_group) (filter-set (λ i. is_named a.names (Member i)) (voters e) 1 (voters e) (omega arith)),
-  subst (IsSet 1 (projects e)) (sym a.same_demand) (filter-set (λ j. is_named a.names (Demanded j)) (projects e) 1 (projects e) (omega arith)),
+  subst (IsSet 1 (voters e)) (sym a.same_group) (filter-set (λ i. was_named a.names (Member i)) (voters e) 1 (voters e) (omega arith)),
+  subst (IsSet 1 (projects e)) (sym a.same_demand) (filter-set (λ j. was_named a.names (Demanded j)) (projects e) 1 (projects e) (omega arith)),
 )
 
 pub outcome-text-length : (recs : List Rec) (e : Instance) (w : List Bool) → IsOutcomeText recs e w → length w ≡ projects e

@@ -15,16 +15,16 @@ use Rattle.pb_election.specs.Drafts.{StopsAt, Takes}
 use Rattle.pb_election.specs.FirstFault.{NoFault}
 use Rattle.pb_election.specs.declared.drafts.Stop.TheVariants.{Fault}
 use Rattle.pb_certificate.proofs.Positions.{found-project}
-use Rattle.pb_certificate.specs.Fields.{fields, has_two, number, project_in, same_fields, voter_in, whole_in}
+use Rattle.pb_certificate.specs.Fields.{fields, number, project_in, same_fields, voter_in, whole_in}
 use Rattle.pb_certificate.specs.Faults.{is_kind, same_name, violation_form}
-use Rattle.pb_certificate.specs.GroupText.{IsViolationText, Named, is_named, named_by, named_of, same_named}
-use Rattle.pb_certificate.specs.GroupText.Named.{Member, Demanded}
+use Rattle.pb_certificate.specs.ViolationText.{IsViolationText, Named, was_named, named_by, named_of, same_named}
+use Rattle.pb_certificate.specs.ViolationText.Named.{Member, Demanded}
 use Rattle.pb_certificate.specs.Marks.{is_marked, marked, marks_after, voter_after, project_after, with_mark}
 use Rattle.pb_certificate.specs.ViolationDrafts.{ViolationRows, ViolationStands, ViolationTaken, after_violation_row, demand_marks, group_marks, with_demand, with_group}
 use Rattle.pb_certificate.specs.declared.refusal.CertFault.{CertFault}
 use Rattle.pb_certificate.specs.declared.refusal.CertFault.TheVariants as fault
 use Rattle.pb_certificate.proofs.Ends.{none-at-end}
-use Rattle.pb_certificate.proofs.Heads.{pair-is, same-is, two-cells}
+use Rattle.pb_certificate.proofs.Heads.{pair-is, same-is}
 use Rattle.pb_certificate.proofs.MarkLemmas.{all-push, distinct-push, mark-is, marked-are, one-more-mark, same-marks, was-marked}
 use Rattle.pb_certificate.proofs.GroupClear.{Row, demand-project, kind-is, member-number, row-of}
 use Rattle.pb_certificate.proofs.OutcomeClear.{joined-by}
@@ -100,14 +100,14 @@ names-same e r d (Demanded j) (Demanded k) a b =
         let some : Some j ≡ Some k = sym (demand-project e r j a) ∙ ap (project_in e) same ∙ demand-project e d k b in
         cc
 
-stood-before : (e : Instance) (r : Rec) (x : Named) (done : List Rec) (names : List Named) → Row e r x → map (named_of e) done ≡ map Some names → list_any (same_name r) done ≡ is_named names x
+stood-before : (e : Instance) (r : Rec) (x : Named) (done : List Rec) (names : List Named) → Row e r x → map (named_of e) done ≡ map Some names → list_any (same_name r) done ≡ was_named names x
 stood-before e r x [] [] row h = refl
 stood-before e r x [] (m ∷ ms) row h = cc
 stood-before e r x (d ∷ ds) [] row h = cc
 stood-before e r x (d ∷ ds) (m ∷ ms) row h =
     let first : named_of e d ≡ Some m = cc in
     let rest : map (named_of e) ds ≡ map Some ms = cc in
-    or-both (same_name r d) (same_named x m) (list_any (same_name r) ds) (is_named ms x) (names-same e r d x m row (row-of e d m first)) (stood-before e r x ds ms row rest)
+    or-both (same_name r d) (same_named x m) (list_any (same_name r) ds) (was_named ms x) (names-same e r d x m row (row-of e d m first)) (stood-before e r x ds ms row rest)
 
 -- rows of these cells
 member-states : (e : Instance) (r : Rec) (i : ℕ) → (length (fields r) == 2) ≡ true → is_kind (codes "voter") r ≡ true → voter_in e (cell 1 r) ≡ Some i → named_of e r ≡ Some (Member i)
@@ -137,14 +137,14 @@ row-fault e group demand before r text s =
     member i two voter is =
         let at : IsVoter e i = within-some 1 (voters e) (cell 1 r) i is in
         stood-before e r (Member i) s.rows s.names (row-of e r (Member i) (member-states e r i two voter is)) s.each_row
-        ∙ sym (mark-is (λ k. is_named s.names (Member k)) (voters e) i at.0 at.1)
+        ∙ sym (mark-is (λ k. was_named s.names (Member k)) (voters e) i at.0 at.1)
         ∙ ap (λ (ms : List Bool). is_marked ms i) (sym s.same_group)
 
     demanded : (j : ℕ) → (length (fields r) == 2) ≡ true → is_kind (codes "voter") r ≡ false → is_kind (codes "project") r ≡ true → project_in e (cell 1 r) ≡ Some j → list_any (same_name r) s.rows ≡ is_marked demand j
     demanded j two voter project is =
         let at : IsProject e j = (found-project e (cell 1 r) j is).0 in
         stood-before e r (Demanded j) s.rows s.names (row-of e r (Demanded j) (demand-states e r j two voter project is)) s.each_row
-        ∙ sym (mark-is (λ k. is_named s.names (Demanded k)) (projects e) j at.0 at.1)
+        ∙ sym (mark-is (λ k. was_named s.names (Demanded k)) (projects e) j at.0 at.1)
         ∙ ap (λ (ms : List Bool). is_marked ms j) (sym s.same_demand)
 
     tested-group : (b : Bool) (new : List Bool) → cond b (Some fault.Repeated) None ≡ fault_of (with_group demand (cond b (Err fault.Repeated) (Ok new)))
@@ -169,8 +169,8 @@ row-fault e group demand before r text s =
 
 -- The rows with one more.
 
-named-more : (names : List Named) (x y : Named) → is_named (names ++ (x ∷ [])) y ≡ (is_named names y || same_named y x)
-named-more names x y = list_any-append (same_named y) names (x ∷ []) ∙ ap (λ b. is_named names y || b) (plain (same_named y x))
+named-more : (names : List Named) (x y : Named) → was_named (names ++ (x ∷ [])) y ≡ (was_named names y || same_named y x)
+named-more names x y = list_any-append (same_named y) names (x ∷ []) ∙ ap (λ b. was_named names y || b) (plain (same_named y x))
 
 or-true : (b : Bool) → (b || true) ≡ true
 or-true true = refl
@@ -182,28 +182,28 @@ turn (Member i) (Demanded k) = refl
 turn (Demanded j) (Member k) = refl
 turn (Demanded j) (Demanded k) = elim (cases_eq j k) [ inl e ↦ eq-eqb j k e ∙ sym (eq-eqb k j (sym e)) | inr e ↦ ne_eqb j k e ∙ sym (ne_eqb k j (λ q. e (sym q))) ]
 
-apart : (x : Named) (ms : List Named) → is_named ms x ≡ false → AllByRecursion (λ m. same_named m x ≡ false) ms
+apart : (x : Named) (ms : List Named) → was_named ms x ≡ false → AllByRecursion (λ m. same_named m x ≡ false) ms
 apart x [] h = tt
-apart x (m ∷ ms) h = let parts = or_parts (same_named x m) (is_named ms x) h in (turn m x ∙ parts.0, apart x ms parts.1)
+apart x (m ∷ ms) h = let parts = or_parts (same_named x m) (was_named ms x) h in (turn m x ∙ parts.0, apart x ms parts.1)
 
 -- the marks of the voters and of the projects, where one more is named
 group-more : (e : Instance) (names : List Named) (i : ℕ) → IsVoter e i → with_mark (group_marks e names) i ≡ group_marks e (names ++ (Member i ∷ []))
 group-more e names i at =
-    one-more-mark (λ k. is_named names (Member k)) (λ k. is_named (names ++ (Member i ∷ [])) (Member k)) (voters e) i at.0 at.1
-    (named-more names (Member i) (Member i) ∙ rw (eq-eqb i i refl) (or-true (is_named names (Member i))))
-    (λ k other. named-more names (Member i) (Member k) ∙ rw (ne_eqb k i other) (plain (is_named names (Member k))))
+    one-more-mark (λ k. was_named names (Member k)) (λ k. was_named (names ++ (Member i ∷ [])) (Member k)) (voters e) i at.0 at.1
+    (named-more names (Member i) (Member i) ∙ rw (eq-eqb i i refl) (or-true (was_named names (Member i))))
+    (λ k other. named-more names (Member i) (Member k) ∙ rw (ne_eqb k i other) (plain (was_named names (Member k))))
 
 group-kept : (e : Instance) (names : List Named) (j : ℕ) → group_marks e names ≡ group_marks e (names ++ (Demanded j ∷ []))
-group-kept e names j = same-marks (λ k. is_named names (Member k)) (λ k. is_named (names ++ (Demanded j ∷ [])) (Member k)) (voters e) (λ k. named-more names (Demanded j) (Member k) ∙ plain (is_named names (Member k)))
+group-kept e names j = same-marks (λ k. was_named names (Member k)) (λ k. was_named (names ++ (Demanded j ∷ [])) (Member k)) (voters e) (λ k. named-more names (Demanded j) (Member k) ∙ plain (was_named names (Member k)))
 
 demand-more : (e : Instance) (names : List Named) (j : ℕ) → IsProject e j → with_mark (demand_marks e names) j ≡ demand_marks e (names ++ (Demanded j ∷ []))
 demand-more e names j at =
-    one-more-mark (λ k. is_named names (Demanded k)) (λ k. is_named (names ++ (Demanded j ∷ [])) (Demanded k)) (projects e) j at.0 at.1
-    (named-more names (Demanded j) (Demanded j) ∙ rw (eq-eqb j j refl) (or-true (is_named names (Demanded j))))
-    (λ k other. named-more names (Demanded j) (Demanded k) ∙ rw (ne_eqb k j other) (plain (is_named names (Demanded k))))
+    one-more-mark (λ k. was_named names (Demanded k)) (λ k. was_named (names ++ (Demanded j ∷ [])) (Demanded k)) (projects e) j at.0 at.1
+    (named-more names (Demanded j) (Demanded j) ∙ rw (eq-eqb j j refl) (or-true (was_named names (Demanded j))))
+    (λ k other. named-more names (Demanded j) (Demanded k) ∙ rw (ne_eqb k j other) (plain (was_named names (Demanded k))))
 
 demand-kept : (e : Instance) (names : List Named) (i : ℕ) → demand_marks e names ≡ demand_marks e (names ++ (Member i ∷ []))
-demand-kept e names i = same-marks (λ k. is_named names (Demanded k)) (λ k. is_named (names ++ (Member i ∷ [])) (Demanded k)) (projects e) (λ k. named-more names (Member i) (Demanded k) ∙ plain (is_named names (Demanded k)))
+demand-kept e names i = same-marks (λ k. was_named names (Demanded k)) (λ k. was_named (names ++ (Member i ∷ [])) (Demanded k)) (projects e) (λ k. named-more names (Member i) (Demanded k) ∙ plain (was_named names (Demanded k)))
 
 -- which list was marked in
 group-was : (demand : List Bool) (marks : List Bool × List Bool) (after : Result (List Bool) CertFault) → with_group demand after ≡ Ok marks → (after ≡ Ok marks.0) × (demand ≡ marks.1)
@@ -226,7 +226,7 @@ row-added : (e : Instance) (group demand : List Bool) (marks : List Bool × List
     → ViolationRows e marks.0 marks.1 (before ++ (r ∷ []))
 row-added e group demand marks before r s after = by (length (fields r) == 2) (is_kind (codes "voter") r) (is_kind (codes "project") r) refl refl refl after
   where
-    added : (x : Named) → named_of e r ≡ Some x → is_named s.names x ≡ false → marks.0 ≡ group_marks e (s.names ++ (x ∷ [])) → marks.1 ≡ demand_marks e (s.names ++ (x ∷ [])) → ViolationRows e marks.0 marks.1 (before ++ (r ∷ []))
+    added : (x : Named) → named_of e r ≡ Some x → was_named s.names x ≡ false → marks.0 ≡ group_marks e (s.names ++ (x ∷ [])) → marks.1 ≡ demand_marks e (s.names ++ (x ∷ [])) → ViolationRows e marks.0 marks.1 (before ++ (r ∷ []))
     added x is free same_group same_demand = record {
       head = s.head;
       rows = s.rows ++ (r ∷ []);
@@ -249,7 +249,7 @@ row-added e group demand marks before r s after = by (length (fields r) == 2) (i
         let was = was-marked fault.UnknownVoter (voter_in e (cell 1 r)) group marks.0 (voter-was e (cell 1 r) group marks.0 both.0) in
         let i = was.0 in
         let at : IsVoter e i = within-some 1 (voters e) (cell 1 r) i was.1 in
-        let free : is_named s.names (Member i) ≡ false = sym (mark-is (λ k. is_named s.names (Member k)) (voters e) i at.0 at.1) ∙ ap (λ (ms : List Bool). is_marked ms i) (sym s.same_group) ∙ was.2 in
+        let free : was_named s.names (Member i) ≡ false = sym (mark-is (λ k. was_named s.names (Member k)) (voters e) i at.0 at.1) ∙ ap (λ (ms : List Bool). is_marked ms i) (sym s.same_group) ∙ was.2 in
         added (Member i) (member-states e r i is_two is_voter was.1) free
         (was.3 ∙ ap (λ (ms : List Bool). with_mark ms i) s.same_group ∙ group-more e s.names i at)
         (sym both.1 ∙ s.same_demand ∙ demand-kept e s.names i)
@@ -258,7 +258,7 @@ row-added e group demand marks before r s after = by (length (fields r) == 2) (i
         let was = was-marked fault.UnknownProject (project_in e (cell 1 r)) demand marks.1 both.0 in
         let j = was.0 in
         let at : IsProject e j = (found-project e (cell 1 r) j was.1).0 in
-        let free : is_named s.names (Demanded j) ≡ false = sym (mark-is (λ k. is_named s.names (Demanded k)) (projects e) j at.0 at.1) ∙ ap (λ (ms : List Bool). is_marked ms j) (sym s.same_demand) ∙ was.2 in
+        let free : was_named s.names (Demanded j) ≡ false = sym (mark-is (λ k. was_named s.names (Demanded k)) (projects e) j at.0 at.1) ∙ ap (λ (ms : List Bool). is_marked ms j) (sym s.same_demand) ∙ was.2 in
         added (Demanded j) (demand-states e r j is_two is_voter is_project was.1) free
         (sym both.1 ∙ s.same_group ∙ group-kept e s.names j)
         (was.3 ∙ ap (λ (ms : List Bool). with_mark ms j) s.same_demand ∙ demand-more e s.names j at)
@@ -272,30 +272,29 @@ taken-at : (e : Instance) (b b' : Bool) (group demand : List Bool) (before : Lis
     → ViolationTaken e b' group demand (before ++ (r ∷ []))
 taken-at e b b' group demand before r is text all s = (all-push (λ x. is_text x ≡ true) before r all text, subst (λ x. ViolationStands e x group demand (before ++ (r ∷ []))) (sym is) s)
 
-pub head-refused : (e : Instance) (b : Bool) (group demand : List Bool) (r : Rec) → is_text r ≡ true → b ≡ false → has_two (codes "pb-violation") (codes "1") r ≡ false
+pub head-refused : (e : Instance) (b : Bool) (group demand : List Bool) (r : Rec) → is_text r ≡ true → b ≡ false → same_fields (fields r) (codes "pb-violation" ∷ codes "1" ∷ []) ≡ false
     → StopsAt (violation_form e) (ViolationTaken e b group demand) r (Fault fault.BadHead)
 head-refused e b group demand r text at is before h =
     let s = stands-at e b false group demand before at h in
-    rw s.0 (form-at-head e r false text (two-cells r (codes "pb-violation") (codes "1") ∙ is))
+    rw s.0 (form-at-head e r false text is)
 
-pub head-taken : (e : Instance) (b : Bool) (group demand : List Bool) (r : Rec) → is_text r ≡ true → b ≡ false → has_two (codes "pb-violation") (codes "1") r ≡ true
+pub head-taken : (e : Instance) (b : Bool) (group demand : List Bool) (r : Rec) → is_text r ≡ true → b ≡ false → same_fields (fields r) (codes "pb-violation" ∷ codes "1" ∷ []) ≡ true
     → Takes (violation_form e) (ViolationTaken e b group demand) (ViolationTaken e true group demand) r
 unfolding IsDistinct
 head-taken e b group demand r text at is before h =
     let s = stands-at e b false group demand before at h in
-    let same = two-cells r (codes "pb-violation") (codes "1") ∙ is in
     let rows : ViolationRows e group demand (before ++ (r ∷ [])) = record {
       head = r;
       rows = [];
       names = [];
       cut = ap (λ (rs : List Rec). rs ++ (r ∷ [])) s.0;
-      is_head = same-is (fields r) (codes "pb-violation" ∷ codes "1" ∷ []) same;
+      is_head = same-is (fields r) (codes "pb-violation" ∷ codes "1" ∷ []) is;
       each_row = refl;
       once = tt;
       same_group = s.1;
       same_demand = s.2;
     } in
-    (rw s.0 (form-at-head e r true text same), taken-at e true true group demand before r refl text h.0 rows)
+    (rw s.0 (form-at-head e r true text is), taken-at e true true group demand before r refl text h.0 rows)
 
 pub row-refused : (e : Instance) (b : Bool) (group demand : List Bool) (r : Rec) (f : CertFault) → is_text r ≡ true → b ≡ true → after_violation_row e group demand r ≡ Err f
     → StopsAt (violation_form e) (ViolationTaken e b group demand) r (Fault f)
@@ -328,15 +327,15 @@ whole-violation e true group demand recs h none =
       is_head = h.1.is_head;
       each_row = h.1.each_row;
       once = h.1.once;
-      same_group = ap marked h.1.same_group ∙ marked-are (λ i. is_named h.1.names (Member i)) (voters e);
-      same_demand = ap marked h.1.same_demand ∙ marked-are (λ j. is_named h.1.names (Demanded j)) (projects e);
+      same_group = ap marked h.1.same_group ∙ marked-are (λ i. was_named h.1.names (Member i)) (voters e);
+      same_demand = ap marked h.1.same_demand ∙ marked-are (λ j. was_named h.1.names (Demanded j)) (projects e);
     }
 
 -- there is a mark for each voter and for each project
 pub as-many : (e : Instance) (b : Bool) (group demand : List Bool) (recs : List Rec) → ViolationTaken e b group demand recs → (length group ≡ voters e) × (length demand ≡ projects e)
 as-many e true group demand recs h = (
-  ap length h.1.same_group ∙ length-map-range_with_len (λ i. is_named h.1.names (Member i)) 1 (voters e),
-  ap length h.1.same_demand ∙ length-map-range_with_len (λ j. is_named h.1.names (Demanded j)) 1 (projects e),
+  ap length h.1.same_group ∙ length-map-range_with_len (λ i. was_named h.1.names (Member i)) 1 (voters e),
+  ap length h.1.same_demand ∙ length-map-range_with_len (λ j. was_named h.1.names (Demanded j)) 1 (projects e),
 )
 as-many e false group demand recs h = (ap length h.1.1 ∙ length-map-range_with_len (λ i. false) 1 (voters e), ap length h.1.2 ∙ length-map-range_with_len (λ j. false) 1 (projects e))
 

@@ -1,5 +1,5 @@
 -- The faults of certificates and outcome files: where each stands.
-use Rattle.std.specs.Prelude.{◌-◌, ◌^◌, ◌==◌, ◌&&◌, ◌||◌, not, nat_lt, nat_le, Bool, false, ℕ, List, [], ◌∷◌, length, find, drop, Option, None, is_some, is_none, codes}
+use Rattle.std.specs.Prelude.{◌^◌, ◌==◌, ◌&&◌, ◌||◌, not, nat_lt, nat_le, Bool, false, ℕ, List, [], ◌∷◌, length, find, drop, Option, None, is_some, is_none, codes}
 use Rattle.std.specs.List.{last_or, list_any}
 use Rattle.std.specs.Option.{option_map_or}
 use Rattle.std.specs.Str.{byte, bytes_eq}
@@ -16,91 +16,155 @@ use Rattle.pb_certificate.specs.declared.refusal.CertFault.{CertFault}
 use Rattle.pb_certificate.specs.declared.refusal.CertFault.TheVariants as fault
 use Rattle.pb_certificate.specs.declared.refusal.CertRefusal.{CertRefusal}
 
--- A fault stands at a place by the records before it that are not blank, and by the record there, or none at the end.
+-- A fault stands at a place by the records before it that are not blank, and by the record here, which is none at the end.
 
--- whether there is a record, and it passes a test
+-- the record here is there, and passes a test
 abbrev pub at_record : Option Rec → (Rec → Bool) → Bool
-at_record o p = option_map_or p o false
+at_record here test = option_map_or test here false
 
--- whether so many records that are not blank stand before a place; whether the end comes before so many
-abbrev pub at_place : ℕ → List Rec → Option Rec → (Rec → Bool) → Bool
-at_place n before o p = (length before == n) && at_record o p
+-- the record here stands behind just so many others, and passes a test
+abbrev pub at_head : ℕ → List Rec → Option Rec → (Rec → Bool) → Bool
+at_head heads before here test = (length before == heads) && at_record here test
 
-abbrev pub ends_before : ℕ → List Rec → Option Rec → Bool
-ends_before n before o = nat_lt (length before) n && is_none o
-
--- whether there is a row here, after so many head records, and it passes a test
+-- the record here is a row, behind so many head records, and passes a test
 abbrev pub at_row : ℕ → List Rec → Option Rec → (Rec → Bool) → Bool
-at_row heads before o p = nat_le heads (length before) && at_record o p
+at_row heads before here test = nat_le heads (length before) && at_record here test
 
--- the voter and the project that a row of a price certificate is on, as it states them
-abbrev pub same_cells : Rec → Rec → Bool
-same_cells a b = (number (cell 0 a) == number (cell 0 b)) && bytes_eq (cell 1 a) (cell 1 b)
+-- the end comes before so many head records have stood
+abbrev pub head_is_cut : ℕ → List Rec → Option Rec → Bool
+head_is_cut heads before here = nat_lt (length before) heads && is_none here
 
--- whether the fields are a name and one value
+-- how many fields of a record count
+abbrev pub width : Rec → ℕ
+width r = length (fields r)
+
+-- Price certificates. Their four head records:
+
+abbrev pub at_name : List Rec → Option Rec → (Rec → Bool) → Bool
+at_name = at_head 0
+
+abbrev pub at_denominator : List Rec → Option Rec → (Rec → Bool) → Bool
+at_denominator = at_head 1
+
+abbrev pub at_budget : List Rec → Option Rec → (Rec → Bool) → Bool
+at_budget = at_head 2
+
+abbrev pub at_columns : List Rec → Option Rec → (Rec → Bool) → Bool
+at_columns = at_head 3
+
+-- the fields are a name and one value, and that value
 abbrev pub is_value_of : Field → Rec → Bool
-is_value_of name r = (length (fields r) == 2) && bytes_eq (cell 0 r) name
+is_value_of name r = (width r == 2) && bytes_eq (cell 0 r) name
 
--- whether a fault stands there in a price certificate
+abbrev pub value_field : Rec → Field
+value_field r = cell 1 r
+
+-- the three fields of a row
+abbrev pub voter_field : Rec → Field
+voter_field r = cell 0 r
+
+abbrev pub project_field : Rec → Field
+project_field r = cell 1 r
+
+abbrev pub payment_field : Rec → Field
+payment_field r = cell 2 r
+
+-- a row stands here, behind the four head records, and passes a test
+abbrev pub at_price_row : List Rec → Option Rec → (Rec → Bool) → Bool
+at_price_row = at_row 4
+
+-- the rows before a place, all records before it but the four of the head, and the last of them
+abbrev pub price_rows : List Rec → List Rec
+price_rows before = drop 4 before
+
+abbrev pub last_price_row : List Rec → Option Rec
+last_price_row before = last_or None (price_rows before)
+
+-- two rows state the same voter and the same project
+abbrev pub same_cells : Rec → Rec → Bool
+same_cells a b = (number (voter_field a) == number (voter_field b)) && bytes_eq (project_field a) (project_field b)
+
+-- whether a fault stands here in a price certificate
 abbrev pub price_fault_stands : Instance → List Rec → Option Rec → CertFault → Bool
-price_fault_stands e before o fault.NotUtf8 = at_record o (λ r. not (is_text r))
-price_fault_stands e before o fault.BadHead =
-    at_place 0 before o (λ r. not (same_fields (fields r) (codes "pb-prices" ∷ codes "1" ∷ [])))
-    || at_place 1 before o (λ r. not (is_value_of (codes "denominator") r))
-    || at_place 2 before o (λ r. not (is_value_of (codes "voter_budget") r))
-    || at_place 3 before o (λ r. not (same_fields (fields r) (codes "voter" ∷ codes "project" ∷ codes "payment" ∷ [])))
-    || ends_before 4 before o
-price_fault_stands e before o fault.BadRow = at_row 4 before o (λ r. not (length (fields r) == 3))
-price_fault_stands e before o fault.BadNumber =
-    at_place 1 before o (λ r. is_none (whole_within 1 (10 ^ 9) (cell 1 r)))
-    || at_place 2 before o (λ r. is_none (whole_within 0 (10 ^ 21) (cell 1 r)))
-    || at_row 4 before o (λ r. is_none (whole_in (cell 0 r)) || is_none (numerator_of (cell 2 r)))
-price_fault_stands e before o fault.UnknownVoter = at_row 4 before o (λ r. is_some (whole_in (cell 0 r)) && is_none (voter_in e (cell 0 r)))
-price_fault_stands e before o fault.UnknownProject = at_row 4 before o (λ r. is_none (project_in e (cell 1 r)))
-price_fault_stands e before o fault.OutOfOrder = at_row 4 before o (λ r. at_record (last_or None (drop 4 before)) (λ q. nat_lt (number (cell 0 r)) (number (cell 0 q))))
-price_fault_stands e before o fault.Repeated = at_row 4 before o (λ r. list_any (same_cells r) (drop 4 before))
-price_fault_stands e before o fault.TooMany = at_row 4 before o (λ r. nat_le 10000000 (length before - 4))
-price_fault_stands e before o fault.Memory = false
+price_fault_stands e before here fault.NotUtf8 = at_record here (λ r. not (is_text r))
+price_fault_stands e before here fault.BadHead =
+    at_name before here (λ r. not (same_fields (fields r) (codes "pb-prices" ∷ codes "1" ∷ [])))
+    || at_denominator before here (λ r. not (is_value_of (codes "denominator") r))
+    || at_budget before here (λ r. not (is_value_of (codes "voter_budget") r))
+    || at_columns before here (λ r. not (same_fields (fields r) (codes "voter" ∷ codes "project" ∷ codes "payment" ∷ [])))
+    || head_is_cut 4 before here
+price_fault_stands e before here fault.BadRow = at_price_row before here (λ r. not (width r == 3))
+price_fault_stands e before here fault.BadNumber =
+    at_denominator before here (λ r. is_none (whole_within 1 (10 ^ 9) (value_field r)))
+    || at_budget before here (λ r. is_none (whole_within 0 (10 ^ 21) (value_field r)))
+    || at_price_row before here (λ r. is_none (whole_in (voter_field r)) || is_none (numerator_of (payment_field r)))
+price_fault_stands e before here fault.UnknownVoter = at_price_row before here (λ r. is_some (whole_in (voter_field r)) && is_none (voter_in e (voter_field r)))
+price_fault_stands e before here fault.UnknownProject = at_price_row before here (λ r. is_none (project_in e (project_field r)))
+price_fault_stands e before here fault.OutOfOrder =
+    at_price_row before here (λ r. at_record (last_price_row before) (λ last. nat_lt (number (voter_field r)) (number (voter_field last))))
+price_fault_stands e before here fault.Repeated = at_price_row before here (λ r. list_any (same_cells r) (price_rows before))
+price_fault_stands e before here fault.TooMany = at_price_row before here (λ r. nat_le 10000000 (length (price_rows before)))
+price_fault_stands e before here fault.Memory = false
 
--- whether a row is of this kind
+-- Violation certificates and outcome files. Their one head record, and the two fields of a row, its kind and what it names:
+
+abbrev pub at_format : List Rec → Option Rec → (Rec → Bool) → Bool
+at_format = at_head 0
+
+abbrev pub at_named_row : List Rec → Option Rec → (Rec → Bool) → Bool
+at_named_row = at_row 1
+
+-- the rows before a place: all records before it but the head
+abbrev pub named_rows : List Rec → List Rec
+named_rows before = drop 1 before
+
 abbrev pub is_kind : Field → Rec → Bool
 is_kind kind r = bytes_eq (cell 0 r) kind
 
--- whether two rows name one voter, or one project
+abbrev pub is_voter_row : Rec → Bool
+is_voter_row r = is_kind (codes "voter") r
+
+abbrev pub is_project_row : Rec → Bool
+is_project_row r = is_kind (codes "project") r
+
+abbrev pub named_field : Rec → Field
+named_field r = cell 1 r
+
+-- two rows name one voter, or one project
 abbrev pub same_name : Rec → Rec → Bool
 same_name a b =
-    (is_kind (codes "voter") a && is_kind (codes "voter") b && (number (cell 1 a) == number (cell 1 b)))
-    || (is_kind (codes "project") a && is_kind (codes "project") b && bytes_eq (cell 1 a) (cell 1 b))
+    (is_voter_row a && is_voter_row b && (number (named_field a) == number (named_field b)))
+    || (is_project_row a && is_project_row b && bytes_eq (named_field a) (named_field b))
 
--- whether a fault stands there in a violation certificate
+-- whether a fault stands here in a violation certificate
 abbrev pub violation_fault_stands : Instance → List Rec → Option Rec → CertFault → Bool
-violation_fault_stands e before o fault.NotUtf8 = at_record o (λ r. not (is_text r))
-violation_fault_stands e before o fault.BadHead =
-    at_place 0 before o (λ r. not (same_fields (fields r) (codes "pb-violation" ∷ codes "1" ∷ [])))
-    || ends_before 1 before o
-violation_fault_stands e before o fault.BadRow = at_row 1 before o (λ r. not (length (fields r) == 2) || not (is_kind (codes "voter") r || is_kind (codes "project") r))
-violation_fault_stands e before o fault.BadNumber = at_row 1 before o (λ r. is_kind (codes "voter") r && is_none (whole_in (cell 1 r)))
-violation_fault_stands e before o fault.UnknownVoter = at_row 1 before o (λ r. is_kind (codes "voter") r && is_some (whole_in (cell 1 r)) && is_none (voter_in e (cell 1 r)))
-violation_fault_stands e before o fault.UnknownProject = at_row 1 before o (λ r. is_kind (codes "project") r && is_none (project_in e (cell 1 r)))
-violation_fault_stands e before o fault.OutOfOrder = false
-violation_fault_stands e before o fault.Repeated = at_row 1 before o (λ r. list_any (same_name r) (drop 1 before))
-violation_fault_stands e before o fault.TooMany = false
-violation_fault_stands e before o fault.Memory = false
+violation_fault_stands e before here fault.NotUtf8 = at_record here (λ r. not (is_text r))
+violation_fault_stands e before here fault.BadHead =
+    at_format before here (λ r. not (same_fields (fields r) (codes "pb-violation" ∷ codes "1" ∷ [])))
+    || head_is_cut 1 before here
+violation_fault_stands e before here fault.BadRow = at_named_row before here (λ r. not (width r == 2) || not (is_voter_row r || is_project_row r))
+violation_fault_stands e before here fault.BadNumber = at_named_row before here (λ r. is_voter_row r && is_none (whole_in (named_field r)))
+violation_fault_stands e before here fault.UnknownVoter = at_named_row before here (λ r. is_voter_row r && is_some (whole_in (named_field r)) && is_none (voter_in e (named_field r)))
+violation_fault_stands e before here fault.UnknownProject = at_named_row before here (λ r. is_project_row r && is_none (project_in e (named_field r)))
+violation_fault_stands e before here fault.OutOfOrder = false
+violation_fault_stands e before here fault.Repeated = at_named_row before here (λ r. list_any (same_name r) (named_rows before))
+violation_fault_stands e before here fault.TooMany = false
+violation_fault_stands e before here fault.Memory = false
 
--- whether a fault stands there in an outcome file
+-- whether a fault stands here in an outcome file
 abbrev pub outcome_fault_stands : Instance → List Rec → Option Rec → CertFault → Bool
-outcome_fault_stands e before o fault.NotUtf8 = at_record o (λ r. not (is_text r))
-outcome_fault_stands e before o fault.BadHead =
-    at_place 0 before o (λ r. not (same_fields (fields r) (codes "pb-outcome" ∷ codes "1" ∷ [])))
-    || ends_before 1 before o
-outcome_fault_stands e before o fault.BadRow = at_row 1 before o (λ r. not (length (fields r) == 2) || not (is_kind (codes "project") r))
-outcome_fault_stands e before o fault.BadNumber = false
-outcome_fault_stands e before o fault.UnknownVoter = false
-outcome_fault_stands e before o fault.UnknownProject = at_row 1 before o (λ r. is_none (project_in e (cell 1 r)))
-outcome_fault_stands e before o fault.OutOfOrder = false
-outcome_fault_stands e before o fault.Repeated = at_row 1 before o (λ r. list_any (same_name r) (drop 1 before))
-outcome_fault_stands e before o fault.TooMany = false
-outcome_fault_stands e before o fault.Memory = false
+outcome_fault_stands e before here fault.NotUtf8 = at_record here (λ r. not (is_text r))
+outcome_fault_stands e before here fault.BadHead =
+    at_format before here (λ r. not (same_fields (fields r) (codes "pb-outcome" ∷ codes "1" ∷ [])))
+    || head_is_cut 1 before here
+outcome_fault_stands e before here fault.BadRow = at_named_row before here (λ r. not (width r == 2) || not (is_project_row r))
+outcome_fault_stands e before here fault.BadNumber = false
+outcome_fault_stands e before here fault.UnknownVoter = false
+outcome_fault_stands e before here fault.UnknownProject = at_named_row before here (λ r. is_none (project_in e (named_field r)))
+outcome_fault_stands e before here fault.OutOfOrder = false
+outcome_fault_stands e before here fault.Repeated = at_named_row before here (λ r. list_any (same_name r) (named_rows before))
+outcome_fault_stands e before here fault.TooMany = false
+outcome_fault_stands e before here fault.Memory = false
 
 -- the faults by their numbers
 abbrev pub in_order : List CertFault
@@ -108,13 +172,13 @@ in_order = fault.NotUtf8 ∷ fault.BadHead ∷ fault.BadRow ∷ fault.BadNumber 
 
 -- the fault at a place is the one with the lowest number that stands there
 abbrev pub price_form : Instance → Form CertFault
-price_form e before o = find (price_fault_stands e before o) in_order
+price_form e before here = find (price_fault_stands e before here) in_order
 
 abbrev pub violation_form : Instance → Form CertFault
-violation_form e before o = find (violation_fault_stands e before o) in_order
+violation_form e before here = find (violation_fault_stands e before here) in_order
 
 abbrev pub outcome_form : Instance → Form CertFault
-outcome_form e before o = find (outcome_fault_stands e before o) in_order
+outcome_form e before here = find (outcome_fault_stands e before here) in_order
 
 -- the records of a certificate or an outcome file
 abbrev pub certificate_records : List ℕ → List Rec

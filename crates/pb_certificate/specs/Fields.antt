@@ -18,19 +18,12 @@ without_empty_end (f ∷ fs) = if is_empty f && is_empty (without_empty_end fs) 
 abbrev pub fields : Rec → List Field
 fields r = without_empty_end (map clean r)
 
--- whether two records have the same fields
+-- whether two lists of fields are the same, byte for byte
 abbrev pub same_fields : List Field → List Field → Bool
 same_fields [] [] = true
 same_fields [] (g ∷ gs) = false
 same_fields (f ∷ fs) [] = false
 same_fields (f ∷ fs) (g ∷ gs) = bytes_eq f g && same_fields fs gs
-
--- whether a record has just these two or three fields
-abbrev pub has_two : Field → Field → Rec → Bool
-has_two a b r = (length (fields r) == 2) && bytes_eq (cell 0 r) a && bytes_eq (cell 1 r) b
-
-abbrev pub has_three : Field → Field → Field → Rec → Bool
-has_three a b c r = (length (fields r) == 3) && bytes_eq (cell 0 r) a && bytes_eq (cell 1 r) b && bytes_eq (cell 2 r) c
 
 -- a value that passes a test
 abbrev pub only_if : (ℕ → Bool) → ℕ → Option ℕ

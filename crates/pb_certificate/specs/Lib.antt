@@ -5,7 +5,7 @@ pub mod Claim
 pub mod PriceRows
 pub mod Tables
 pub mod PriceDrafts
-pub mod GroupText
+pub mod ViolationText
 pub mod OutcomeText
 pub mod Faults
 pub mod Canon

@@ -1,5 +1,5 @@
 -- The text of a price certificate.
-use Rattle.std.specs.Prelude.{◌≡◌, ◌≤◌, ◌^◌, ◌==◌, ◌&&◌, nat_lt, if◌then◌else◌, Bool, IsTrue, ℕ, List, [], ◌∷◌, length, map, filter_map, Option, Some, None, option_and_then, option_map, codes}
+use Rattle.std.specs.Prelude.{◌≡◌, ◌≤◌, ◌^◌, ◌==◌, ◌&&◌, nat_lt, if◌then◌else◌, Bool, IsTrue, ℕ, List, [], ◌∷◌, length, map, filter_map, Option, Some, None, codes}
 use Rattle.std.specs.List.{AllByRecursion, IsDistinct}
 use Rattle.std.specs.List.Sorted.{IsNonDecreasing}
 use Rattle.pb_election.specs.Instance.{Instance, all_projects, all_voters, projects}
@@ -17,13 +17,19 @@ pub record Payment : Type 0 where
 abbrev pub numerator_of : Field → Option ℕ
 numerator_of f = whole_within 0 (10 ^ 21) f
 
--- the payment of three fields: a voter, a project and a numerator
+-- the payment of a voter, a project and a numerator, where there is each of them
+abbrev pub payment_from : Option ℕ → Option ℕ → Option ℕ → Option Payment
+payment_from (Some i) (Some j) (Some n) = Some (record { voter = i; project = j; numerator = n })
+payment_from (Some i) (Some j) None = None
+payment_from (Some i) None x = None
+payment_from None c x = None
+
+-- the payment that three fields state: a voter's number, a project's id and a numerator. More or fewer fields state none
 abbrev pub payment_by : Instance → List Field → Option Payment
 payment_by e [] = None
 payment_by e (v ∷ []) = None
 payment_by e (v ∷ c ∷ []) = None
-payment_by e (v ∷ c ∷ x ∷ []) =
-    option_and_then (λ i. option_and_then (λ j. option_map (λ n. record { voter = i; project = j; numerator = n }) (numerator_of x)) (project_in e c)) (voter_in e v)
+payment_by e (v ∷ c ∷ x ∷ []) = payment_from (voter_in e v) (project_in e c) (numerator_of x)
 payment_by e (v ∷ c ∷ x ∷ y ∷ ys) = None
 
 abbrev pub payment_of : Instance → Rec → Option Payment

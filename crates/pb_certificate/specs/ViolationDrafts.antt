@@ -6,18 +6,18 @@ use Rattle.pb_election.specs.Records.{Rec}
 use Rattle.pb_election.specs.Cells.{cell, is_text}
 use Rattle.pb_certificate.specs.Fields.{fields}
 use Rattle.pb_certificate.specs.Faults.{is_kind}
-use Rattle.pb_certificate.specs.GroupText.{Named, is_named, named_of, same_named}
-use Rattle.pb_certificate.specs.GroupText.Named.{Member, Demanded}
+use Rattle.pb_certificate.specs.ViolationText.{Named, was_named, named_of, same_named}
+use Rattle.pb_certificate.specs.ViolationText.Named.{Member, Demanded}
 use Rattle.pb_certificate.specs.Marks.{marks_of, project_after, voter_after}
 use Rattle.pb_certificate.specs.declared.refusal.CertFault.{CertFault}
 use Rattle.pb_certificate.specs.declared.refusal.CertFault.TheVariants as fault
 
 -- the marks of the voters and of the projects that some names are
 abbrev pub group_marks : Instance → List Named → List Bool
-group_marks e names = marks_of (λ i. is_named names (Member i)) (voters e)
+group_marks e names = marks_of (λ i. was_named names (Member i)) (voters e)
 
 abbrev pub demand_marks : Instance → List Named → List Bool
-demand_marks e names = marks_of (λ j. is_named names (Demanded j)) (projects e)
+demand_marks e names = marks_of (λ j. was_named names (Demanded j)) (projects e)
 
 -- the head record and some rows were taken, and these are the marks of what they name
 pub record ViolationRows (e : Instance) (group demand : List Bool) (before : List Rec) : Type 0 where

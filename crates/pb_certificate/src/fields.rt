@@ -1,5 +1,5 @@
 //! What the fields of a record state.
-ghost use Rattle.std.specs.Prelude.{◌≡◌, ◌≤◌, ◌^◌, if◌then◌else◌, Ok, Err, IfOk, IfSome, is_some, length};
+ghost use Rattle.std.specs.Prelude.{◌≡◌, ◌≤◌, ◌^◌, ◌∷◌, [], if◌then◌else◌, Ok, Err, IfOk, IfSome, is_some, length};
 ghost use Rattle.csv.specs.Records.{fields_of};
 ghost use Rattle.pb_certificate.specs.Fields as spec;
 
@@ -27,15 +27,17 @@ pub fn width(row: &StringRecord) -> usize
 }
 
 /// Whether a record has these two fields and no more.
+#[tactic(auto, using(crate::proofs::Heads::two_cells))]
 pub fn is_pair(row: &StringRecord, first: &str, second: &str) -> bool
-    ensures { result ≡ spec.has_two first.now second.now (fields_of row.now) }
+    ensures { result ≡ spec.same_fields (spec.fields (fields_of row.now)) (first.now ∷ second.now ∷ []) }
 {
     width(row) == 2 && cell(row, 0) == first && cell(row, 1) == second
 }
 
 /// Whether a record has these three fields and no more.
+#[tactic(auto, using(crate::proofs::Heads::three_cells))]
 pub fn is_triple(row: &StringRecord, first: &str, second: &str, third: &str) -> bool
-    ensures { result ≡ spec.has_three first.now second.now third.now (fields_of row.now) }
+    ensures { result ≡ spec.same_fields (spec.fields (fields_of row.now)) (first.now ∷ second.now ∷ third.now ∷ []) }
 {
     width(row) == 3 && cell(row, 0) == first && cell(row, 1) == second && cell(row, 2) == third
 }

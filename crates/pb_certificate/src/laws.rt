@@ -10,7 +10,7 @@ ghost use Rattle.pb_certificate.specs.Prices.{ArePrices, Prices, payment};
 ghost use Rattle.pb_certificate.specs.PriceText.{IsPriceText, stated};
 ghost use Rattle.pb_certificate.specs.Faults.{certificate_records, outcome_form, price_form, violation_form};
 ghost use Rattle.pb_certificate.specs.declared.refusal.CertFault.{CertFault};
-ghost use Rattle.pb_certificate.specs.GroupText.{IsViolationText};
+ghost use Rattle.pb_certificate.specs.ViolationText.{IsViolationText};
 ghost use Rattle.pb_certificate.specs.OutcomeText.{IsOutcomeText};
 
 /// The text of a price certificate states prices for the election, and they are what its rows state.

@@ -4,8 +4,8 @@ ghost use Rattle.std.specs.Prelude.{true, false, ◌≡◌, ◌∷◌, ◌++◌,
 ghost use Rattle.pb_election.specs.Instance.{all_voters};
 ghost use Rattle.pb_certificate.specs.Canon.{Canon, line, line_end};
 ghost use Rattle.pb_certificate.specs.Faults.{outcome_form, price_form, violation_form};
-ghost use Rattle.pb_certificate.specs.GroupText.{IsViolationText, Named, named_of};
-ghost use Rattle.pb_certificate.specs.GroupText.Named.{Member, Demanded};
+ghost use Rattle.pb_certificate.specs.ViolationText.{IsViolationText, Named, named_of};
+ghost use Rattle.pb_certificate.specs.ViolationText.Named.{Member, Demanded};
 ghost use Rattle.pb_certificate.specs.OutcomeText.{IsOutcomeText};
 ghost use Rattle.pb_certificate.specs.PriceText.{IsPriceText, payment_of, payments_stated};
 ghost use Rattle.pb_certificate.specs.Samples.{demand_x1, demand_x2, e1, e4, first_refusal, member_1, outcome_records, p1, price_columns, price_records, row_1a, row_1b, row_2a, row_3b, three, two, violation_records};

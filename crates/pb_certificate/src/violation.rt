@@ -3,7 +3,7 @@ ghost use Rattle.std.specs.Prelude.{◌≡◌, ◌↔◌, ◌⊎◌, ℕ, List, 
 ghost use Rattle.pb_election.specs.Instance.{IsSet, projects, voters};
 ghost use Rattle.pb_certificate.specs.Claim.{Fits};
 ghost use Rattle.pb_certificate.specs.Faults.{Refuses, certificate_records, no_memory, violation_form};
-ghost use Rattle.pb_certificate.specs.GroupText.{IsViolationText};
+ghost use Rattle.pb_certificate.specs.ViolationText.{IsViolationText};
 ghost use Rattle.pb_certificate.specs.Marks.{marked};
 
 use crate::CertRefusal;

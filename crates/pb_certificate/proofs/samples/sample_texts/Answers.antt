@@ -7,7 +7,7 @@ use Rattle.csv.specs.Records.{field_at}
 use Rattle.pb_money.specs.Digits.{drop_back, drop_front}
 use Rattle.pb_election.specs.Cells.{is_blank, is_text}
 use Rattle.pb_certificate.specs.Fields.{whole_in}
-use Rattle.pb_certificate.specs.GroupText.Named.{Member, Demanded}
+use Rattle.pb_certificate.specs.ViolationText.Named.{Member, Demanded}
 use Rattle.pb_certificate.specs.Samples.{demand_x1, demand_x2, member_1, price_columns, row_1a, row_1b, row_2a, row_3b, two}
 use Rattle.pb_certificate.proofs.PriceClear.{cons-rises, nil-rises}
 use Rattle.pb_certificate.proofs.samples.sample_texts.Goals as goal
