@@ -1,16 +1,17 @@
--- Sample elections and price systems. Amounts are in millions of millionths, that is, in whole units.
-use Rattle.std.specs.Prelude.{◌*◌, ℕ, Bool, true, false, List, [], ◌∷◌, map, codes, Some, None}
-use Rattle.pb_election.specs.Instance.{Instance}
-use Rattle.std.specs.Prelude.{◌+◌, length, filter_map, slice_get, option_map, Option}
+-- Sample elections, price systems and records.
+use Rattle.std.specs.Prelude.{◌+◌, ◌*◌, ℕ, Bool, true, false, List, [], ◌∷◌, map, length, filter_map, slice_get, codes, Option, Some, None, option_map}
 use Rattle.std.specs.List.{range_with_len}
+use Rattle.pb_election.specs.Instance.{Instance}
 use Rattle.pb_election.specs.Records.{Field, Rec}
 use Rattle.pb_election.specs.FirstFault.{Form, fault_at}
 use Rattle.pb_certificate.specs.declared.refusal.CertFault.{CertFault}
 use Rattle.pb_certificate.specs.Prices.{Prices}
 
+-- amounts in whole units, of which an election counts millionths
 abbrev pub units : List ℕ → List ℕ
 units xs = map (λ x. x * 1000000) xs
 
+-- the election of a limit and costs in whole units, the funded marks and the ballots
 abbrev pub election : ℕ → List (List ℕ) → List ℕ → List Bool → List (List ℕ) → Instance
 election limit ids costs selected ballots = record {
   limit = limit * 1000000;
@@ -26,57 +27,59 @@ election limit ids costs selected ballots = record {
 abbrev pub a_b_c : List (List ℕ)
 a_b_c = codes "a" ∷ codes "b" ∷ codes "c" ∷ []
 
--- parks and pools: a and b are funded
-abbrev pub w1 : List Bool
-w1 = true ∷ true ∷ false ∷ []
+-- the sample election: a and b are funded, and c is not
+abbrev pub sample_outcome : List Bool
+sample_outcome = true ∷ true ∷ false ∷ []
 
--- the election with these costs
-abbrev pub e1_costs : ℕ → ℕ → ℕ → Instance
-e1_costs a b c = election 10 a_b_c (a ∷ b ∷ c ∷ []) w1 ((1 ∷ 2 ∷ []) ∷ (1 ∷ []) ∷ (2 ∷ 3 ∷ []) ∷ [])
+-- with these costs of a, b and c
+abbrev pub sample_with_costs : ℕ → ℕ → ℕ → Instance
+sample_with_costs a b c = election 10 a_b_c (a ∷ b ∷ c ∷ []) sample_outcome ((1 ∷ 2 ∷ []) ∷ (1 ∷ []) ∷ (2 ∷ 3 ∷ []) ∷ [])
 
-abbrev pub e1 : Instance
-e1 = e1_costs 6 4 9
+abbrev pub sample_election : Instance
+sample_election = sample_with_costs 6 4 9
 
-abbrev pub p1 : Prices
-p1 = record { projects = 3; denominator = 1; budget = 4; payments = ((1, 2) ∷ (2, 2) ∷ []) ∷ ((1, 4) ∷ []) ∷ ((2, 2) ∷ []) ∷ [] }
+abbrev pub sample_prices : Prices
+sample_prices = record { projects = 3; denominator = 1; budget = 4; payments = ((1, 2) ∷ (2, 2) ∷ []) ∷ ((1, 4) ∷ []) ∷ ((2, 2) ∷ []) ∷ [] }
 
 -- the same budget, with other payments
-abbrev pub p1_with : List (List (ℕ × ℕ)) → Prices
-p1_with payments = record p1 { payments = payments }
+abbrev pub sample_prices_with : List (List (ℕ × ℕ)) → Prices
+sample_prices_with payments = record sample_prices { payments = payments }
 
--- one project of cost 1, which all three voters approve
-abbrev pub e2 : Instance
-e2 = election 1 (codes "x" ∷ []) (1 ∷ []) (true ∷ []) ((1 ∷ []) ∷ (1 ∷ []) ∷ (1 ∷ []) ∷ [])
+-- one project of cost 1, which three voters share
+abbrev pub shared_election : Instance
+shared_election = election 1 (codes "x" ∷ []) (1 ∷ []) (true ∷ []) ((1 ∷ []) ∷ (1 ∷ []) ∷ (1 ∷ []) ∷ [])
 
--- each of the three pays this for it
-abbrev pub p2 : ℕ → ℕ → ℕ → Prices
-p2 d n x = record { projects = 1; denominator = d; budget = n; payments = ((1, x) ∷ []) ∷ ((1, x) ∷ []) ∷ ((1, x) ∷ []) ∷ [] }
+-- over this denominator, with this budget, each of the three pays this for it
+abbrev pub shared_prices : ℕ → ℕ → ℕ → Prices
+shared_prices d n x = record { projects = 1; denominator = d; budget = n; payments = ((1, x) ∷ []) ∷ ((1, x) ∷ []) ∷ ((1, x) ∷ []) ∷ [] }
 
 -- two voters, each with a project of its own, of which one is funded
-abbrev pub w3 : List Bool
-w3 = true ∷ false ∷ []
+abbrev pub split_outcome : List Bool
+split_outcome = true ∷ false ∷ []
 
-abbrev pub e3 : ℕ → Instance
-e3 c = election 10 (codes "a" ∷ codes "c" ∷ []) (5 ∷ c ∷ []) w3 ((1 ∷ []) ∷ (2 ∷ []) ∷ [])
+-- the second costs this
+abbrev pub split_election : ℕ → Instance
+split_election c = election 10 (codes "a" ∷ codes "c" ∷ []) (5 ∷ c ∷ []) split_outcome ((1 ∷ []) ∷ (2 ∷ []) ∷ [])
 
-abbrev pub p3 : Prices
-p3 = record { projects = 2; denominator = 1; budget = 5; payments = ((1, 5) ∷ []) ∷ [] ∷ [] }
+abbrev pub split_prices : Prices
+split_prices = record { projects = 2; denominator = 1; budget = 5; payments = ((1, 5) ∷ []) ∷ [] ∷ [] }
 
 -- two voters want x1 and x2, two want y, and y is funded
-abbrev pub w4 : List Bool
-w4 = false ∷ false ∷ true ∷ []
+abbrev pub unfair_outcome : List Bool
+unfair_outcome = false ∷ false ∷ true ∷ []
 
-abbrev pub e4_second : List ℕ → Instance
-e4_second ballot = election 8 (codes "x1" ∷ codes "x2" ∷ codes "y" ∷ []) (2 ∷ 2 ∷ 8 ∷ []) w4 ((1 ∷ 2 ∷ []) ∷ ballot ∷ (3 ∷ []) ∷ (3 ∷ []) ∷ [])
+-- with this ballot of voter 2
+abbrev pub unfair_with_ballot : List ℕ → Instance
+unfair_with_ballot ballot = election 8 (codes "x1" ∷ codes "x2" ∷ codes "y" ∷ []) (2 ∷ 2 ∷ 8 ∷ []) unfair_outcome ((1 ∷ 2 ∷ []) ∷ ballot ∷ (3 ∷ []) ∷ (3 ∷ []) ∷ [])
 
-abbrev pub e4 : Instance
-e4 = e4_second (1 ∷ 2 ∷ [])
+abbrev pub unfair_election : Instance
+unfair_election = unfair_with_ballot (1 ∷ 2 ∷ [])
 
 -- the first place at which a fault stands, counted from 1, with the fault of the lowest number there
 abbrev pub first_refusal : Form CertFault → List Rec → Option (CertFault × ℕ)
 first_refusal form recs = slice_get (filter_map (λ k. option_map (λ f. (f, k)) (fault_at form recs k)) (range_with_len 1 (length recs + 1))) 0
 
--- records of three, two and one fields
+-- records of three and of two fields
 abbrev pub three : Field → Field → Field → Rec
 three a b c = a ∷ b ∷ c ∷ []
 

@@ -8,17 +8,17 @@ ghost use Rattle.pb_certificate.specs.ViolationText.{IsViolationText, Named, nam
 ghost use Rattle.pb_certificate.specs.ViolationText.Named.{Member, Demanded};
 ghost use Rattle.pb_certificate.specs.OutcomeText.{IsOutcomeText};
 ghost use Rattle.pb_certificate.specs.PriceText.{IsPriceText, payment_of, payments_stated};
-ghost use Rattle.pb_certificate.specs.Samples.{demand_x1, demand_x2, e1, e4, first_refusal, member_1, outcome_records, p1, price_columns, price_records, row_1a, row_1b, row_2a, row_3b, three, two, violation_records};
+ghost use Rattle.pb_certificate.specs.Samples.{demand_x1, demand_x2, first_refusal, member_1, outcome_records, price_columns, price_records, row_1a, row_1b, row_2a, row_3b, sample_election, sample_prices, three, two, unfair_election, violation_records};
 
 use crate::CertFault;
 
 /// A price certificate and its canonical text.
 pub fn sample_certificate()
-    ensures accepted { first_refusal (price_form e1) (price_records (row_1a ∷ row_1b ∷ row_2a ∷ row_3b ∷ [])) ≡ None }
-    ensures payment { payment_of e1 row_1b ≡ Some (record { voter = 1; project = 2; numerator = 2 }) }
-    ensures payments { map (payments_stated e1 (record { voter = 2; project = 1; numerator = 4 } ∷ record { voter = 1; project = 2; numerator = 2 } ∷ record { voter = 3; project = 2; numerator = 2 }
-        ∷ record { voter = 1; project = 1; numerator = 2 } ∷ record { voter = 2; project = 2; numerator = 0 } ∷ [])) (all_voters e1) ≡ p1.payments }
-    ensures canonical { Canon e1 p1 ≡ codes "pb-prices,1" ++ (line_end ∷ []) ++ codes "denominator,1" ++ (line_end ∷ []) ++ codes "voter_budget,4" ++ (line_end ∷ [])
+    ensures accepted { first_refusal (price_form sample_election) (price_records (row_1a ∷ row_1b ∷ row_2a ∷ row_3b ∷ [])) ≡ None }
+    ensures payment { payment_of sample_election row_1b ≡ Some (record { voter = 1; project = 2; numerator = 2 }) }
+    ensures payments { map (payments_stated sample_election (record { voter = 2; project = 1; numerator = 4 } ∷ record { voter = 1; project = 2; numerator = 2 } ∷ record { voter = 3; project = 2; numerator = 2 }
+        ∷ record { voter = 1; project = 1; numerator = 2 } ∷ record { voter = 2; project = 2; numerator = 0 } ∷ [])) (all_voters sample_election) ≡ sample_prices.payments }
+    ensures canonical { Canon sample_election sample_prices ≡ codes "pb-prices,1" ++ (line_end ∷ []) ++ codes "denominator,1" ++ (line_end ∷ []) ++ codes "voter_budget,4" ++ (line_end ∷ [])
         ++ codes "voter,project,payment" ++ (line_end ∷ []) ++ codes "1,a,2" ++ (line_end ∷ []) ++ codes "1,b,2" ++ (line_end ∷ []) ++ codes "2,a,4" ++ (line_end ∷ []) ++ codes "3,b,2" ++ (line_end ∷ []) }
     // An id with a quote.
     ensures quoted { line (codes "1" ∷ (97 ∷ 34 ∷ 49 ∷ []) ∷ codes "2" ∷ []) ≡ codes "1," ++ (34 ∷ 97 ∷ 34 ∷ 34 ∷ 49 ∷ 34 ∷ []) ++ codes ",2" ++ (line_end ∷ []) }
@@ -26,57 +26,57 @@ pub fn sample_certificate()
 
 /// A fault in the head of a price certificate.
 pub fn faults_of_the_head()
-    ensures no_record { first_refusal (price_form e1) [] ≡ Some (CertFault.BadHead, 1) }
-    ensures version { first_refusal (price_form e1) (two (codes "pb-prices") (codes "2") ∷ []) ≡ Some (CertFault.BadHead, 1) }
-    ensures cut { first_refusal (price_form e1) (two (codes "pb-prices") (codes "1") ∷ two (codes "denominator") (codes "1") ∷ two (codes "voter_budget") (codes "4") ∷ []) ≡ Some (CertFault.BadHead, 4) }
-    ensures zero { first_refusal (price_form e1) (two (codes "pb-prices") (codes "1") ∷ two (codes "denominator") (codes "0") ∷ []) ≡ Some (CertFault.BadNumber, 2) }
-    ensures large { first_refusal (price_form e1) (two (codes "pb-prices") (codes "1") ∷ two (codes "denominator") (codes "1000000001") ∷ []) ≡ Some (CertFault.BadNumber, 2) }
+    ensures no_record { first_refusal (price_form sample_election) [] ≡ Some (CertFault.BadHead, 1) }
+    ensures version { first_refusal (price_form sample_election) (two (codes "pb-prices") (codes "2") ∷ []) ≡ Some (CertFault.BadHead, 1) }
+    ensures cut { first_refusal (price_form sample_election) (two (codes "pb-prices") (codes "1") ∷ two (codes "denominator") (codes "1") ∷ two (codes "voter_budget") (codes "4") ∷ []) ≡ Some (CertFault.BadHead, 4) }
+    ensures zero { first_refusal (price_form sample_election) (two (codes "pb-prices") (codes "1") ∷ two (codes "denominator") (codes "0") ∷ []) ≡ Some (CertFault.BadNumber, 2) }
+    ensures large { first_refusal (price_form sample_election) (two (codes "pb-prices") (codes "1") ∷ two (codes "denominator") (codes "1000000001") ∷ []) ≡ Some (CertFault.BadNumber, 2) }
 {}
 
 /// A fault in a row of a price certificate.
 pub fn faults_of_price_rows()
-    ensures short { first_refusal (price_form e1) (price_records (two (codes "1") (codes "a") ∷ [])) ≡ Some (CertFault.BadRow, 5) }
-    ensures long { first_refusal (price_form e1) (price_records ((row_1a ++ (codes "3" ∷ [])) ∷ [])) ≡ Some (CertFault.BadRow, 5) }
-    ensures negative { first_refusal (price_form e1) (price_records (three (codes "1") (codes "a") (codes "-2") ∷ [])) ≡ Some (CertFault.BadNumber, 5) }
-    ensures no_number { first_refusal (price_form e1) (price_records (three (codes "x") (codes "a") (codes "2") ∷ [])) ≡ Some (CertFault.BadNumber, 5) }
-    ensures no_project { first_refusal (price_form e1) (price_records (three (codes "1") (codes "d") (codes "2") ∷ [])) ≡ Some (CertFault.UnknownProject, 5) }
-    ensures lowest { first_refusal (price_form e1) (price_records (row_1a ∷ three (codes "0") (codes "d") (codes "2") ∷ [])) ≡ Some (CertFault.UnknownVoter, 6) }
-    ensures not_text { first_refusal (price_form e1) (price_records (three (codes "1") (255 ∷ []) (codes "2") ∷ [])) ≡ Some (CertFault.NotUtf8, 5) }
-    ensures repeated { first_refusal (price_form e1) (price_records (row_1a ∷ row_1a ∷ row_1b ∷ row_2a ∷ row_3b ∷ [])) ≡ Some (CertFault.Repeated, 6) }
-    ensures order { first_refusal (price_form e1) (price_records (row_2a ∷ row_1a ∷ row_1b ∷ row_3b ∷ [])) ≡ Some (CertFault.OutOfOrder, 6) }
-    ensures voter_0 { first_refusal (price_form e1) (price_records (three (codes "0") (codes "a") (codes "2") ∷ row_1b ∷ [])) ≡ Some (CertFault.UnknownVoter, 5) }
-    ensures voter_4 { first_refusal (price_form e1) (price_records (three (codes "4") (codes "a") (codes "2") ∷ row_1b ∷ [])) ≡ Some (CertFault.UnknownVoter, 5) }
-    ensures too_large { first_refusal (price_form e1) (price_records (three (codes "1") (codes "a") (codes "1000000000000000000001") ∷ [])) ≡ Some (CertFault.BadNumber, 5) }
+    ensures short { first_refusal (price_form sample_election) (price_records (two (codes "1") (codes "a") ∷ [])) ≡ Some (CertFault.BadRow, 5) }
+    ensures long { first_refusal (price_form sample_election) (price_records ((row_1a ++ (codes "3" ∷ [])) ∷ [])) ≡ Some (CertFault.BadRow, 5) }
+    ensures negative { first_refusal (price_form sample_election) (price_records (three (codes "1") (codes "a") (codes "-2") ∷ [])) ≡ Some (CertFault.BadNumber, 5) }
+    ensures no_number { first_refusal (price_form sample_election) (price_records (three (codes "x") (codes "a") (codes "2") ∷ [])) ≡ Some (CertFault.BadNumber, 5) }
+    ensures no_project { first_refusal (price_form sample_election) (price_records (three (codes "1") (codes "d") (codes "2") ∷ [])) ≡ Some (CertFault.UnknownProject, 5) }
+    ensures lowest { first_refusal (price_form sample_election) (price_records (row_1a ∷ three (codes "0") (codes "d") (codes "2") ∷ [])) ≡ Some (CertFault.UnknownVoter, 6) }
+    ensures not_text { first_refusal (price_form sample_election) (price_records (three (codes "1") (255 ∷ []) (codes "2") ∷ [])) ≡ Some (CertFault.NotUtf8, 5) }
+    ensures repeated { first_refusal (price_form sample_election) (price_records (row_1a ∷ row_1a ∷ row_1b ∷ row_2a ∷ row_3b ∷ [])) ≡ Some (CertFault.Repeated, 6) }
+    ensures order { first_refusal (price_form sample_election) (price_records (row_2a ∷ row_1a ∷ row_1b ∷ row_3b ∷ [])) ≡ Some (CertFault.OutOfOrder, 6) }
+    ensures voter_0 { first_refusal (price_form sample_election) (price_records (three (codes "0") (codes "a") (codes "2") ∷ row_1b ∷ [])) ≡ Some (CertFault.UnknownVoter, 5) }
+    ensures voter_4 { first_refusal (price_form sample_election) (price_records (three (codes "4") (codes "a") (codes "2") ∷ row_1b ∷ [])) ≡ Some (CertFault.UnknownVoter, 5) }
+    ensures too_large { first_refusal (price_form sample_election) (price_records (three (codes "1") (codes "a") (codes "1000000000000000000001") ∷ [])) ≡ Some (CertFault.BadNumber, 5) }
     // Blanks, and empty fields at the end, don't count.
-    ensures lenient { first_refusal (price_form e1) (two (codes "pb-prices") (codes " 1") ∷ two (codes "denominator") (codes "1") ∷ two (codes "voter_budget") (codes "04") ∷ (codes "  " ∷ []) ∷ price_columns
+    ensures lenient { first_refusal (price_form sample_election) (two (codes "pb-prices") (codes " 1") ∷ two (codes "denominator") (codes "1") ∷ two (codes "voter_budget") (codes "04") ∷ (codes "  " ∷ []) ∷ price_columns
         ∷ row_1b ∷ three (codes "1") (codes "a") (codes "002") ∷ (row_2a ++ ([] ∷ [] ∷ [])) ∷ []) ≡ None }
 {}
 
 /// Violation certificates.
 pub fn violation_certificates()
-    ensures accepted { first_refusal (violation_form e4) (violation_records (demand_x1 ∷ demand_x2 ∷ member_1 ∷ two (codes "voter") (codes "2") ∷ [])) ≡ None }
-    ensures members { named_of e4 member_1 ≡ Some (Member 1) }
-    ensures repeated { first_refusal (violation_form e4) (violation_records (demand_x1 ∷ demand_x2 ∷ member_1 ∷ two (codes "voter") (codes "2") ∷ member_1 ∷ [])) ≡ Some (CertFault.Repeated, 6) }
-    ensures version { first_refusal (violation_form e4) (two (codes "pb-violation") (codes "2") ∷ demand_x1 ∷ []) ≡ Some (CertFault.BadHead, 1) }
-    ensures voter_5 { first_refusal (violation_form e4) (violation_records (demand_x1 ∷ demand_x2 ∷ two (codes "voter") (codes "5") ∷ [])) ≡ Some (CertFault.UnknownVoter, 4) }
-    ensures voter_x { first_refusal (violation_form e4) (violation_records (demand_x1 ∷ demand_x2 ∷ two (codes "voter") (codes "x") ∷ [])) ≡ Some (CertFault.BadNumber, 4) }
-    ensures voter_empty { first_refusal (violation_form e4) (violation_records (demand_x1 ∷ demand_x2 ∷ two (codes "voter") [] ∷ [])) ≡ Some (CertFault.BadRow, 4) }
-    ensures group { first_refusal (violation_form e4) (violation_records (demand_x1 ∷ demand_x2 ∷ two (codes "group") (codes "1") ∷ [])) ≡ Some (CertFault.BadRow, 4) }
-    ensures project_z { first_refusal (violation_form e4) (violation_records (two (codes "project") (codes "z") ∷ [])) ≡ Some (CertFault.UnknownProject, 2) }
+    ensures accepted { first_refusal (violation_form unfair_election) (violation_records (demand_x1 ∷ demand_x2 ∷ member_1 ∷ two (codes "voter") (codes "2") ∷ [])) ≡ None }
+    ensures members { named_of unfair_election member_1 ≡ Some (Member 1) }
+    ensures repeated { first_refusal (violation_form unfair_election) (violation_records (demand_x1 ∷ demand_x2 ∷ member_1 ∷ two (codes "voter") (codes "2") ∷ member_1 ∷ [])) ≡ Some (CertFault.Repeated, 6) }
+    ensures version { first_refusal (violation_form unfair_election) (two (codes "pb-violation") (codes "2") ∷ demand_x1 ∷ []) ≡ Some (CertFault.BadHead, 1) }
+    ensures voter_5 { first_refusal (violation_form unfair_election) (violation_records (demand_x1 ∷ demand_x2 ∷ two (codes "voter") (codes "5") ∷ [])) ≡ Some (CertFault.UnknownVoter, 4) }
+    ensures voter_x { first_refusal (violation_form unfair_election) (violation_records (demand_x1 ∷ demand_x2 ∷ two (codes "voter") (codes "x") ∷ [])) ≡ Some (CertFault.BadNumber, 4) }
+    ensures voter_empty { first_refusal (violation_form unfair_election) (violation_records (demand_x1 ∷ demand_x2 ∷ two (codes "voter") [] ∷ [])) ≡ Some (CertFault.BadRow, 4) }
+    ensures group { first_refusal (violation_form unfair_election) (violation_records (demand_x1 ∷ demand_x2 ∷ two (codes "group") (codes "1") ∷ [])) ≡ Some (CertFault.BadRow, 4) }
+    ensures project_z { first_refusal (violation_form unfair_election) (violation_records (two (codes "project") (codes "z") ∷ [])) ≡ Some (CertFault.UnknownProject, 2) }
 {}
 
 /// Outcome files.
 pub fn outcome_files()
-    ensures accepted { first_refusal (outcome_form e1) (outcome_records (two (codes "project") (codes "b") ∷ two (codes "project") (codes "a") ∷ [])) ≡ None }
-    ensures no_record { first_refusal (outcome_form e1) [] ≡ Some (CertFault.BadHead, 1) }
-    ensures voter { first_refusal (outcome_form e1) (outcome_records (member_1 ∷ [])) ≡ Some (CertFault.BadRow, 2) }
-    ensures unknown { first_refusal (outcome_form e1) (outcome_records (two (codes "project") (codes "d") ∷ [])) ≡ Some (CertFault.UnknownProject, 2) }
-    ensures repeated { first_refusal (outcome_form e1) (outcome_records (two (codes "project") (codes "a") ∷ two (codes "project") (codes "a") ∷ [])) ≡ Some (CertFault.Repeated, 3) }
+    ensures accepted { first_refusal (outcome_form sample_election) (outcome_records (two (codes "project") (codes "b") ∷ two (codes "project") (codes "a") ∷ [])) ≡ None }
+    ensures no_record { first_refusal (outcome_form sample_election) [] ≡ Some (CertFault.BadHead, 1) }
+    ensures voter { first_refusal (outcome_form sample_election) (outcome_records (member_1 ∷ [])) ≡ Some (CertFault.BadRow, 2) }
+    ensures unknown { first_refusal (outcome_form sample_election) (outcome_records (two (codes "project") (codes "d") ∷ [])) ≡ Some (CertFault.UnknownProject, 2) }
+    ensures repeated { first_refusal (outcome_form sample_election) (outcome_records (two (codes "project") (codes "a") ∷ two (codes "project") (codes "a") ∷ [])) ≡ Some (CertFault.Repeated, 3) }
 {}
 
 /// The sample certificates are texts of what they should be.
 pub fn sample_texts()
-    ensures prices { IsPriceText (price_records (row_1a ∷ row_1b ∷ row_2a ∷ row_3b ∷ [])) e1 p1 }
-    ensures group { IsViolationText (violation_records (demand_x1 ∷ demand_x2 ∷ member_1 ∷ two (codes "voter") (codes "2") ∷ [])) e4 (1 ∷ 2 ∷ []) (1 ∷ 2 ∷ []) }
-    ensures outcome { IsOutcomeText (outcome_records (two (codes "project") (codes "b") ∷ two (codes "project") (codes "a") ∷ [])) e1 (true ∷ true ∷ false ∷ []) }
+    ensures prices { IsPriceText (price_records (row_1a ∷ row_1b ∷ row_2a ∷ row_3b ∷ [])) sample_election sample_prices }
+    ensures group { IsViolationText (violation_records (demand_x1 ∷ demand_x2 ∷ member_1 ∷ two (codes "voter") (codes "2") ∷ [])) unfair_election (1 ∷ 2 ∷ []) (1 ∷ 2 ∷ []) }
+    ensures outcome { IsOutcomeText (outcome_records (two (codes "project") (codes "b") ∷ two (codes "project") (codes "a") ∷ [])) sample_election (true ∷ true ∷ false ∷ []) }
 {}

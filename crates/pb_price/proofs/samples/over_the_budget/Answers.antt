@@ -3,10 +3,10 @@ use Rattle.std.specs.Prelude.{pos, ◌≤ℤ◌}
 use Rattle.std.proofs.lemmas.Int.{ints}
 use Rattle.std.proofs.lemmas.List.Elements.{All-from_recursion}
 use Rattle.pb_election.specs.Instance.{Approves}
-use Rattle.pb_certificate.specs.Samples.{w1}
+use Rattle.pb_certificate.specs.Samples.{sample_outcome}
 use Rattle.pb_cohesion.specs.Groups.{IsGroupWithin}
 use Rattle.pb_cohesion.specs.Outcome.{IsUnfunded}
-use Rattle.pb_price.specs.Samples.{e1_poor}
+use Rattle.pb_price.specs.Samples.{overpaying_election}
 use Rattle.pb_price.proofs.samples.over_the_budget.Goals as goal
 
 pub returns-clause-verdict : goal.returns-clause-verdict
@@ -14,7 +14,7 @@ returns-clause-verdict c = refl
 
 pub returns-clause-not_supported : goal.returns-clause-not_supported
 returns-clause-not_supported c none =
-    let unfunded : IsUnfunded e1_poor w1 3 = ((omega arith, omega arith), refl) in
-    let group : IsGroupWithin e1_poor (3 ∷ []) 3 = ((omega arith, omega arith, tt), All-from_recursion (λ i. Approves e1_poor i 3) (3 ∷ []) (refl, tt)) in
+    let unfunded : IsUnfunded overpaying_election sample_outcome 3 = ((omega arith, omega arith), refl) in
+    let group : IsGroupWithin overpaying_election (3 ∷ []) 3 = ((omega arith, omega arith, tt), All-from_recursion (λ i. Approves overpaying_election i 3) (3 ∷ []) (refl, tt)) in
     let at_most : pos 2000000 ≤ℤ pos 1000000 = none (3 ∷ []) 3 unfunded group in
     absurd (omega (arith, ints))
