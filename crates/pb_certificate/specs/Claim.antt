@@ -1,4 +1,5 @@
--- What a violation certificate claims: a group of voters, and the projects that it demands.
+-- What a violation certificate claims against extended justified representation, as Peters, Pierczyński and Skowron
+-- (2021) define it: a group of voters, and the projects that it demands. The certificate's form is this project's own.
 use Rattle.std.specs.Prelude.{◌≡◌, ℕ, List}
 use Rattle.pb_election.specs.Instance.{Instance, IsSet, projects, voters}
 

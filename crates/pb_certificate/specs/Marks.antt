@@ -1,4 +1,4 @@
--- Marks: which of the numbers from 1 on have been named.
+-- The readers' own marks: which of the numbers from 1 on have been named. No claim on a file rests on this.
 use Rattle.std.specs.Prelude.{◌-◌, if◌then◌else◌, Bool, true, ℕ, List, filter, length, map, is_some, Option, Some, None, Result, Ok, Err, slice_index_or, slice_set}
 use Rattle.std.specs.List.{range_with_len}
 use Rattle.pb_election.specs.Instance.{Instance}

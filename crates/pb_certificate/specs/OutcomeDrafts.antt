@@ -1,4 +1,4 @@
--- An outcome file as far as it has been read.
+-- What the reader's own draft of an outcome file stands for, as far as it has been read. No claim on a file rests on this.
 use Rattle.std.specs.Prelude.{◌≡◌, ◌==◌, ◌&&◌, if◌then◌else◌, Bool, IsTrue, true, false, List, [], ◌∷◌, ℕ, length, map, Some, Result, Err, codes}
 use Rattle.std.specs.List.{AllByRecursion, IsDistinct, list_any}
 use Rattle.pb_election.specs.Instance.{Instance, projects}

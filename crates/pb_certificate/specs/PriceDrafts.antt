@@ -1,4 +1,4 @@
--- A price certificate as far as it has been read.
+-- What the reader's own draft of a price certificate stands for, as far as it has been read. No claim on a file rests on this.
 use Rattle.std.specs.Prelude.{◌≡◌, ◌^◌, ⊤, IsTrue, ℕ, List, [], ◌∷◌, map, Some, Result, Ok, Err, codes}
 use Rattle.std.specs.List.{AllByRecursion}
 use Rattle.pb_election.specs.Instance.{Instance}

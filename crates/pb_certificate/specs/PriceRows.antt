@@ -1,4 +1,4 @@
--- The rows of a price certificate, one after another.
+-- The rows of a price certificate, one after another, as the reader's own parts take them. No claim on a file rests on this.
 use Rattle.std.specs.Prelude.{◌||◌, not, ◌==◌, nat_le, nat_lt, if◌then◌else◌, ℕ, List, [], ◌∷◌, length, map, Option, Some, None, is_none}
 use Rattle.std.specs.List.{list_any}
 use Rattle.pb_election.specs.Instance.{Instance}

@@ -1,4 +1,4 @@
--- The table of the payments of a price certificate, as its rows come.
+-- What the reader's own table of the payments of a price certificate stands for. No claim on a file rests on this.
 use Rattle.std.specs.Prelude.{◌≡◌, ◌≤◌, ◌<◌, ◌==◌, ◌&&◌, nat_lt, if◌then◌else◌, ⊤, ℕ, List, [], ◌∷◌, ◌++◌, filter, filter_map, length, map, Some, None, Result, Ok, Err, slice_index_or}
 use Rattle.std.specs.List.{AllByRecursion, IsDistinct, range_with_len}
 use Rattle.std.specs.List.Sorted.{IsNonDecreasingBy, IsPermutation}

@@ -1,4 +1,4 @@
--- A violation certificate as far as it has been read.
+-- What the reader's own draft of a violation certificate stands for, as far as it has been read. No claim on a file rests on this.
 use Rattle.std.specs.Prelude.{◌≡◌, ◌==◌, if◌then◌else◌, Bool, IsTrue, true, false, List, [], ◌∷◌, length, map, Some, Result, Ok, Err, codes}
 use Rattle.std.specs.List.{AllByRecursion, IsDistinct}
 use Rattle.pb_election.specs.Instance.{Instance, projects, voters}

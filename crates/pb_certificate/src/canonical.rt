@@ -8,11 +8,20 @@ ghost use Rattle.pb_certificate.specs.Canon.{Canon, head_records, lines, payment
 ghost use Rattle.pb_certificate.specs.Prices.{Fits, IsPaymentMap};
 ghost use Rattle.pb_certificate.specs.RecordWriter.{IsOpen, held};
 
-use crate::{Prices, WriteFault, record_writer};
+use crate::{Prices, record_writer};
 use csv::Writer;
 use itoa::Buffer;
 use pb_election::{Election, Sink, put};
 use std::alloc::{AllocError, Global};
+
+/// Why prices were not written.
+#[derive(Clone, Copy, Debug, PartialEq, Eq)]
+pub enum WriteFault {
+    /// Memory was wanted and a growth was refused. Nothing was written.
+    Memory,
+    /// The writer failed. A prefix of the text was written.
+    Write,
+}
 
 // Adds the four head records.
 fn add_heads(writer: &mut Writer<Vec<u8>>, denominator: u32, budget: u128) -> Result<(), AllocError>

@@ -20,16 +20,8 @@ mod tests;
 mod violation;
 mod violation_draft;
 
+pub use canonical::WriteFault;
 pub use outcome_reader::read_outcome;
 pub use prices::Prices;
 pub use refusal::{CertFault, CertRefusal};
 pub use violation::Violation;
-
-/// Why prices were not written.
-#[derive(Clone, Copy, Debug, PartialEq, Eq)]
-pub enum WriteFault {
-    /// Memory was wanted and a growth was refused. Nothing was written.
-    Memory,
-    /// The writer failed. A prefix of the text was written.
-    Write,
-}

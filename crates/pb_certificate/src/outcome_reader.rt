@@ -11,6 +11,8 @@ use std::alloc::Global;
 
 /// The outcome that the bytes of an outcome file state for an election, or the first fault: the one at the least record,
 /// and of those there the one with the lowest number. Want of memory comes only where a growth was refused.
+///
+/// The head record is `pb-outcome,1`. A row is `project` with the id of a funded project, none twice.
 pub fn read_outcome(
     alloc: Global,
     bytes: &[u8],

@@ -9,35 +9,37 @@ use pb_election::{FaultAt, Stop};
 pub enum CertFault {
     /// A field of the record is not UTF-8.
     NotUtf8,
-    /// A head record is missing, or has another name or another number of fields.
+    /// A head record that is not as the form asks, or the end before the last of them. A number out of its range is
+    /// `BadNumber`.
     BadHead,
-    /// A row has another number of fields than three in a price certificate and two in the other files, or begins with a
-    /// word that is no kind of row in this file.
+    /// A row has another number of fields than three in a price certificate and two in the other files, where empty ones at
+    /// its end do not count, or begins with a word that is no kind of row in this file.
     BadRow,
     /// The denominator is not a whole number from 1 to 10^9, the voter budget or a payment none up to 10^21, or a voter
-    /// is not written in digits.
+    /// is not written in digits. It does not come from outcome files.
     BadNumber,
-    /// A voter's number is 0, or more than the election has voters.
+    /// A voter's number is 0, or more than the election has voters. It does not come from outcome files.
     UnknownVoter,
     /// An id is that of no project of the election.
     UnknownProject,
-    /// A price row has a lower voter than the row before it.
+    /// A row of a price certificate has a lower voter than the row before it.
     OutOfOrder,
-    /// A pair of voter and project, a voter or a project stood before.
+    /// A row of a price certificate is on a voter and a project that stood together in an earlier row, with the payment 0
+    /// too; a row of the other files names a voter or a project that an earlier row named.
     Repeated,
-    /// A price certificate has more than 10,000,000 rows.
+    /// A price certificate has more than 10,000,000 rows: this is the next one.
     TooMany,
     /// Memory was wanted and a growth was refused.
     Memory,
 }
 
-/// Why a file is refused, and at which record: they count from 1, blank ones too, and the place behind the last is the
-/// end. Want of memory has the place 0.
+/// Why a file is refused, and where.
 #[derive(Clone, Copy, Debug, PartialEq, Eq)]
 pub struct CertRefusal {
     /// Why it is refused.
     pub fault: CertFault,
-    /// The record, from 1, or 0 for want of memory.
+    /// The record at which the fault stands. Records are numbered from 1, blank ones included, and the end of the file is
+    /// one more than their number. 0 for `Memory`.
     pub place: u64,
 }
 
@@ -58,7 +60,8 @@ impl CertRefusal {
         }
     }
 
-    /// The number that stands for the fault in a report, from 20 to 29.
+    /// The number that stands for the fault in a report, from 20 for `NotUtf8` to 29 for `Memory`, in the order of
+    /// `CertFault`.
     pub fn number(&self) -> u32
         ensures { result ≡ fault_number (self.now).fault }
     {
@@ -76,7 +79,7 @@ impl CertRefusal {
         }
     }
 
-    /// The name that stands for the fault in a report.
+    /// The name that stands for the fault in a report, as `CertFault` spells it.
     pub fn name(&self) -> &'static str
         ensures { result.now ≡ fault_name (self.now).fault }
     {

@@ -13,7 +13,9 @@ use pb_election::{Election, take_all};
 use std::alloc::{AllocError, Global};
 use std::marker::Model;
 
-/// What a violation certificate claims: a group of voters, and the projects that it demands.
+/// What a violation certificate claims against extended justified representation, as Peters, Pierczyński and Skowron
+/// (2021) define it: a group of voters, and the projects that it demands. The form of violation certificates is this
+/// project's own.
 #[derive(Drop)]
 pub struct Violation {
     voters: u32,
@@ -36,6 +38,9 @@ impl Violation {
     /// The group and the demand that the bytes of a violation certificate state for an election, or the first fault: the
     /// one at the least record, and of those there the one with the lowest number. Want of memory comes only where a
     /// growth was refused.
+    ///
+    /// The head record is `pb-violation,1`. A row is `voter` with a voter's number or `project` with a project's id, in any
+    /// order and none twice.
     pub fn read(alloc: Global, bytes: &[u8], election: &Election) -> Result<Violation, CertRefusal>
         ensures found { IfOk result (λ v. IsViolationText (certificate_records bytes.now) election.now v.group v.demand) }
         ensures fits { IfOk result (λ v. Fits v election.now) }
