@@ -65,7 +65,8 @@ voters whose ballots hold it.
 Prints 'supported priceable' or 'supported stable', or the first condition that
 fails, with the lowest voter and then the lowest project where it names one:
   failed C5 project pool
-A no speaks of these payments alone: other payments may support the outcome.
+A no by C1 or a later condition speaks of these payments alone: others may
+support the outcome.
 
 An outcome file has the record pb-outcome,1 and then a record project,ID for
 each funded project.

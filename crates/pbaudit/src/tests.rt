@@ -1,4 +1,5 @@
 //! Tests of what no contract says: whole answers to whole files, readers and writers that fail, and exit statuses.
+mod certificates;
 mod ends;
 mod failing;
 mod fakes;

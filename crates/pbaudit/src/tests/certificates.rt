@@ -1,0 +1,66 @@
+//! The calls of the library on certificates and outcome files.
+use super::samples::{
+    ELECTION, PLAIN, PRICES, STABLE, UNFAIR_ELECTION, UNTIDY_PRICES, VIOLATION, with_lines,
+};
+use pb_certificate::{Prices, Violation, read_outcome};
+use pb_cohesion::{Count, ViolationVerdict, check_violation};
+use pb_election::{Election, Outcome, Output};
+use pb_price::{Verdict, check};
+use std::test::Fail;
+
+#[test]
+fn sample_prices_support_the_sample_outcome(rt: HostRuntime) -> Result<(), Fail> {
+    let alloc = rt.alloc();
+    let election = Election::read(alloc, ELECTION.as_bytes())?;
+    let outcome = Outcome::selected(alloc, &election)?;
+    let prices = Prices::read(alloc, PRICES.as_bytes(), &election)?;
+    assert!(rt; outcome.fits(&election) && prices.fits(&election));
+    for mode in [PLAIN, STABLE] {
+        let verdict = check(alloc, &election, &outcome, &prices, mode)?;
+        assert_eq!(rt; verdict, Verdict::Supported);
+    }
+    Ok(())
+}
+
+#[test]
+fn prices_support_the_outcome_of_a_file(rt: HostRuntime) -> Result<(), Fail> {
+    let alloc = rt.alloc();
+    let file = with_lines(alloc, ELECTION, 8, 1, b"project_id;cost;name\n")?;
+    let election = Election::read(alloc, &file)?;
+    let text = b"pb-outcome,1\nproject,a\nproject,b\n";
+    let outcome = read_outcome(alloc, text, &election)?;
+    let prices = Prices::read(alloc, PRICES.as_bytes(), &election)?;
+    assert!(rt; outcome.fits(&election) && prices.fits(&election));
+    let verdict = check(alloc, &election, &outcome, &prices, PLAIN)?;
+    assert_eq!(rt; verdict, Verdict::Supported);
+    Ok(())
+}
+
+#[test]
+fn prices_are_written_in_one_way(rt: HostRuntime) -> Result<(), Fail> {
+    let alloc = rt.alloc();
+    let election = Election::read(alloc, ELECTION.as_bytes())?;
+    for text in [PRICES, UNTIDY_PRICES] {
+        let prices = Prices::read(alloc, text.as_bytes(), &election)?;
+        assert!(rt; prices.fits(&election));
+        let mut written = Vec::new(alloc);
+        let done = prices.write(alloc, &election, &mut Output::new(&mut written));
+        assert_eq!(rt; done, Ok(()));
+        assert!(rt; written.as_slice() == PRICES.as_bytes(), "{text}");
+    }
+    Ok(())
+}
+
+#[test]
+fn sample_violation_is_one(rt: HostRuntime) -> Result<(), Fail> {
+    let alloc = rt.alloc();
+    let election = Election::read(alloc, UNFAIR_ELECTION.as_bytes())?;
+    let outcome = Outcome::selected(alloc, &election)?;
+    let violation = Violation::read(alloc, VIOLATION.as_bytes(), &election)?;
+    assert!(rt; outcome.fits(&election) && violation.fits(&election));
+    assert!(rt; violation.group() == [1, 2].as_slice());
+    assert!(rt; violation.demand() == [1, 2].as_slice());
+    let verdict = check_violation(&election, &outcome, &violation, &Count);
+    assert_eq!(rt; verdict, ViolationVerdict::Violation);
+    Ok(())
+}
