@@ -19,13 +19,13 @@ use Rattle.pb_election.specs.declared.sections.Role.TheVariants.{Header, Inside}
 use Rattle.pb_election.specs.declared.sections.Section.{Section}
 use Rattle.pb_election.specs.declared.sections.Section.TheVariants.{Meta, Projects, Votes}
 use Rattle.pb_election.specs.Cells.{is_among, is_blank, is_marker, is_text, marker_of, marks, nonblank}
-use Rattle.pb_election.specs.Rows.{ballot_in, ballots_in, columns_of, cost_in, has_key, id_in, ids_in, is_approval, is_id, is_known, key_in, stated, value_in, vote_column}
+use Rattle.pb_election.specs.Rows.{ballot_in, ballots_in, columns_of, cost_in, has_key, id_in, ids_in, is_approval, is_id, is_known, key_in, stated_value, value_in, vote_column}
 use Rattle.pb_election.specs.FirstFault.{NoFault, fault_after}
-use Rattle.pb_election.specs.Faults.{PbFault, before_of, election_form, first_of, header_of, keys_in, lowest, lowest_at_end, rest_of, role_of, rows_of, stood, up_to_marker}
+use Rattle.pb_election.specs.Faults.{PbFault, before_of, election_form, first_of, has_stood, header_of, keys_in, lowest_fault, lowest_fault_at_end, rest_of, role_of, rows_of, up_to_marker}
 use Rattle.pb_election.specs.Text.{AreMetaRows, AreProjectRows, AreVoteRows, EachKeyOnce, IsHeader, IsPart, lines, Part, PbText}
 use Rattle.pb_election.proofs.FoundParts.{behind, behind-here, found, past, up-all, up-part}
 use Rattle.pb_election.proofs.Distinct.{distinct-at}
-use Rattle.pb_election.proofs.KeyLemmas.{key-new, key-there, stated-here}
+use Rattle.pb_election.proofs.KeyLemmas.{key-new, key-there, stated_value-here}
 use Rattle.pb_election.proofs.Clear.{clear-end, clear-first, clear-header, clear-meta-row, clear-project-row, clear-projects, clear-vote-row, clear-votes, is-money}
 use Rattle.pb_election.proofs.Spots.{at_header, at_marker, at_row, at-place, count-append, count-behind, in_rest, past-end, role-header, role-rows, spot}
 
@@ -39,8 +39,8 @@ all-front P (x ∷ xs) zs h = (h.0, all-front P xs zs h.1)
 
 -- the value of a stated key at its row
 value-at : (key : Key) (P : Field → Type 0) (xs : List Rec) (r : Rec) (zs : List Rec) → EachKeyOnce (xs ++ r ∷ zs)
-    → IsSomeAnd (stated key (xs ++ r ∷ zs)) P → has_key key r ≡ true → P (value_in r)
-value-at key P xs r zs once s has = rw (stated-here key xs r zs once has) at s
+    → IsSomeAnd (stated_value key (xs ++ r ∷ zs)) P → has_key key r ≡ true → P (value_in r)
+value-at key P xs r zs once s has = rw (stated_value-here key xs r zs once has) at s
 
 module _ (a b c : Part) (ha : IsPart Meta a) (hb : IsPart Projects b) (hc : IsPart Votes c) where
   whole : List Rec
@@ -86,14 +86,14 @@ module _ (a b c : Part) (ha : IsPart Meta a) (hb : IsPart Projects b) (hc : IsPa
       ap up_to_marker (behind-here Meta a.marker (behind a) m) ∙ up-all (behind a) ha.others
 
   -- a row of META
-  meta-row : (xs : List Rec) (r : Rec) (zs : List Rec) → AreMetaRows a.rows → a.rows ≡ xs ++ r ∷ zs → is_text r ≡ true → lowest (before_of (a.marker ∷ a.header ∷ xs)) r ≡ None
+  meta-row : (xs : List Rec) (r : Rec) (zs : List Rec) → AreMetaRows a.rows → a.rows ≡ xs ++ r ∷ zs → is_text r ≡ true → lowest_fault (before_of (a.marker ∷ a.header ∷ xs)) r ≡ None
   unfolding before_of
   meta-row xs r zs w e t =
       let f = found-a xs (r ∷ zs) e in
       let once : EachKeyOnce (xs ++ r ∷ zs) = rw e at w.once in
       let keys : keys_in (rows_of Meta (a.marker ∷ a.header ∷ xs)) ≡ keys_in xs = ap (λ l. keys_in (rest_of l)) f in
       let role : role_of (a.marker ∷ a.header ∷ xs) ≡ Inside Meta = role-rows [] Meta a.marker a.header xs ha.marker (ha.others.0, all-front (λ r. marker_of r ≡ None) xs (r ∷ zs) (rw e at ha.others.1)) in
-      clear-meta-row (before_of (a.marker ∷ a.header ∷ xs)) r role t (all-at (λ r. marker_of r ≡ None) xs r zs (rw e at ha.others.1)) (subst (λ (ks : Keys). option_map_or (stood ks) (key_in r) false ≡ false) (sym keys) (key-new xs r zs once))
+      clear-meta-row (before_of (a.marker ∷ a.header ∷ xs)) r role t (all-at (λ r. marker_of r ≡ None) xs r zs (rw e at ha.others.1)) (subst (λ (ks : Keys). option_map_or (has_stood ks) (key_in r) false ≡ false) (sym keys) (key-new xs r zs once))
       (elim (cases_Bool (has_key VoteType r)) [
         | inl has ↦ rw (has, value-at VoteType (λ v. IsTrue (is_approval v)) xs r zs once (rw e at w.vote_type) has) refl
         | inr hasnt ↦ rw hasnt refl
@@ -104,7 +104,7 @@ module _ (a b c : Part) (ha : IsPart Meta a) (hb : IsPart Projects b) (hc : IsPa
       ])
 
   -- the marker of PROJECTS
-  projects-marker : AreMetaRows a.rows → is_text b.marker ≡ true → lowest (before_of (lines a)) b.marker ≡ None
+  projects-marker : AreMetaRows a.rows → is_text b.marker ≡ true → lowest_fault (before_of (lines a)) b.marker ≡ None
   unfolding before_of
   projects-marker w t =
       let keys : keys_in (rows_of Meta (lines a)) ≡ keys_in a.rows = ap (λ l. keys_in (rest_of l)) found-a-all in
@@ -114,7 +114,7 @@ module _ (a b c : Part) (ha : IsPart Meta a) (hb : IsPart Projects b) (hc : IsPa
       clear-projects (before_of (lines a)) b.marker role t hb.marker (ap (λ (ks : Keys). ks.budget) keys ∙ budget) (ap (λ (ks : Keys). ks.vote_type) keys ∙ vote_type)
 
   -- a row of PROJECTS
-  project-row : (xs : List Rec) (r : Rec) (zs : List Rec) → AreProjectRows (columns_of b.header) b.rows → b.rows ≡ xs ++ r ∷ zs → is_text r ≡ true → lowest (before_of (lines a ++ (b.marker ∷ b.header ∷ xs))) r ≡ None
+  project-row : (xs : List Rec) (r : Rec) (zs : List Rec) → AreProjectRows (columns_of b.header) b.rows → b.rows ≡ xs ++ r ∷ zs → is_text r ≡ true → lowest_fault (before_of (lines a ++ (b.marker ∷ b.header ∷ xs))) r ≡ None
   unfolding before_of
   project-row xs r zs w e t =
       let before = lines a ++ (b.marker ∷ b.header ∷ xs) in
@@ -137,7 +137,7 @@ module _ (a b c : Part) (ha : IsPart Meta a) (hb : IsPart Projects b) (hc : IsPa
       (subst (λ (cs : Columns). length (ids_in cs (rows_of Projects before)) + 1 ≤ 20000) (sym cols) (rw (rows, many) size))
 
   -- the marker of VOTES
-  votes-marker : is_text c.marker ≡ true → lowest (before_of (lines a ++ lines b)) c.marker ≡ None
+  votes-marker : is_text c.marker ≡ true → lowest_fault (before_of (lines a ++ lines b)) c.marker ≡ None
   unfolding before_of
   votes-marker t =
       let role : role_of (lines a ++ lines b) ≡ Inside Projects = role-rows (lines a) Projects b.marker b.header b.rows hb.marker hb.others ∙ rw (count-a Meta a ha) refl in
@@ -150,7 +150,7 @@ module _ (a b c : Part) (ha : IsPart Meta a) (hb : IsPart Projects b) (hc : IsPa
 
   -- a row of VOTES
   vote-row : (xs : List Rec) (r : Rec) (zs : List Rec) → AreVoteRows (vote_column c.header) (ids_in (columns_of b.header) b.rows) c.rows → c.rows ≡ xs ++ r ∷ zs → is_text r ≡ true
-      → lowest (before_of (lines a ++ (lines b ++ (c.marker ∷ c.header ∷ xs)))) r ≡ None
+      → lowest_fault (before_of (lines a ++ (lines b ++ (c.marker ∷ c.header ∷ xs)))) r ≡ None
   unfolding before_of
   vote-row xs r zs w e t =
       let before = lines a ++ (lines b ++ (c.marker ∷ c.header ∷ xs)) in
@@ -173,7 +173,7 @@ module _ (a b c : Part) (ha : IsPart Meta a) (hb : IsPart Projects b) (hc : IsPa
       (rw (same_ids, same_vote, rows) sizes)
 
   -- the end
-  at-end : lowest_at_end (before_of (lines a ++ (lines b ++ lines c))) ≡ None
+  at-end : lowest_fault_at_end (before_of (lines a ++ (lines b ++ lines c))) ≡ None
   unfolding before_of
   at-end = clear-end (before_of (lines a ++ (lines b ++ lines c))) (role-c c.rows [] (sym (append-nil c.rows)))
 
@@ -191,15 +191,15 @@ pub record Whole (a b c : Part) : Type 0 where
 meta-header : (h : Rec) → IsHeader Meta h
 meta-header h = record { needed = tt; once = tt }
 
-first-place : (r : Rec) → is_text r ≡ true → marker_of r ≡ Some Meta → lowest (before_of []) r ≡ None
+first-place : (r : Rec) → is_text r ≡ true → marker_of r ≡ Some Meta → lowest_fault (before_of []) r ≡ None
 unfolding before_of role_of
 first-place r t m = clear-first (before_of []) r refl t m
 
-header-place : (before : List Rec) (s : Section) (h : Rec) → role_of before ≡ Header s → is_text h ≡ true → marker_of h ≡ None → IsHeader s h → lowest (before_of before) h ≡ None
+header-place : (before : List Rec) (s : Section) (h : Rec) → role_of before ≡ Header s → is_text h ≡ true → marker_of h ≡ None → IsHeader s h → lowest_fault (before_of before) h ≡ None
 unfolding before_of
 header-place before s h e t m k = clear-header s (before_of before) h e t m k
 
-clear-votes-part : (a b c : Part) → Whole a b c → (more : List Rec) (r : Rec) (left : List Rec) → more ++ r ∷ left ≡ lines c → is_text r ≡ true → lowest (before_of (lines a ++ (lines b ++ more))) r ≡ None
+clear-votes-part : (a b c : Part) → Whole a b c → (more : List Rec) (r : Rec) (left : List Rec) → more ++ r ∷ left ≡ lines c → is_text r ≡ true → lowest_fault (before_of (lines a ++ (lines b ++ more))) r ≡ None
 clear-votes-part a b c w more r left h t =
     elim (spot c [] more r left (h ∙ sym (append-nil (lines c)))) [
       | at_marker e m ↦ rw (e, append-nil (lines b), m) (votes-marker a b c w.meta w.projects w.votes (rw m at t))
@@ -216,7 +216,7 @@ clear-votes-part a b c w more r left h t =
     not-nil [] x ys e = cc e
     not-nil (z ∷ zs) x ys e = cc e
 
-clear-projects-part : (a b c : Part) → Whole a b c → (more : List Rec) (r : Rec) (left : List Rec) → more ++ r ∷ left ≡ lines b ++ lines c → is_text r ≡ true → lowest (before_of (lines a ++ more)) r ≡ None
+clear-projects-part : (a b c : Part) → Whole a b c → (more : List Rec) (r : Rec) (left : List Rec) → more ++ r ∷ left ≡ lines b ++ lines c → is_text r ≡ true → lowest_fault (before_of (lines a ++ more)) r ≡ None
 clear-projects-part a b c w more r left h t =
     elim (spot b (lines c) more r left h) [
       | at_marker e m ↦ rw (e, append-nil (lines a), m) (projects-marker a b c w.meta w.projects w.votes w.meta_rows (rw m at t))
@@ -230,7 +230,7 @@ clear-projects-part a b c w more r left h t =
     ]
 
 -- no fault stands at a record of a whole text
-clear-at : (a b c : Part) → Whole a b c → (before : List Rec) (r : Rec) (left : List Rec) → before ++ r ∷ left ≡ lines a ++ (lines b ++ lines c) → is_text r ≡ true → lowest (before_of before) r ≡ None
+clear-at : (a b c : Part) → Whole a b c → (before : List Rec) (r : Rec) (left : List Rec) → before ++ r ∷ left ≡ lines a ++ (lines b ++ lines c) → is_text r ≡ true → lowest_fault (before_of before) r ≡ None
 clear-at a b c w before r left h t =
     elim (spot a (lines b ++ lines c) before r left h) [
       | at_marker e m ↦ rw e (first-place r t (ap marker_of m ∙ w.meta.marker))

@@ -11,14 +11,14 @@ use Rattle.pb_election.specs.Cells.{is_marker, marker_of, marks, same_section}
 use Rattle.pb_election.specs.Rows.{ballot_in, ballots_in, columns_of, ids_in, vote_column}
 use Rattle.pb_election.specs.Faults.{before_of, behind_marker, first_of, header_of, rest_of, role_of, rows_of, up_to_marker}
 use Rattle.pb_election.specs.Text.{IsPart, Part, lines}
-use Rattle.pb_election.specs.SoFar.{seen}
+use Rattle.pb_election.specs.SoFar.{before_next}
 use Rattle.pb_election.specs.Beginnings.{Beginning, AtStart, AfterMeta, InMeta, AfterProjects, InProjects, AfterVotes, InVotes, Good, no_part, so_far_in, so_far_of, text_of}
 use Rattle.pb_election.proofs.FoundParts.{behind, behind-here, found, past, up-all, up-part}
 use Rattle.pb_election.proofs.Spots.{count-append, count-behind, role-header, role-rows}
 
 -- by the header and the rows of each section
 seen-by : (recs : List Rec) (role : Role) (a b c : Part) → role_of recs ≡ role → rows_of Meta recs ≡ a.rows → header_of Projects recs ≡ b.header → rows_of Projects recs ≡ b.rows
-    → header_of Votes recs ≡ c.header → rows_of Votes recs ≡ c.rows → before_of recs ≡ seen (so_far_in role a b c)
+    → header_of Votes recs ≡ c.header → rows_of Votes recs ≡ c.rows → before_of recs ≡ before_next (so_far_in role a b c)
 unfolding before_of
 seen-by recs role a b c r am bh bm ch cm =
     let size : length (ballots_in (vote_column c.header) (ids_in (columns_of b.header) b.rows) c.rows) ≡ length c.rows = length-map c.rows (ballot_in (vote_column c.header) (ids_in (columns_of b.header) b.rows)) in
@@ -74,11 +74,11 @@ role-first = refl
 
 -- what is seen, by what is found of each section
 seen-found : (recs : List Rec) (role : Role) (a b c : Part) (A B C : List Rec) → role_of recs ≡ role → found Meta recs ≡ A → found Projects recs ≡ B → found Votes recs ≡ C
-    → rest_of A ≡ a.rows → first_of B ≡ b.header → rest_of B ≡ b.rows → first_of C ≡ c.header → rest_of C ≡ c.rows → before_of recs ≡ seen (so_far_in role a b c)
+    → rest_of A ≡ a.rows → first_of B ≡ b.header → rest_of B ≡ b.rows → first_of C ≡ c.header → rest_of C ≡ c.rows → before_of recs ≡ before_next (so_far_in role a b c)
 seen-found recs role a b c A B C r fa fb fc am bh bm ch cm =
     seen-by recs role a b c r (ap rest_of fa ∙ am) (ap first_of fb ∙ bh) (ap rest_of fb ∙ bm) (ap first_of fc ∙ ch) (ap rest_of fc ∙ cm)
 
-pub before-text : (x : Beginning) → Good x → before_of (text_of x) ≡ seen (so_far_of x)
+pub before-text : (x : Beginning) → Good x → before_of (text_of x) ≡ before_next (so_far_of x)
 before-text AtStart h =
     seen-found [] First no_part no_part no_part [] [] [] role-first (found-nil Meta) (found-nil Projects) (found-nil Votes) refl refl refl refl refl
 before-text (AfterMeta r) h =

@@ -3,9 +3,8 @@ use Rattle.std.proofs.Common.{◌≡◌, ◌<◌, ◌≤◌, ◌+◌, ◌-◌, �
 use Rattle.std.specs.List.{AllByRecursion, position_from}
 use Rattle.std.specs.Str.{bytes_eq}
 use Rattle.std.proofs.lemmas.Slice.Eq.{bytes_eq-Decides}
-use Rattle.pb_money.specs.Money.{most_money}
-use Rattle.pb_election.specs.Instance.{Instance, IsBallot, IsProject, IsVoter, ballot_of, cost_of, id_of, position_of}
-use Rattle.pb_election.specs.Text.{IsElection, IsId}
+use Rattle.pb_election.specs.Instance.{Instance, IsBallot, IsProject, IsVoter, ballot_of, id_of, position_of}
+use Rattle.pb_election.specs.Text.{IsElection}
 
 -- what holds of each element holds at an index
 pub AllByRecursion-at : {X : Type 0} (P : X → Type 0) (xs : List X) (i : ℕ) (d : X) → i < length xs → AllByRecursion P xs → P (slice_index_or xs i d)
@@ -13,15 +12,9 @@ AllByRecursion-at P [] i d h all = absurd (omega (arith, h))
 AllByRecursion-at P (x ∷ xs) zero d h all = all.0
 AllByRecursion-at P (x ∷ xs) (suc i) d h all = AllByRecursion-at P xs i d (omega (arith, h)) all.1
 
--- each ballot is a set of projects, each id keeps the rules of ids, and no cost is too large
+-- each ballot is a set of projects
 pub ballot_is : (e : Instance) → IsElection e → (i : ℕ) → IsVoter e i → IsBallot e (ballot_of e i)
 ballot_is e sound i voter = AllByRecursion-at (IsBallot e) e.ballots (i - 1) [] (omega (arith, voter.0, voter.1)) sound.ballots
-
-pub id_is : (e : Instance) → IsElection e → (j : ℕ) → IsProject e j → IsId (id_of e j)
-id_is e sound j project = AllByRecursion-at IsId e.ids (j - 1) [] (omega (arith, project.0, project.1)) sound.ids
-
-pub cost_is : (e : Instance) → IsElection e → (j : ℕ) → IsProject e j → cost_of e j ≤ most_money
-cost_is e sound j project = AllByRecursion-at (λ c. c ≤ most_money) e.costs (j - 1) 0 (omega (arith, project.0, project.1, sound.as_many_costs)) sound.costs
 
 -- what stands at the first place, from n, that passes
 pub position_from-at : {X : Type 0} (test : X → Bool) (n : ℕ) (xs : List X) (d : X) (k : ℕ) → position_from test n xs ≡ Some k

@@ -20,12 +20,12 @@ use Rattle.pb_election.specs.declared.keys.Key.TheVariants.{Budget, NumProjects,
 use Rattle.pb_election.specs.declared.sections.Section.{Section}
 use Rattle.pb_election.specs.declared.sections.Section.TheVariants.{Meta, Projects, Votes}
 use Rattle.pb_election.specs.Cells.{is_among, is_marker, is_text, marker_of, marks}
-use Rattle.pb_election.specs.Rows.{ballot_in, ballots_in, columns_of, cost_in, costs_in, funded_in, has_key, id_in, ids_in, is_approval, is_id, is_known, is_yes, key_in, others_in, says_neither, selected_in, stated, value_in, vote_column}
-use Rattle.pb_election.specs.Faults.{is_no_money, keys_in, lowest, stood}
+use Rattle.pb_election.specs.Rows.{ballot_in, ballots_in, columns_of, cost_in, costs_in, funded_in, has_key, id_in, ids_in, is_approval, is_id, is_known, is_yes, key_in, others_in, says_neither, selected_in, stated_value, value_in, vote_column}
+use Rattle.pb_election.specs.Faults.{has_stood, is_no_money, keys_in, lowest_fault}
 use Rattle.pb_election.specs.Text.{EachKeyOnce, IsPart, lines, Part}
-use Rattle.pb_election.specs.SoFar.{next, seen}
+use Rattle.pb_election.specs.SoFar.{before_next, next}
 use Rattle.pb_election.specs.Beginnings.{Beginning, AtStart, AfterMeta, InMeta, AfterProjects, InProjects, AfterVotes, InVotes, AllMeta, Good, GoodMeta, GoodProjects, GoodVotes, so_far_of, text_of}
-use Rattle.pb_election.proofs.KeyLemmas.{count-append, none-found, once-at, once-by, or-false, stood-is}
+use Rattle.pb_election.proofs.KeyLemmas.{count-append, has_stood-is, none-found, once-at, once-by, or-false}
 use Rattle.pb_election.proofs.Taken.{taken-first, taken-header, taken-meta-row, taken-project-row, taken-projects-marker, taken-vote-row, taken-votes-marker}
 
 abbrev pub part_of : Rec → Rec → Part
@@ -108,8 +108,8 @@ any-new p xs r e = list_any-append p xs (r ∷ []) ∙ rw e (or-yes (list_any p 
     or-yes true = refl
     or-yes false = refl
 
-stated-other : (key : Key) (xs : List Rec) (r : Rec) → has_key key r ≡ false → stated key (xs ++ (r ∷ [])) ≡ stated key xs
-stated-other key xs r e =
+stated_value-other : (key : Key) (xs : List Rec) (r : Rec) → has_key key r ≡ false → stated_value key (xs ++ (r ∷ [])) ≡ stated_value key xs
+stated_value-other key xs r e =
     let found : find (has_key key) (xs ++ (r ∷ [])) ≡ find (has_key key) xs = find-append (has_key key) xs (r ∷ []) ∙ rw e (or-none (find (has_key key) xs)) in
     ap (option_map value_in) found
   where
@@ -117,8 +117,8 @@ stated-other key xs r e =
     or-none None = refl
     or-none (Some x) = refl
 
-stated-new : (key : Key) (xs : List Rec) (r : Rec) → list_any (has_key key) xs ≡ false → has_key key r ≡ true → stated key (xs ++ (r ∷ [])) ≡ Some (value_in r)
-stated-new key xs r none e =
+stated_value-new : (key : Key) (xs : List Rec) (r : Rec) → list_any (has_key key) xs ≡ false → has_key key r ≡ true → stated_value key (xs ++ (r ∷ [])) ≡ Some (value_in r)
+stated_value-new key xs r none e =
     let found : find (has_key key) (xs ++ (r ∷ [])) ≡ Some r = find-append (has_key key) xs (r ∷ []) ∙ rw (none-found (has_key key) xs none, e) refl in
     ap (option_map value_in) found
 
@@ -162,21 +162,21 @@ has-it r NumVotes (Some NumProjects) e h = cc (rw e at h)
 has-it r NumVotes (Some NumVotes) e h = refl
 
 -- a key that did not stand before
-new-key : (xs : List Rec) (r : Rec) (key : Key) → option_map_or (stood (keys_in xs)) (key_in r) false ≡ false → has_key key r ≡ true → list_any (has_key key) xs ≡ false
+new-key : (xs : List Rec) (r : Rec) (key : Key) → option_map_or (has_stood (keys_in xs)) (key_in r) false ≡ false → has_key key r ≡ true → list_any (has_key key) xs ≡ false
 new-key xs r key h e =
     let k = has-it r key (key_in r) refl e in
-    sym (stood-is xs key) ∙ rw k at h
+    sym (has_stood-is xs key) ∙ rw k at h
 
-once-push : (xs : List Rec) (r : Rec) → EachKeyOnce xs → option_map_or (stood (keys_in xs)) (key_in r) false ≡ false → EachKeyOnce (xs ++ (r ∷ []))
+once-push : (xs : List Rec) (r : Rec) → EachKeyOnce xs → option_map_or (has_stood (keys_in xs)) (key_in r) false ≡ false → EachKeyOnce (xs ++ (r ∷ []))
 once-push xs r h new = once-by (xs ++ (r ∷ [])) (λ key. count-push (has_key key) xs r (once-at xs key h) (new-key xs r key new))
 
 -- what is stated keeps its rule with one more row, whose value keeps it where it has the key
-stated-push : (key : Key) (P : Field → Type 0) (xs : List Rec) (r : Rec) → IfSome (stated key xs) P → option_map_or (stood (keys_in xs)) (key_in r) false ≡ false → (has_key key r ≡ true → P (value_in r))
-    → IfSome (stated key (xs ++ (r ∷ []))) P
-stated-push key P xs r h new here =
+stated_value-push : (key : Key) (P : Field → Type 0) (xs : List Rec) (r : Rec) → IfSome (stated_value key xs) P → option_map_or (has_stood (keys_in xs)) (key_in r) false ≡ false → (has_key key r ≡ true → P (value_in r))
+    → IfSome (stated_value key (xs ++ (r ∷ []))) P
+stated_value-push key P xs r h new here =
     elim (cases_Bool (has_key key r)) [
-      | inl e ↦ rw (stated-new key xs r (new-key xs r key new e) e) (here e)
-      | inr e ↦ rw (stated-other key xs r e) h
+      | inl e ↦ rw (stated_value-new key xs r (new-key xs r key new e) e) (here e)
+      | inr e ↦ rw (stated_value-other key xs r e) h
     ]
 
 money-is : (text : Field) → is_no_money text ≡ false → IsMoney text
@@ -188,18 +188,18 @@ money-is text h = by (money_of text) refl
         let m = is-money text v e in
         rw m.value at m
 
-good-meta : (a : Part) (r : Rec) → GoodMeta a → marker_of r ≡ None → option_map_or (stood (keys_in a.rows)) (key_in r) false ≡ false
+good-meta : (a : Part) (r : Rec) → GoodMeta a → marker_of r ≡ None → option_map_or (has_stood (keys_in a.rows)) (key_in r) false ≡ false
     → (has_key VoteType r ≡ true → IsTrue (is_approval (value_in r))) → (has_key Budget r ≡ true → is_no_money (value_in r) ≡ false) → GoodMeta (more a r)
 good-meta a r h m new type money =
     record {
       part = part-more Meta a r h.part m;
       once = once-push a.rows r h.once new;
-      budget = stated-push Budget IsMoney a.rows r h.budget new (λ e. money-is (value_in r) (money e));
-      vote_type = stated-push VoteType (λ value. IsTrue (is_approval value)) a.rows r h.vote_type new type;
+      budget = stated_value-push Budget IsMoney a.rows r h.budget new (λ e. money-is (value_in r) (money e));
+      vote_type = stated_value-push VoteType (λ value. IsTrue (is_approval value)) a.rows r h.vote_type new type;
     }
 
 -- what is read of one more row of META
-next-meta : (a : Part) (r : Rec) (o : Option Key) → key_in r ≡ o → is_marker r ≡ false → option_map_or (stood (keys_in a.rows)) o false ≡ false
+next-meta : (a : Part) (r : Rec) (o : Option Key) → key_in r ≡ o → is_marker r ≡ false → option_map_or (has_stood (keys_in a.rows)) o false ≡ false
     → next (so_far_of (InMeta a)) r ≡ so_far_of (InMeta (more a r))
 next-meta a r None e m new =
     let no : (key : Key) → has_key key r ≡ false = λ key. rw e refl in
@@ -210,9 +210,9 @@ next-meta a r None e m new =
       any-other (has_key VoteType) a.rows r (no VoteType),
       any-other (has_key NumProjects) a.rows r (no NumProjects),
       any-other (has_key NumVotes) a.rows r (no NumVotes),
-      stated-other Budget a.rows r (no Budget),
-      stated-other NumProjects a.rows r (no NumProjects),
-      stated-other NumVotes a.rows r (no NumVotes),
+      stated_value-other Budget a.rows r (no Budget),
+      stated_value-other NumProjects a.rows r (no NumProjects),
+      stated_value-other NumVotes a.rows r (no NumVotes),
     ) refl
 next-meta a r (Some Budget) e m new =
     let is : has_key Budget r ≡ true = rw e refl in
@@ -227,9 +227,9 @@ next-meta a r (Some Budget) e m new =
       any-other (has_key VoteType) a.rows r b,
       any-other (has_key NumProjects) a.rows r c,
       any-other (has_key NumVotes) a.rows r d,
-      stated-new Budget a.rows r none is,
-      stated-other NumProjects a.rows r c,
-      stated-other NumVotes a.rows r d,
+      stated_value-new Budget a.rows r none is,
+      stated_value-other NumProjects a.rows r c,
+      stated_value-other NumVotes a.rows r d,
     ) refl
 next-meta a r (Some VoteType) e m new =
     let b : has_key Budget r ≡ false = rw e refl in
@@ -243,9 +243,9 @@ next-meta a r (Some VoteType) e m new =
       any-new (has_key VoteType) a.rows r is,
       any-other (has_key NumProjects) a.rows r c,
       any-other (has_key NumVotes) a.rows r d,
-      stated-other Budget a.rows r b,
-      stated-other NumProjects a.rows r c,
-      stated-other NumVotes a.rows r d,
+      stated_value-other Budget a.rows r b,
+      stated_value-other NumProjects a.rows r c,
+      stated_value-other NumVotes a.rows r d,
     ) refl
 next-meta a r (Some NumProjects) e m new =
     let b : has_key Budget r ≡ false = rw e refl in
@@ -260,9 +260,9 @@ next-meta a r (Some NumProjects) e m new =
       any-other (has_key VoteType) a.rows r c,
       any-new (has_key NumProjects) a.rows r is,
       any-other (has_key NumVotes) a.rows r d,
-      stated-other Budget a.rows r b,
-      stated-new NumProjects a.rows r none is,
-      stated-other NumVotes a.rows r d,
+      stated_value-other Budget a.rows r b,
+      stated_value-new NumProjects a.rows r none is,
+      stated_value-other NumVotes a.rows r d,
     ) refl
 next-meta a r (Some NumVotes) e m new =
     let b : has_key Budget r ≡ false = rw e refl in
@@ -277,13 +277,13 @@ next-meta a r (Some NumVotes) e m new =
       any-other (has_key VoteType) a.rows r c,
       any-other (has_key NumProjects) a.rows r d,
       any-new (has_key NumVotes) a.rows r is,
-      stated-other Budget a.rows r b,
-      stated-other NumProjects a.rows r d,
-      stated-new NumVotes a.rows r none is,
+      stated_value-other Budget a.rows r b,
+      stated_value-other NumProjects a.rows r d,
+      stated_value-new NumVotes a.rows r none is,
     ) refl
 
 -- META with a budget and the vote type is whole
-some-stated : (key : Key) (P : Field → Type 0) (xs : List Rec) → IfSome (stated key xs) P → list_any (has_key key) xs ≡ true → IsSomeAnd (stated key xs) P
+some-stated : (key : Key) (P : Field → Type 0) (xs : List Rec) → IfSome (stated_value key xs) P → list_any (has_key key) xs ≡ true → IsSomeAnd (stated_value key xs) P
 some-stated key P xs h any = by (find (has_key key) xs) refl
   where
     is-found : (xs : List Rec) → list_any (has_key key) xs ≡ true → is_some (find (has_key key) xs) ≡ true
@@ -294,7 +294,7 @@ some-stated key P xs h any = by (find (has_key key) xs) refl
           | inr e ↦ rw e (is-found xs (rw e at k))
         ]
 
-    by : (o : Option Rec) → find (has_key key) xs ≡ o → IsSomeAnd (stated key xs) P
+    by : (o : Option Rec) → find (has_key key) xs ≡ o → IsSomeAnd (stated_value key xs) P
     by None e = let f = is-found xs any in cc (rw e at f)
     by (Some r) e = rw e (rw e at h)
 
@@ -386,40 +386,40 @@ distinct-nil : IsDistinct bytes_eq []
 unfolding IsDistinct
 distinct-nil = tt
 
-extends-meta : (a : Part) (r : Rec) → GoodMeta a → lowest (seen (so_far_of (InMeta a))) r ≡ None → Extends (InMeta a) r
+extends-meta : (a : Part) (r : Rec) → GoodMeta a → lowest_fault (before_next (so_far_of (InMeta a))) r ≡ None → Extends (InMeta a) r
 extends-meta a r h l =
     elim (cases_Bool (is_marker r)) [
       | inl m ↦
-          let t = taken-projects-marker (seen (so_far_of (InMeta a))) r refl m l in
+          let t = taken-projects-marker (before_next (so_far_of (InMeta a))) r refl m l in
           record { good = rw m (all-meta a h t.2 t.3, marks-section Projects r t.1); next = rw m refl; text = t.0 }
       | inr m ↦
-          let t = taken-meta-row (seen (so_far_of (InMeta a))) r refl m l in
+          let t = taken-meta-row (before_next (so_far_of (InMeta a))) r refl m l in
           let same : so_far_of (InMeta (more a r)) ≡ so_far_of (extend (InMeta a) r) = rw m refl in
           record { good = rw m (good-meta a r h (no-marker r m) t.1 t.2 t.3); next = next-meta a r (key_in r) refl m t.1 ∙ same; text = t.0 }
     ]
 
-extends-projects : (a b : Part) (r : Rec) → AllMeta a → GoodProjects b → lowest (seen (so_far_of (InProjects a b))) r ≡ None → Extends (InProjects a b) r
+extends-projects : (a b : Part) (r : Rec) → AllMeta a → GoodProjects b → lowest_fault (before_next (so_far_of (InProjects a b))) r ≡ None → Extends (InProjects a b) r
 extends-projects a b r h k l =
     elim (cases_Bool (is_marker r)) [
       | inl m ↦
-          let t = taken-votes-marker (seen (so_far_of (InProjects a b))) r refl m l in
+          let t = taken-votes-marker (before_next (so_far_of (InProjects a b))) r refl m l in
           record { good = rw m (h, k, marks-section Votes r t.1); next = rw m refl; text = t.0 }
       | inr m ↦
-          let t = taken-project-row (seen (so_far_of (InProjects a b))) r refl m l in
+          let t = taken-project-row (before_next (so_far_of (InProjects a b))) r refl m l in
           let same : so_far_of (InProjects a (more b r)) ≡ so_far_of (extend (InProjects a b) r) = rw m refl in
           record { good = rw m (h, good-projects b r k (no-marker r m) t.1 t.2 t.3 t.4); next = next-project a b r m ∙ same; text = t.0 }
     ]
 
-pub extends : (x : Beginning) (r : Rec) → Good x → lowest (seen (so_far_of x)) r ≡ None → Extends x r
+pub extends : (x : Beginning) (r : Rec) → Good x → lowest_fault (before_next (so_far_of x)) r ≡ None → Extends x r
 extends AtStart r h l =
-    let t = taken-first (seen (so_far_of AtStart)) r refl l in
+    let t = taken-first (before_next (so_far_of AtStart)) r refl l in
     record { good = marks-section Meta r t.1; next = refl; text = t.0 }
 extends (AfterMeta m) r h l =
-    let t = taken-header Meta (seen (so_far_of (AfterMeta m))) r refl l in
+    let t = taken-header Meta (before_next (so_far_of (AfterMeta m))) r refl l in
     record { good = record { part = part-new Meta m r h t.1; once = (omega arith, (omega arith, (omega arith, (omega arith, tt)))); budget = tt; vote_type = tt }; next = refl; text = t.0 }
 extends (InMeta a) r h l = extends-meta a r h l
 extends (AfterProjects a m) r h l =
-    let t = taken-header Projects (seen (so_far_of (AfterProjects a m))) r refl l in
+    let t = taken-header Projects (before_next (so_far_of (AfterProjects a m))) r refl l in
     record {
       good = (h.0, record { part = part-new Projects m r h.1 t.1; header = t.2; rows = record { ids = tt; costs = tt; distinct = distinct-nil; few = omega arith } });
       next = refl;
@@ -427,12 +427,12 @@ extends (AfterProjects a m) r h l =
     }
 extends (InProjects a b) r h l = extends-projects a b r h.0 h.1 l
 extends (AfterVotes a b m) r h l =
-    let t = taken-header Votes (seen (so_far_of (AfterVotes a b m))) r refl l in
+    let t = taken-header Votes (before_next (so_far_of (AfterVotes a b m))) r refl l in
     record {
       good = (h.0, h.1, record { part = part-new Votes m r h.2 t.1; header = t.2; rows = record { known = tt; few = omega arith; few_approvals = omega arith } });
       next = refl;
       text = t.0;
     }
 extends (InVotes a b c) r h l =
-    let t = taken-vote-row (seen (so_far_of (InVotes a b c))) r refl l in
+    let t = taken-vote-row (before_next (so_far_of (InVotes a b c))) r refl l in
     record { good = (h.0, h.1, good-votes b c r h.2 (no-marker r t.1) t.2 t.3 t.4); next = next-vote a b c r; text = t.0 }

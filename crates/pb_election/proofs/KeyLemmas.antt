@@ -9,8 +9,8 @@ use Rattle.std.proofs.lemmas.List.Sums.{sum_by-append}
 use Rattle.pb_election.specs.Records.{Field, Rec}
 use Rattle.pb_election.specs.declared.keys.Key.{Key}
 use Rattle.pb_election.specs.declared.keys.Key.TheVariants.{Budget, NumProjects, NumVotes, VoteType}
-use Rattle.pb_election.specs.Rows.{has_key, key_in, same_key, stated, value_in}
-use Rattle.pb_election.specs.Faults.{keys_in, stood}
+use Rattle.pb_election.specs.Rows.{has_key, key_in, same_key, stated_value, value_in}
+use Rattle.pb_election.specs.Faults.{has_stood, keys_in}
 use Rattle.pb_election.specs.Text.{EachKeyOnce}
 
 pub count-append : (p : Rec → Bool) (xs ys : List Rec) → count_by p (xs ++ ys) ≡ count_by p xs + count_by p ys
@@ -21,11 +21,11 @@ or-false true b h = cc h
 or-false false b h = (refl, h)
 
 -- a key stood before exactly where some row has it
-pub stood-is : (rows : List Rec) (key : Key) → stood (keys_in rows) key ≡ list_any (has_key key) rows
-stood-is rows Budget = refl
-stood-is rows VoteType = refl
-stood-is rows NumProjects = refl
-stood-is rows NumVotes = refl
+pub has_stood-is : (rows : List Rec) (key : Key) → has_stood (keys_in rows) key ≡ list_any (has_key key) rows
+has_stood-is rows Budget = refl
+has_stood-is rows VoteType = refl
+has_stood-is rows NumProjects = refl
+has_stood-is rows NumVotes = refl
 
 pub once-at : (rows : List Rec) (key : Key) → EachKeyOnce rows → count_by (has_key key) rows ≤ 1
 once-at rows Budget h = h.0
@@ -71,22 +71,22 @@ none-found p (x ∷ xs) h =
     rw o.0 (none-found p xs o.1)
 
 -- where each read key stands once, each row has a new key
-pub key-new : (xs : List Rec) (r : Rec) (zs : List Rec) → EachKeyOnce (xs ++ r ∷ zs) → option_map_or (stood (keys_in xs)) (key_in r) false ≡ false
+pub key-new : (xs : List Rec) (r : Rec) (zs : List Rec) → EachKeyOnce (xs ++ r ∷ zs) → option_map_or (has_stood (keys_in xs)) (key_in r) false ≡ false
 key-new xs r zs h = by (key_in r) refl
   where
-    by : (o : Option Key) → key_in r ≡ o → option_map_or (stood (keys_in xs)) o false ≡ false
+    by : (o : Option Key) → key_in r ≡ o → option_map_or (has_stood (keys_in xs)) o false ≡ false
     by None e = refl
-    by (Some key) e = stood-is xs key ∙ none-yet (has_key key) xs r zs (once-at (xs ++ r ∷ zs) key h) (has-its-key r key e)
+    by (Some key) e = has_stood-is xs key ∙ none-yet (has_key key) xs r zs (once-at (xs ++ r ∷ zs) key h) (has-its-key r key e)
 
 -- where each read key stands once, the value of a row with a read key is the one that is stated
-pub stated-here : (key : Key) (xs : List Rec) (r : Rec) (zs : List Rec) → EachKeyOnce (xs ++ r ∷ zs) → has_key key r ≡ true → stated key (xs ++ r ∷ zs) ≡ Some (value_in r)
-stated-here key xs r zs h has =
+pub stated_value-here : (key : Key) (xs : List Rec) (r : Rec) (zs : List Rec) → EachKeyOnce (xs ++ r ∷ zs) → has_key key r ≡ true → stated_value key (xs ++ r ∷ zs) ≡ Some (value_in r)
+stated_value-here key xs r zs h has =
     let none = none-found (has_key key) xs (none-yet (has_key key) xs r zs (once-at (xs ++ r ∷ zs) key h) has) in
     let found : find (has_key key) (xs ++ r ∷ zs) ≡ Some r = find-append (has_key key) xs (r ∷ zs) ∙ rw (none, has) refl in
     rw found refl
 
 -- a stated key stood
-pub key-there : (key : Key) (P : Field → Type 0) (rows : List Rec) → IsSomeAnd (stated key rows) P → list_any (has_key key) rows ≡ true
+pub key-there : (key : Key) (P : Field → Type 0) (rows : List Rec) → IsSomeAnd (stated_value key rows) P → list_any (has_key key) rows ≡ true
 key-there key P [] h = absurd h
 key-there key P (x ∷ xs) h =
     elim (cases_Bool (has_key key x)) [

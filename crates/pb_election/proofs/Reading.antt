@@ -17,9 +17,9 @@ use Rattle.pb_election.specs.declared.refusal.ElectionFault.TheVariants.{NotUtf8
 use Rattle.pb_election.specs.Drafts.{StopsAt, Takes}
 use Rattle.pb_election.specs.Cells.{is_blank, is_text, nonblank}
 use Rattle.pb_election.specs.FirstFault.{NoFault, fault_after, fault_at}
-use Rattle.pb_election.specs.Faults.{PbFault, before_of, election_form, lowest, lowest_at_end}
+use Rattle.pb_election.specs.Faults.{PbFault, before_of, election_form, lowest_fault, lowest_fault_at_end}
 use Rattle.pb_election.specs.Text.{PbText}
-use Rattle.pb_election.specs.SoFar.{SoFar, Steps, election_of, next, nothing, seen, step, step_by}
+use Rattle.pb_election.specs.SoFar.{SoFar, Steps, before_next, election_of, next, nothing, step, step_by}
 use Rattle.pb_election.specs.Beginnings.{Beginning, AtStart, AfterMeta, InMeta, AfterProjects, InProjects, AfterVotes, InVotes, Good, HasRead, so_far_of, text_of}
 use Rattle.pb_election.proofs.BeginningLemmas.{before-text}
 use Rattle.pb_election.proofs.Extends.{all-push, extend, extends, text-extend}
@@ -27,22 +27,22 @@ use Rattle.pb_election.proofs.Extends.{all-push, extend, extends, text-extend}
 unfoldable pub read-nothing : HasRead nothing []
 read-nothing = record { beginning = AtStart; good = tt; same = refl; records = refl; text = tt }
 
-seen-is : (s : SoFar) (recs : List Rec) → HasRead s recs → before_of recs ≡ seen s
-seen-is s recs h = ap before_of h.records ∙ before-text h.beginning h.good ∙ ap seen (sym h.same)
+before_of-next : (s : SoFar) (recs : List Rec) → HasRead s recs → before_of recs ≡ before_next s
+before_of-next s recs h = ap before_of h.records ∙ before-text h.beginning h.good ∙ ap before_next (sym h.same)
 
 -- the fault at the next record, and at the end
-pub fault-next : (s : SoFar) (recs : List Rec) (r : Rec) → HasRead s recs → election_form recs (Some r) ≡ lowest (seen s) r
+pub fault-next : (s : SoFar) (recs : List Rec) (r : Rec) → HasRead s recs → election_form recs (Some r) ≡ lowest_fault (before_next s) r
 unfolding election_form
-fault-next s recs r h = ap (λ b. lowest b r) (seen-is s recs h)
+fault-next s recs r h = ap (λ b. lowest_fault b r) (before_of-next s recs h)
 
-pub fault-end : (s : SoFar) (recs : List Rec) → HasRead s recs → election_form recs None ≡ lowest_at_end (seen s)
+pub fault-end : (s : SoFar) (recs : List Rec) → HasRead s recs → election_form recs None ≡ lowest_fault_at_end (before_next s)
 unfolding election_form
-fault-end s recs h = ap lowest_at_end (seen-is s recs h)
+fault-end s recs h = ap lowest_fault_at_end (before_of-next s recs h)
 
 -- one more record, at which no fault stands
-unfoldable pub read-next : (s : SoFar) (recs : List Rec) (r : Rec) → HasRead s recs → lowest (seen s) r ≡ None → HasRead (next s r) (recs ++ (r ∷ []))
+unfoldable pub read-next : (s : SoFar) (recs : List Rec) (r : Rec) → HasRead s recs → lowest_fault (before_next s) r ≡ None → HasRead (next s r) (recs ++ (r ∷ []))
 read-next s recs r h l =
-    let t = extends h.beginning r h.good (ap (λ x. lowest (seen x) r) (sym h.same) ∙ l) in
+    let t = extends h.beginning r h.good (ap (λ x. lowest_fault (before_next x) r) (sym h.same) ∙ l) in
     record {
       beginning = extend h.beginning r;
       good = t.good;
@@ -53,19 +53,19 @@ read-next s recs r h l =
 
 -- What a step says of the faults.
 
-pub step-ok : (s t : SoFar) (r : Rec) → step s r ≡ Ok t → (lowest (seen s) r ≡ None) × (t ≡ next s r)
+pub step-ok : (s t : SoFar) (r : Rec) → step s r ≡ Ok t → (lowest_fault (before_next s) r ≡ None) × (t ≡ next s r)
 unfolding step
-step-ok s t r e = by (lowest (seen s) r) refl e
+step-ok s t r e = by (lowest_fault (before_next s) r) refl e
   where
-    by : (o : Option ElectionFault) → lowest (seen s) r ≡ o → step_by o s r ≡ Ok t → (lowest (seen s) r ≡ None) × (t ≡ next s r)
+    by : (o : Option ElectionFault) → lowest_fault (before_next s) r ≡ o → step_by o s r ≡ Ok t → (lowest_fault (before_next s) r ≡ None) × (t ≡ next s r)
     by None l h = (l, cc h)
     by (Some f) l h = cc h
 
-pub step-err : (s : SoFar) (r : Rec) (f : ElectionFault) → step s r ≡ Err f → lowest (seen s) r ≡ Some f
+pub step-err : (s : SoFar) (r : Rec) (f : ElectionFault) → step s r ≡ Err f → lowest_fault (before_next s) r ≡ Some f
 unfolding step
-step-err s r f e = by (lowest (seen s) r) refl e
+step-err s r f e = by (lowest_fault (before_next s) r) refl e
   where
-    by : (o : Option ElectionFault) → lowest (seen s) r ≡ o → step_by o s r ≡ Err f → lowest (seen s) r ≡ Some f
+    by : (o : Option ElectionFault) → lowest_fault (before_next s) r ≡ o → step_by o s r ≡ Err f → lowest_fault (before_next s) r ≡ Some f
     by None l h = cc h
     by (Some g) l h =
         let e : g ≡ f = cc h in
@@ -75,8 +75,8 @@ step-err s r f e = by (lowest (seen s) r) refl e
 
 -- records at whose end no fault stands are the text of an election
 whole : (s : SoFar) (recs left : List Rec) (x : Beginning) → Good x → s ≡ so_far_of x → nonblank recs ≡ text_of x → AllByRecursion (λ r. IsTrue (is_text r)) (nonblank recs)
-    → lowest_at_end (seen (so_far_of x)) ≡ None → PbText recs (election_of s)
-unfolding lowest_at_end
+    → lowest_fault_at_end (before_next (so_far_of x)) ≡ None → PbText recs (election_of s)
+unfolding lowest_fault_at_end
 whole s recs left AtStart h e t x n = cc n
 whole s recs left (AfterMeta r) h e t x n = cc n
 whole s recs left (InMeta a) h e t x n = cc n
@@ -101,8 +101,8 @@ whole s recs left (InVotes a b c) h e t x n =
       states = ap election_of e;
     }
 
-pub text-of-all : (s : SoFar) (recs : List Rec) → HasRead s (nonblank recs) → lowest_at_end (seen s) ≡ None → PbText recs (election_of s)
-text-of-all s recs h n = whole s recs [] h.beginning h.good h.same h.records h.text (ap (λ x. lowest_at_end (seen x)) (sym h.same) ∙ n)
+pub text-of-all : (s : SoFar) (recs : List Rec) → HasRead s (nonblank recs) → lowest_fault_at_end (before_next s) ≡ None → PbText recs (election_of s)
+text-of-all s recs h n = whole s recs [] h.beginning h.good h.same h.records h.text (ap (λ x. lowest_fault_at_end (before_next x)) (sym h.same) ∙ n)
 
 -- Each list of records is the text of an election, or has a first fault.
 
@@ -135,9 +135,9 @@ at-fault : (recs : List Rec) (place : ℕ) (f : ElectionFault) → place ≤ len
 at-fault recs place f within before here = inr (suc place, f, record { within = omega arith; here = here; none_before = before })
 
 answered-from : (recs taken left : List Rec) (s : SoFar) → recs ≡ taken ++ left → HasRead s (nonblank taken) → UpTo recs (suc (length taken)) → Answer recs
-answered-from recs taken [] s e h n = by (lowest_at_end (seen s)) refl
+answered-from recs taken [] s e h n = by (lowest_fault_at_end (before_next s)) refl
   where
-    by : (o : Option ElectionFault) → lowest_at_end (seen s) ≡ o → Answer recs
+    by : (o : Option ElectionFault) → lowest_fault_at_end (before_next s) ≡ o → Answer recs
     by None l = let all : taken ≡ recs = sym (e ∙ append-nil taken) in inl (election_of s, text-of-all s recs (rw all at h) l)
     by (Some f) l =
         let all : recs ≡ taken = e ∙ append-nil taken in
@@ -151,7 +151,7 @@ answered-from recs taken (r ∷ rest) s e h n =
           let here : fault_at election_form recs (suc (length taken)) ≡ None = fault-here recs taken rest r e ∙ rw blank refl in
           let left = nonblank-blank taken r blank in
           answered-from recs (taken ++ (r ∷ [])) rest s split (rw left h) (rw size (on here))
-      | inr full ↦ by (lowest (seen s) r) refl full split size (answered-from recs (taken ++ (r ∷ [])) rest)
+      | inr full ↦ by (lowest_fault (before_next s) r) refl full split size (answered-from recs (taken ++ (r ∷ [])) rest)
     ]
   where
     less : (k : ℕ) → k < suc (suc (length taken)) → (k == suc (length taken)) ≡ false → k < suc (length taken)
@@ -164,7 +164,7 @@ answered-from recs taken (r ∷ rest) s e h n =
           | inr other ↦ n k (less k l other)
         ]
 
-    by : (o : Option ElectionFault) → lowest (seen s) r ≡ o → is_blank r ≡ false → recs ≡ (taken ++ (r ∷ [])) ++ rest → length (taken ++ (r ∷ [])) ≡ suc (length taken)
+    by : (o : Option ElectionFault) → lowest_fault (before_next s) r ≡ o → is_blank r ≡ false → recs ≡ (taken ++ (r ∷ [])) ++ rest → length (taken ++ (r ∷ [])) ≡ suc (length taken)
         → ((t : SoFar) → recs ≡ (taken ++ (r ∷ [])) ++ rest → HasRead t (nonblank (taken ++ (r ∷ []))) → UpTo recs (suc (length (taken ++ (r ∷ [])))) → Answer recs) → Answer recs
     by None l full split size go =
         let here : fault_at election_form recs (suc (length taken)) ≡ None = fault-here recs taken rest r e ∙ rw full (fault-next s (nonblank taken) r h ∙ l) in
@@ -199,7 +199,7 @@ stopped (Err (Fault f)) s t r e = stops s r f e
 stopped (Err Memory) s t r e = tt
 
 pub not-text : (before : List Rec) (r : Rec) → is_text r ≡ false → election_form before (Some r) ≡ Some NotUtf8
-unfolding election_form lowest
+unfolding election_form lowest_fault
 not-text before r e = rw e refl
 
 -- records without a fault, all of which were read, are the text of the election that was read

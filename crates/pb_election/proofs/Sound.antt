@@ -14,7 +14,7 @@ use Rattle.pb_election.specs.Instance.{Instance, IsSet}
 use Rattle.pb_election.specs.declared.columns.Columns.{Columns}
 use Rattle.pb_election.specs.declared.keys.Key.TheVariants.{Budget}
 use Rattle.pb_election.specs.Cells.{clean, is_among, is_text}
-use Rattle.pb_election.specs.Rows.{ballot_in, ballots_in, columns_of, cost_in, costs_in, funded_in, id_in, ids_in, is_id, is_yes, names_in, positions_of, says_neither, selected_in, stated, under, vote_column}
+use Rattle.pb_election.specs.Rows.{ballot_in, ballots_in, columns_of, cost_in, costs_in, funded_in, id_in, ids_in, is_id, is_yes, names_in, positions_of, says_neither, selected_in, stated_value, under, vote_column}
 use Rattle.pb_election.specs.Text.{IsElection, IsId, PbText, lines}
 use Rattle.pb_election.proofs.Cleaning.{clean-clean, is_utf8-clean}
 
@@ -40,9 +40,9 @@ ballot-set : (names ids : List Field) → IsSet 1 (length ids) (positions_of nam
 unfolding positions_of
 ballot-set names ids = positions-set (λ p. is_among names p.1) 1 (length ids) ids (omega arith)
 
-ballots-sets : (vote : Option ℕ) (ids : List Field) (rows : List Rec) → AllByRecursion (IsSet 1 (length ids)) (ballots_in vote ids rows)
-ballots-sets vote ids [] = tt
-ballots-sets vote ids (r ∷ rs) = (ballot-set (names_in (under vote r)) ids, ballots-sets vote ids rs)
+ballots-sets : (column : Option ℕ) (ids : List Field) (rows : List Rec) → AllByRecursion (IsSet 1 (length ids)) (ballots_in column ids rows)
+ballots-sets column ids [] = tt
+ballots-sets column ids (r ∷ rs) = (ballot-set (names_in (under column r)) ids, ballots-sets column ids rs)
 
 -- Ids.
 
@@ -110,7 +110,7 @@ sound recs e p =
     let text : AllByRecursion (λ r. IsTrue (is_text r)) (lines p.meta ++ (lines p.projects ++ lines p.votes)) = rw p.cut at p.text in
     let of_projects = all-front (λ r. IsTrue (is_text r)) (lines p.projects) (lines p.votes) (all-back (λ r. IsTrue (is_text r)) (lines p.meta) (lines p.projects ++ lines p.votes) text) in
     rw p.states (record {
-      limit = limit-small (stated Budget p.meta.rows) p.meta_rows.budget;
+      limit = limit-small (stated_value Budget p.meta.rows) p.meta_rows.budget;
       ids = ids-are columns p.projects.rows of_projects.1.1 p.project_rows.ids;
       distinct = p.project_rows.distinct;
       as_many_costs = length-map p.projects.rows (λ row. millionths (cost_in columns row)) ∙ sym many;

@@ -14,7 +14,7 @@ use Rattle.pb_election.specs.declared.refusal.ElectionFault.TheVariants as fault
 use Rattle.pb_election.specs.declared.keys.Key.TheVariants.{Budget, VoteType}
 use Rattle.pb_election.specs.Rows.{ballot_in, cost_in, has_key, id_in, is_approval, is_id, is_known, key_in, needed_columns, read_columns, times, value_in}
 use Rattle.pb_election.specs.Instance.{most_approvals, most_projects, most_voters}
-use Rattle.pb_election.specs.Faults.{Before, in_order, is_no_money, lowest, stands, stood}
+use Rattle.pb_election.specs.Faults.{Before, has_stood, in_order, is_no_money, lowest_fault, stands}
 use Rattle.pb_election.specs.Text.{IsHeader}
 
 none-stands : (t : ElectionFault → Bool) (fs : List ElectionFault) → ◌≡◌ {A = Option ElectionFault} (find t fs) None → AllByRecursion (λ f. t f ≡ false) fs
@@ -43,8 +43,8 @@ record NoFault (b : Before) (r : Rec) : Type 0 where
   unknown_project : stands b r fault.UnknownProject ≡ false
   too_many : stands b r fault.TooMany ≡ false
 
-none : (b : Before) (r : Rec) → lowest b r ≡ None → NoFault b r
-unfolding lowest
+none : (b : Before) (r : Rec) → lowest_fault b r ≡ None → NoFault b r
+unfolding lowest_fault
 none b r h =
     let n = none-stands (stands b r) in_order h in
     let m = n.1.1.1.1.1.1.1 in
@@ -74,12 +74,12 @@ or-false : (a b : Bool) → (a || b) ≡ false → (a ≡ false) × (b ≡ false
 or-false true b h = cc h
 or-false false b h = (refl, h)
 
-pub taken-first : (b : Before) (r : Rec) → b.role ≡ First → lowest b r ≡ None → (is_text r ≡ true) × (marks Meta r ≡ true)
+pub taken-first : (b : Before) (r : Rec) → b.role ≡ First → lowest_fault b r ≡ None → (is_text r ≡ true) × (marks Meta r ≡ true)
 taken-first b r e h =
     let n = none b r h in
     (not-false (is_text r) n.text, not-false (marks Meta r) (rw e at n.no_meta))
 
-pub taken-header : (s : Section) (b : Before) (r : Rec) → b.role ≡ Header s → lowest b r ≡ None → (is_text r ≡ true) × (is_marker r ≡ false) × IsHeader s r
+pub taken-header : (s : Section) (b : Before) (r : Rec) → b.role ≡ Header s → lowest_fault b r ≡ None → (is_text r ≡ true) × (is_marker r ≡ false) × IsHeader s r
 taken-header s b r e h =
     let n = none b r h in
     let misses : list_any (λ name. times name r == 0) (needed_columns s) ≡ false = rw e at n.missing_column in
@@ -112,7 +112,7 @@ where-it-has true wrong h e = h
 where-it-has false wrong h e = cc e
 
 -- the marker of PROJECTS
-pub taken-projects-marker : (b : Before) (r : Rec) → b.role ≡ Inside Meta → is_marker r ≡ true → lowest b r ≡ None
+pub taken-projects-marker : (b : Before) (r : Rec) → b.role ≡ Inside Meta → is_marker r ≡ true → lowest_fault b r ≡ None
     → (is_text r ≡ true) × (marks Projects r ≡ true) × (b.keys.budget ≡ true) × (b.keys.vote_type ≡ true)
 taken-projects-marker b r e m h =
     let n = none b r h in
@@ -121,8 +121,8 @@ taken-projects-marker b r e m h =
     (not-false (is_text r) n.text, marks_it, and-left b.keys.budget b.keys.vote_type keys, and-right b.keys.budget b.keys.vote_type keys)
 
 -- a row of META
-pub taken-meta-row : (b : Before) (r : Rec) → b.role ≡ Inside Meta → is_marker r ≡ false → lowest b r ≡ None
-    → (is_text r ≡ true) × (option_map_or (stood b.keys) (key_in r) false ≡ false) × (has_key VoteType r ≡ true → IsTrue (is_approval (value_in r))) × (has_key Budget r ≡ true → is_no_money (value_in r) ≡ false)
+pub taken-meta-row : (b : Before) (r : Rec) → b.role ≡ Inside Meta → is_marker r ≡ false → lowest_fault b r ≡ None
+    → (is_text r ≡ true) × (option_map_or (has_stood b.keys) (key_in r) false ≡ false) × (has_key VoteType r ≡ true → IsTrue (is_approval (value_in r))) × (has_key Budget r ≡ true → is_no_money (value_in r) ≡ false)
 taken-meta-row b r e m h =
     let n = none b r h in
     let approval : (has_key VoteType r && not (is_approval (value_in r))) ≡ false = rw (e, m) at n.not_approval in
@@ -134,13 +134,13 @@ taken-meta-row b r e m h =
     )
 
 -- the marker of VOTES
-pub taken-votes-marker : (b : Before) (r : Rec) → b.role ≡ Inside Projects → is_marker r ≡ true → lowest b r ≡ None → (is_text r ≡ true) × (marks Votes r ≡ true)
+pub taken-votes-marker : (b : Before) (r : Rec) → b.role ≡ Inside Projects → is_marker r ≡ true → lowest_fault b r ≡ None → (is_text r ≡ true) × (marks Votes r ≡ true)
 taken-votes-marker b r e m h =
     let n = none b r h in
     (not-false (is_text r) n.text, not-false (marks Votes r) (rw (e, m) at n.unexpected))
 
 -- a row of PROJECTS
-pub taken-project-row : (b : Before) (r : Rec) → b.role ≡ Inside Projects → is_marker r ≡ false → lowest b r ≡ None
+pub taken-project-row : (b : Before) (r : Rec) → b.role ≡ Inside Projects → is_marker r ≡ false → lowest_fault b r ≡ None
     → (is_text r ≡ true) × IsTrue (is_id (id_in b.columns r)) × (is_no_money (cost_in b.columns r) ≡ false) × (is_among b.ids (id_in b.columns r) ≡ false) × (length b.ids + 1 ≤ most_projects)
 taken-project-row b r e m h =
     let n = none b r h in
@@ -148,10 +148,10 @@ taken-project-row b r e m h =
     (not-false (is_text r) n.text, not-false (is_id (id_in b.columns r)) (rw (e, m) at n.bad_id), rw (e, m) at n.bad_money, rw (e, m) at n.repeated_project, search (rules, tests, few))
 
 -- a row of VOTES
-pub taken-vote-row : (b : Before) (r : Rec) → b.role ≡ Inside Votes → lowest b r ≡ None
-    → (is_text r ≡ true) × (is_marker r ≡ false) × IsTrue (is_known b.vote b.ids r) × (b.voters + 1 ≤ most_voters) × (b.approvals + length (ballot_in b.vote b.ids r) ≤ most_approvals)
+pub taken-vote-row : (b : Before) (r : Rec) → b.role ≡ Inside Votes → lowest_fault b r ≡ None
+    → (is_text r ≡ true) × (is_marker r ≡ false) × IsTrue (is_known b.vote_column b.ids r) × (b.voters + 1 ≤ most_voters) × (b.approvals + length (ballot_in b.vote_column b.ids r) ≤ most_approvals)
 taken-vote-row b r e h =
     let n = none b r h in
     let m : is_marker r ≡ false = rw e at n.unexpected in
-    let few = or-false (nat_lt most_voters (b.voters + 1)) (nat_lt most_approvals (b.approvals + length (ballot_in b.vote b.ids r))) (rw (e, m) at n.too_many) in
-    (not-false (is_text r) n.text, m, not-false (is_known b.vote b.ids r) (rw (e, m) at n.unknown_project), search (rules, tests, few.0), search (rules, tests, few.1))
+    let few = or-false (nat_lt most_voters (b.voters + 1)) (nat_lt most_approvals (b.approvals + length (ballot_in b.vote_column b.ids r))) (rw (e, m) at n.too_many) in
+    (not-false (is_text r) n.text, m, not-false (is_known b.vote_column b.ids r) (rw (e, m) at n.unknown_project), search (rules, tests, few.0), search (rules, tests, few.1))

@@ -1,5 +1,5 @@
 -- Votes, piece by piece.
-use Rattle.std.proofs.Common.{inl, inr, ◌≡◌, ◌∙◌, ◌<◌, ◌+◌, ◌++◌, ℕ, suc, List, [], ◌∷◌, refl, sym, ap, arith, add-one, Bool, true, false, Option, Some, None, length, take, drop, get_or, append_assoc, append-nil}
+use Rattle.std.proofs.Common.{inl, inr, ◌≡◌, ◌∙◌, ◌<◌, ◌+◌, ◌++◌, ℕ, suc, List, [], ◌∷◌, refl, sym, ap, arith, add-one, Bool, true, false, Option, Some, None, length, take, drop, get_or, append_assoc}
 use Rattle.std.specs.Prelude.{◌==◌, ◌&&◌, ◌||◌, cond, if◌then◌else◌, filter, map, not, position, MatchOption}
 use Rattle.std.specs.List.{list_all, list_any, position_from}
 use Rattle.std.specs.Str.{byte, bytes_eq, IsCharBoundary, IsUtf8}
@@ -137,9 +137,6 @@ pub record AreLookedUp (kept : List Field) (vote : Field) (found : List ℕ) (le
   pub known : list_all (is_among kept) (names_left left) ≡ list_all (is_among kept) (names_in vote)
   pub places : map Some found ++ map (position_in kept) (names_left left) ≡ map (position_in kept) (names_in vote)
 
-pub lookup-starts : (kept : List Field) (vote : Field) → AreLookedUp kept vote [] (Some vote)
-lookup-starts kept vote = record { known = refl; places = refl }
-
 module _ (kept : List Field) (vote text piece : Field) (found : List ℕ) (rest : Option Field)
     (whole : list_any is_comma piece ≡ false) (parts : MatchOption rest (text ≡ piece) (λ r. text ≡ piece ++ byte "," ∷ r))
     (before : AreLookedUp kept vote found (Some text)) where
@@ -171,7 +168,3 @@ module _ (kept : List Field) (vote text piece : Field) (found : List ℕ) (rest 
   lookup-fails e at =
       let names = names_left rest in
       sym before.known ∙ ap (list_all (is_among kept)) (first-name e) ∙ ap (λ b. b && list_all (is_among kept) names) (unplaced 1 kept (clean piece) at)
-
-pub lookup-ends : (kept : List Field) (vote : Field) (found : List ℕ) → AreLookedUp kept vote found None
-    → (list_all (is_among kept) (names_in vote) ≡ true) × (map Some found ≡ map (position_in kept) (names_in vote))
-lookup-ends kept vote found h = (sym h.known, sym (append-nil (map Some found)) ∙ h.places)

@@ -1,5 +1,5 @@
--- The ways in which the text of an election can begin, and what has been read of each. The contract of the reader's
--- draft cites this; what a file states is said in Text and Faults.
+-- For the reader's own parts: the ways in which the text of an election can begin, and what has been read of each. What a
+-- file states is said in Text and Faults, without this module.
 use Rattle.std.specs.Prelude.{◌≡◌, ◌++◌, IfSome, IsTrue, List, [], ◌∷◌, Some}
 use Rattle.std.specs.List.{AllByRecursion}
 use Rattle.std.specs.Option.{option_map_or}
@@ -11,7 +11,7 @@ use Rattle.pb_election.specs.declared.sections.Role.{Role}
 use Rattle.pb_election.specs.declared.sections.Role.TheVariants.{First, Header, Inside}
 use Rattle.pb_election.specs.declared.sections.Section.TheVariants.{Meta, Projects, Votes}
 use Rattle.pb_election.specs.Cells.{is_text, marker_of}
-use Rattle.pb_election.specs.Rows.{ballots_in, columns_of, costs_in, declared, funded_in, ids_in, is_approval, others_in, stated, vote_column}
+use Rattle.pb_election.specs.Rows.{ballots_in, columns_of, costs_in, declared_count, funded_in, ids_in, is_approval, others_in, stated_value, vote_column}
 use Rattle.pb_election.specs.Faults.{keys_in}
 use Rattle.pb_election.specs.Text.{AreMetaRows, AreProjectRows, AreVoteRows, EachKeyOnce, IsHeader, IsPart, Part, lines}
 use Rattle.pb_election.specs.SoFar.{SoFar}
@@ -47,15 +47,15 @@ so_far_in role a b c =
     record {
       role = role;
       keys = keys_in a.rows;
-      limit = option_map_or millionths (stated Budget a.rows) 0;
-      declared_projects = declared NumProjects a.rows;
-      declared_votes = declared NumVotes a.rows;
+      limit = option_map_or millionths (stated_value Budget a.rows) 0;
+      declared_projects = declared_count NumProjects a.rows;
+      declared_votes = declared_count NumVotes a.rows;
       columns = columns;
       ids = ids;
       costs = costs_in columns b.rows;
       selected = funded_in columns b.rows;
       other_selected = others_in columns b.rows;
-      vote = vote_column c.header;
+      vote_column = vote_column c.header;
       ballots = ballots;
       approvals = approvals ballots;
     }
@@ -73,8 +73,8 @@ so_far_of (InVotes a b c) = so_far_in (Inside Votes) a b c
 pub record GoodMeta (a : Part) : Type 0 where
   pub part : IsPart Meta a
   pub once : EachKeyOnce a.rows
-  pub budget : IfSome (stated Budget a.rows) IsMoney
-  pub vote_type : IfSome (stated VoteType a.rows) (λ value. IsTrue (is_approval value))
+  pub budget : IfSome (stated_value Budget a.rows) IsMoney
+  pub vote_type : IfSome (stated_value VoteType a.rows) (λ value. IsTrue (is_approval value))
 
 -- META is whole
 pub record AllMeta (a : Part) : Type 0 where

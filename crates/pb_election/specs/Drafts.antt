@@ -1,4 +1,5 @@
--- What is built from the records of a file, one record at a time.
+-- For the readers' own parts: what is built from the records of a file, one record at a time. What a file states, and why
+-- it is refused, is said without this module.
 use Rattle.std.specs.Prelude.{◌≡◌, ◌++◌, ⊤, false, List, [], ◌∷◌, Option, Some, None}
 use Rattle.pb_election.specs.Records.{Rec}
 use Rattle.pb_election.specs.Cells.{is_text}

@@ -1,4 +1,5 @@
--- What callers see of an `Election`.
+-- For the code's own `Election`: which `Instance` it stands for. What callers are promised is said of the `Instance`,
+-- without this module.
 use Rattle.std.specs.Prelude.{map}
 use Rattle.std.specs.Option.{option_map}
 use Rattle.pb_election.specs.Ids.{ids_kept}

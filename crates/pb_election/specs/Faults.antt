@@ -1,4 +1,5 @@
--- Why records are not the text of an election: the faults, and the place at which each stands.
+-- Why records are not the text of an election: the faults, and the place at which each stands. They are the faults of
+-- Pabulib's .pb files, in the profile that docs/FORMATS.md describes, with its numbers and names.
 use Rattle.std.specs.Prelude.{◌+◌, ◌==◌, ◌&&◌, ◌||◌, not, nat_lt, if◌then◌else◌, Bool, true, false, ℕ, List, [], ◌∷◌, length, find, count_by, Option, Some, None, is_ok, codes}
 use Rattle.std.specs.List.{last_or, list_any}
 use Rattle.std.specs.Option.{option_map_or}
@@ -86,11 +87,12 @@ keys_in rows =
       num_votes = list_any (has_key NumVotes) rows;
     }
 
-abbrev pub stood : Keys → Key → Bool
-stood keys Budget = keys.budget
-stood keys VoteType = keys.vote_type
-stood keys NumProjects = keys.num_projects
-stood keys NumVotes = keys.num_votes
+-- whether a key is one of those that stand in some rows
+abbrev pub has_stood : Keys → Key → Bool
+has_stood keys Budget = keys.budget
+has_stood keys VoteType = keys.vote_type
+has_stood keys NumProjects = keys.num_projects
+has_stood keys NumVotes = keys.num_votes
 
 -- all that the faults at a place depend on, of the records before it
 pub record Before : Type 0 where
@@ -98,7 +100,7 @@ pub record Before : Type 0 where
   pub keys : Keys
   pub columns : Columns
   pub ids : List Field
-  pub vote : Option ℕ
+  pub vote_column : Option ℕ
   pub voters : ℕ
   pub approvals : ℕ
 
@@ -106,15 +108,15 @@ unfoldable pub before_of : List Rec → Before
 before_of before =
     let columns = columns_of (header_of Projects before) in
     let ids = ids_in columns (rows_of Projects before) in
-    let vote = vote_column (header_of Votes before) in
+    let column = vote_column (header_of Votes before) in
     record {
       role = role_of before;
       keys = keys_in (rows_of Meta before);
       columns = columns;
       ids = ids;
-      vote = vote;
+      vote_column = column;
       voters = length (rows_of Votes before);
-      approvals = approvals (ballots_in vote ids (rows_of Votes before));
+      approvals = approvals (ballots_in column ids (rows_of Votes before));
     }
 
 -- The faults at a record.
@@ -134,7 +136,8 @@ is_unexpected (Inside Votes) r = is_marker r
 abbrev pub is_no_money : Field → Bool
 is_no_money text = not (is_ok (money_of text))
 
--- a header without a needed column, and one in which a read column stands twice (a marker in its place is NoHeader, which comes before)
+-- a header without a needed column, and one in which a read column stands twice (a marker in its place is NoHeader, which
+-- comes before)
 abbrev pub misses_column : Role → Rec → Bool
 misses_column First r = false
 misses_column (Header s) r = list_any (λ name. times name r == 0) (needed_columns s)
@@ -149,7 +152,7 @@ repeats_column (Inside s) r = false
 abbrev pub is_too_many : Before → Rec → Bool
 is_too_many b r =
     (is_row Projects b.role r && nat_lt most_projects (length b.ids + 1))
-    || (is_row Votes b.role r && (nat_lt most_voters (b.voters + 1) || nat_lt most_approvals (b.approvals + length (ballot_in b.vote b.ids r))))
+    || (is_row Votes b.role r && (nat_lt most_voters (b.voters + 1) || nat_lt most_approvals (b.approvals + length (ballot_in b.vote_column b.ids r))))
 
 -- whether a fault stands at the record r, which is not blank
 abbrev pub stands : Before → Rec → ElectionFault → Bool
@@ -159,7 +162,7 @@ stands b r fault.NoHeader = is_header b.role && is_marker r
 stands b r fault.MissingSection = false
 stands b r fault.UnexpectedSection = is_unexpected b.role r
 stands b r fault.MissingKey = is_inside Meta b.role && marks Projects r && not (b.keys.budget && b.keys.vote_type)
-stands b r fault.RepeatedKey = is_row Meta b.role r && option_map_or (stood b.keys) (key_in r) false
+stands b r fault.RepeatedKey = is_row Meta b.role r && option_map_or (has_stood b.keys) (key_in r) false
 stands b r fault.NotApproval = is_row Meta b.role r && has_key VoteType r && not (is_approval (value_in r))
 stands b r fault.BadMoney =
     (is_row Meta b.role r && has_key Budget r && is_no_money (value_in r))
@@ -168,7 +171,7 @@ stands b r fault.MissingColumn = misses_column b.role r
 stands b r fault.RepeatedColumn = repeats_column b.role r
 stands b r fault.BadId = is_row Projects b.role r && not (is_id (id_in b.columns r))
 stands b r fault.RepeatedProject = is_row Projects b.role r && is_among b.ids (id_in b.columns r)
-stands b r fault.UnknownProject = is_row Votes b.role r && not (is_known b.vote b.ids r)
+stands b r fault.UnknownProject = is_row Votes b.role r && not (is_known b.vote_column b.ids r)
 stands b r fault.TooMany = is_too_many b r
 stands b r fault.Memory = false
 stands b r fault.NoOutcome = false
@@ -188,16 +191,16 @@ in_order =
     ∷ fault.RepeatedProject ∷ fault.UnknownProject ∷ fault.TooMany ∷ []
 
 -- the fault with the lowest number at a record and at the end
-unfoldable pub lowest : Before → Rec → Option ElectionFault
-lowest b r = find (stands b r) in_order
+unfoldable pub lowest_fault : Before → Rec → Option ElectionFault
+lowest_fault b r = find (stands b r) in_order
 
-unfoldable pub lowest_at_end : Before → Option ElectionFault
-lowest_at_end b = find (stands_at_end b) in_order
+unfoldable pub lowest_fault_at_end : Before → Option ElectionFault
+lowest_fault_at_end b = find (stands_at_end b) in_order
 
 -- the faults of an election's file
 unfoldable pub election_form : Form ElectionFault
-election_form before (Some r) = lowest (before_of before) r
-election_form before None = lowest_at_end (before_of before)
+election_form before (Some r) = lowest_fault (before_of before) r
+election_form before None = lowest_fault_at_end (before_of before)
 
 -- the records are refused at this place for this fault: it has the lowest number there, and no fault stands before
 abbrev pub PbFault : List Rec → ℕ → ElectionFault → Type 0

@@ -1,4 +1,4 @@
--- What the header and the rows of a section state.
+-- What the header and the rows of a section state. The places of columns are counted from 0.
 use Rattle.std.specs.Prelude.{◌==◌, ◌&&◌, ◌||◌, not, nat_lt, if◌then◌else◌, Bool, true, false, ℕ, List, [], ◌∷◌, map, find, filter, count_by, Option, Some, None, is_some, codes}
 use Rattle.std.specs.Option.{option_and_then, option_map, option_map_or}
 use Rattle.std.specs.Result.{result_ok}
@@ -47,9 +47,9 @@ same_key _ _ = false
 abbrev pub has_key : Key → Rec → Bool
 has_key key row = option_map_or (same_key key) (key_in row) false
 
--- the value of a key, where it stands
-abbrev pub stated : Key → List Rec → Option Field
-stated key rows = option_map value_in (find (has_key key) rows)
+-- the value of a key, where a row has the key
+abbrev pub stated_value : Key → List Rec → Option Field
+stated_value key rows = option_map value_in (find (has_key key) rows)
 
 abbrev pub is_approval : Field → Bool
 is_approval value = bytes_eq (lower value) (codes "approval")
@@ -58,8 +58,9 @@ is_approval value = bytes_eq (lower value) (codes "approval")
 unfoldable pub count_in : Field → Option ℕ
 count_in value = result_ok (whole_of 1000000000000000000 value)
 
-abbrev pub declared : Key → List Rec → Option ℕ
-declared key rows = option_and_then count_in (stated key rows)
+-- the count that the rows declare by a key
+abbrev pub declared_count : Key → List Rec → Option ℕ
+declared_count key rows = option_and_then count_in (stated_value key rows)
 
 -- PROJECTS and VOTES: the header names the columns
 
@@ -82,8 +83,8 @@ abbrev pub times : Field → Rec → ℕ
 times name header = count_by (is_named name) header
 
 -- the place of the column of a name
-abbrev pub column : Field → Rec → Option ℕ
-column name header = position_from (is_named name) 0 header
+abbrev pub column_named : Field → Rec → Option ℕ
+column_named name header = position_from (is_named name) 0 header
 
 -- the field of a row in a column, empty where the row is too short
 abbrev pub under : Option ℕ → Rec → Field
@@ -95,7 +96,7 @@ under (Some i) row = cell i row
 -- the places of the columns that are read
 abbrev pub columns_of : Rec → Columns
 columns_of header =
-    record { id = column (codes "project_id") header; cost = column (codes "cost") header; selected = column (codes "selected") header }
+    record { id = column_named (codes "project_id") header; cost = column_named (codes "cost") header; selected = column_named (codes "selected") header }
 
 abbrev pub id_in : Columns → Rec → Field
 id_in columns row = under columns.id row
@@ -141,8 +142,9 @@ others_in columns rows = count_by (says_neither columns) rows
 
 -- VOTES
 
+-- the place of the column that is read
 abbrev pub vote_column : Rec → Option ℕ
-vote_column header = column (codes "vote") header
+vote_column header = column_named (codes "vote") header
 
 -- the ids that a vote names: its pieces between commas, cleaned, but for the empty ones
 unfoldable pub names_in : Field → List Field
@@ -154,11 +156,11 @@ positions_of names ids = map (λ p. p.0) (filter (λ p. is_among names p.1) (enu
 
 -- the ballot of a row: the set of the projects that its vote names
 abbrev pub ballot_in : Option ℕ → List Field → Rec → List ℕ
-ballot_in vote ids row = positions_of (names_in (under vote row)) ids
+ballot_in column ids row = positions_of (names_in (under column row)) ids
 
 abbrev pub ballots_in : Option ℕ → List Field → List Rec → List (List ℕ)
-ballots_in vote ids rows = map (ballot_in vote ids) rows
+ballots_in column ids rows = map (ballot_in column ids) rows
 
 -- whether each piece of a row's vote is the id of a project
 unfoldable pub is_known : Option ℕ → List Field → Rec → Bool
-is_known vote ids row = list_all (is_among ids) (names_in (under vote row))
+is_known column ids row = list_all (is_among ids) (names_in (under column row))

@@ -1,5 +1,5 @@
--- What has been read of an election so far, and what one more record adds to it. The contracts of the reader's parts
--- cite this; what a file states is said in Text and Faults.
+-- For the reader's own parts: what has been read of an election so far, and what one more record adds to it. What a file
+-- states is said in Text and Faults, without this module.
 use Rattle.std.specs.Prelude.{◌≡◌, ◌+◌, ◌++◌, ⊤, if◌then◌else◌, Bool, true, false, ℕ, List, [], ◌∷◌, length, Option, Some, None, Result, Ok, Err}
 use Rattle.std.specs.Option.{option_map}
 use Rattle.pb_money.specs.Money.{millionths}
@@ -17,7 +17,7 @@ use Rattle.pb_election.specs.declared.drafts.Stop.{Stop}
 use Rattle.pb_election.specs.declared.drafts.Stop.TheVariants.{Fault, Memory}
 use Rattle.pb_election.specs.Cells.{is_marker}
 use Rattle.pb_election.specs.Rows.{ballot_in, columns_of, cost_in, count_in, funded_in, id_in, is_yes, key_in, says_neither, selected_in, value_in, vote_column}
-use Rattle.pb_election.specs.Faults.{Before, lowest}
+use Rattle.pb_election.specs.Faults.{Before, lowest_fault}
 
 pub record SoFar : Type 0 where
   pub role : Role
@@ -30,14 +30,14 @@ pub record SoFar : Type 0 where
   pub costs : List ℕ
   pub selected : Option (List Bool)
   pub other_selected : ℕ
-  pub vote : Option ℕ
+  pub vote_column : Option ℕ
   pub ballots : List (List ℕ)
   pub approvals : ℕ
 
 -- what the faults at the next place depend on
-abbrev pub seen : SoFar → Before
-seen s =
-    record { role = s.role; keys = s.keys; columns = s.columns; ids = s.ids; vote = s.vote; voters = length s.ballots; approvals = s.approvals }
+abbrev pub before_next : SoFar → Before
+before_next s =
+    record { role = s.role; keys = s.keys; columns = s.columns; ids = s.ids; vote_column = s.vote_column; voters = length s.ballots; approvals = s.approvals }
 
 abbrev pub with_role : Role → SoFar → SoFar
 with_role role s = record s { role = role }
@@ -69,10 +69,10 @@ abbrev pub next_by : Role → SoFar → Rec → SoFar
 next_by First s r = with_role (Header Meta) s
 next_by (Header Meta) s r = with_role (Inside Meta) s
 next_by (Header Projects) s r = record s { role = Inside Projects; columns = columns_of r; selected = funded_in (columns_of r) [] }
-next_by (Header Votes) s r = record s { role = Inside Votes; vote = vote_column r }
+next_by (Header Votes) s r = record s { role = Inside Votes; vote_column = vote_column r }
 next_by (Inside Meta) s r = if is_marker r then with_role (Header Projects) s else with_key (key_in r) (value_in r) s
 next_by (Inside Projects) s r = if is_marker r then with_role (Header Votes) s else with_project r s
-next_by (Inside Votes) s r = with_ballot (ballot_in s.vote s.ids r) s
+next_by (Inside Votes) s r = with_ballot (ballot_in s.vote_column s.ids r) s
 
 abbrev pub next : SoFar → Rec → SoFar
 next s r = next_by s.role s r
@@ -91,7 +91,7 @@ nothing =
       costs = [];
       selected = None;
       other_selected = 0;
-      vote = None;
+      vote_column = None;
       ballots = [];
       approvals = 0;
     }
@@ -102,7 +102,7 @@ step_by None s r = Ok (next s r)
 step_by (Some f) s r = Err f
 
 unfoldable pub step : SoFar → Rec → Result SoFar ElectionFault
-step s r = step_by (lowest (seen s) r) s r
+step s r = step_by (lowest_fault (before_next s) r) s r
 
 -- the answer to one more record is the step's, or memory was refused
 abbrev pub Steps : {T : Type 0} → Result T (Stop ElectionFault) → SoFar → SoFar → Rec → Type 0

@@ -1,4 +1,5 @@
--- The text of an election: all its records as one whole.
+-- The text of an election: all its records as one whole. The format is that of Pabulib's .pb files, in the profile that
+-- docs/FORMATS.md describes.
 use Rattle.std.specs.Prelude.{◌≡◌, ◌≤◌, ◌++◌, ◌∷◌, IsTrue, IsSomeAnd, IfSome, ℕ, List, count_by, length, Option, Some, None}
 use Rattle.std.specs.Option.{option_map_or}
 use Rattle.std.specs.List.{AllByRecursion, IsDistinct}
@@ -7,7 +8,7 @@ use Rattle.pb_money.specs.Money.{IsMoney, millionths, most_money}
 use Rattle.pb_election.specs.Records.{Field, Rec, election_records}
 use Rattle.pb_election.specs.Instance.{Instance, IsBallot, approvals, most_approvals, most_projects, most_voters, projects, voters}
 use Rattle.pb_election.specs.Cells.{clean, is_text, marker_of, nonblank}
-use Rattle.pb_election.specs.Rows.{ballots_in, columns_of, cost_in, costs_in, declared, funded_in, has_key, id_in, ids_in, is_approval, is_id, is_known, needed_columns, others_in, read_columns, read_keys, stated, times, vote_column}
+use Rattle.pb_election.specs.Rows.{ballots_in, columns_of, cost_in, costs_in, declared_count, funded_in, has_key, id_in, ids_in, is_approval, is_id, is_known, needed_columns, others_in, read_columns, read_keys, stated_value, times, vote_column}
 use Rattle.pb_election.specs.declared.columns.Columns.{Columns}
 use Rattle.pb_election.specs.declared.keys.Key.TheVariants.{Budget, NumProjects, NumVotes, VoteType}
 use Rattle.pb_election.specs.declared.sections.Section.{Section}
@@ -39,8 +40,8 @@ EachKeyOnce rows = AllByRecursion (λ key. count_by (has_key key) rows ≤ 1) re
 -- the rows of META state a budget and say that the ballots are approvals, with each read key once
 pub record AreMetaRows (rows : List Rec) : Type 0 where
   pub once : EachKeyOnce rows
-  pub budget : IsSomeAnd (stated Budget rows) IsMoney
-  pub vote_type : IsSomeAnd (stated VoteType rows) (λ value. IsTrue (is_approval value))
+  pub budget : IsSomeAnd (stated_value Budget rows) IsMoney
+  pub vote_type : IsSomeAnd (stated_value VoteType rows) (λ value. IsTrue (is_approval value))
 
 -- each row of PROJECTS states a project, and no two have one id
 pub record AreProjectRows (columns : Columns) (rows : List Rec) : Type 0 where
@@ -49,11 +50,11 @@ pub record AreProjectRows (columns : Columns) (rows : List Rec) : Type 0 where
   pub distinct : IsDistinct bytes_eq (ids_in columns rows)
   pub few : length rows ≤ most_projects
 
--- each row of VOTES states a set of projects
-pub record AreVoteRows (vote : Option ℕ) (ids : List Field) (rows : List Rec) : Type 0 where
-  pub known : AllByRecursion (λ row. IsTrue (is_known vote ids row)) rows
+-- each row of VOTES states a set of projects, in the column at this place
+pub record AreVoteRows (column : Option ℕ) (ids : List Field) (rows : List Rec) : Type 0 where
+  pub known : AllByRecursion (λ row. IsTrue (is_known column ids row)) rows
   pub few : length rows ≤ most_voters
-  pub few_approvals : approvals (ballots_in vote ids rows) ≤ most_approvals
+  pub few_approvals : approvals (ballots_in column ids rows) ≤ most_approvals
 
 -- the election that three sections state
 abbrev pub election_in : Part → Part → Part → Instance
@@ -61,13 +62,13 @@ election_in meta projects votes =
     let columns = columns_of projects.header in
     let ids = ids_in columns projects.rows in
     record {
-      limit = option_map_or millionths (stated Budget meta.rows) 0;
+      limit = option_map_or millionths (stated_value Budget meta.rows) 0;
       ids = ids;
       costs = costs_in columns projects.rows;
       selected = funded_in columns projects.rows;
       other_selected = others_in columns projects.rows;
-      declared_projects = declared NumProjects meta.rows;
-      declared_votes = declared NumVotes meta.rows;
+      declared_projects = declared_count NumProjects meta.rows;
+      declared_votes = declared_count NumVotes meta.rows;
       ballots = ballots_in (vote_column votes.header) ids votes.rows;
     }
 

@@ -34,9 +34,9 @@ fn column_from(name: &str, header: &StringRecord, start: usize) -> Option<usize>
 }
 
 // The first column of a name, which has no capital letters.
-fn column(name: &str, header: &StringRecord) -> Option<usize>
+fn column_named(name: &str, header: &StringRecord) -> Option<usize>
     requires { lower name.now ≡ name.now }
-    ensures first { result ≡ rows.column name.now (fields_of header.now) }
+    ensures first { result ≡ rows.column_named name.now (fields_of header.now) }
     ensures within { IfSome result (λ i. i + 1 < 2 ^ 64) }
 {
     column_from(name, header, 0)
@@ -47,7 +47,7 @@ fn is_missing(name: &str, header: &StringRecord) -> bool
     requires { lower name.now ≡ name.now }
     ensures { result ≡ (rows.times name.now (fields_of header.now) == 0) }
 {
-    column(name, header).is_none()
+    column_named(name, header).is_none()
 }
 
 // Whether two columns have a name, which has no capital letters.
@@ -55,7 +55,7 @@ fn is_repeated(name: &str, header: &StringRecord) -> bool
     requires { lower name.now ≡ name.now }
     ensures { result ≡ nat_lt 1 (rows.times name.now (fields_of header.now)) }
 {
-    match column(name, header) {
+    match column_named(name, header) {
         Some(first) => column_from(name, header, first + 1).is_some(),
         None => false,
     }
@@ -87,22 +87,22 @@ pub(crate) fn repeats(section: Section, header: &StringRecord) -> bool
     }
 }
 
-/// The places of the columns that the header of PROJECTS names.
+/// The places of the columns that the header of PROJECTS names, from 0.
 pub(crate) fn columns_of(header: &StringRecord) -> Columns
     ensures { result ≡ rows.columns_of (fields_of header.now) }
 {
     Columns {
-        id: column("project_id", header),
-        cost: column("cost", header),
-        selected: column("selected", header),
+        id: column_named("project_id", header),
+        cost: column_named("cost", header),
+        selected: column_named("selected", header),
     }
 }
 
-/// The place of the column `vote` of the header of VOTES.
+/// The place of the column `vote` of the header of VOTES, from 0.
 pub(crate) fn vote_column(header: &StringRecord) -> Option<usize>
     ensures { result ≡ rows.vote_column (fields_of header.now) }
 {
-    column("vote", header)
+    column_named("vote", header)
 }
 
 /// The field of a row in a column, cleaned, and empty where there is no such column or field.

@@ -42,7 +42,7 @@ pub trait Draft<A> {
     // These records, none of them blank, were taken, and no other.
     ghost HasTaken: { A → Self → List Rec → Type 0 };
 
-    /// Takes one more record, or tells its fault.
+    /// Takes one more record, or tells its fault. After an error it is left open what has been taken.
     fn take(&mut self, against: &A, row: &StringRecord) -> Result<(), Stop<Self::Fault>>
         requires text { is_text (fields_of row.now) ≡ true }
         requires full { is_blank (fields_of row.now) ≡ false }
@@ -58,8 +58,9 @@ pub trait Draft<A> {
         ensures { TellsNotText (form against.now) result };
 }
 
-/// Reads a file into a draft that has taken no record yet. A fault is that at the least place and, of several there, the
-/// one with the lowest number.
+/// Reads a file, whose fields the delimiter divides, into a draft that has taken no record yet. A fault is that at the
+/// least place and, of several there, the one with the lowest number. `Memory` comes only where memory was refused. After
+/// an error it is left open what the draft has taken.
 pub fn take_all<A, D: Draft<A>>(
     alloc: Global,
     bytes: &[u8],

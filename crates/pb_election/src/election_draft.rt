@@ -3,11 +3,11 @@ ghost use Rattle.std.specs.Prelude.{◌≡◌, ◌≤◌, ◌<◌, ◌+◌, true
 ghost use Rattle.csv.specs.Records.{fields_of};
 ghost use Rattle.pb_election.specs.Beginnings.{HasRead};
 ghost use Rattle.pb_election.specs.Cells.{is_among, is_text, marker_of};
-ghost use Rattle.pb_election.specs.Faults.{election_form, lowest_at_end};
+ghost use Rattle.pb_election.specs.Faults.{election_form, lowest_fault_at_end};
 ghost use Rattle.pb_election.specs.Ids.{ids_kept};
 ghost use Rattle.pb_election.specs.Instance.{most_projects};
 ghost use Rattle.pb_election.specs.Rows as rows;
-ghost use Rattle.pb_election.specs.SoFar.{Steps, election_of, nothing, seen};
+ghost use Rattle.pb_election.specs.SoFar.{Steps, before_next, election_of, nothing};
 ghost use Rattle.pb_election.specs.Text.{IsElection};
 ghost use Rattle.pb_election.specs.ProjectRows.{AddsProject};
 
@@ -92,7 +92,7 @@ impl Model for ElectionDraft {
       costs = a.projects.costs.items;
       selected = option_map (λ v. v.items) a.projects.selected;
       other_selected = a.projects.other_selected;
-      vote = a.votes.column;
+      vote_column = a.votes.column;
       ballots = map (λ v. v.items) a.votes.ballots.items;
       approvals = a.votes.approvals;
     } };
@@ -138,7 +138,7 @@ impl ElectionDraft {
     }
 
     // One more record, which is text and not blank.
-    #[tactic(auto, unfolding(crate::specs::SoFar::step, crate::specs::Faults::lowest))]
+    #[tactic(auto, unfolding(crate::specs::SoFar::step, crate::specs::Faults::lowest_fault))]
     fn take_record(&mut self, row: &StringRecord) -> Result<(), Stop<ElectionFault>>
         requires { is_text (fields_of row.now) ≡ true }
         ensures { Steps result self.old self.new (fields_of row.now) }
@@ -154,7 +154,7 @@ impl ElectionDraft {
         }
     }
 
-    #[tactic(auto, unfolding(crate::specs::SoFar::step, crate::specs::Faults::lowest))]
+    #[tactic(auto, unfolding(crate::specs::SoFar::step, crate::specs::Faults::lowest_fault))]
     fn take_first(&mut self, row: &StringRecord) -> Result<(), Stop<ElectionFault>>
         requires text { is_text (fields_of row.now) ≡ true }
         requires role { self.old.role ≡ Role.First }
@@ -167,7 +167,7 @@ impl ElectionDraft {
         Ok(())
     }
 
-    #[tactic(auto, unfolding(crate::specs::SoFar::step, crate::specs::Faults::lowest))]
+    #[tactic(auto, unfolding(crate::specs::SoFar::step, crate::specs::Faults::lowest_fault))]
     fn take_meta_header(&mut self, row: &StringRecord) -> Result<(), Stop<ElectionFault>>
         requires text { is_text (fields_of row.now) ≡ true }
         requires role { self.old.role ≡ Role.Header Section.Meta }
@@ -180,7 +180,7 @@ impl ElectionDraft {
         Ok(())
     }
 
-    #[tactic(auto, unfolding(crate::specs::SoFar::step, crate::specs::Faults::lowest))]
+    #[tactic(auto, unfolding(crate::specs::SoFar::step, crate::specs::Faults::lowest_fault))]
     fn take_project_header(&mut self, row: &StringRecord) -> Result<(), Stop<ElectionFault>>
         requires text { is_text (fields_of row.now) ≡ true }
         requires role { self.old.role ≡ Role.Header Section.Projects }
@@ -202,7 +202,7 @@ impl ElectionDraft {
         Ok(())
     }
 
-    #[tactic(auto, unfolding(crate::specs::SoFar::step, crate::specs::Faults::lowest))]
+    #[tactic(auto, unfolding(crate::specs::SoFar::step, crate::specs::Faults::lowest_fault))]
     fn take_vote_header(&mut self, row: &StringRecord) -> Result<(), Stop<ElectionFault>>
         requires text { is_text (fields_of row.now) ≡ true }
         requires role { self.old.role ≡ Role.Header Section.Votes }
@@ -222,7 +222,7 @@ impl ElectionDraft {
         Ok(())
     }
 
-    #[tactic(auto, unfolding(crate::specs::SoFar::step, crate::specs::Faults::lowest))]
+    #[tactic(auto, unfolding(crate::specs::SoFar::step, crate::specs::Faults::lowest_fault))]
     fn take_meta(&mut self, row: &StringRecord) -> Result<(), Stop<ElectionFault>>
         requires text { is_text (fields_of row.now) ≡ true }
         requires role { self.old.role ≡ Role.Inside Section.Meta }
@@ -245,7 +245,7 @@ impl ElectionDraft {
     }
 
     // A row of META whose key is read.
-    #[tactic(auto, unfolding(crate::specs::SoFar::step, crate::specs::Faults::lowest))]
+    #[tactic(auto, unfolding(crate::specs::SoFar::step, crate::specs::Faults::lowest_fault))]
     fn take_key(&mut self, key: Key, row: &StringRecord) -> Result<(), Stop<ElectionFault>>
         requires text { is_text (fields_of row.now) ≡ true }
         requires role { self.old.role ≡ Role.Inside Section.Meta }
@@ -253,7 +253,7 @@ impl ElectionDraft {
         requires key { rows.key_in (fields_of row.now) ≡ Some key }
         ensures { Steps result self.old self.new (fields_of row.now) }
     {
-        if self.meta.keys.stood(key) {
+        if self.meta.keys.has_stood(key) {
             return Err(Stop::Fault(ElectionFault::RepeatedKey));
         }
         let value = cell(row, 1);
@@ -286,7 +286,7 @@ impl ElectionDraft {
         }
     }
 
-    #[tactic(auto, unfolding(crate::specs::SoFar::step, crate::specs::Faults::lowest))]
+    #[tactic(auto, unfolding(crate::specs::SoFar::step, crate::specs::Faults::lowest_fault))]
     fn take_project(&mut self, row: &StringRecord) -> Result<(), Stop<ElectionFault>>
         requires text { is_text (fields_of row.now) ≡ true }
         requires role { self.old.role ≡ Role.Inside Section.Projects }
@@ -319,7 +319,7 @@ impl ElectionDraft {
         }
     }
 
-    #[tactic(auto, unfolding(crate::specs::SoFar::step, crate::specs::Faults::lowest, crate::specs::Rows::is_known))]
+    #[tactic(auto, unfolding(crate::specs::SoFar::step, crate::specs::Faults::lowest_fault, crate::specs::Rows::is_known))]
     fn take_vote(&mut self, row: &StringRecord) -> Result<(), Stop<ElectionFault>>
         requires text { is_text (fields_of row.now) ≡ true }
         requires role { self.old.role ≡ Role.Inside Section.Votes }
@@ -353,9 +353,9 @@ impl ElectionDraft {
     }
 
     // The fault of the end of the file, if it has one here.
-    #[tactic(auto, unfolding(crate::specs::Faults::lowest_at_end))]
+    #[tactic(auto, unfolding(crate::specs::Faults::lowest_fault_at_end))]
     fn fault_at_end(&self) -> Option<ElectionFault>
-        ensures { result ≡ lowest_at_end (seen self.now) }
+        ensures { result ≡ lowest_fault_at_end (before_next self.now) }
     {
         match self.role {
             Role::First => Some(ElectionFault::NoMeta),

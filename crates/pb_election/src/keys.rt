@@ -22,7 +22,7 @@ pub enum Key {
     NumVotes,
 }
 
-/// Which keys have stood.
+/// Which of the keys have stood in META so far.
 #[derive(Clone, Copy, Debug, PartialEq, Eq)]
 pub struct Keys {
     pub budget: bool,
@@ -32,8 +32,9 @@ pub struct Keys {
 }
 
 impl Keys {
-    pub(crate) fn stood(self, key: Key) -> bool
-        ensures { result ≡ faults.stood self key }
+    /// Whether this key has stood.
+    pub(crate) fn has_stood(self, key: Key) -> bool
+        ensures { result ≡ faults.has_stood self key }
     {
         match key {
             Key::Budget => self.budget,

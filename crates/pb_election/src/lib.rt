@@ -22,5 +22,4 @@ pub use drafts::{Draft, FaultAt, Stop, take_all};
 pub use election::Election;
 pub use loading::{Input, LoadFault, Output, PutFault, Sink, Source, load, put};
 pub use outcome::Outcome;
-pub use records::{Found, Records};
 pub use refusal::{ElectionFault, Refusal};

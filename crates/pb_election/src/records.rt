@@ -10,7 +10,7 @@ use std::marker::Model;
 
 /// What was found where the next record was to be read.
 #[derive(Clone, Copy, Debug, PartialEq, Eq)]
-pub enum Found {
+pub(crate) enum Found {
     /// A record, each of whose fields is UTF-8.
     Record,
     /// A record that is not UTF-8.
@@ -21,7 +21,7 @@ pub enum Found {
 
 /// The records that a file has yet to give. After a record that is not UTF-8 it gives none.
 #[derive(Drop)]
-pub struct Records<'a> {
+pub(crate) struct Records<'a> {
     reader: Reader<&'a [u8]>,
     ended: bool,
 }
