@@ -1,9 +1,9 @@
 -- What is known of the payments that a price system has.
-use Rattle.std.proofs.Common.{◌≡◌, ◌≤◌, ◌<◌, ◌+◌, ◌-◌, ◌^◌, ℕ, suc, Bool, true, false, List, [], ◌∷◌, length, sym, ◌∙◌, ap, arith, cond, drop, get_or, add-one, drop-cons}
+use Rattle.std.proofs.Common.{◌≡◌, ◌≤◌, ◌<◌, ◌-◌, ◌^◌, ℕ, suc, Bool, true, false, List, [], ◌∷◌, length, sym, ◌∙◌, ap, arith, cond, get_or}
 use Rattle.std.specs.Prelude.{◌==◌, All, map}
 use Rattle.std.specs.List.{AllByRecursion}
 use Rattle.std.specs.Global.{Vec}
-use Rattle.std.proofs.lemmas.List.{drop_all, get_or-map}
+use Rattle.std.proofs.lemmas.List.{get_or-map}
 use Rattle.pb_certificate.specs.Prices.{IsPaymentMap, IsPriceSystem, Prices, numerator_in, payments_of}
 
 pub each-of : {X : Type 0} (P : X → Type 0) (xs : List X) → All P xs → AllByRecursion P xs
@@ -24,12 +24,3 @@ small-in (q ∷ qs) j h = go (q.0 == j) h.0 (small-in qs j h.1)
     go : (b : Bool) → q.1 ≤ 10 ^ 21 → numerator_in qs j ≤ 10 ^ 21 → cond b q.1 (numerator_in qs j) ≤ 10 ^ 21
     go true here rest = here
     go false here rest = rest
-
--- the numerator in what is left of a list, as it is looked through
-pub numerator-next : (qs : List (ℕ × ℕ)) (k j : ℕ) (q : ℕ × ℕ) → k < length qs → q ≡ get_or qs k q → numerator_in (drop k qs) j ≡ cond (q.0 == j) q.1 (numerator_in (drop (k + 1) qs) j)
-numerator-next qs k j q within is =
-    let cut : drop k qs ≡ get_or qs k q ∷ drop (k + 1) qs = rw (add-one k) (drop-cons qs k q within) in
-    ap (λ (rest : List (ℕ × ℕ)). numerator_in rest j) cut ∙ ap (λ (x : ℕ × ℕ). cond (x.0 == j) x.1 (numerator_in (drop (k + 1) qs) j)) (sym is)
-
-pub numerator-none : (qs : List (ℕ × ℕ)) (k j : ℕ) → length qs ≤ k → numerator_in (drop k qs) j ≡ 0
-numerator-none qs k j past = ap (λ (rest : List (ℕ × ℕ)). numerator_in rest j) (drop_all k qs past)

@@ -26,7 +26,7 @@ use Rattle.pb_certificate.proofs.Found.{found_is}
 use Rattle.pb_certificate.proofs.Heads.{number-refused, number-taken, same-is, states-number}
 use Rattle.pb_certificate.proofs.OutcomeClear.{joined-by}
 use Rattle.pb_certificate.proofs.PriceClear.{row-number, row-of}
-use Rattle.pb_certificate.proofs.RowFaults.{form-at-budget, form-at-columns, form-at-denominator, form-at-end, form-at-name, form-at-row, place_fault}
+use Rattle.pb_certificate.proofs.RowFaults.{form-at-budget, form-at-columns, form-at-denominator, form-at-name, form-at-row, place_fault}
 use Rattle.pb_certificate.proofs.TableSteps.{all-push, voters_of}
 use Rattle.pb_certificate.proofs.Texts.{stated-length}
 
@@ -241,11 +241,6 @@ took-err e d new r (Ok done) t = tt
 took-err e d new r (Err stop) t = stopped-for e d r stop t
 
 -- the end
-pub end-at-row : (e : Instance) (d : State) (before : List Rec) → d.awaited ≡ Row → HasTakenFor e d before → price_form e before None ≡ None
-end-at-row e d before at h =
-    let s : RowsTaken d before = stands-at d Row before at h.1 in
-    rw s.cut (form-at-end e s.name s.denominator s.budget s.columns s.rows)
-
 short-by : (e : Instance) (d : State) (a : Awaited) (before : List Rec) → (a ≡ Row → ⊥) → Stands d a before → price_form e before None ≡ Some fault.BadHead
 short-by e d Name before other s = rw s.0 refl
 short-by e d Denominator before other s = rw s.1 refl

@@ -36,17 +36,6 @@ low-last : (low : ℕ) (xs : List ℕ) → RiseFrom low xs → low ≤ last_numb
 low-last low [] h = omega arith
 low-last low (x ∷ xs) h = let first : low ≤ x = h.0 in let rest = low-last x xs h.1 in omega arith
 
-some-or : (a b : Bool) → ((a || b) || a) ≡ (b || a)
-some-or true true = refl
-some-or true false = refl
-some-or false true = refl
-some-or false false = refl
-
-or-other : (a b : Bool) → (a || (b || false)) ≡ (a || b)
-or-other true b = refl
-or-other false true = refl
-or-other false false = refl
-
 stood-by : (d i j n : ℕ) (qs : List Payment) → d ≤ i → RiseFrom d (voters_of qs) → last_number d (voters_of qs) ≤ i
     → (last_number d (map (λ q. q.voter) (filter (λ q. q.project == j) qs)) == i) ≡ (list_any (same_pair (record { voter = i; project = j; numerator = n })) qs || (d == i))
 stood-by d i j n [] low h most = refl
