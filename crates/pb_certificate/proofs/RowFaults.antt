@@ -59,9 +59,6 @@ form-at-row e h d b c done r text =
     rw (text, past h d b c done 0 (omega arith), past h d b c done 1 (omega arith), past h d b c done 2 (omega arith), past h d b c done 3 (omega arith), not-short h d b c done, enough h d b c done)
     (by-parts (not (length (fields r) == 3)) (is_none (whole_in (cell 0 r))) (is_none (numerator_of (cell 2 r))) (is_some (whole_in (cell 0 r))) (is_none (voter_in e (cell 0 r))) (is_none (project_in e (cell 1 r))) (place_fault r done) (some-not-none (whole_in (cell 0 r))))
 
-pub form-at-end : (e : Instance) (h d b c : Rec) (done : List Rec) → price_form e (h ∷ d ∷ b ∷ c ∷ done) None ≡ None
-form-at-end e h d b c done = rw (past h d b c done 0 (omega arith), past h d b c done 1 (omega arith), past h d b c done 2 (omega arith), past h d b c done 3 (omega arith), not-short h d b c done, enough h d b c done) refl
-
 -- the head records
 pub form-at-name : (e : Instance) (r : Rec) (a : Bool) → is_text r ≡ true → same_fields (fields r) (codes "pb-prices" ∷ codes "1" ∷ []) ≡ a → price_form e [] (Some r) ≡ cond a None (Some fault.BadHead)
 form-at-name e r true text is = rw (text, is) refl

@@ -56,11 +56,6 @@ stood-by d i j n (q ∷ qs) low h most = elim (cases_Bool (q.project == j)) [
     turn : (a b : ℕ) → (a == b) ≡ (b == a)
     turn a b = elim (cases_eq a b) [ inl e ↦ eq-eqb a b e ∙ sym (eq-eqb b a (sym e)) | inr e ↦ ne_eqb a b e ∙ sym (ne_eqb b a (λ k. e (sym k))) ]
 
-    -- the first of the rest is named by i where d is i
-    squeeze : (a : Bool) → (d == i) ≡ a → d ≤ q.voter → q.voter ≤ i → (a || false) ≡ ((a && (q.voter == i)) || false)
-    squeeze true e l k = let same : d ≡ i = eqb-true d i e in rw (eq-eqb q.voter i (omega arith)) refl
-    squeeze false e l k = refl
-
     here : d ≤ q.voter → (list_any (same_pair (record { voter = i; project = j; numerator = n })) qs || (q.voter == i)) ≡ ((((i == q.voter) && true) || list_any (same_pair (record { voter = i; project = j; numerator = n })) qs) || (d == i))
     here first = rw (turn i q.voter) (by (q.voter == i) (list_any (same_pair (record { voter = i; project = j; numerator = n })) qs) (d == i) refl refl)
       where

@@ -41,7 +41,7 @@ whole_within least most f = option_and_then (only_if (λ n. nat_le least n && na
 abbrev pub number : Field → ℕ
 number f = unwrap_or (whole_in f) 0
 
--- the voter and the project that a field names
+-- the voter that a field names by its number, and the project that one names by its id
 abbrev pub voter_in : Instance → Field → Option ℕ
 voter_in e f = whole_within 1 (voters e) f
 

@@ -14,6 +14,7 @@ pub record Payment : Type 0 where
   pub project : ℕ
   pub numerator : ℕ
 
+-- the numerator that a field states
 abbrev pub numerator_of : Field → Option ℕ
 numerator_of f = whole_within 0 (10 ^ 21) f
 
@@ -32,6 +33,7 @@ payment_by e (v ∷ c ∷ []) = None
 payment_by e (v ∷ c ∷ x ∷ []) = payment_from (voter_in e v) (project_in e c) (numerator_of x)
 payment_by e (v ∷ c ∷ x ∷ y ∷ ys) = None
 
+-- the payment that a row states
 abbrev pub payment_of : Instance → Rec → Option Payment
 payment_of e r = payment_by e (fields r)
 
@@ -44,10 +46,11 @@ abbrev pub stated : List Payment → ℕ → ℕ → ℕ
 stated [] i j = 0
 stated (q ∷ qs) i j = if (q.voter == i) && (q.project == j) then q.numerator else stated qs i j
 
--- of a voter, each project that it pays for, with the numerator
+-- a project with its numerator, where that is not 0
 abbrev pub above_0 : ℕ → ℕ → Option (ℕ × ℕ)
 above_0 j x = if nat_lt 0 x then Some (j, x) else None
 
+-- of a voter, each project that it pays for, rising, with the numerator
 abbrev pub payments_stated : Instance → List Payment → ℕ → List (ℕ × ℕ)
 payments_stated e qs i = filter_map (λ j. above_0 j (stated qs i j)) (all_projects e)
 
