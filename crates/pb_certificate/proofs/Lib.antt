@@ -1,6 +1,7 @@
 pub mod Cells
 pub mod Numbers
 pub mod Payments
+pub mod Searches
 pub mod Widths
 pub mod TableSteps
 pub mod TableAdds

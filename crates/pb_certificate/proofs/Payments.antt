@@ -1,10 +1,10 @@
 -- What is known of the payments that a price system has.
-use Rattle.std.proofs.Common.{◌≡◌, ◌≤◌, ◌<◌, ◌-◌, ◌^◌, ℕ, suc, Bool, true, false, List, [], ◌∷◌, length, sym, ◌∙◌, ap, arith, cond, get_or}
-use Rattle.std.specs.Prelude.{◌==◌, All, map}
+use Rattle.std.proofs.Common.{◌≡◌, ◌≤◌, ◌<◌, ◌-◌, ℕ, suc, List, [], ◌∷◌, length, sym, ◌∙◌, ap, arith, get_or}
+use Rattle.std.specs.Prelude.{All, map}
 use Rattle.std.specs.List.{AllByRecursion}
 use Rattle.std.specs.Global.{Vec}
 use Rattle.std.proofs.lemmas.List.{get_or-map}
-use Rattle.pb_certificate.specs.Prices.{IsPaymentMap, IsPriceSystem, Prices, numerator_in, payments_of}
+use Rattle.pb_certificate.specs.Prices.{IsPaymentMap, IsPriceSystem, Prices, payments_of}
 
 pub each-of : {X : Type 0} (P : X → Type 0) (xs : List X) → All P xs → AllByRecursion P xs
 each-of P [] h = tt
@@ -16,11 +16,3 @@ row-at vs k v within is = ap (λ (u : Vec (ℕ × ℕ)). u.items) is ∙ sym (ge
 
 pub map-at : (p : Prices) (i : ℕ) → IsPriceSystem p → 1 ≤ i → i ≤ length p.payments → IsPaymentMap p.projects (payments_of p i)
 map-at p i s low high = s.maps (i - 1) [] (omega arith)
-
-pub small-in : (qs : List (ℕ × ℕ)) (j : ℕ) → AllByRecursion (λ q. q.1 ≤ 10 ^ 21) qs → numerator_in qs j ≤ 10 ^ 21
-small-in [] j h = omega arith
-small-in (q ∷ qs) j h = go (q.0 == j) h.0 (small-in qs j h.1)
-  where
-    go : (b : Bool) → q.1 ≤ 10 ^ 21 → numerator_in qs j ≤ 10 ^ 21 → cond b q.1 (numerator_in qs j) ≤ 10 ^ 21
-    go true here rest = here
-    go false here rest = rest

@@ -44,18 +44,6 @@ impl Model for Prices {
     }) };
 }
 
-// The numerator of a project in a voter's payments, and 0 where it is not among them.
-fn numerator_in(payments: &[(u32, u128)], project: u32) -> u128
-    ensures { result ≡ spec.numerator_in payments.now project }
-{
-    for payment in payments {
-        if payment.0 == project {
-            return payment.1;
-        }
-    }
-    0
-}
-
 impl Prices {
     /// The prices that the bytes of a price certificate state for an election, or the first fault: the one at the least
     /// record, and of those there the one with the lowest number. Want of memory comes only where a growth was refused.
@@ -125,7 +113,11 @@ impl Prices {
         ensures value { result ≡ spec.payment self.now i j }
         ensures high { result ≤ 10 ^ 21 }
     {
-        numerator_in(self.payments_of(i), j)
+        let payments = self.payments_of(i);
+        match payments.binary_search_by_key(&j, |payment| payment.0) {
+            Ok(place) => payments[place].1,
+            Err(_) => 0,
+        }
     }
 
     /// What voter i, from 1, pays: the projects, rising, each with the numerator, which is not 0.
