@@ -47,8 +47,9 @@ pays for each project, all as whole numbers over one denominator:
   voter,project,payment
   1,park,3
 Here every voter has a budget of 9/2, and voter 1 pays 3/2 for the project
-'park'. The certificate supports the outcome where these conditions hold, which
-are tried in this order:
+'park'. Voters are numbered from 1 by their rows in the election, whatever its
+column 'voter_id' says. The certificate supports the outcome where these
+conditions hold, which are tried in this order:
   Feasible    the funded projects cost no more than the budget limit in all
   Exhaustive  no unfunded project still fits within the budget limit
   C1          a voter pays only for projects of the voter's own ballot
@@ -63,7 +64,8 @@ C5 is tried without --stable, S5 with it. The supporters of a project are the
 voters whose ballots hold it.
 
 Prints 'supported priceable' or 'supported stable', or the first condition that
-fails, with the lowest voter and then the lowest project where it names one:
+fails, with the lowest voter and then the lowest project, by their rows in the
+election, where it names one:
   failed C5 project pool
 A no by C1 or a later condition speaks of these payments alone: others may
 support the outcome.

@@ -42,7 +42,8 @@ pub fn run_prices<E: Source, O: Source, C: Source, W: Sink>(
     // Where memory was wanted, nothing was written.
     ensures memory { IsErrOf result Fault.Memory → out.new ≡ out.old }
 
-    // Where no input is refused, the status is yes exactly where the prices support the outcome, and a verdict speaks of every group.
+    // Where no input is refused, the status is yes exactly where the prices support the outcome; a yes speaks of every group,
+    // and a no by C5 or S5 of the supporters of the project that it names.
     ensures promises { IfOk result (λ status. status ≢ Status.Refused → HoldsOfInputs StatesPrices (PricesPromise mode status) (reading E.left E.counts election.old election.new) (file_reading O.left O.counts outcome.old outcome.new) (reading C.left C.counts certificate.old certificate.new)) }
 {
     let work = price_work(alloc, election, outcome, certificate, mode);

@@ -9,14 +9,16 @@ use Rattle.pb_cohesion.specs.Amounts.{beta, cost, left, paid, spent, top}
 use Rattle.pb_cohesion.specs.Outcome.{IsFunded, IsUnfunded, funded, total, unfunded}
 
 -- Throughout, e is an election, w an outcome as the marks of its funded projects, p a price system, i a voter and c a
--- project. Amounts are in grains, but those of Feasible and Exhaustive in millionths.
+-- project. Amounts are in grains, but those of Feasible and Exhaustive in millionths, and C1 asks only whether a numerator is
+-- above 0.
 
 -- a sum of integers, some of which may be negative
 abbrev pub sum_ℤ : (ℕ → ℤ) → List ℕ → ℤ
 sum_ℤ f [] = pos 0
 sum_ℤ f (x ∷ xs) = f x +ℤ sum_ℤ f xs
 
--- the most that a voter can offer for a further project: what it has left, or its largest payment
+-- the larger of what a voter has left and its largest payment; where nothing is paid for unfunded projects, a voter can offer
+-- no more
 abbrev pub most_of : Instance → Prices → ℕ → ℤ
 most_of e p i = int_max (pos (top e p i)) (left e p i)
 
@@ -48,7 +50,7 @@ C4 e w p = (c : ℕ) → IsUnfunded e w c → paid e p c ≡ 0
 abbrev pub C5 : Instance → List Bool → Prices → Type 0
 C5 e w p = (c : ℕ) → IsUnfunded e w c → sum_ℤ (left e p) (supporters e c) ≤ℤ pos (cost e p c)
 
--- the supporters of an unfunded project can together offer at most its cost
+-- for the supporters of an unfunded project these amounts come together to at most its cost
 abbrev pub S5 : Instance → List Bool → Prices → Type 0
 S5 e w p = (c : ℕ) → IsUnfunded e w c → sum_ℤ (most_of e p) (supporters e c) ≤ℤ pos (cost e p c)
 

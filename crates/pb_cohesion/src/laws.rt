@@ -34,29 +34,30 @@ pub fn double_sums_exchange()
     ensures payments { (e : Instance) (p : Prices) → sum_by (spent e p) (all_voters e) ≡ sum_by (paid e p) (all_projects e) }
 {}
 
-/// Under the plain form no group of supporters of an unfunded project has more left than it costs.
+/// Under C2 and C5 no group of supporters of an unfunded project has more left than it costs.
 pub fn no_group_has_more_left()
     ensures every_group { (e : Instance) (w : List Bool) (p : Prices) → C2 e p → C5 e w p → NoGroupHasMoreLeft e w p }
     // At a culprit the supporters together have more.
     ensures at_culprit { (e : Instance) (w : List Bool) (p : Prices) (c : ℕ) → Contains (culprits_of_C5 e w p) c → SupportersHaveMoreLeft e p c }
 {}
 
-/// The stable form holds exactly where no group blocks.
+/// Under C1 to C4, S5 holds exactly where no group blocks.
 pub fn stable_where_nothing_blocks()
     ensures exactly { (e : Instance) (w : List Bool) (p : Prices) → C1 e p → C2 e p → C3 e w p → C4 e w p
-        → S5 e w p ↔ NothingBlocks e w p }
+        → (S5 e w p ↔ NothingBlocks e w p) }
     // At a culprit the supporters together block.
     ensures at_culprit { (e : Instance) (w : List Bool) (p : Prices) (c : ℕ) → C1 e p → C2 e p → C3 e w p → C4 e w p
         → Contains (culprits_of_S5 e w p) c → SupportersBlock e w p c }
 {}
 
-/// The budgets of a group of supporters of an unfunded project come to at most its cost and that of the group's reach.
+/// Under C1 to C4, and C5 or S5, the budgets of a group of supporters of an unfunded project come to at most its cost and
+/// that of the group's reach.
 pub fn budgets_within_reach()
-    ensures { (e : Instance) (w : List Bool) (p : Prices) → C1 e p → C2 e p → C3 e w p → C4 e w p → C5 e w p ⊎ S5 e w p → BudgetsAreWithinReach e w p }
+    ensures { (e : Instance) (w : List Bool) (p : Prices) → C1 e p → C2 e p → C3 e w p → C4 e w p → (C5 e w p ⊎ S5 e w p) → BudgetsAreWithinReach e w p }
 {}
 
-/// Stable prices are fair: where the budgets of a group come to more than what a set of projects costs, and all
-/// members approve the set, some member approves at least as many funded projects.
+/// Stable prices are fair: under C1 to C4 and S5, where the budgets of a group come to more than what a set of projects
+/// costs, and all members approve the set, some member approves at least as many funded projects.
 pub fn stable_prices_are_fair()
     ensures { (e : Instance) (w : List Bool) (p : Prices) (s t : List ℕ) → C1 e p → C2 e p → C3 e w p → C4 e w p → S5 e w p
         → IsGroup e s → s ≢ [] → AreProjects e t → All (λ i. All (λ j. Approves e i j) t) s

@@ -23,7 +23,7 @@ use Rattle.pb_election.specs.declared.sections.Section.TheVariants.{Meta, Projec
 
 -- The role of a place depends only on the records before it that are not blank.
 
--- the section to which so many markers lead
+-- the section to which so many markers lead; none, or more than three, come only behind a fault
 abbrev pub section_of : ℕ → Section
 section_of markers = if markers == 1 then Meta else if markers == 2 then Projects else Votes
 
