@@ -8,7 +8,7 @@ use Rattle.std.proofs.lemmas.List.{length-map, map-append}
 use Rattle.std.proofs.lemmas.List.Elements.{filter-append}
 use Rattle.std.proofs.lemmas.List.Sums.{sum_by-append}
 use Rattle.pb_money.specs.Money.{IsMoney}
-use Rattle.pb_election.specs.Records.{Field, Rec}
+use Rattle.pb_records.specs.Records.{Field, Rec}
 use Rattle.pb_election.specs.Instance.{Instance, approvals}
 use Rattle.pb_election.specs.declared.refusal.ElectionFault.{ElectionFault}
 use Rattle.pb_election.specs.declared.columns.Columns.{Columns}
@@ -18,9 +18,11 @@ use Rattle.pb_election.specs.declared.keys.Keys.{Keys}
 use Rattle.pb_election.specs.declared.sections.Role.TheVariants.{Header, Inside}
 use Rattle.pb_election.specs.declared.sections.Section.{Section}
 use Rattle.pb_election.specs.declared.sections.Section.TheVariants.{Meta, Projects, Votes}
-use Rattle.pb_election.specs.Cells.{is_among, is_blank, is_marker, is_text, marker_of, marks, nonblank}
+use Rattle.pb_election.specs.Names.{is_among}
+use Rattle.pb_records.specs.Cells.{is_blank, is_text, nonblank}
+use Rattle.pb_election.specs.Markers.{is_marker, marker_of, marks}
 use Rattle.pb_election.specs.Rows.{ballot_in, ballots_in, columns_of, cost_in, has_key, id_in, ids_in, is_approval, is_id, is_known, key_in, stated_value, value_in, vote_column}
-use Rattle.pb_election.specs.FirstFault.{NoFault, fault_after}
+use Rattle.pb_records.specs.FirstFault.{NoFault, fault_after}
 use Rattle.pb_election.specs.Faults.{PbFault, before_of, election_form, first_of, has_stood, header_of, keys_in, lowest_fault, lowest_fault_at_end, rest_of, role_of, rows_of, up_to_marker}
 use Rattle.pb_election.specs.Text.{AreMetaRows, AreProjectRows, AreVoteRows, EachKeyOnce, IsHeader, IsPart, lines, Part, PbText}
 use Rattle.pb_election.proofs.FoundParts.{behind, behind-here, found, past, up-all, up-part}

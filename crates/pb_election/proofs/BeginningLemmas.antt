@@ -2,12 +2,12 @@
 use Rattle.std.proofs.Common.{◌≡◌, ◌∙◌, ◌++◌, List, [], ◌∷◌, refl, sym, ap, arith, Bool, true, false, Some, append_assoc, append-nil, length}
 use Rattle.std.specs.Prelude.{count_by, if◌then◌else◌}
 use Rattle.std.proofs.lemmas.List.{length-map}
-use Rattle.pb_election.specs.Records.{Rec}
+use Rattle.pb_records.specs.Records.{Rec}
 use Rattle.pb_election.specs.declared.sections.Role.{Role}
 use Rattle.pb_election.specs.declared.sections.Role.TheVariants.{First, Header, Inside}
 use Rattle.pb_election.specs.declared.sections.Section.{Section}
 use Rattle.pb_election.specs.declared.sections.Section.TheVariants.{Meta, Projects, Votes}
-use Rattle.pb_election.specs.Cells.{is_marker, marker_of, marks, same_section}
+use Rattle.pb_election.specs.Markers.{is_marker, marker_of, marks, same_section}
 use Rattle.pb_election.specs.Rows.{ballot_in, ballots_in, columns_of, ids_in, vote_column}
 use Rattle.pb_election.specs.Faults.{before_of, behind_marker, first_of, header_of, rest_of, role_of, rows_of, up_to_marker}
 use Rattle.pb_election.specs.Text.{IsPart, Part, lines}

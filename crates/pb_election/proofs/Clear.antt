@@ -5,13 +5,15 @@ use Rattle.std.specs.List.{AllByRecursion, list_any}
 use Rattle.std.specs.Option.{option_map_or}
 use Rattle.pb_money.specs.Money.{IsMoney, millionths}
 use Rattle.pb_money.proofs.Laws.{money-is}
-use Rattle.pb_election.specs.Records.{Field, Rec}
+use Rattle.pb_records.specs.Records.{Field, Rec}
 use Rattle.pb_election.specs.Instance.{most_approvals, most_projects, most_voters}
 use Rattle.pb_election.specs.declared.keys.Key.TheVariants.{Budget, VoteType}
 use Rattle.pb_election.specs.declared.sections.Role.TheVariants.{First, Header, Inside}
 use Rattle.pb_election.specs.declared.sections.Section.{Section}
 use Rattle.pb_election.specs.declared.sections.Section.TheVariants.{Meta, Projects, Votes}
-use Rattle.pb_election.specs.Cells.{is_among, is_text, marker_of}
+use Rattle.pb_election.specs.Names.{is_among}
+use Rattle.pb_records.specs.Cells.{is_text}
+use Rattle.pb_election.specs.Markers.{marker_of}
 use Rattle.pb_election.specs.Rows.{ballot_in, cost_in, has_key, id_in, is_approval, is_id, is_known, key_in, needed_columns, read_columns, times, value_in}
 use Rattle.pb_election.specs.Faults.{Before, has_stood, is_no_money, lowest_fault, lowest_fault_at_end}
 use Rattle.pb_election.specs.Text.{IsHeader}

@@ -6,8 +6,8 @@ use Rattle.std.proofs.lemmas.Bool.{cases_Bool}
 use Rattle.std.proofs.lemmas.Bool.Decides.{nat_tests}
 use Rattle.std.proofs.lemmas.List.Sums.{sum_by-append}
 use Rattle.csv.specs.Records.{field_at}
-use Rattle.pb_election.specs.Records.{Field, Rec}
-use Rattle.pb_election.proofs.CellLemmas.{field-none}
+use Rattle.pb_records.specs.Records.{Field, Rec}
+use Rattle.pb_records.proofs.CellLemmas.{field-none}
 
 count-cons : (p : Field → Bool) (x : Field) (xs : Rec) → count_by p (x ∷ xs) ≡ count_by p (x ∷ []) + count_by p xs
 count-cons p x xs = sum_by-append (λ y. if p y then 1 else 0) (x ∷ []) xs

@@ -3,7 +3,7 @@ use Rattle.std.proofs.Common.{◌≡◌, ◌∙◌, ◌++◌, List, [], ◌∷�
 use Rattle.std.specs.List.{AllByRecursion, IsDistinct, list_any}
 use Rattle.std.specs.Str.{bytes_eq}
 use Rattle.std.proofs.lemmas.Cmp.{nat_list_eq_equiv}
-use Rattle.pb_election.specs.Records.{Field}
+use Rattle.pb_records.specs.Records.{Field}
 
 pub distinct-at : (xs : List Field) (y : Field) (zs : List Field) → IsDistinct bytes_eq (xs ++ y ∷ zs) → list_any (bytes_eq y) xs ≡ false
 unfolding IsDistinct

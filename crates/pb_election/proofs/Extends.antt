@@ -13,13 +13,15 @@ use Rattle.std.proofs.lemmas.Map.Keys.{IsDistinct-push}
 use Rattle.pb_money.specs.Money.{IsMoney, millionths, money_of}
 use Rattle.pb_money.specs.declared.MoneyFault.{MoneyFault}
 use Rattle.pb_money.proofs.Laws.{is-money}
-use Rattle.pb_election.specs.Records.{Field, Rec}
+use Rattle.pb_records.specs.Records.{Field, Rec}
 use Rattle.pb_election.specs.Instance.{approvals}
 use Rattle.pb_election.specs.declared.keys.Key.{Key}
 use Rattle.pb_election.specs.declared.keys.Key.TheVariants.{Budget, NumProjects, NumVotes, VoteType}
 use Rattle.pb_election.specs.declared.sections.Section.{Section}
 use Rattle.pb_election.specs.declared.sections.Section.TheVariants.{Meta, Projects, Votes}
-use Rattle.pb_election.specs.Cells.{is_among, is_marker, is_text, marker_of, marks}
+use Rattle.pb_election.specs.Names.{is_among}
+use Rattle.pb_election.specs.Markers.{is_marker, marker_of, marks}
+use Rattle.pb_records.specs.Cells.{is_text}
 use Rattle.pb_election.specs.Rows.{ballot_in, ballots_in, columns_of, cost_in, costs_in, funded_in, has_key, id_in, ids_in, is_approval, is_id, is_known, is_yes, key_in, others_in, says_neither, selected_in, stated_value, value_in, vote_column}
 use Rattle.pb_election.specs.Faults.{has_stood, is_no_money, keys_in, lowest_fault}
 use Rattle.pb_election.specs.Text.{EachKeyOnce, IsPart, lines, Part}
@@ -372,8 +374,7 @@ next-vote a b c r =
     let ids = ids_in (columns_of b.header) b.rows in
     let vote = vote_column c.header in
     let split : ballots_in vote ids (c.rows ++ (r ∷ [])) ≡ ballots_in vote ids c.rows ++ (ballot_in vote ids r ∷ []) = map-append (ballot_in vote ids) c.rows (r ∷ []) in
-    let total : approvals (ballots_in vote ids c.rows ++ (ballot_in vote ids r ∷ [])) ≡ approvals (ballots_in vote ids c.rows) + length (ballot_in vote ids r) = omega (arith, sum_by-append length (ballots_in vote ids c.rows) (ballot_in vote ids r ∷ [])) in
-    rw (split, total) refl
+    rw split refl
 
 -- One more record.
 

@@ -10,11 +10,11 @@ use Rattle.std.specs.declared.string.String.{String}
 use Rattle.std.proofs.lemmas.Iterator.Adapters.{position_from-zero}
 use Rattle.std.proofs.lemmas.List.{map-append}
 use Rattle.indexmap.specs.IndexSet.{insert_key}
-use Rattle.pb_election.specs.Records.{Field}
-use Rattle.pb_election.specs.Cells.{is_among}
+use Rattle.pb_records.specs.Records.{Field}
+use Rattle.pb_election.specs.Names.{is_among}
 use Rattle.pb_election.specs.Ids.{ids_kept}
 use Rattle.pb_election.specs.Rows.{is_control, is_id}
-use Rattle.pb_election.proofs.CellLemmas.{empty-is}
+use Rattle.pb_records.proofs.CellLemmas.{empty-is}
 
 any-map : {A B : Type 0} (p : B → Bool) (f : A → B) (xs : List A) → list_any (λ x. p (f x)) xs ≡ list_any p (map f xs)
 any-map p f [] = refl

@@ -6,7 +6,7 @@ use Rattle.std.specs.Option.{option_map_or}
 use Rattle.std.proofs.lemmas.Bool.{cases_Bool}
 use Rattle.std.proofs.lemmas.List.Folds.{find-append}
 use Rattle.std.proofs.lemmas.List.Sums.{sum_by-append}
-use Rattle.pb_election.specs.Records.{Field, Rec}
+use Rattle.pb_records.specs.Records.{Field, Rec}
 use Rattle.pb_election.specs.declared.keys.Key.{Key}
 use Rattle.pb_election.specs.declared.keys.Key.TheVariants.{Budget, NumProjects, NumVotes, VoteType}
 use Rattle.pb_election.specs.Rows.{has_key, key_in, same_key, stated_value, value_in}

@@ -8,15 +8,15 @@ use Rattle.std.proofs.lemmas.List.{take_all}
 use Rattle.std.proofs.lemmas.List.Elements.{filter-append}
 use Rattle.std.proofs.lemmas.Option.{slice_get_past}
 use Rattle.std.proofs.Math.Seq.{take-append_seam}
-use Rattle.pb_election.specs.Records.{Rec}
+use Rattle.pb_records.specs.Records.{Rec}
 use Rattle.pb_election.specs.Instance.{Instance}
-use Rattle.pb_election.specs.declared.drafts.Stop.{Stop}
-use Rattle.pb_election.specs.declared.drafts.Stop.TheVariants.{Fault, Memory}
+use Rattle.pb_records.specs.declared.drafts.Stop.{Stop}
+use Rattle.pb_records.specs.declared.drafts.Stop.TheVariants.{Fault, Memory}
 use Rattle.pb_election.specs.declared.refusal.ElectionFault.{ElectionFault}
 use Rattle.pb_election.specs.declared.refusal.ElectionFault.TheVariants.{NotUtf8}
-use Rattle.pb_election.specs.Drafts.{StopsAt, Takes}
-use Rattle.pb_election.specs.Cells.{is_blank, is_text, nonblank}
-use Rattle.pb_election.specs.FirstFault.{NoFault, fault_after, fault_at}
+use Rattle.pb_records.specs.Drafts.{StopsAt, Takes}
+use Rattle.pb_records.specs.Cells.{is_blank, is_text, nonblank}
+use Rattle.pb_records.specs.FirstFault.{NoFault, fault_after, fault_at}
 use Rattle.pb_election.specs.Faults.{PbFault, before_of, election_form, lowest_fault, lowest_fault_at_end}
 use Rattle.pb_election.specs.Text.{PbText}
 use Rattle.pb_election.specs.SoFar.{SoFar, Steps, before_next, election_of, next, nothing, step, step_by}

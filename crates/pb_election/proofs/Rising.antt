@@ -16,8 +16,8 @@ use Rattle.std.proofs.lemmas.List.Kept.{Contains-dedup_nat, Contains-from_dedup}
 use Rattle.std.proofs.lemmas.List.Sorted.{list_any-IsPermutation}
 use Rattle.std.proofs.lemmas.Map.Keys.{IsStrictlyIncreasing-dedup}
 use Rattle.std.proofs.lemmas.Map.Views.{Contains-from_any, list_any-from_Contains}
-use Rattle.pb_election.specs.Records.{Field}
-use Rattle.pb_election.specs.Cells.{is_among}
+use Rattle.pb_records.specs.Records.{Field}
+use Rattle.pb_election.specs.Names.{is_among}
 use Rattle.pb_election.specs.Ids.{position_in}
 use Rattle.pb_election.specs.Rows.{positions_of}
 

@@ -9,14 +9,15 @@ use Rattle.std.proofs.lemmas.List.Sums.{count_by-le-length}
 use Rattle.csv.specs.Records.{field_at}
 use Rattle.pb_money.specs.Digits.{drop_back, drop_front}
 use Rattle.pb_money.specs.Money.{IsMoney, millionths, most_money}
-use Rattle.pb_election.specs.Records.{Field, Rec}
+use Rattle.pb_records.specs.Records.{Field, Rec}
 use Rattle.pb_election.specs.Instance.{Instance, IsSet}
 use Rattle.pb_election.specs.declared.columns.Columns.{Columns}
 use Rattle.pb_election.specs.declared.keys.Key.TheVariants.{Budget}
-use Rattle.pb_election.specs.Cells.{clean, is_among, is_text}
+use Rattle.pb_records.specs.Cells.{clean, is_text}
+use Rattle.pb_election.specs.Names.{is_among}
 use Rattle.pb_election.specs.Rows.{ballot_in, ballots_in, columns_of, cost_in, costs_in, funded_in, id_in, ids_in, is_id, is_yes, names_in, positions_of, says_neither, selected_in, stated_value, under, vote_column}
 use Rattle.pb_election.specs.Text.{IsElection, IsId, PbText, lines}
-use Rattle.pb_election.proofs.Cleaning.{clean-clean, is_utf8-clean}
+use Rattle.pb_records.proofs.Cleaning.{clean-clean, is_utf8-clean}
 
 -- Ballots.
 

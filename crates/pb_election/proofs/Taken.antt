@@ -4,12 +4,14 @@ use Rattle.std.specs.Prelude.{IsTrue, ◌&&◌, ◌||◌, ◌==◌, find, nat_lt
 use Rattle.std.specs.List.{AllByRecursion, list_any}
 use Rattle.std.specs.Option.{option_map_or}
 use Rattle.std.proofs.lemmas.Bool.{cases_Bool}
-use Rattle.pb_election.specs.Records.{Field, Rec}
+use Rattle.pb_records.specs.Records.{Field, Rec}
 use Rattle.pb_election.specs.declared.refusal.ElectionFault.{ElectionFault}
 use Rattle.pb_election.specs.declared.sections.Role.TheVariants.{First, Header, Inside}
 use Rattle.pb_election.specs.declared.sections.Section.{Section}
 use Rattle.pb_election.specs.declared.sections.Section.TheVariants.{Meta, Projects, Votes}
-use Rattle.pb_election.specs.Cells.{is_among, is_marker, is_text, marks}
+use Rattle.pb_election.specs.Names.{is_among}
+use Rattle.pb_election.specs.Markers.{is_marker, marks}
+use Rattle.pb_records.specs.Cells.{is_text}
 use Rattle.pb_election.specs.declared.refusal.ElectionFault.TheVariants as fault
 use Rattle.pb_election.specs.declared.keys.Key.TheVariants.{Budget, VoteType}
 use Rattle.pb_election.specs.Rows.{ballot_in, cost_in, has_key, id_in, is_approval, is_id, is_known, key_in, needed_columns, read_columns, times, value_in}

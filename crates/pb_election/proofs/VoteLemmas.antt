@@ -10,8 +10,9 @@ use Rattle.std.proofs.lemmas.List.{map-append, take-append-drop}
 use Rattle.std.proofs.lemmas.Str.{IsCharBoundary-after_ascii, IsCharBoundary-before_ascii}
 use Rattle.std.proofs.Math.Seq.{drop-cons}
 use Rattle.pb_money.specs.Digits.{is_empty}
-use Rattle.pb_election.specs.Records.{Field}
-use Rattle.pb_election.specs.Cells.{clean, cut_at, is_among}
+use Rattle.pb_records.specs.Records.{Field}
+use Rattle.pb_records.specs.Cells.{clean}
+use Rattle.pb_election.specs.Names.{cut_at, is_among}
 use Rattle.pb_election.specs.Ids.{position_in}
 use Rattle.pb_election.specs.Rows.{names_in}
 

@@ -4,13 +4,13 @@ use Rattle.std.specs.Prelude.{◌≡◌, ◌++◌, IfSome, IsTrue, List, [], ◌
 use Rattle.std.specs.List.{AllByRecursion}
 use Rattle.std.specs.Option.{option_map_or}
 use Rattle.pb_money.specs.Money.{IsMoney, millionths}
-use Rattle.pb_election.specs.Records.{Rec}
-use Rattle.pb_election.specs.Instance.{approvals}
+use Rattle.pb_records.specs.Records.{Rec}
 use Rattle.pb_election.specs.declared.keys.Key.TheVariants.{Budget, NumProjects, NumVotes, VoteType}
 use Rattle.pb_election.specs.declared.sections.Role.{Role}
 use Rattle.pb_election.specs.declared.sections.Role.TheVariants.{First, Header, Inside}
 use Rattle.pb_election.specs.declared.sections.Section.TheVariants.{Meta, Projects, Votes}
-use Rattle.pb_election.specs.Cells.{is_text, marker_of}
+use Rattle.pb_records.specs.Cells.{is_text}
+use Rattle.pb_election.specs.Markers.{marker_of}
 use Rattle.pb_election.specs.Rows.{ballots_in, columns_of, costs_in, declared_count, funded_in, ids_in, is_approval, others_in, stated_value, vote_column}
 use Rattle.pb_election.specs.Faults.{keys_in}
 use Rattle.pb_election.specs.Text.{AreMetaRows, AreProjectRows, AreVoteRows, EachKeyOnce, IsHeader, IsPart, Part, lines}
@@ -43,7 +43,6 @@ abbrev pub so_far_in : Role → Part → Part → Part → SoFar
 so_far_in role a b c =
     let columns = columns_of b.header in
     let ids = ids_in columns b.rows in
-    let ballots = ballots_in (vote_column c.header) ids c.rows in
     record {
       role = role;
       keys = keys_in a.rows;
@@ -56,8 +55,7 @@ so_far_in role a b c =
       selected = funded_in columns b.rows;
       other_selected = others_in columns b.rows;
       vote_column = vote_column c.header;
-      ballots = ballots;
-      approvals = approvals ballots;
+      ballots = ballots_in (vote_column c.header) ids c.rows;
     }
 
 abbrev pub so_far_of : Beginning → SoFar

@@ -1,6 +1,5 @@
 -- For the code's own `Election`: which `Instance` it stands for. What callers are promised is said of the `Instance`,
 -- without this module.
-use Rattle.std.specs.Prelude.{map}
 use Rattle.std.specs.Option.{option_map}
 use Rattle.pb_election.specs.Ids.{ids_kept}
 use Rattle.pb_election.specs.Instance.{Instance}
@@ -16,5 +15,5 @@ instance_of a =
       other_selected = a.other_selected;
       declared_projects = a.declared_projects;
       declared_votes = a.declared_votes;
-      ballots = map (λ ballot. ballot.items) a.ballots.items;
+      ballots = a.ballots;
     }

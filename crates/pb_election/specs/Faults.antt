@@ -4,10 +4,12 @@ use Rattle.std.specs.Prelude.{◌+◌, ◌==◌, ◌&&◌, ◌||◌, not, nat_lt
 use Rattle.std.specs.List.{last_or, list_any}
 use Rattle.std.specs.Option.{option_map_or}
 use Rattle.pb_money.specs.Money.{money_of}
-use Rattle.pb_election.specs.Records.{Field, Rec, election_records}
+use Rattle.pb_records.specs.Records.{Field, Rec, election_records}
 use Rattle.pb_election.specs.Instance.{approvals, most_approvals, most_projects, most_voters}
-use Rattle.pb_election.specs.Cells.{is_among, is_marker, is_text, marks, same_section}
-use Rattle.pb_election.specs.FirstFault.{Form, IsFirstFault}
+use Rattle.pb_election.specs.Names.{is_among}
+use Rattle.pb_election.specs.Markers.{is_marker, marks, same_section}
+use Rattle.pb_records.specs.Cells.{is_text}
+use Rattle.pb_records.specs.FirstFault.{Form, IsFirstFault}
 use Rattle.pb_election.specs.Rows.{ballot_in, ballots_in, columns_of, cost_in, has_key, id_in, ids_in, is_approval, is_id, is_known, key_in, needed_columns, read_columns, times, value_in, vote_column}
 use Rattle.pb_election.specs.declared.refusal.ElectionFault.{ElectionFault}
 use Rattle.pb_election.specs.declared.refusal.ElectionFault.TheVariants as fault

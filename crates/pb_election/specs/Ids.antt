@@ -5,7 +5,7 @@ use Rattle.std.specs.Global.{Global}
 use Rattle.std.specs.List.{position_from}
 use Rattle.std.specs.Str.{bytes_eq}
 use Rattle.std.specs.declared.string.String.{String}
-use Rattle.pb_election.specs.Records.{Field}
+use Rattle.pb_records.specs.Records.{Field}
 
 -- the ids of a set of strings, in its order
 abbrev pub ids_kept : List (String Global) → List Field

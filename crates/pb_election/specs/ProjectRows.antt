@@ -2,7 +2,7 @@
 -- Faults, without this module.
 use Rattle.std.specs.Prelude.{◌≡◌, ◌+◌, ◌++◌, ◌&&◌, if◌then◌else◌, is_some, ℕ, [], ◌∷◌}
 use Rattle.std.specs.Option.{option_map}
-use Rattle.pb_election.specs.Records.{Field}
+use Rattle.pb_records.specs.Records.{Field}
 use Rattle.pb_election.specs.Ids.{ids_kept}
 use Rattle.pb_election.specs.Rows.{is_neither, is_yes}
 use Rattle.pb_election.specs.declared.election_draft.ProjectRows.{ProjectRows}

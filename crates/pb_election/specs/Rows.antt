@@ -7,8 +7,9 @@ use Rattle.std.specs.Str.{byte, bytes_eq}
 use Rattle.pb_money.specs.Digits.{is_empty}
 use Rattle.pb_money.specs.Money.{millionths}
 use Rattle.pb_money.specs.Whole.{whole_of}
-use Rattle.pb_election.specs.Records.{Field, Rec}
-use Rattle.pb_election.specs.Cells.{cell, clean, cut_at, is_among, lower}
+use Rattle.pb_records.specs.Records.{Field, Rec}
+use Rattle.pb_records.specs.Cells.{cell, clean}
+use Rattle.pb_election.specs.Names.{cut_at, is_among, lower}
 use Rattle.pb_election.specs.declared.columns.Columns.{Columns}
 use Rattle.pb_election.specs.declared.keys.Key.{Key}
 use Rattle.pb_election.specs.declared.keys.Key.TheVariants.{Budget, NumProjects, NumVotes, VoteType}

@@ -3,8 +3,8 @@
 use Rattle.std.specs.Prelude.{◌≡◌, ◌+◌, ◌++◌, ⊤, if◌then◌else◌, Bool, true, false, ℕ, List, [], ◌∷◌, length, Option, Some, None, Result, Ok, Err}
 use Rattle.std.specs.Option.{option_map}
 use Rattle.pb_money.specs.Money.{millionths}
-use Rattle.pb_election.specs.Records.{Field, Rec}
-use Rattle.pb_election.specs.Instance.{Instance}
+use Rattle.pb_records.specs.Records.{Field, Rec}
+use Rattle.pb_election.specs.Instance.{Instance, approvals}
 use Rattle.pb_election.specs.declared.columns.Columns.{Columns}
 use Rattle.pb_election.specs.declared.keys.Key.{Key}
 use Rattle.pb_election.specs.declared.keys.Key.TheVariants.{Budget, NumProjects, NumVotes, VoteType}
@@ -13,9 +13,9 @@ use Rattle.pb_election.specs.declared.sections.Role.{Role}
 use Rattle.pb_election.specs.declared.sections.Role.TheVariants.{First, Header, Inside}
 use Rattle.pb_election.specs.declared.sections.Section.TheVariants.{Meta, Projects, Votes}
 use Rattle.pb_election.specs.declared.refusal.ElectionFault.{ElectionFault}
-use Rattle.pb_election.specs.declared.drafts.Stop.{Stop}
-use Rattle.pb_election.specs.declared.drafts.Stop.TheVariants.{Fault, Memory}
-use Rattle.pb_election.specs.Cells.{is_marker}
+use Rattle.pb_records.specs.declared.drafts.Stop.{Stop}
+use Rattle.pb_records.specs.declared.drafts.Stop.TheVariants.{Fault, Memory}
+use Rattle.pb_election.specs.Markers.{is_marker}
 use Rattle.pb_election.specs.Rows.{ballot_in, columns_of, cost_in, count_in, funded_in, id_in, is_yes, key_in, says_neither, selected_in, value_in, vote_column}
 use Rattle.pb_election.specs.Faults.{Before, lowest_fault}
 
@@ -32,12 +32,11 @@ pub record SoFar : Type 0 where
   pub other_selected : ℕ
   pub vote_column : Option ℕ
   pub ballots : List (List ℕ)
-  pub approvals : ℕ
 
 -- what the faults at the next place depend on
 abbrev pub before_next : SoFar → Before
 before_next s =
-    record { role = s.role; keys = s.keys; columns = s.columns; ids = s.ids; vote_column = s.vote_column; voters = length s.ballots; approvals = s.approvals }
+    record { role = s.role; keys = s.keys; columns = s.columns; ids = s.ids; vote_column = s.vote_column; voters = length s.ballots; approvals = approvals s.ballots }
 
 abbrev pub with_role : Role → SoFar → SoFar
 with_role role s = record s { role = role }
@@ -62,7 +61,7 @@ with_project r s =
 
 -- one more row of VOTES
 abbrev pub with_ballot : List ℕ → SoFar → SoFar
-with_ballot ballot s = record s { ballots = s.ballots ++ (ballot ∷ []); approvals = s.approvals + length ballot }
+with_ballot ballot s = record s { ballots = s.ballots ++ (ballot ∷ []) }
 
 -- one more record, at which no fault stands
 abbrev pub next_by : Role → SoFar → Rec → SoFar
@@ -93,7 +92,6 @@ nothing =
       other_selected = 0;
       vote_column = None;
       ballots = [];
-      approvals = 0;
     }
 
 -- what one more record does: the fault with the lowest number there, or it is taken

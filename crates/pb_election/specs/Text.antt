@@ -5,9 +5,10 @@ use Rattle.std.specs.Option.{option_map_or}
 use Rattle.std.specs.List.{AllByRecursion, IsDistinct}
 use Rattle.std.specs.Str.{bytes_eq, is_utf8}
 use Rattle.pb_money.specs.Money.{IsMoney, millionths, most_money}
-use Rattle.pb_election.specs.Records.{Field, Rec, election_records}
+use Rattle.pb_records.specs.Records.{Field, Rec, election_records}
 use Rattle.pb_election.specs.Instance.{Instance, IsBallot, approvals, most_approvals, most_projects, most_voters, projects, voters}
-use Rattle.pb_election.specs.Cells.{clean, is_text, marker_of, nonblank}
+use Rattle.pb_records.specs.Cells.{clean, is_text, nonblank}
+use Rattle.pb_election.specs.Markers.{marker_of}
 use Rattle.pb_election.specs.Rows.{ballots_in, columns_of, cost_in, costs_in, declared_count, funded_in, has_key, id_in, ids_in, is_approval, is_id, is_known, needed_columns, others_in, read_columns, read_keys, stated_value, times, vote_column}
 use Rattle.pb_election.specs.declared.columns.Columns.{Columns}
 use Rattle.pb_election.specs.declared.keys.Key.TheVariants.{Budget, NumProjects, NumVotes, VoteType}

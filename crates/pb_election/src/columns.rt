@@ -2,12 +2,13 @@
 ghost use Rattle.std.specs.Prelude.{◌≡◌, ◌<◌, ◌+◌, ◌^◌, ◌==◌, nat_lt, drop, IfSome};
 ghost use Rattle.std.specs.List.{list_any, position_from};
 ghost use Rattle.csv.specs.Records.{fields_of};
-ghost use Rattle.pb_election.specs.Cells.{lower};
+ghost use Rattle.pb_election.specs.Names.{lower};
 ghost use Rattle.pb_election.specs.Rows as rows;
 
-use crate::cells::{cell, clean, is_named};
+use crate::markers::is_named;
 use crate::sections::Section;
 use csv::StringRecord;
+use pb_records::{cell, clean};
 
 /// The places of the columns of PROJECTS that are read, from 0.
 #[derive(Clone, Copy, Debug, PartialEq, Eq)]

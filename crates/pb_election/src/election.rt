@@ -6,12 +6,12 @@ ghost use Rattle.pb_election.specs.Instance as spec;
 ghost use Rattle.pb_election.specs.Instance.{Instance, IsBallot, IsProject, IsVoter, most_projects};
 ghost use Rattle.pb_election.specs.Text.{IsElection, IsTextOf};
 
-use crate::drafts::{FaultAt, Stop, take_all};
 use crate::election_draft::ElectionDraft;
 use crate::ids::position_of;
 use crate::{ElectionFault, Refusal};
 use indexmap::IndexSet;
 use pb_money::Money;
+use pb_records::{FaultAt, Runs, Stop, take_all};
 use std::alloc::Global;
 use std::marker::Model;
 
@@ -27,7 +27,7 @@ pub struct Election {
     pub(crate) other_selected: u32,
     pub(crate) declared_projects: Option<u64>,
     pub(crate) declared_votes: Option<u64>,
-    pub(crate) ballots: Vec<Vec<u32>>,
+    pub(crate) ballots: Runs<u32>,
 }
 
 impl Model for Election {
@@ -45,7 +45,7 @@ impl Model for Election {
 
 impl Election {
     /// The election that the bytes of a file in Pabulib's format state, or the first fault because of which they state
-    /// none. `Memory` comes only where the allocator refused to grow something.
+    /// none. `Memory` comes only where a growth was refused, which is tested and not proved.
     pub fn read(alloc: Global, bytes: &[u8]) -> Result<Election, Refusal>
         // What is answered is what the file states, and it is sound.
         ensures found { IfOk result (λ e. IsTextOf bytes.now e × IsElection e) }
@@ -56,7 +56,7 @@ impl Election {
         // Where the file states an election, that one is answered, memory aside.
         ensures only { (e : Instance) → IsTextOf bytes.now e → MatchResult result (λ found. found ≡ e) (λ r. r ≡ no_memory) }
     {
-        let mut draft = ElectionDraft::new(alloc);
+        let mut draft = ElectionDraft::new(alloc)?;
         match take_all(alloc, bytes, b';', &(), &mut draft) {
             Ok(()) => Ok(draft.into_election()),
             Err(Stop::Fault(FaultAt { fault, place })) => Err(Refusal { fault, place }),
@@ -123,7 +123,7 @@ impl Election {
         ensures value { result.now ≡ spec.ballot_of self.now i }
         ensures rising { IsBallot self.now result.now }
     {
-        &self.ballots[i as usize - 1]
+        self.ballots.get(i as usize - 1)
     }
 
     /// Whether voter i approves project j, both numbered from 1.

@@ -1,8 +1,10 @@
 //! An election as far as its file has been read.
-ghost use Rattle.std.specs.Prelude.{◌≡◌, ◌≤◌, ◌<◌, ◌+◌, true, false, length, None, Some, OnOk};
+ghost use Rattle.std.specs.Prelude.{◌≡◌, ◌≤◌, ◌<◌, ◌+◌, true, false, length, None, Some, IfOk, OnOk};
 ghost use Rattle.csv.specs.Records.{fields_of};
 ghost use Rattle.pb_election.specs.Beginnings.{HasRead};
-ghost use Rattle.pb_election.specs.Cells.{is_among, is_text, marker_of};
+ghost use Rattle.pb_election.specs.Names.{is_among};
+ghost use Rattle.pb_records.specs.Cells.{is_text};
+ghost use Rattle.pb_election.specs.Markers.{marker_of};
 ghost use Rattle.pb_election.specs.Faults.{election_form, lowest_fault_at_end};
 ghost use Rattle.pb_election.specs.Ids.{ids_kept};
 ghost use Rattle.pb_election.specs.Instance.{most_projects};
@@ -11,18 +13,18 @@ ghost use Rattle.pb_election.specs.SoFar.{Steps, before_next, election_of, nothi
 ghost use Rattle.pb_election.specs.Text.{IsElection};
 ghost use Rattle.pb_election.specs.ProjectRows.{AddsProject};
 
-use crate::cells::{cell, marker_of};
 use crate::columns::{Columns, columns_of, misses, repeats, under, vote_column};
-use crate::drafts::{Draft, Stop};
 use crate::election::Election;
 use crate::ids::{add_id, has_id, is_id};
 use crate::keys::{Key, Keys, count_in, is_approval, key_in};
+use crate::markers::marker_of;
 use crate::refusal::ElectionFault;
 use crate::sections::{Role, Section};
 use crate::votes::ballot_in;
 use csv::StringRecord;
 use indexmap::IndexSet;
 use pb_money::Money;
+use pb_records::{Draft, Runs, Stop, cell};
 use std::alloc::{AllocError, Global};
 use std::marker::Model;
 
@@ -58,8 +60,9 @@ pub(crate) struct ProjectRows {
 #[derive(Drop)]
 pub(crate) struct VoteRows {
     pub column: Option<usize>,
-    pub ballots: Vec<Vec<u32>>,
-    pub approvals: usize,
+    pub ballots: Runs<u32>,
+    // The ballot of the row at hand.
+    pub ballot: Vec<u32>,
 }
 
 /// What has been read of an election's file.
@@ -73,10 +76,10 @@ pub(crate) struct ElectionDraft {
 }
 
 impl Model for ElectionDraft {
-    ghost use Rattle.std.specs.Prelude.{◌≤◌, length, map};
+    ghost use Rattle.std.specs.Prelude.{◌≤◌, length};
     ghost use Rattle.std.specs.Option.{option_map};
     ghost use Rattle.pb_election.specs.Ids.{ids_kept};
-    ghost use Rattle.pb_election.specs.Instance.{most_approvals, most_projects};
+    ghost use Rattle.pb_election.specs.Instance.{approvals, most_approvals, most_projects};
     ghost use Rattle.pb_election.specs.SoFar.{SoFar};
 
     ghost Value = { SoFar };
@@ -93,18 +96,17 @@ impl Model for ElectionDraft {
       selected = option_map (λ v. v.items) a.projects.selected;
       other_selected = a.projects.other_selected;
       vote_column = a.votes.column;
-      ballots = map (λ v. v.items) a.votes.ballots.items;
-      approvals = a.votes.approvals;
+      ballots = a.votes.ballots;
     } };
 
-    ghost invariant = { λ a. (length a.projects.ids.keys ≤ most_projects) × (a.projects.other_selected ≤ length a.projects.ids.keys) × (a.votes.approvals ≤ most_approvals) };
+    ghost invariant = { λ a. (length a.projects.ids.keys ≤ most_projects) × (a.projects.other_selected ≤ length a.projects.ids.keys) × (approvals a.votes.ballots ≤ most_approvals) };
 }
 
 impl ElectionDraft {
-    pub fn new(alloc: Global) -> ElectionDraft
-        ensures { result ≡ nothing }
+    pub fn new(alloc: Global) -> Result<ElectionDraft, AllocError>
+        ensures { IfOk result (λ draft. draft ≡ nothing) }
     {
-        ElectionDraft {
+        Ok(ElectionDraft {
             alloc,
             role: Role::First,
             meta: MetaRows {
@@ -131,10 +133,10 @@ impl ElectionDraft {
             },
             votes: VoteRows {
                 column: None,
-                ballots: Vec::new(alloc),
-                approvals: 0,
+                ballots: Runs::new(alloc)?,
+                ballot: Vec::new(alloc),
             },
-        }
+        })
     }
 
     // One more record, which is text and not blank.
@@ -328,28 +330,23 @@ impl ElectionDraft {
         if marker_of(row).is_some() {
             return Err(Stop::Fault(ElectionFault::UnexpectedSection));
         }
-        let Ok(named) = ballot_in(
-            self.alloc,
-            &self.projects.ids,
-            under(self.votes.column, row),
-        ) else {
+        let vote = under(self.votes.column, row);
+        let Ok(known) = ballot_in(&self.projects.ids, vote, &mut self.votes.ballot) else {
             return Err(Stop::Memory);
         };
-        let Some(ballot) = named else {
+        if !known {
             return Err(Stop::Fault(ElectionFault::UnknownProject));
-        };
+        }
         if self.votes.ballots.len() >= MOST_VOTERS {
             return Err(Stop::Fault(ElectionFault::TooMany));
         }
-        if ballot.len() > MOST_APPROVALS - self.votes.approvals {
+        if self.votes.ballot.len() > MOST_APPROVALS - self.votes.ballots.total_len() {
             return Err(Stop::Fault(ElectionFault::TooMany));
         }
-        let approvals = self.votes.approvals + ballot.len();
-        if self.votes.ballots.push(ballot).is_err() {
-            return Err(Stop::Memory);
+        match self.votes.ballots.push(&self.votes.ballot) {
+            Ok(()) => Ok(()),
+            Err(_) => Err(Stop::Memory),
         }
-        self.votes.approvals = approvals;
-        Ok(())
     }
 
     // The fault of the end of the file, if it has one here.

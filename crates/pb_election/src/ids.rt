@@ -2,7 +2,7 @@
 ghost use Rattle.std.specs.Prelude.{◌≡◌, ◌≤◌, ◌∷◌, ◌++◌, [], false, length, IfSome, OnOk, OnErr};
 ghost use Rattle.std.specs.List.{list_any, position_from};
 ghost use Rattle.std.specs.Str.{bytes_eq};
-ghost use Rattle.pb_election.specs.Cells.{is_among};
+ghost use Rattle.pb_election.specs.Names.{is_among};
 ghost use Rattle.pb_election.specs.Ids.{ids_kept};
 ghost use Rattle.pb_election.specs.Rows as rows;
 

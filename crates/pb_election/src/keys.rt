@@ -2,13 +2,14 @@
 ghost use Rattle.std.specs.Prelude.{◌≡◌};
 ghost use Rattle.std.specs.Str.{bytes_eq};
 ghost use Rattle.csv.specs.Records.{fields_of};
-ghost use Rattle.pb_election.specs.Cells.{lower};
+ghost use Rattle.pb_election.specs.Names.{lower};
 ghost use Rattle.pb_election.specs.Faults as faults;
 ghost use Rattle.pb_election.specs.Rows as rows;
 
-use crate::cells::{cell, is_named};
+use crate::markers::is_named;
 use csv::StringRecord;
 use pb_money::read_whole;
+use pb_records::cell;
 
 /// The greatest count that a row of META declares; a greater one is as if it were not there.
 const MOST_DECLARED: u128 = 1_000_000_000_000_000_000;

@@ -3,7 +3,7 @@
 ghost use Rattle.std.specs.Prelude.{◌≡◌, ◌⊎◌, ℕ, List};
 ghost use Rattle.pb_election.specs.Faults.{PbFault};
 ghost use Rattle.pb_election.specs.Instance.{Instance};
-ghost use Rattle.pb_election.specs.Records.{Rec};
+ghost use Rattle.pb_records.specs.Records.{Rec};
 ghost use Rattle.pb_election.specs.Text.{IsElection, PbText};
 ghost use Rattle.pb_election.specs.declared.refusal.ElectionFault.{ElectionFault};
 

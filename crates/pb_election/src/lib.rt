@@ -1,25 +1,20 @@
-//! Elections of participatory budgeting: loading a file, reading an election in Pabulib's format, the outcomes of an
-//! election, and writing out.
+//! Elections of participatory budgeting: reading an election in Pabulib's format, and the outcomes of an election. What
+//! loads a file and writes one out is handed on from `pb_records`.
 #![tactic(auto)]
 
-mod cells;
 mod columns;
-mod drafts;
 mod election;
 mod election_draft;
 mod ids;
 mod keys;
 pub mod laws;
-mod loading;
+mod markers;
 mod outcome;
-mod records;
 mod refusal;
 mod sections;
 mod votes;
 
-pub use cells::{cell, clean, is_blank};
-pub use drafts::{Draft, FaultAt, Stop, take_all};
 pub use election::Election;
-pub use loading::{Input, LoadFault, Output, PutFault, Sink, Source, load, put};
 pub use outcome::Outcome;
+pub use pb_records::{Input, LoadFault, Output, PutFault, Sink, Source, clean, load, put};
 pub use refusal::{ElectionFault, Refusal};

@@ -3,15 +3,15 @@ ghost use Rattle.std.specs.Prelude.{◌≡◌, ◌≤◌, ◌==◌, ◌∷◌, �
 ghost use Rattle.std.specs.List.{list_all, list_any};
 ghost use Rattle.std.specs.Option.{option_copied};
 ghost use Rattle.std.specs.Str.{byte};
-ghost use Rattle.pb_election.specs.Cells.{is_among};
+ghost use Rattle.pb_election.specs.Names.{is_among};
 ghost use Rattle.pb_election.specs.Ids.{ids_kept, position_in};
 ghost use Rattle.pb_election.specs.Instance.{most_projects};
 ghost use Rattle.pb_election.specs.Rows.{names_in, positions_of};
 
-use crate::cells::clean;
 use crate::ids::position_of;
 use indexmap::IndexSet;
-use std::alloc::{AllocError, Global};
+use pb_records::clean;
+use std::alloc::AllocError;
 
 fn first_comma(text: &str) -> Option<usize>
     ensures { result ≡ position (λ b. b == byte ",") text.now }
@@ -31,18 +31,18 @@ fn cut_first(text: &str) -> (&str, Option<&str>)
     }
 }
 
-// The positions of the ids that a vote names, in the vote's order, unless one of them is not kept.
-fn positions_named(
-    alloc: Global,
+// Puts the positions of the ids that a vote names into a list, in the vote's order and in place of what it held, and tells
+// whether each of them is kept.
+fn find_positions(
     ids: &IndexSet<String>,
     vote: &str,
-) -> Result<Option<Vec<u32>>, AllocError>
+    found: &mut Vec<u32>,
+) -> Result<bool, AllocError>
     requires { length (ids_kept ids.now.keys) ≤ most_projects }
-    ensures { let kept = ids_kept ids.now.keys in
-        IfOk result (λ found. MatchOption found (list_all (is_among kept) (names_in vote.now) ≡ false)
-        (λ v. (list_all (is_among kept) (names_in vote.now) ≡ true) × (map Some v.items ≡ map (position_in kept) (names_in vote.now)))) }
+    ensures known { IfOk result (λ known. known ≡ list_all (is_among (ids_kept ids.now.keys)) (names_in vote.now)) }
+    ensures found { IfOk result (λ known. known ≡ true → map Some found.new.items ≡ map (position_in (ids_kept ids.now.keys)) (names_in vote.now)) }
 {
-    let mut found = Vec::new(alloc);
+    found.clear();
     let mut left = Some(vote);
     while let Some(text) = left {
         let (piece, rest) = cut_first(text);
@@ -50,32 +50,31 @@ fn positions_named(
         let name = clean(piece);
         if !name.is_empty() {
             let Some(position) = position_of(ids, name) else {
-                return Ok(None);
+                return Ok(false);
             };
             found.push(position as u32)?;
         }
     }
-    Ok(Some(found))
+    Ok(true)
 }
 
-/// The ballot that a vote states, as the positions of its projects from 1, rising, or `None` where it names a text that is
-/// the id of no project.
+/// Puts the ballot that a vote states into a list in place of what it held, as the positions of its projects from 1, rising.
+/// Tells whether each text that the vote names is the id of a project; where not, the list is left open.
 pub(crate) fn ballot_in(
-    alloc: Global,
     ids: &IndexSet<String>,
     vote: &str,
-) -> Result<Option<Vec<u32>>, AllocError>
+    ballot: &mut Vec<u32>,
+) -> Result<bool, AllocError>
     requires { length (ids_kept ids.now.keys) ≤ most_projects }
-    ensures { let kept = ids_kept ids.now.keys in
-        IfOk result (λ found. MatchOption found (list_all (is_among kept) (names_in vote.now) ≡ false)
-        (λ v. (list_all (is_among kept) (names_in vote.now) ≡ true) × (v.items ≡ positions_of (names_in vote.now) kept))) }
+    ensures known { IfOk result (λ known. known ≡ list_all (is_among (ids_kept ids.now.keys)) (names_in vote.now)) }
+    ensures ballot { IfOk result (λ known. known ≡ true → ballot.new.items ≡ positions_of (names_in vote.now) (ids_kept ids.now.keys)) }
 {
-    let Some(mut ballot) = positions_named(alloc, ids, vote)? else {
-        return Ok(None);
-    };
+    if !find_positions(ids, vote, ballot)? {
+        return Ok(false);
+    }
     // Also tells the proof that no id is kept twice.
     prove!(ids.len() <= 20000);
     ballot.sort_unstable();
     ballot.dedup();
-    Ok(Some(ballot))
+    Ok(true)
 }

@@ -1,9 +1,9 @@
 use Rattle.std.proofs.Common.{◌≡◌, ◌∙◌, sym, ap, arith, true, false}
 use Rattle.std.specs.Str.{bytes_eq}
 use Rattle.csv.specs.Records.{fields_of}
-use Rattle.pb_election.specs.Cells.{lower}
+use Rattle.pb_election.specs.Names.{lower}
 use Rattle.pb_election.specs.Rows.{is_named}
-use Rattle.pb_election.proofs.CellLemmas.{field-some}
+use Rattle.pb_records.proofs.CellLemmas.{field-some}
 use Rattle.pb_election.proofs.ColumnLemmas.{column-behind, column-here, column-none}
 use Rattle.pb_election.proofs.columns.column_from.Goals as goal
 

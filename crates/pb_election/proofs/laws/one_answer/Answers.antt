@@ -1,6 +1,6 @@
 use Rattle.pb_election.specs.Faults.{election_form}
 use Rattle.pb_election.proofs.Apart as apart_lemmas
-use Rattle.pb_election.proofs.First.{one-first}
+use Rattle.pb_records.proofs.First.{one-first}
 use Rattle.pb_election.proofs.FoundParts.{one-election}
 use Rattle.pb_election.proofs.Reading as reading
 use Rattle.pb_election.proofs.Sound as soundness

@@ -1,7 +1,7 @@
 use Rattle.std.proofs.Common.{◌∙◌, ◌∷◌, ◌++◌, ap, sym, take}
 use Rattle.std.specs.List.{list_any}
 use Rattle.std.specs.Str.{byte}
-use Rattle.pb_election.proofs.CellLemmas.{range-start}
+use Rattle.pb_records.proofs.CellLemmas.{range-start}
 use Rattle.pb_election.proofs.VoteLemmas.{comma-boundary, comma-parts, first-comma, is_comma, no-comma}
 use Rattle.pb_election.proofs.votes.cut_first.Goals as goal
 

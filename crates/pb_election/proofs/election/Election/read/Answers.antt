@@ -1,5 +1,5 @@
 use Rattle.std.proofs.Common.{◌∙◌, [], sym, subst}
-use Rattle.pb_election.specs.Records.{election_records}
+use Rattle.pb_records.specs.Records.{election_records}
 use Rattle.pb_election.specs.Beginnings.{HasRead}
 use Rattle.pb_election.specs.SoFar.{SoFar, election_of}
 use Rattle.pb_election.specs.Instance.{Instance}
@@ -11,7 +11,7 @@ use Rattle.pb_election.proofs.Sound.{sound}
 use Rattle.pb_election.proofs.election.Election.read.Goals as goal
 
 pub take_all-requires : goal.take_all-requires
-take_all-requires c = subst (λ (s : SoFar). HasRead s []) (sym c.new-draft.ensures) read-nothing
+take_all-requires c = subst (λ (s : SoFar). HasRead s []) (sym c.in_ok-draft.ensures) read-nothing
 
 pub into_election-requires : goal.into_election-requires
 into_election-requires c =

@@ -1,0 +1,136 @@
+-- The words on cells, step by step.
+use Rattle.std.proofs.Common.{◌≡◌, ◌∙◌, ◌<◌, ◌≤◌, ◌+◌, ◌-◌, ◌++◌, ℕ, zero, suc, [], ◌∷◌, refl, sym, ap, arith, add-one, Bool, true, false, Some, None, length, drop, take, get_or}
+use Rattle.std.specs.Prelude.{◌&&◌, ◌==◌}
+use Rattle.std.specs.List.{list_all, slice_range}
+use Rattle.std.proofs.lemmas.Bool.Decides.{nat_tests}
+use Rattle.std.proofs.lemmas.List.{drop_all}
+use Rattle.std.proofs.lemmas.Str.{IsCharBoundary-after_ascii, IsCharBoundary-before_ascii}
+use Rattle.std.specs.Str.{IsCharBoundary, IsUtf8}
+use Rattle.std.proofs.Math.Seq.{drop-cons, take-suc}
+use Rattle.csv.specs.Records.{field_at}
+use Rattle.pb_money.specs.Digits.{drop_back, drop_front, is_empty}
+use Rattle.pb_records.specs.Records.{Field, Rec}
+use Rattle.pb_records.specs.Cells.{clean, is_blank, is_space}
+
+-- emptiness by the length
+pub empty-is : (xs : Field) → is_empty xs ≡ (length xs == 0)
+empty-is [] = refl
+empty-is (x ∷ xs) = grind (arith, nat_tests)
+
+-- a space is a byte of ASCII
+pub space-ascii : (b : ℕ) → is_space b ≡ true → b < 128
+space-ascii b e = grind (arith, nat_tests)
+
+-- what is dropped at the front: the byte there goes, or all stays. The bytes are those of the text
+front-dropped : (test : ℕ → Bool) (xs : Field) (i : ℕ) → i < length xs → test (get_or xs i 0) ≡ true → drop_front test (drop (i + 1) xs) ≡ drop_front test (drop i xs)
+unfolding drop_front
+front-dropped test xs i h e = rw (add-one i, drop-cons xs i 0 h, e) refl
+
+front-kept : (test : ℕ → Bool) (xs : Field) (i : ℕ) → i < length xs → test (get_or xs i 0) ≡ false → drop_front test (drop i xs) ≡ drop i xs
+unfolding drop_front
+front-kept test xs i h e = rw (drop-cons xs i 0 h, e) refl
+
+front-nil : (test : ℕ → Bool) (xs : Field) (i : ℕ) → length xs ≤ i → drop_front test (drop i xs) ≡ drop i xs
+unfolding drop_front
+front-nil test xs i h = rw (drop_all i xs h) refl
+
+pub front-goes : (bytes text : Field) (i : ℕ) → bytes ≡ text → IsUtf8 text → i < length bytes → is_space (get_or bytes i 0) ≡ true
+    → (drop_front is_space (drop (i + 1) text) ≡ drop_front is_space (drop i text)) × IsCharBoundary text (i + 1)
+front-goes bytes text i same utf8 h e =
+    let h' : i < length text = rw same at h in
+    let e' : is_space (get_or text i 0) ≡ true = rw same at e in
+    (front-dropped is_space text i h' e', IsCharBoundary-after_ascii text i utf8 h' (space-ascii (get_or text i 0) e'))
+
+pub front-stays : (bytes text : Field) (i : ℕ) → bytes ≡ text → i < length bytes → is_space (get_or bytes i 0) ≡ false → drop_front is_space (drop i text) ≡ drop i text
+front-stays bytes text i same h e =
+    let h' : i < length text = rw same at h in
+    let e' : is_space (get_or text i 0) ≡ false = rw same at e in
+    front-kept is_space text i h' e'
+
+pub front-ends : (bytes text : Field) (i : ℕ) → bytes ≡ text → length bytes ≤ i → drop_front is_space (drop i text) ≡ drop i text
+front-ends bytes text i same h =
+    let h' : length text ≤ i = rw same at h in
+    front-nil is_space text i h'
+
+-- what is dropped at the end
+and-no : (p : Bool) → (p && false) ≡ false
+and-no true = refl
+and-no false = refl
+
+not-empty : (xs : Field) (b : ℕ) → is_empty (xs ++ (b ∷ [])) ≡ false
+not-empty [] b = refl
+not-empty (x ∷ xs) b = refl
+
+back-dropped : (test : ℕ → Bool) (bs : Field) (b : ℕ) → test b ≡ true → drop_back test (bs ++ (b ∷ [])) ≡ drop_back test bs
+unfolding drop_back
+back-dropped test [] b e = rw e refl
+back-dropped test (x ∷ xs) b e = rw (back-dropped test xs b e) refl
+
+back-kept : (test : ℕ → Bool) (bs : Field) (b : ℕ) → test b ≡ false → drop_back test (bs ++ (b ∷ [])) ≡ bs ++ (b ∷ [])
+unfolding drop_back
+back-kept test [] b e = rw e refl
+back-kept test (x ∷ xs) b e = rw (back-kept test xs b e, not-empty xs b, and-no (test x)) refl
+
+pub range-start : (text : Field) (end : ℕ) → slice_range text 0 end ≡ take end text
+range-start text end =
+    let z : end - 0 ≡ end = omega arith in
+    rw z refl
+
+-- the text up to a place has the byte before that place last
+last-byte : (bytes text : Field) (end : ℕ) → bytes ≡ text → 0 < end → end ≤ length text → take end text ≡ take (end - 1) text ++ (get_or bytes (end - 1) 0 ∷ [])
+last-byte bytes text end same low high =
+    let n : suc (end - 1) ≡ end = omega arith in
+    let h : end - 1 < length text = omega arith in
+    let t : take end text ≡ take (end - 1) text ++ (get_or text (end - 1) 0 ∷ []) = rw n at (take-suc text (end - 1) 0 h) in
+    rw same t
+
+pub back-goes : (bytes text : Field) (end : ℕ) → bytes ≡ text → 0 < end → end ≤ length text → is_space (get_or bytes (end - 1) 0) ≡ true
+    → (drop_back is_space (take (end - 1) text) ≡ drop_back is_space (take end text)) × IsCharBoundary text (end - 1)
+back-goes bytes text end same low high e =
+    let e' : is_space (get_or text (end - 1) 0) ≡ true = rw same at e in (
+      sym (back-dropped is_space (take (end - 1) text) (get_or bytes (end - 1) 0) e) ∙ ap (drop_back is_space) (sym (last-byte bytes text end same low high)),
+      IsCharBoundary-before_ascii text (end - 1) (omega arith) (space-ascii (get_or text (end - 1) 0) e'),
+    )
+
+pub back-stays : (bytes text : Field) (end : ℕ) → bytes ≡ text → 0 < end → end ≤ length text → is_space (get_or bytes (end - 1) 0) ≡ false → drop_back is_space (take end text) ≡ take end text
+back-stays bytes text end same low high e =
+    let l = last-byte bytes text end same low high in
+    ap (drop_back is_space) l ∙ back-kept is_space (take (end - 1) text) (get_or bytes (end - 1) 0) e ∙ sym l
+
+pub back-ends : (text : Field) (end : ℕ) → end ≤ 0 → drop_back is_space (take end text) ≡ take end text
+unfolding drop_back
+back-ends text end h =
+    let z : end ≡ 0 = omega arith in
+    rw z refl
+
+-- the fields from a place on
+all-drop : (p : Field → Bool) (fs : Rec) (i : ℕ) (f : Field) → field_at fs i ≡ Some f → list_all p (drop i fs) ≡ (p f && list_all p (drop (i + 1) fs))
+unfolding field_at
+all-drop p [] i f e = cc e
+all-drop p (x ∷ xs) zero f e =
+    let s : x ≡ f = cc e in
+    rw s refl
+all-drop p (x ∷ xs) (suc i) f e =
+    let h : list_all p (drop i xs) ≡ (p f && list_all p (drop (suc i) xs)) = rw (add-one i) at (all-drop p xs i f e) in
+    rw (add-one (suc i)) h
+
+pub field-none : (fs : Rec) (i : ℕ) → field_at fs i ≡ None → drop i fs ≡ []
+unfolding field_at
+field-none [] zero e = refl
+field-none [] (suc i) e = refl
+field-none (x ∷ xs) zero e = cc e
+field-none (x ∷ xs) (suc i) e = field-none xs i e
+
+pub field-some : (fs : Rec) (i : ℕ) (f : Field) → field_at fs i ≡ Some f → i < length fs
+unfolding field_at
+field-some [] i f e = cc e
+field-some (x ∷ xs) zero f e = omega arith
+field-some (x ∷ xs) (suc i) f e = omega (arith, field-some xs i f e)
+
+pub blank-drop : (fs : Rec) (i : ℕ) (f : Field) → field_at fs i ≡ Some f → is_blank (drop i fs) ≡ (is_empty (clean f) && is_blank (drop (i + 1) fs))
+unfolding is_blank
+blank-drop fs i f e = all-drop (λ g. is_empty (clean g)) fs i f e
+
+pub blank-none : (fs : Rec) (i : ℕ) → field_at fs i ≡ None → is_blank (drop i fs) ≡ true
+unfolding is_blank
+blank-none fs i e = rw (field-none fs i e) refl

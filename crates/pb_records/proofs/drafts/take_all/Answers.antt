@@ -1,0 +1,33 @@
+use Rattle.pb_records.specs.Records.{records_of}
+use Rattle.pb_records.proofs.DraftProgress.{progress-end, progress-fault, progress-next, progress-none, progress-not-text, progress-start}
+use Rattle.pb_records.proofs.drafts.take_all.Goals as goal
+
+pub rows-init : goal.rows-init
+rows-init g c =
+    rw (c.open-cursor.ensures.left, c.open-cursor.ensures.place) (progress-start (g.D.Draft.form c.args.against.now) (g.D.Draft.HasTaken c.args.against.now c.args.draft.now) (records_of c.args.delimiter c.args.bytes.now) c.requires)
+
+pub returns-in-Ok-NotText-clause-stopped : goal.returns-in-Ok-NotText-clause-stopped
+returns-in-Ok-NotText-clause-stopped g c =
+    let met = rw c.in-Ok-NotText.field-0-is at c.in-Ok-NotText.ensures.next in
+    rw c.place.ensures.value (progress-not-text c.not_text.result c.rows.invariant met c.not_text.ensures)
+
+pub rows-preserved : goal.rows-preserved
+rows-preserved g c =
+    let met = rw c.in-Ok-Record.field-0-is at c.in-Ok-Record.ensures.next in
+    progress-next c.rows.invariant met (rw c.row.ensures at c.in-Ok.ensures.taken)
+
+pub returns-in-Err-Fault-clause-stopped : goal.returns-in-Err-Fault-clause-stopped
+returns-in-Err-Fault-clause-stopped g c =
+    let met = rw c.in-Ok-Record.field-0-is at c.in-Ok-Record.ensures.next in
+    let here = rw c.row.ensures at (rw c.in-Err-Fault.field-0-is at c.in-Err-Fault.ensures.stopped) in
+    rw c.place-in-Err-Fault.ensures.value (progress-fault c.in-Err-Fault.fault c.rows.invariant met here)
+
+pub returns-in-None-clause-none : goal.returns-in-None-clause-none
+returns-in-None-clause-none g c =
+    let met = rw c.in-Ok-End.field-0-is at c.in-Ok-End.ensures.next in
+    progress-none c.rows.invariant met c.in-None.ensures
+
+pub returns-clause-stopped : goal.returns-clause-stopped
+returns-clause-stopped g c =
+    let met = rw c.in-Ok-End.field-0-is at c.in-Ok-End.ensures.next in
+    rw c.place-in-Some.ensures.value (progress-end c.in-Some.fault c.rows.invariant met c.in-Some.ensures)

@@ -1,0 +1,84 @@
+//! Going over the records of a file that are not blank.
+ghost use Rattle.std.specs.Prelude.{◌≡◌, ◌≤◌, ◌^◌, [], IfOk, OnErr};
+ghost use Rattle.csv.specs.Records.{fields_of};
+ghost use Rattle.pb_records.specs.Position.{Meets};
+ghost use Rattle.pb_records.specs.Records.{records_of};
+
+use crate::cells::is_blank;
+use crate::records::{Next, Records};
+use csv::StringRecord;
+use std::alloc::{AllocError, Global};
+use std::marker::Model;
+
+/// A place between the records of a file. Whoever goes over a file pulls its records from here, one at a time. A cursor is
+/// about 16 KiB large: what holds one and is moved keeps it in a `Box`.
+#[derive(Drop)]
+pub struct Cursor<'a> {
+    records: Records<'a>,
+    row: StringRecord,
+    place: u64,
+}
+
+impl<'a> Model for Cursor<'a> {
+    ghost use Rattle.std.specs.Prelude.{◌≤◌, ◌+◌, ◌^◌, length};
+    ghost use Rattle.csv.specs.Records.{fields_of};
+    ghost use Rattle.pb_records.specs.Position.{Position};
+
+    ghost Value = { Position };
+
+    ghost view = { λ a. record { place = a.place; row = fields_of a.row; left = a.records } };
+
+    ghost invariant = { λ a. a.place + length a.records ≤ 2 ^ 63 };
+}
+
+impl<'a> Cursor<'a> {
+    /// Before the first record of a file whose fields are divided by the delimiter.
+    pub fn open(alloc: Global, bytes: &'a [u8], delimiter: u8) -> Cursor<'a>
+        ensures place { result.place ≡ 0 }
+        ensures left { result.left ≡ records_of delimiter bytes.now }
+    {
+        Cursor {
+            records: Records::open(alloc, bytes, delimiter),
+            row: StringRecord::new(alloc),
+            place: 0,
+        }
+    }
+
+    /// Goes behind the next record that is not blank, which `row` then lends. Behind a record that is not UTF-8, and after
+    /// an error, which is want of memory, no record is left: what comes then is the end.
+    pub fn advance(&mut self) -> Result<Next, AllocError>
+        ensures next { IfOk result (λ next. Meets next self.old self.new) }
+        ensures failed { OnErr result (self.new.left ≡ []) }
+    {
+        loop {
+            let next = self.records.read(&mut self.row)?;
+            match next {
+                Next::End => return Ok(Next::End),
+                Next::NotText => {
+                    self.place += 1;
+                    return Ok(Next::NotText);
+                }
+                Next::Record => self.place += 1,
+            }
+            if !is_blank(&self.row) {
+                return Ok(Next::Record);
+            }
+        }
+    }
+
+    /// The record that was given last. What it holds is left open before the first, and wherever none was given.
+    pub fn row(&self) -> &StringRecord
+        ensures { fields_of result.now ≡ self.now.row }
+    {
+        &self.row
+    }
+
+    /// How many records lie behind, blank ones too: the place of the record that was met last, from 1. The end of the file
+    /// has the next place.
+    pub fn place(&self) -> u64
+        ensures value { result ≡ self.now.place }
+        ensures few { result ≤ 2 ^ 63 }
+    {
+        self.place
+    }
+}
