@@ -12,8 +12,8 @@ use Rattle.std.proofs.lemmas.Str.{IsUtf8-from_ascii, is_utf8-from_IsUtf8}
 use Rattle.std.proofs.lemmas.Str.Parse.{IsNumeralModel, digit_from_value, numerals_by_fold, tells_all_ascii_digits}
 use Rattle.pb_money.specs.Digits.{drop_back, drop_front, is_empty, number_of}
 use Rattle.pb_election.specs.Instance.{Instance, IsProject, IsVoter, id_of, projects, voters}
-use Rattle.pb_election.specs.Records.{Field, Rec}
-use Rattle.pb_election.specs.Cells.{clean, is_blank, is_space, is_text, nonblank}
+use Rattle.pb_records.specs.Records.{Field, Rec}
+use Rattle.pb_records.specs.Cells.{clean, is_blank, is_space, is_text, nonblank}
 use Rattle.pb_election.specs.Text.{IsElection}
 use Rattle.pb_certificate.specs.Fields.{fields, project_in, voter_in, whole_in, whole_within}
 use Rattle.pb_certificate.specs.PriceText.{numerator_of, payment_of}

@@ -9,8 +9,8 @@ use Rattle.std.proofs.lemmas.List.Sums.{sum_by-cons}
 use Rattle.std.proofs.lemmas.Str.{is_utf8-from_IsUtf8}
 use Rattle.pb_money.specs.Digits.{drop_back, drop_front}
 use Rattle.pb_election.specs.Instance.{Instance, all_projects, all_voters, projects, voters}
-use Rattle.pb_election.specs.Records.{Rec}
-use Rattle.pb_election.specs.Cells.{is_text}
+use Rattle.pb_records.specs.Records.{Rec}
+use Rattle.pb_records.specs.Cells.{is_text}
 use Rattle.pb_election.specs.Text.{IsElection}
 use Rattle.pb_certificate.specs.Canon.{Canon, canonical_records, head_records, payment_rows, rows_of}
 use Rattle.pb_certificate.specs.Faults.{certificate_records}

@@ -3,8 +3,8 @@ use Rattle.std.proofs.Common.{◌≡◌, ℕ, zero, suc, cond, List, [], ◌∷�
 use Rattle.std.specs.Prelude.{◌&&◌, slice_index_or}
 use Rattle.csv.specs.Records.{field_at}
 use Rattle.pb_money.specs.Digits.{drop_back, drop_front, is_empty}
-use Rattle.pb_election.specs.Records.{Field, Rec}
-use Rattle.pb_election.specs.Cells.{cell, clean}
+use Rattle.pb_records.specs.Records.{Field, Rec}
+use Rattle.pb_records.specs.Cells.{cell, clean}
 use Rattle.pb_certificate.specs.Fields.{fields}
 
 nothing-cleaned : clean [] ≡ []

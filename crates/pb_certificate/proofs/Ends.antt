@@ -3,13 +3,13 @@ use Rattle.std.proofs.Common.{◌≡◌, ◌∙◌, suc, List, length, refl, sym
 use Rattle.std.specs.Prelude.{◌⊎◌}
 use Rattle.std.proofs.lemmas.List.{take_all}
 use Rattle.std.proofs.lemmas.Option.{slice_get_past}
-use Rattle.pb_election.specs.Records.{Rec}
-use Rattle.pb_election.specs.Cells.{nonblank}
-use Rattle.pb_election.specs.Drafts.{StopsFirst}
-use Rattle.pb_election.specs.FirstFault.{Form, IsFirstFault, NoFault, fault_at}
-use Rattle.pb_election.specs.declared.drafts.FaultAt.{FaultAt}
-use Rattle.pb_election.specs.declared.drafts.Stop.{Stop}
-use Rattle.pb_election.specs.declared.drafts.Stop.TheVariants.{Fault, Memory}
+use Rattle.pb_records.specs.Records.{Rec}
+use Rattle.pb_records.specs.Cells.{nonblank}
+use Rattle.pb_records.specs.Drafts.{StopsFirst}
+use Rattle.pb_records.specs.FirstFault.{Form, IsFirstFault, NoFault, fault_at}
+use Rattle.pb_records.specs.declared.drafts.FaultAt.{FaultAt}
+use Rattle.pb_records.specs.declared.drafts.Stop.{Stop}
+use Rattle.pb_records.specs.declared.drafts.Stop.TheVariants.{Fault, Memory}
 use Rattle.pb_certificate.specs.Faults.{no_memory, refusal_of}
 use Rattle.pb_certificate.specs.declared.refusal.CertFault.{CertFault}
 

@@ -4,7 +4,7 @@ use Rattle.std.specs.List.{position_from}
 use Rattle.std.specs.Str.{bytes_eq}
 use Rattle.std.proofs.lemmas.Slice.Eq.{bytes_eq-Decides}
 use Rattle.pb_election.specs.Instance.{Instance, id_of, position_of}
-use Rattle.pb_election.specs.Records.{Field}
+use Rattle.pb_records.specs.Records.{Field}
 
 -- what stands at the first place, from n, that passes
 position-at : (test : Field → Bool) (n : ℕ) (xs : List Field) (k : ℕ) → position_from test n xs ≡ Some k → (n ≤ k) × (test (slice_index_or xs (k - n) []) ≡ true)

@@ -9,7 +9,7 @@ use Rattle.std.proofs.lemmas.Str.Parse.{digit_from_value}
 use Rattle.std.proofs.lemmas.Fmt.{decimal_is_IsNumeral_wide}
 use Rattle.csv.specs.Writing.{default_writer, escaped, field_text, fields_text, is_blank, needs_byte, row_text, with_flexible}
 use Rattle.csv.specs.declared.writer.WriterBuilder.{WriterBuilder}
-use Rattle.pb_election.specs.Records.{Field, Rec}
+use Rattle.pb_records.specs.Records.{Field, Rec}
 use Rattle.pb_money.specs.Digits.{is_empty}
 use Rattle.pb_election.specs.Rows.{is_control, is_id}
 use Rattle.pb_election.specs.Text.{IsId}

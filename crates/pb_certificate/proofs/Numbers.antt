@@ -6,7 +6,7 @@ use Rattle.pb_money.specs.Digits.{are_digits, is_empty, number_of}
 use Rattle.pb_money.specs.Whole.{whole_of}
 use Rattle.pb_money.specs.declared.whole.WholeFault.{WholeFault}
 use Rattle.pb_money.specs.declared.whole.WholeFault.TheVariants as whole
-use Rattle.pb_election.specs.Records.{Field}
+use Rattle.pb_records.specs.Records.{Field}
 use Rattle.pb_election.specs.Instance.{Instance}
 use Rattle.pb_certificate.specs.Fields.{voter_in, whole_in, whole_within}
 use Rattle.pb_certificate.specs.declared.refusal.CertFault.TheVariants as fault

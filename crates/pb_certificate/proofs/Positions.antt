@@ -5,7 +5,7 @@ use Rattle.std.specs.List.{position_from}
 use Rattle.std.specs.Str.{bytes_eq}
 use Rattle.std.proofs.lemmas.Slice.Eq.{bytes_eq-Decides}
 use Rattle.pb_election.specs.Instance.{Instance, IsProject, id_of}
-use Rattle.pb_election.specs.Records.{Field}
+use Rattle.pb_records.specs.Records.{Field}
 use Rattle.pb_certificate.specs.Fields.{project_in}
 
 -- what stands at the first place, from n, that passes

@@ -9,9 +9,9 @@ use Rattle.std.proofs.lemmas.List.Elements.{All-from_recursion}
 use Rattle.std.proofs.lemmas.Option.{option_and_then_some}
 use Rattle.std.proofs.lemmas.Slice.Eq.{bytes_eq-Decides}
 use Rattle.pb_election.specs.Instance.{Instance}
-use Rattle.pb_election.specs.Records.{Field, Rec}
-use Rattle.pb_election.specs.Cells.{cell, is_text}
-use Rattle.pb_election.specs.FirstFault.{IsFirstFault}
+use Rattle.pb_records.specs.Records.{Field, Rec}
+use Rattle.pb_records.specs.Cells.{cell, is_text}
+use Rattle.pb_records.specs.FirstFault.{IsFirstFault}
 use Rattle.pb_certificate.specs.Fields.{fields, number, only_if, project_in, voter_in, whole_in, whole_within}
 use Rattle.pb_certificate.specs.Prices.{Prices}
 use Rattle.pb_certificate.specs.PriceText.{IsPriceText, Payment, numerator_of, payment_by, payment_of, same_pair}
@@ -19,9 +19,8 @@ use Rattle.pb_certificate.specs.Faults.{at_record, price_fault_stands, price_for
 use Rattle.pb_certificate.specs.declared.refusal.CertFault.{CertFault}
 use Rattle.pb_certificate.specs.declared.refusal.CertFault.TheVariants as fault
 use Rattle.pb_certificate.proofs.Cells.{cell-is}
-use Rattle.pb_certificate.proofs.Sweep.{ClearFrom, none-refused}
+use Rattle.pb_certificate.proofs.Sweep.{ClearFrom, apart-more, each-nil, joined-by, no-fault, none-refused, or-false}
 use Rattle.pb_certificate.proofs.Texts.{payment-parts}
-use Rattle.pb_certificate.proofs.OutcomeClear.{apart-more, each-nil, joined-by, no-fault, or-false}
 
 -- what a row says: its three fields, and its payment
 pub record Row (e : Instance) (r : Rec) (q : Payment) : Type 0 where

@@ -2,8 +2,8 @@
 use Rattle.std.proofs.Common.{◌≡◌, ◌∙◌, ℕ, true, length, refl, ap, Some}
 use Rattle.std.specs.Prelude.{◌==◌}
 use Rattle.pb_election.specs.Instance.{Instance}
-use Rattle.pb_election.specs.Records.{Rec}
-use Rattle.pb_election.specs.Cells.{cell}
+use Rattle.pb_records.specs.Records.{Rec}
+use Rattle.pb_records.specs.Cells.{cell}
 use Rattle.pb_certificate.specs.Fields.{fields, project_in, voter_in}
 use Rattle.pb_certificate.specs.PriceText.{numerator_of, payment_by, payment_of}
 use Rattle.pb_certificate.proofs.Heads.{triple-is}

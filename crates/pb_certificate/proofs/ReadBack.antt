@@ -8,7 +8,7 @@ use Rattle.csv.specs.Reading.{default_config, records_from}
 use Rattle.csv.specs.declared.parser.State.TheVariants as st
 use Rattle.csv.proofs.RoundTrip.{read-write}
 use Rattle.pb_election.specs.Instance.{Instance, projects, voters}
-use Rattle.pb_election.specs.Records.{Rec, drop_marks}
+use Rattle.pb_records.specs.Records.{Rec, drop_marks}
 use Rattle.pb_election.specs.Text.{IsElection}
 use Rattle.pb_certificate.specs.Canon.{Canon, canonical_records, comma, head_records, line, line_end, lines, payment_rows, rows_of, written}
 use Rattle.pb_certificate.specs.Faults.{certificate_records}

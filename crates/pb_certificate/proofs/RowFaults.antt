@@ -4,8 +4,8 @@ use Rattle.std.specs.Prelude.{not, ◌==◌, ◌&&◌, ◌||◌, nat_lt, nat_le,
 use Rattle.std.specs.List.{last_or, list_any}
 use Rattle.std.proofs.lemmas.Bool.{le-ltb, ne_eqb}
 use Rattle.pb_election.specs.Instance.{Instance}
-use Rattle.pb_election.specs.Records.{Rec}
-use Rattle.pb_election.specs.Cells.{cell, is_text}
+use Rattle.pb_records.specs.Records.{Rec}
+use Rattle.pb_records.specs.Cells.{cell, is_text}
 use Rattle.pb_certificate.specs.Fields.{fields, number, project_in, same_fields, voter_in, whole_in, whole_within}
 use Rattle.pb_certificate.specs.PriceText.{numerator_of}
 use Rattle.pb_certificate.specs.PriceRows.{row_fault}

@@ -1,11 +1,14 @@
 -- Where no fault stands among the records that are not blank, none stands at any place.
-use Rattle.std.proofs.Common.{◌≡◌, ℕ, zero, suc, ◌+◌, ◌≤◌, Bool, true, false, cond, List, [], ◌∷◌, ◌++◌, length, refl, sym, ◌∙◌, subst, arith, Some, None, append_assoc, append-nil}
-use Rattle.std.specs.Prelude.{not, take, slice_get}
+use Rattle.std.proofs.Common.{◌≡◌, ℕ, zero, suc, ◌+◌, ◌≤◌, Bool, true, false, cond, List, [], ◌∷◌, ◌++◌, length, refl, sym, ◌∙◌, subst, arith, Option, Some, None, append_assoc, append-nil}
+use Rattle.std.specs.Prelude.{◌||◌, not, find, map, take, slice_get}
+use Rattle.std.specs.List.{AllByRecursion}
 use Rattle.std.proofs.lemmas.List.Elements.{filter-append}
-use Rattle.pb_election.specs.Records.{Rec}
-use Rattle.pb_election.specs.Cells.{is_blank, nonblank}
-use Rattle.pb_election.specs.FirstFault.{Form, IsFirstFault, fault_after, fault_at}
+use Rattle.pb_records.specs.Records.{Rec}
+use Rattle.pb_records.specs.Cells.{is_blank, nonblank}
+use Rattle.pb_records.specs.FirstFault.{Form, IsFirstFault, fault_after, fault_at}
+use Rattle.pb_certificate.specs.Faults.{in_order}
 use Rattle.pb_certificate.specs.declared.refusal.CertFault.{CertFault}
+use Rattle.pb_certificate.specs.declared.refusal.CertFault.TheVariants as fault
 
 -- no fault stands from here on, after the records before that are not blank
 abbrev pub ClearFrom : Form CertFault → List Rec → List Rec → Type 0
@@ -39,3 +42,34 @@ none-refused form recs h (suc k) f r =
     let none : fault_at form recs (suc k) ≡ None = none-anywhere form [] recs h k (omega arith) in
     let some : Some f ≡ None = sym r.here ∙ none in
     cc
+
+-- nothing is found where each fault fails
+pub no-fault : (stands : List Rec → Option Rec → CertFault → Bool) (before : List Rec) (o : Option Rec) → ((f : CertFault) → stands before o f ≡ false) → find (stands before o) in_order ≡ None
+no-fault stands before o h = rw (h fault.NotUtf8, h fault.BadHead, h fault.BadRow, h fault.BadNumber, h fault.UnknownVoter, h fault.UnknownProject, h fault.OutOfOrder, h fault.Repeated, h fault.TooMany) refl
+
+pub or-false : (x y : Bool) → x ≡ false → y ≡ false → (x || y) ≡ false
+or-false x y h k = rw h k
+
+-- one more row that was taken
+pub joined-by : {A : Type 0} (f : Rec → Option A) (done : List Rec) (r : Rec) (ms : List A) (n : A) → map f done ≡ map Some ms → f r ≡ Some n → map f (done ++ (r ∷ [])) ≡ map Some (ms ++ (n ∷ []))
+joined-by f [] r [] n h k = cc
+joined-by f [] r (m ∷ ms) n h k = cc
+joined-by f (d ∷ ds) r [] n h k = cc
+joined-by f (d ∷ ds) r (m ∷ ms) n h k =
+    let first : f d ≡ Some m = cc in
+    let rest : map f ds ≡ map Some ms = cc in
+    let more : map f (ds ++ (r ∷ [])) ≡ map Some (ms ++ (n ∷ [])) = joined-by f ds r ms n rest k in
+    cc
+
+-- what comes is apart from one more that was taken
+pub push-apart : {A : Type 0} (eq : A → A → Bool) (ms : List A) (n x : A) → AllByRecursion (λ m. eq m x ≡ false) ms → eq n x ≡ false → AllByRecursion (λ m. eq m x ≡ false) (ms ++ (n ∷ []))
+push-apart eq [] n x h k = (k, tt)
+push-apart eq (m ∷ ms) n x h k = (h.0, push-apart eq ms n x h.1 k)
+
+pub apart-more : {A : Type 0} (eq : A → A → Bool) (ms : List A) (n : A) (ns : List A) → AllByRecursion (λ x. AllByRecursion (λ m. eq m x ≡ false) ms) ns → AllByRecursion (λ y. eq n y ≡ false) ns → AllByRecursion (λ x. AllByRecursion (λ m. eq m x ≡ false) (ms ++ (n ∷ []))) ns
+apart-more eq ms n [] h k = tt
+apart-more eq ms n (x ∷ xs) h k = (push-apart eq ms n x h.0 k.0, apart-more eq ms n xs h.1 k.1)
+
+pub each-nil : {A : Type 0} (eq : A → A → Bool) (ns : List A) → AllByRecursion (λ x. AllByRecursion (λ m. eq m x ≡ false) []) ns
+each-nil eq [] = tt
+each-nil eq (x ∷ xs) = (tt, each-nil eq xs)

@@ -9,7 +9,7 @@ use Rattle.std.proofs.lemmas.List.FromFn.{get_or-map-range_with_len, length-map-
 use Rattle.std.specs.Option.{option_map}
 use Rattle.std.proofs.lemmas.Option.{option_and_then_some}
 use Rattle.pb_election.specs.Instance.{Instance, IsProject, IsSet, IsVoter, all_voters, projects, voters}
-use Rattle.pb_election.specs.Records.{Field, Rec}
+use Rattle.pb_records.specs.Records.{Field, Rec}
 use Rattle.pb_certificate.specs.Prices.{ArePrices, IsPaymentMap, Prices, numerator_in, payment}
 use Rattle.pb_certificate.specs.Fields.{fields, only_if, project_in, voter_in, whole_in, whole_within}
 use Rattle.pb_certificate.specs.PriceText.{IsPriceText, Payment, above_0, numerator_of, payment_by, payment_from, payment_of, payments_stated, stated}
@@ -120,11 +120,11 @@ stated-bounded (q ∷ qs) i j h = go ((q.voter == i) && (q.project == j)) h.0 (s
     go false here rest = rest
 
 -- what one voter is stated to pay is a map
-map-stated : (e : Instance) (qs : List Payment) (i : ℕ) → AllByRecursion (λ q. q.numerator ≤ 10 ^ 21) qs → IsPaymentMap (projects e) (payments_stated e qs i)
-map-stated e qs i bounded = record {
-  projects_rise = pairs-rise (stated qs i) (projects e) 1 (projects e) (omega arith);
-  none_zero = All-from_recursion (λ q. 0 < q.1) (payments_stated e qs i) (pairs-all (λ q. 0 < q.1) (stated qs i) (projects e) 1 (λ j some. some));
-  none_large = All-from_recursion (λ q. q.1 ≤ 10 ^ 21) (payments_stated e qs i) (pairs-all (λ q. q.1 ≤ 10 ^ 21) (stated qs i) (projects e) 1 (λ j some. stated-bounded qs i j bounded));
+pub map-stated : (m : ℕ) (qs : List Payment) (i : ℕ) → AllByRecursion (λ q. q.numerator ≤ 10 ^ 21) qs → IsPaymentMap m (pairs (stated qs i) 1 m)
+map-stated m qs i bounded = record {
+  projects_rise = pairs-rise (stated qs i) m 1 m (omega arith);
+  none_zero = All-from_recursion (λ q. 0 < q.1) (pairs (stated qs i) 1 m) (pairs-all (λ q. 0 < q.1) (stated qs i) m 1 (λ j some. some));
+  none_large = All-from_recursion (λ q. q.1 ≤ 10 ^ 21) (pairs (stated qs i) 1 m) (pairs-all (λ q. q.1 ≤ 10 ^ 21) (stated qs i) m 1 (λ j some. stated-bounded qs i j bounded));
 }
 
 all-map-range : {A : Type 0} (P : A → Type 0) (f : ℕ → A) (n a : ℕ) → ((i : ℕ) → P (f i)) → AllByRecursion P (map f (range_with_len a n))
@@ -228,7 +228,7 @@ pub states-prices : (recs : List Rec) (e : Instance) (p : Prices) → IsPriceTex
 unfolding count_of
 states-prices recs e p t =
     let bounded : AllByRecursion (λ q. q.numerator ≤ 10 ^ 21) t.payments = rows-bounded e t.rows t.payments t.each_row in
-    let maps_stated : All (IsPaymentMap (projects e)) (map (payments_stated e t.payments) (all_voters e)) = All-from_recursion (IsPaymentMap (projects e)) (map (payments_stated e t.payments) (all_voters e)) (all-map-range (IsPaymentMap (projects e)) (payments_stated e t.payments) (voters e) 1 (λ i. map-stated e t.payments i bounded)) in
+    let maps_stated : All (IsPaymentMap (projects e)) (map (payments_stated e t.payments) (all_voters e)) = All-from_recursion (IsPaymentMap (projects e)) (map (payments_stated e t.payments) (all_voters e)) (all-map-range (IsPaymentMap (projects e)) (payments_stated e t.payments) (voters e) 1 (λ i. map-stated (projects e) t.payments i bounded)) in
     let count : sum_by length p.payments ≡ sum_by (count_of e t.payments) (all_voters e) = ap (sum_by length) t.same_payments ∙ sum-mapped length (payments_stated e t.payments) (all_voters e) in
     let rows : length t.payments ≡ length t.rows = stated-length (payment_of e) t.rows t.payments t.each_row in
     let most : length t.rows ≤ 10000000 = t.few in

@@ -4,8 +4,8 @@ use Rattle.std.specs.Prelude.{◌==◌, ◌&&◌, if◌then◌else◌}
 use Rattle.std.proofs.lemmas.Bool.Decides.{nat_tests}
 use Rattle.csv.specs.Records.{field_at}
 use Rattle.pb_money.specs.Digits.{is_empty}
-use Rattle.pb_election.specs.Records.{Field, Rec}
-use Rattle.pb_election.specs.Cells.{clean}
+use Rattle.pb_records.specs.Records.{Field, Rec}
+use Rattle.pb_records.specs.Cells.{clean}
 use Rattle.pb_certificate.specs.Fields.{fields}
 
 pub is-empty : (f : Field) → (length f == 0) ≡ is_empty f

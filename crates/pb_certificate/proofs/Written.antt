@@ -7,7 +7,7 @@ use Rattle.std.proofs.lemmas.Grind.{flat_map-append}
 use Rattle.std.proofs.lemmas.List.{map-append, take_all}
 use Rattle.csv.specs.Writing.{default_writer, row_text}
 use Rattle.pb_election.specs.Instance.{Instance, IsProject, IsSet, id_of, projects}
-use Rattle.pb_election.specs.Records.{Rec}
+use Rattle.pb_records.specs.Records.{Rec}
 use Rattle.pb_election.specs.Text.{IsElection, IsId}
 use Rattle.pb_certificate.specs.Canon.{Canon, head_records, line, lines, payment_rows, rows_of}
 use Rattle.pb_certificate.specs.Prices.{IsPaymentMap, Prices, payments_of}
@@ -107,7 +107,7 @@ rows-written e i qs k old now l h = h ∙ ap (λ (x : List (ℕ × ℕ)). old ++
 
 -- The rows of all voters.
 
-range-push : (a n : ℕ) → range_with_len a (suc n) ≡ range_with_len a n ++ ((a + n) ∷ [])
+pub range-push : (a n : ℕ) → range_with_len a (suc n) ≡ range_with_len a n ++ ((a + n) ∷ [])
 range-push a zero = let e : a ≡ a + 0 = omega arith in ap (λ (x : ℕ). x ∷ []) e
 range-push a (suc n) =
     let e : a + 1 + n ≡ a + suc n = omega arith in

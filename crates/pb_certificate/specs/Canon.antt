@@ -1,10 +1,11 @@
 -- The canonical text of a price certificate.
-use Rattle.std.specs.Prelude.{◌==◌, ◌||◌, if◌then◌else◌, ℕ, List, [], ◌∷◌, ◌++◌, map, flat_map, codes, decimal}
+use Rattle.std.specs.Prelude.{◌≡◌, ◌==◌, ◌||◌, if◌then◌else◌, ℕ, List, [], ◌∷◌, ◌++◌, map, flat_map, codes, decimal}
 use Rattle.std.specs.List.{join_with_byte, list_any}
 use Rattle.std.specs.Str.{byte}
 use Rattle.pb_election.specs.Instance.{Instance, all_voters, id_of}
-use Rattle.pb_election.specs.Records.{Field, Rec}
+use Rattle.pb_records.specs.Records.{Field, Rec}
 use Rattle.pb_certificate.specs.Prices.{Prices, payments_of}
+use Rattle.pb_certificate.specs.PriceText.{IsPriceText}
 
 abbrev pub comma : ℕ
 comma = byte ","
@@ -53,3 +54,9 @@ lines recs = flat_map line recs
 
 abbrev pub Canon : Instance → Prices → List ℕ
 Canon e p = lines (canonical_records e p)
+
+-- the text is the canonical one of the prices that some records state
+pub record IsCanonOf (recs : List Rec) (e : Instance) (text : List ℕ) : Type 0 where
+  pub prices : Prices
+  pub states : IsPriceText recs e prices
+  pub is : text ≡ Canon e prices

@@ -1,12 +1,15 @@
 -- What a violation certificate claims against extended justified representation, as Peters, Pierczyński and Skowron
--- (2021) define it: a group of voters, and the projects that it demands. The certificate's form is this project's own.
+-- (2021) define it: a group of voters, the projects that it demands, and by what both are measured.
+-- The certificate's form is this project's own.
 use Rattle.std.specs.Prelude.{◌≡◌, ℕ, List}
 use Rattle.pb_election.specs.Instance.{Instance, IsSet, projects, voters}
+use Rattle.pb_certificate.specs.declared.measure.Measure.{Measure}
 
 -- The sets are the lists of their members, rising.
 pub record Claim : Type 0 where
   pub voters : ℕ  -- how many voters there are to form a group
   pub projects : ℕ  -- and how many projects to be demanded
+  pub measure : Measure
   pub group : List ℕ
   pub demand : List ℕ
 

@@ -1,17 +1,19 @@
 -- The faults of certificates and outcome files: where each stands.
-use Rattle.std.specs.Prelude.{◌^◌, ◌==◌, ◌&&◌, ◌||◌, not, nat_lt, nat_le, Bool, false, ℕ, List, [], ◌∷◌, length, find, drop, Option, None, is_some, is_none, codes}
+use Rattle.std.specs.Prelude.{◌^◌, ◌==◌, ◌&&◌, ◌||◌, not, nat_lt, nat_le, if◌then◌else◌, Bool, false, ℕ, List, [], ◌∷◌, length, find, drop, Option, None, is_some, is_none, codes}
 use Rattle.std.specs.List.{last_or, list_any}
 use Rattle.std.specs.Option.{option_map_or}
 use Rattle.std.specs.Str.{byte, bytes_eq}
 use Rattle.pb_election.specs.Instance.{Instance}
-use Rattle.pb_election.specs.Records.{Field, Rec, records_of}
-use Rattle.pb_election.specs.Cells.{cell, is_text}
-use Rattle.pb_election.specs.FirstFault.{Form, IsFirstFault}
-use Rattle.pb_election.specs.declared.drafts.FaultAt.{FaultAt}
-use Rattle.pb_election.specs.declared.drafts.Stop.{Stop}
-use Rattle.pb_election.specs.declared.drafts.Stop.TheVariants.{Fault, Memory}
+use Rattle.pb_records.specs.Records.{Field, Rec, records_of}
+use Rattle.pb_records.specs.Cells.{cell, is_text}
+use Rattle.pb_records.specs.FirstFault.{Form, IsFirstFault}
+use Rattle.pb_records.specs.declared.drafts.FaultAt.{FaultAt}
+use Rattle.pb_records.specs.declared.drafts.Stop.{Stop}
+use Rattle.pb_records.specs.declared.drafts.Stop.TheVariants.{Fault, Memory}
 use Rattle.pb_certificate.specs.Fields.{fields, number, project_in, same_fields, voter_in, whole_in, whole_within}
 use Rattle.pb_certificate.specs.PriceText.{numerator_of}
+use Rattle.pb_certificate.specs.ViolationText.{satisfaction_by, version_1, version_2}
+use Rattle.pb_certificate.specs.declared.measure.Measure.TheVariants.{ByCount, ByCost}
 use Rattle.pb_certificate.specs.declared.refusal.CertFault.{CertFault}
 use Rattle.pb_certificate.specs.declared.refusal.CertFault.TheVariants as fault
 use Rattle.pb_certificate.specs.declared.refusal.CertRefusal.{CertRefusal}
@@ -106,17 +108,10 @@ price_fault_stands e before here fault.Repeated = at_price_row before here (λ r
 price_fault_stands e before here fault.TooMany = at_price_row before here (λ r. nat_le 10000000 (length (price_rows before)))
 price_fault_stands e before here fault.Memory = false
 
--- Violation certificates and outcome files. Their one head record, and the two fields of a row, its kind and what it names:
+-- Violation certificates and outcome files. Their first head record, and the two fields of a row, its kind and what it names:
 
 abbrev pub at_format : List Rec → Option Rec → (Rec → Bool) → Bool
 at_format = at_head 0
-
-abbrev pub at_named_row : List Rec → Option Rec → (Rec → Bool) → Bool
-at_named_row = at_row 1
-
--- the rows before a place: all records before it but the head
-abbrev pub named_rows : List Rec → List Rec
-named_rows before = drop 1 before
 
 abbrev pub is_kind : Field → Rec → Bool
 is_kind kind r = bytes_eq (cell 0 r) kind
@@ -136,20 +131,56 @@ same_name a b =
     (is_voter_row a && is_voter_row b && (number (named_field a) == number (named_field b)))
     || (is_project_row a && is_project_row b && bytes_eq (named_field a) (named_field b))
 
+-- A violation certificate of version 1 has one head record. In version 2 it has a second one, which states the measure.
+
+abbrev pub is_version_1 : Rec → Bool
+is_version_1 r = same_fields (fields r) version_1
+
+abbrev pub is_version_2 : Rec → Bool
+is_version_2 r = same_fields (fields r) version_2
+
+abbrev pub states_measure : Rec → Bool
+states_measure r = same_fields (fields r) (satisfaction_by ByCount) || same_fields (fields r) (satisfaction_by ByCost)
+
+-- how many head records a violation certificate has that begins with these records
+abbrev pub violation_heads : List Rec → ℕ
+violation_heads [] = 1
+violation_heads (first ∷ more) = if is_version_2 first then 2 else 1
+
+-- the record here is the second head record, and passes a test
+abbrev pub at_measure : List Rec → Option Rec → (Rec → Bool) → Bool
+at_measure before here test = (violation_heads before == 2) && at_head 1 before here test
+
+abbrev pub at_violation_row : List Rec → Option Rec → (Rec → Bool) → Bool
+at_violation_row before here test = at_row (violation_heads before) before here test
+
+-- the rows before a place: all records before it but the head
+abbrev pub violation_rows : List Rec → List Rec
+violation_rows before = drop (violation_heads before) before
+
 -- whether a fault stands here in a violation certificate
 abbrev pub violation_fault_stands : Instance → List Rec → Option Rec → CertFault → Bool
 violation_fault_stands e before here fault.NotUtf8 = at_record here (λ r. not (is_text r))
 violation_fault_stands e before here fault.BadHead =
-    at_format before here (λ r. not (same_fields (fields r) (codes "pb-violation" ∷ codes "1" ∷ [])))
-    || head_is_cut 1 before here
-violation_fault_stands e before here fault.BadRow = at_named_row before here (λ r. not (width r == 2) || not (is_voter_row r || is_project_row r))
-violation_fault_stands e before here fault.BadNumber = at_named_row before here (λ r. is_voter_row r && is_none (whole_in (named_field r)))
-violation_fault_stands e before here fault.UnknownVoter = at_named_row before here (λ r. is_voter_row r && is_some (whole_in (named_field r)) && is_none (voter_in e (named_field r)))
-violation_fault_stands e before here fault.UnknownProject = at_named_row before here (λ r. is_project_row r && is_none (project_in e (named_field r)))
+    at_format before here (λ r. not (is_version_1 r || is_version_2 r))
+    || at_measure before here (λ r. not (states_measure r))
+    || head_is_cut (violation_heads before) before here
+violation_fault_stands e before here fault.BadRow = at_violation_row before here (λ r. not (width r == 2) || not (is_voter_row r || is_project_row r))
+violation_fault_stands e before here fault.BadNumber = at_violation_row before here (λ r. is_voter_row r && is_none (whole_in (named_field r)))
+violation_fault_stands e before here fault.UnknownVoter = at_violation_row before here (λ r. is_voter_row r && is_some (whole_in (named_field r)) && is_none (voter_in e (named_field r)))
+violation_fault_stands e before here fault.UnknownProject = at_violation_row before here (λ r. is_project_row r && is_none (project_in e (named_field r)))
 violation_fault_stands e before here fault.OutOfOrder = false
-violation_fault_stands e before here fault.Repeated = at_named_row before here (λ r. list_any (same_name r) (named_rows before))
+violation_fault_stands e before here fault.Repeated = at_violation_row before here (λ r. list_any (same_name r) (violation_rows before))
 violation_fault_stands e before here fault.TooMany = false
 violation_fault_stands e before here fault.Memory = false
+
+-- An outcome file has one head record.
+
+abbrev pub at_outcome_row : List Rec → Option Rec → (Rec → Bool) → Bool
+at_outcome_row = at_row 1
+
+abbrev pub outcome_rows : List Rec → List Rec
+outcome_rows before = drop 1 before
 
 -- whether a fault stands here in an outcome file
 abbrev pub outcome_fault_stands : Instance → List Rec → Option Rec → CertFault → Bool
@@ -157,12 +188,12 @@ outcome_fault_stands e before here fault.NotUtf8 = at_record here (λ r. not (is
 outcome_fault_stands e before here fault.BadHead =
     at_format before here (λ r. not (same_fields (fields r) (codes "pb-outcome" ∷ codes "1" ∷ [])))
     || head_is_cut 1 before here
-outcome_fault_stands e before here fault.BadRow = at_named_row before here (λ r. not (width r == 2) || not (is_project_row r))
+outcome_fault_stands e before here fault.BadRow = at_outcome_row before here (λ r. not (width r == 2) || not (is_project_row r))
 outcome_fault_stands e before here fault.BadNumber = false
 outcome_fault_stands e before here fault.UnknownVoter = false
-outcome_fault_stands e before here fault.UnknownProject = at_named_row before here (λ r. is_none (project_in e (named_field r)))
+outcome_fault_stands e before here fault.UnknownProject = at_outcome_row before here (λ r. is_none (project_in e (named_field r)))
 outcome_fault_stands e before here fault.OutOfOrder = false
-outcome_fault_stands e before here fault.Repeated = at_named_row before here (λ r. list_any (same_name r) (named_rows before))
+outcome_fault_stands e before here fault.Repeated = at_outcome_row before here (λ r. list_any (same_name r) (outcome_rows before))
 outcome_fault_stands e before here fault.TooMany = false
 outcome_fault_stands e before here fault.Memory = false
 

@@ -4,8 +4,8 @@ use Rattle.std.specs.Str.{bytes_eq}
 use Rattle.std.specs.Option.{ok_or}
 use Rattle.pb_money.specs.Digits.{are_digits, is_empty, number_of}
 use Rattle.pb_election.specs.Instance.{Instance, position_of, voters}
-use Rattle.pb_election.specs.Records.{Field, Rec}
-use Rattle.pb_election.specs.Cells.{cell, clean}
+use Rattle.pb_records.specs.Records.{Field, Rec}
+use Rattle.pb_records.specs.Cells.{cell, clean}
 use Rattle.pb_certificate.specs.declared.refusal.CertFault.{CertFault}
 use Rattle.pb_certificate.specs.declared.refusal.CertFault.TheVariants as fault
 

@@ -1,9 +1,11 @@
 -- The readers' own marks: which of the numbers from 1 on have been named. No claim on a file rests on this.
 use Rattle.std.specs.Prelude.{◌-◌, if◌then◌else◌, Bool, true, ℕ, List, filter, length, map, is_some, Option, Some, None, Result, Ok, Err, slice_index_or, slice_set}
 use Rattle.std.specs.List.{range_with_len}
-use Rattle.pb_election.specs.Instance.{Instance}
-use Rattle.pb_election.specs.Records.{Field}
+use Rattle.pb_election.specs.Instance.{Instance, projects, voters}
+use Rattle.pb_records.specs.Records.{Field}
 use Rattle.pb_certificate.specs.Fields.{project_in, voter_in, whole_in}
+use Rattle.pb_certificate.specs.NamedRows.{Named, was_named}
+use Rattle.pb_certificate.specs.NamedRows.Named.{Voter, Project}
 use Rattle.pb_certificate.specs.declared.refusal.CertFault.{CertFault}
 use Rattle.pb_certificate.specs.declared.refusal.CertFault.TheVariants as fault
 
@@ -22,6 +24,13 @@ marked marks = filter (is_marked marks) (range_with_len 1 (length marks))
 -- the marks of the numbers, up to a greatest one, that pass a test
 abbrev pub marks_of : (ℕ → Bool) → ℕ → List Bool
 marks_of test greatest = map test (range_with_len 1 greatest)
+
+-- the marks of the voters and of the projects that some names are
+abbrev pub voter_marks : Instance → List Named → List Bool
+voter_marks e names = marks_of (λ i. was_named names (Voter i)) (voters e)
+
+abbrev pub project_marks : Instance → List Named → List Bool
+project_marks e names = marks_of (λ j. was_named names (Project j)) (projects e)
 
 -- the marks after something was named that has a number, or has none, which is the fault here
 abbrev pub marks_after : CertFault → Option ℕ → List Bool → Result (List Bool) CertFault

@@ -1,13 +1,13 @@
 -- What the reader's own draft of an outcome file stands for, as far as it has been read. No claim on a file rests on this.
-use Rattle.std.specs.Prelude.{◌≡◌, ◌==◌, ◌&&◌, if◌then◌else◌, Bool, IsTrue, true, false, List, [], ◌∷◌, ℕ, length, map, Some, Result, Err, codes}
-use Rattle.std.specs.List.{AllByRecursion, IsDistinct, list_any}
-use Rattle.pb_election.specs.Instance.{Instance, projects}
-use Rattle.pb_election.specs.Records.{Rec}
-use Rattle.pb_election.specs.Cells.{cell, is_text}
+use Rattle.std.specs.Prelude.{◌≡◌, ◌==◌, ◌&&◌, if◌then◌else◌, Bool, IsTrue, true, false, List, [], ◌∷◌, length, Result, Err, codes}
+use Rattle.std.specs.List.{AllByRecursion}
+use Rattle.pb_election.specs.Instance.{Instance}
+use Rattle.pb_records.specs.Records.{Rec}
+use Rattle.pb_records.specs.Cells.{cell, is_text}
 use Rattle.pb_certificate.specs.Fields.{fields}
 use Rattle.pb_certificate.specs.Faults.{is_kind}
-use Rattle.pb_certificate.specs.Marks.{marks_of, project_after}
-use Rattle.pb_certificate.specs.OutcomeText.{funded_of}
+use Rattle.pb_certificate.specs.Marks.{project_after, project_marks}
+use Rattle.pb_certificate.specs.NamedRows.{Named, RowsName, is_project}
 use Rattle.pb_certificate.specs.declared.refusal.CertFault.{CertFault}
 use Rattle.pb_certificate.specs.declared.refusal.CertFault.TheVariants as fault
 
@@ -15,16 +15,16 @@ use Rattle.pb_certificate.specs.declared.refusal.CertFault.TheVariants as fault
 pub record OutcomeRows (e : Instance) (marks : List Bool) (before : List Rec) : Type 0 where
   pub head : Rec
   pub rows : List Rec
-  pub names : List ℕ
+  pub names : List Named
   pub cut : before ≡ head ∷ rows
   pub is_head : fields head ≡ codes "pb-outcome" ∷ codes "1" ∷ []
-  pub each_row : map (funded_of e) rows ≡ map Some names
-  pub once : IsDistinct (λ a b. a == b) names
-  pub same_marks : marks ≡ marks_of (λ j. list_any (λ k. k == j) names) (projects e)
+  pub named : RowsName e rows names
+  pub projects_alone : AllByRecursion (λ x. IsTrue (is_project x)) names
+  pub same_marks : marks ≡ project_marks e names
 
 -- these records were taken, by whether the head record is among them
 abbrev pub OutcomeStands : Instance → Bool → List Bool → List Rec → Type 0
-OutcomeStands e false marks before = (before ≡ []) × (marks ≡ marks_of (λ j. false) (projects e))
+OutcomeStands e false marks before = (before ≡ []) × (marks ≡ project_marks e [])
 OutcomeStands e true marks before = OutcomeRows e marks before
 
 -- these records, none of them blank, were taken

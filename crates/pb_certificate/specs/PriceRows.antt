@@ -1,9 +1,9 @@
--- The rows of a price certificate, one after another, as the reader's own parts take them. No claim on a file rests on this.
+-- The rows of a price certificate, one after another: the fault that a row has by itself, and after the payments before it.
 use Rattle.std.specs.Prelude.{◌||◌, not, ◌==◌, nat_le, nat_lt, if◌then◌else◌, ℕ, List, [], ◌∷◌, length, map, Option, Some, None, is_none}
 use Rattle.std.specs.List.{list_any}
 use Rattle.pb_election.specs.Instance.{Instance}
-use Rattle.pb_election.specs.Records.{Rec}
-use Rattle.pb_election.specs.Cells.{cell}
+use Rattle.pb_records.specs.Records.{Rec}
+use Rattle.pb_records.specs.Cells.{cell}
 use Rattle.pb_certificate.specs.Fields.{fields, project_in, voter_in, whole_in}
 use Rattle.pb_certificate.specs.PriceText.{Payment, numerator_of, same_pair}
 use Rattle.pb_certificate.specs.declared.price_row.PriceRow.{PriceRow}

@@ -2,8 +2,8 @@
 use Rattle.std.specs.Prelude.{◌+◌, ◌*◌, ℕ, Bool, true, false, List, [], ◌∷◌, map, length, filter_map, slice_get, codes, Option, Some, None, option_map}
 use Rattle.std.specs.List.{range_with_len}
 use Rattle.pb_election.specs.Instance.{Instance}
-use Rattle.pb_election.specs.Records.{Field, Rec}
-use Rattle.pb_election.specs.FirstFault.{Form, fault_at}
+use Rattle.pb_records.specs.Records.{Field, Rec}
+use Rattle.pb_records.specs.FirstFault.{Form, fault_at}
 use Rattle.pb_certificate.specs.declared.refusal.CertFault.{CertFault}
 use Rattle.pb_certificate.specs.Prices.{Prices}
 
@@ -68,12 +68,23 @@ split_prices = record { projects = 2; denominator = 1; budget = 5; payments = ((
 abbrev pub unfair_outcome : List Bool
 unfair_outcome = false ∷ false ∷ true ∷ []
 
+-- with these ballots of voters 1 and 2
+abbrev pub unfair_with_ballots : List ℕ → List ℕ → Instance
+unfair_with_ballots first second = election 8 (codes "x1" ∷ codes "x2" ∷ codes "y" ∷ []) (2 ∷ 2 ∷ 8 ∷ []) unfair_outcome (first ∷ second ∷ (3 ∷ []) ∷ (3 ∷ []) ∷ [])
+
 -- with this ballot of voter 2
 abbrev pub unfair_with_ballot : List ℕ → Instance
-unfair_with_ballot ballot = election 8 (codes "x1" ∷ codes "x2" ∷ codes "y" ∷ []) (2 ∷ 2 ∷ 8 ∷ []) unfair_outcome ((1 ∷ 2 ∷ []) ∷ ballot ∷ (3 ∷ []) ∷ (3 ∷ []) ∷ [])
+unfair_with_ballot ballot = unfair_with_ballots (1 ∷ 2 ∷ []) ballot
 
 abbrev pub unfair_election : Instance
 unfair_election = unfair_with_ballot (1 ∷ 2 ∷ [])
+
+-- two voters want a cheap project, which is funded, and one of them wants a dear one too
+abbrev pub dear_outcome : List Bool
+dear_outcome = true ∷ false ∷ []
+
+abbrev pub dear_election : Instance
+dear_election = election 12 (codes "s" ∷ codes "t" ∷ []) (1 ∷ 6 ∷ []) dear_outcome ((1 ∷ 2 ∷ []) ∷ (1 ∷ []) ∷ [])
 
 -- the first place at which a fault stands, counted from 1, with the fault of the lowest number there
 abbrev pub first_refusal : Form CertFault → List Rec → Option (CertFault × ℕ)
@@ -109,6 +120,10 @@ row_3b = three (codes "3") (codes "b") (codes "2")
 -- a violation certificate with these rows
 abbrev pub violation_records : List Rec → List Rec
 violation_records rows = two (codes "pb-violation") (codes "1") ∷ rows
+
+-- one of version 2 that states this measure
+abbrev pub measured_records : Field → List Rec → List Rec
+measured_records measure rows = two (codes "pb-violation") (codes "2") ∷ two (codes "satisfaction") measure ∷ rows
 
 abbrev pub demand_x1 : Rec
 demand_x1 = two (codes "project") (codes "x1")

@@ -1,44 +1,62 @@
 -- What the reader's own draft of a violation certificate stands for, as far as it has been read. No claim on a file rests on this.
-use Rattle.std.specs.Prelude.{◌≡◌, ◌==◌, if◌then◌else◌, Bool, IsTrue, true, false, List, [], ◌∷◌, length, map, Some, Result, Ok, Err, codes}
-use Rattle.std.specs.List.{AllByRecursion, IsDistinct}
-use Rattle.pb_election.specs.Instance.{Instance, projects, voters}
-use Rattle.pb_election.specs.Records.{Rec}
-use Rattle.pb_election.specs.Cells.{cell, is_text}
+use Rattle.std.specs.Prelude.{◌≡◌, ◌==◌, if◌then◌else◌, ⊤, Bool, IsTrue, List, [], ◌∷◌, ◌++◌, length, Result, Ok, Err, codes}
+use Rattle.std.specs.List.{AllByRecursion}
+use Rattle.pb_election.specs.Instance.{Instance}
+use Rattle.pb_records.specs.Records.{Rec}
+use Rattle.pb_records.specs.Cells.{cell, is_text}
+use Rattle.pb_records.specs.Drafts.{StopsAt, Takes}
+use Rattle.pb_records.specs.declared.drafts.Stop.{Stop}
 use Rattle.pb_certificate.specs.Fields.{fields}
-use Rattle.pb_certificate.specs.Faults.{is_kind}
-use Rattle.pb_certificate.specs.ViolationText.{Named, was_named, named_of, same_named}
-use Rattle.pb_certificate.specs.ViolationText.Named.{Member, Demanded}
-use Rattle.pb_certificate.specs.Marks.{marks_of, project_after, voter_after}
+use Rattle.pb_certificate.specs.Faults.{is_kind, violation_form}
+use Rattle.pb_certificate.specs.Marks.{project_after, project_marks, voter_after, voter_marks}
+use Rattle.pb_certificate.specs.NamedRows.{Named, RowsName}
+use Rattle.pb_certificate.specs.ViolationText.{StateMeasure, version_2}
+use Rattle.pb_certificate.specs.declared.measure.Measure.{Measure}
+use Rattle.pb_certificate.specs.declared.measure.Measure.TheVariants.{ByCount}
+use Rattle.pb_certificate.specs.declared.violation_draft.Awaited.{Awaited}
+use Rattle.pb_certificate.specs.declared.violation_draft.Awaited.TheVariants.{Format, Satisfaction, Row}
+use Rattle.pb_certificate.specs.declared.violation_draft.ViolationDraft.{ViolationDraft}
 use Rattle.pb_certificate.specs.declared.refusal.CertFault.{CertFault}
 use Rattle.pb_certificate.specs.declared.refusal.CertFault.TheVariants as fault
 
--- the marks of the voters and of the projects that some names are
-abbrev pub group_marks : Instance → List Named → List Bool
-group_marks e names = marks_of (λ i. was_named names (Member i)) (voters e)
+-- what a draft has of the records that were taken
+pub record Reading : Type 0 where
+  pub awaited : Awaited
+  pub measure : Measure
+  pub group : List Bool
+  pub demand : List Bool
 
-abbrev pub demand_marks : Instance → List Named → List Bool
-demand_marks e names = marks_of (λ j. was_named names (Demanded j)) (projects e)
+abbrev pub reading : ViolationDraft → Reading
+reading d = record { awaited = d.awaited; measure = d.measure; group = d.group.items; demand = d.demand.items }
 
--- the head record and some rows were taken, and these are the marks of what they name
-pub record ViolationRows (e : Instance) (group demand : List Bool) (before : List Rec) : Type 0 where
-  pub head : Rec
+-- the marks are those of the voters and the projects that some names are
+abbrev pub AreMarked : Instance → Reading → List Named → Type 0
+AreMarked e d names = (d.group ≡ voter_marks e names) × (d.demand ≡ project_marks e names)
+
+-- the head records and some rows were taken, and what they name is marked
+pub record ViolationRows (e : Instance) (d : Reading) (before : List Rec) : Type 0 where
+  pub heads : List Rec
   pub rows : List Rec
   pub names : List Named
-  pub cut : before ≡ head ∷ rows
-  pub is_head : fields head ≡ codes "pb-violation" ∷ codes "1" ∷ []
-  pub each_row : map (named_of e) rows ≡ map Some names
-  pub once : IsDistinct same_named names
-  pub same_group : group ≡ group_marks e names
-  pub same_demand : demand ≡ demand_marks e names
+  pub cut : before ≡ heads ++ rows
+  pub measure : StateMeasure d.measure heads
+  pub named : RowsName e rows names
+  pub marked : AreMarked e d names
 
--- these records were taken, by whether the head record is among them
-abbrev pub ViolationStands : Instance → Bool → List Bool → List Bool → List Rec → Type 0
-ViolationStands e false group demand before = (before ≡ []) × (group ≡ group_marks e []) × (demand ≡ demand_marks e [])
-ViolationStands e true group demand before = ViolationRows e group demand before
+-- these records were taken, where this one is awaited
+abbrev pub ViolationStands : Instance → Reading → Awaited → List Rec → Type 0
+ViolationStands e d Format before = (before ≡ []) × (d.measure ≡ ByCount) × AreMarked e d []
+ViolationStands e d Satisfaction before = (head : Rec) × (before ≡ head ∷ []) × (fields head ≡ version_2) × AreMarked e d []
+ViolationStands e d Row before = ViolationRows e d before
 
 -- these records, none of them blank, were taken
-abbrev pub ViolationTaken : Instance → Bool → List Bool → List Bool → List Rec → Type 0
-ViolationTaken e begun group demand before = AllByRecursion (λ r. IsTrue (is_text r)) before × ViolationStands e begun group demand before
+abbrev pub ViolationTaken : Instance → Reading → List Rec → Type 0
+ViolationTaken e d before = AllByRecursion (λ r. IsTrue (is_text r)) before × ViolationStands e d d.awaited before
+
+-- what taking one more record gives
+abbrev pub Took : Instance → Reading → Reading → Rec → Result ⊤ (Stop CertFault) → Type 0
+Took e old new r (Ok done) = Takes (violation_form e) (ViolationTaken e old) (ViolationTaken e new) r
+Took e old new r (Err stop) = StopsAt (violation_form e) (ViolationTaken e old) r stop
 
 -- both lists of marks, where one of them was marked in
 abbrev pub with_group : List Bool → Result (List Bool) CertFault → Result (List Bool × List Bool) CertFault

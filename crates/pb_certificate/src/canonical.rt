@@ -1,63 +1,30 @@
 //! The canonical text of prices.
-ghost use Rattle.std.specs.Prelude.{◌≡◌, ◌++◌, IfOk, IsErrOf, OnOk};
+ghost use Rattle.std.specs.Prelude.{◌≡◌, ◌⊎◌, ◌++◌, IfErr, IfOk, IsErrOf, MatchResult, OnOk};
 ghost use Rattle.std.specs.Io.KnownBytes.{Appends};
-ghost use Rattle.pb_election.specs.Instance.{projects};
-ghost use Rattle.pb_election.specs.Loading.{AppendsFront, IsFlushed, Rises};
-ghost use Rattle.pb_election.specs.Text.{IsElection};
-ghost use Rattle.pb_certificate.specs.Canon.{Canon, head_records, lines, payment_rows, rows_of};
-ghost use Rattle.pb_certificate.specs.Prices.{Fits, IsPaymentMap};
+ghost use Rattle.pb_records.specs.Loading.{AppendsFront, IsFlushed, Rises};
+ghost use Rattle.pb_certificate.specs.Canon.{Canon, IsCanonOf, lines, payment_rows};
+ghost use Rattle.pb_certificate.specs.Faults.{Refuses, certificate_records, no_memory, price_form};
+ghost use Rattle.pb_certificate.specs.PriceText.{IsPriceText};
+ghost use Rattle.pb_certificate.specs.Prices as spec;
+ghost use Rattle.pb_certificate.specs.Prices.{Fits};
 ghost use Rattle.pb_certificate.specs.RecordWriter.{IsOpen, held};
 
-use crate::{Prices, record_writer};
+use crate::canonical_draft::CanonicalDraft;
+use crate::canonical_rows::{add_heads, add_payments};
+use crate::gathering::gather;
+use crate::{CertRefusal, Prices, Rows, record_writer};
 use csv::Writer;
-use itoa::Buffer;
-use pb_election::{Election, Sink, put};
+use pb_election::Election;
+use pb_records::{Sink, put};
 use std::alloc::{AllocError, Global};
 
 /// Why prices were not written.
 #[derive(Clone, Copy, Debug, PartialEq, Eq)]
 pub enum WriteFault {
-    /// Memory was wanted and a growth was refused. Nothing was written.
+    /// Memory was wanted. Nothing was written.
     Memory,
     /// The writer failed. A prefix of the text was written.
     Write,
-}
-
-// Adds the four head records.
-fn add_heads(writer: &mut Writer<Vec<u8>>, denominator: u32, budget: u128) -> Result<(), AllocError>
-    requires open { IsOpen writer.old }
-    ensures open { OnOk result (IsOpen writer.new) }
-    ensures text { OnOk result (held writer.new ≡ held writer.old ++ lines (head_records denominator budget)) }
-{
-    let mut digits = Buffer::new();
-    record_writer::add_pair(writer, "pb-prices", "1")?;
-    record_writer::add_pair(writer, "denominator", digits.format(denominator))?;
-    record_writer::add_pair(writer, "voter_budget", digits.format(budget))?;
-    record_writer::add_triple(writer, "voter", "project", "payment")?;
-    Ok(())
-}
-
-// Adds a row for each of the payments that a voter makes.
-fn add_payments(
-    writer: &mut Writer<Vec<u8>>,
-    election: &Election,
-    voter: u32,
-    payments: &[(u32, u128)],
-) -> Result<(), AllocError>
-    requires open { IsOpen writer.old }
-    requires election { IsElection election.now }
-    requires payments { IsPaymentMap (projects election.now) payments.now }
-    ensures open { OnOk result (IsOpen writer.new) }
-    ensures text { OnOk result (held writer.new ≡ held writer.old ++ lines (rows_of election.now voter payments.now)) }
-{
-    let mut voter_digits = Buffer::new();
-    let mut payment_digits = Buffer::new();
-    let voter_field = voter_digits.format(voter);
-    for payment in payments {
-        let payment_field = payment_digits.format(payment.1);
-        record_writer::add_triple(writer, voter_field, election.id(payment.0), payment_field)?;
-    }
-    Ok(())
 }
 
 // Adds the rows of all voters.
@@ -77,25 +44,49 @@ fn add_rows(
     Ok(())
 }
 
-// The canonical text of prices.
-fn canonical_text(
+/// The canonical text of the prices that the bytes of a price certificate state for an election, or the first fault, as
+/// `Prices::read` tells it. It takes memory for the text and for the payments of one voter, and none for the prices.
+pub fn canonical_text_of(
     alloc: Global,
-    prices: &Prices,
+    bytes: &[u8],
     election: &Election,
-) -> Result<Vec<u8>, AllocError>
-    requires { Fits prices.now election.now }
-    ensures { IfOk result (λ text. text.items ≡ Canon election.now prices.now) }
+) -> Result<Vec<u8>, CertRefusal>
+    ensures found { IfOk result (λ text. IsCanonOf (certificate_records bytes.now) election.now text.items) }
+    ensures refused { IfErr result (λ r. (r ≡ no_memory) ⊎ Refuses (price_form election.now) bytes.now r) }
+
+    // Where the bytes state prices, the canonical text is that of those, memory aside.
+    ensures only { (p : spec.Prices) → IsPriceText (certificate_records bytes.now) election.now p → MatchResult result (λ text. text.items ≡ Canon election.now p) (λ r. r ≡ no_memory) }
 {
-    let mut writer = record_writer::open(alloc);
-    add_heads(&mut writer, prices.denominator(), prices.budget())?;
-    add_rows(&mut writer, prices, election)?;
-    record_writer::close(writer)
+    let rows = Rows::open(alloc, bytes, election)?;
+    let voters = election.voters();
+    let Ok(mut draft) = CanonicalDraft::new(alloc, election, rows.denominator(), rows.budget())
+    else {
+        return Err(CertRefusal::NO_MEMORY);
+    };
+    gather(alloc, rows, voters, &mut draft)?;
+    let Ok(text) = draft.into_text() else {
+        return Err(CertRefusal::NO_MEMORY);
+    };
+    Ok(text)
 }
 
 impl Prices {
+    /// The canonical text of a price certificate with these prices, as `write` writes it. The prices are to be for as many
+    /// voters and projects as the election has. The refusal is want of memory.
+    pub fn canonical_text(&self, alloc: Global, election: &Election) -> Result<Vec<u8>, AllocError>
+        requires { Fits self.now election.now }
+        ensures { IfOk result (λ text. text.items ≡ Canon election.now self.now) }
+    {
+        let mut writer = record_writer::open(alloc);
+        add_heads(&mut writer, self.denominator(), self.budget())?;
+        add_rows(&mut writer, self, election)?;
+        record_writer::close(writer)
+    }
+
     /// Writes the canonical text of a price certificate with these prices, and flushes: the four head records, and then a
     /// row for each payment that is not 0, by rising voter and then rising project. The prices are to be for as many voters
-    /// and projects as the election has. `Memory` comes where a growth was refused, and `Write` where the writer failed.
+    /// and projects as the election has. `Write` comes only where the writer failed. `Memory` comes only where a growth was
+    /// refused, which is tested and not proved.
     pub fn write<W: Sink>(
         &self,
         alloc: Global,
@@ -114,7 +105,7 @@ impl Prices {
         // Where memory is wanting, the writer was not called.
         ensures memory { IsErrOf result WriteFault.Memory → sink.new ≡ sink.old }
     {
-        let Ok(text) = canonical_text(alloc, self, election) else {
+        let Ok(text) = self.canonical_text(alloc, election) else {
             return Err(WriteFault::Memory);
         };
         let Ok(()) = put(&text, sink) else {

@@ -5,8 +5,9 @@ ghost use Rattle.pb_certificate.specs.Fields as spec;
 
 use crate::CertFault;
 use csv::StringRecord;
-use pb_election::{Election, cell, clean};
+use pb_election::Election;
 use pb_money::{WholeFault, read_whole};
+use pb_records::{cell, clean};
 
 /// The most that the numerator of a voter's budget or of a payment can be.
 pub const MOST_NUMERATOR: u128 = 1_000_000_000_000_000_000_000;

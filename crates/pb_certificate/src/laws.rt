@@ -2,13 +2,14 @@
 
 ghost use Rattle.std.specs.Prelude.{◌≡◌, ℕ, Bool, List, length};
 ghost use Rattle.pb_election.specs.Instance.{Instance, IsProject, IsSet, IsVoter, projects, voters};
-ghost use Rattle.pb_election.specs.Records.{Rec};
-ghost use Rattle.pb_election.specs.FirstFault.{IsFirstFault};
+ghost use Rattle.pb_records.specs.Records.{Rec};
+ghost use Rattle.pb_records.specs.FirstFault.{IsFirstFault};
 ghost use Rattle.pb_election.specs.Text.{IsElection};
 ghost use Rattle.pb_certificate.specs.Canon.{Canon};
 ghost use Rattle.pb_certificate.specs.Prices.{ArePrices, Prices, payment};
 ghost use Rattle.pb_certificate.specs.PriceText.{IsPriceText, stated};
 ghost use Rattle.pb_certificate.specs.Faults.{certificate_records, outcome_form, price_form, violation_form};
+ghost use Rattle.pb_certificate.specs.declared.measure.Measure.{Measure};
 ghost use Rattle.pb_certificate.specs.declared.refusal.CertFault.{CertFault};
 ghost use Rattle.pb_certificate.specs.ViolationText.{IsViolationText};
 ghost use Rattle.pb_certificate.specs.OutcomeText.{IsOutcomeText};
@@ -22,20 +23,20 @@ pub fn texts_state_prices()
 /// The records of a certificate or an outcome file are the text of one thing at most.
 pub fn texts_state_one_thing()
     ensures prices { (recs : List Rec) (e : Instance) (p q : Prices) → IsPriceText recs e p → IsPriceText recs e q → p ≡ q }
-    ensures groups { (recs : List Rec) (e : Instance) (s t s' t' : List ℕ) → IsViolationText recs e s t → IsViolationText recs e s' t' → (s ≡ s') × (t ≡ t') }
+    ensures groups { (recs : List Rec) (e : Instance) (m m' : Measure) (s t s' t' : List ℕ) → IsViolationText recs e m s t → IsViolationText recs e m' s' t' → (m ≡ m') × (s ≡ s') × (t ≡ t') }
     ensures outcomes { (recs : List Rec) (e : Instance) (w w' : List Bool) → IsOutcomeText recs e w → IsOutcomeText recs e w' → w ≡ w' }
 {}
 
 /// A group and a demand that a text states are sets of voters and of projects, and an outcome speaks of each project.
 pub fn texts_fit_the_election()
-    ensures groups { (recs : List Rec) (e : Instance) (s t : List ℕ) → IsViolationText recs e s t → IsSet 1 (voters e) s × IsSet 1 (projects e) t }
+    ensures groups { (recs : List Rec) (e : Instance) (m : Measure) (s t : List ℕ) → IsViolationText recs e m s t → IsSet 1 (voters e) s × IsSet 1 (projects e) t }
     ensures outcomes { (recs : List Rec) (e : Instance) (w : List Bool) → IsOutcomeText recs e w → length w ≡ projects e }
 {}
 
-/// What is the text of prices, of a group and a demand, or of an outcome, is refused at no record.
+/// What is the text of prices, of a measure, a group and a demand, or of an outcome, is refused at no record.
 pub fn texts_are_not_refused()
     ensures prices { (recs : List Rec) (e : Instance) (p : Prices) → IsPriceText recs e p → (place : ℕ) (f : CertFault) → IsFirstFault (price_form e) recs place f → ⊥ }
-    ensures groups { (recs : List Rec) (e : Instance) (s t : List ℕ) → IsViolationText recs e s t → (place : ℕ) (f : CertFault) → IsFirstFault (violation_form e) recs place f → ⊥ }
+    ensures groups { (recs : List Rec) (e : Instance) (m : Measure) (s t : List ℕ) → IsViolationText recs e m s t → (place : ℕ) (f : CertFault) → IsFirstFault (violation_form e) recs place f → ⊥ }
     ensures outcomes { (recs : List Rec) (e : Instance) (w : List Bool) → IsOutcomeText recs e w → (place : ℕ) (f : CertFault) → IsFirstFault (outcome_form e) recs place f → ⊥ }
 {}
 

@@ -3,25 +3,36 @@
 #![tactic(auto)]
 
 mod canonical;
+mod canonical_draft;
+mod canonical_rows;
 mod fields;
+mod gathering;
 pub mod laws;
+mod ledger;
 mod marks;
+mod measure;
 mod outcome_draft;
 mod outcome_reader;
-mod payment_table;
-mod price_draft;
+mod places;
+mod price_head;
 mod price_row;
 mod prices;
+mod prior_rows;
 mod record_writer;
 mod refusal;
+mod row_reader;
+mod rows;
 mod samples;
 #[cfg(test)]
 mod tests;
 mod violation;
 mod violation_draft;
 
-pub use canonical::WriteFault;
+pub use canonical::{WriteFault, canonical_text_of};
+pub use measure::Measure;
 pub use outcome_reader::read_outcome;
+pub use price_row::PriceRow;
 pub use prices::Prices;
 pub use refusal::{CertFault, CertRefusal};
+pub use rows::Rows;
 pub use violation::Violation;

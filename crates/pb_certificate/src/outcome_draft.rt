@@ -7,7 +7,8 @@ use crate::CertFault;
 use crate::fields::{is_pair, width};
 use crate::marks::mark_project;
 use csv::StringRecord;
-use pb_election::{Draft, Election, Stop, cell};
+use pb_election::Election;
+use pb_records::{Draft, Stop, cell};
 use std::alloc::{AllocError, Global};
 
 /// An outcome file, as far as it has been read.

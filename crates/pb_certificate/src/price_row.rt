@@ -1,5 +1,5 @@
 //! The rows of a price certificate.
-ghost use Rattle.std.specs.Prelude.{◌≡◌, None, Some, MatchResult, IfOk};
+ghost use Rattle.std.specs.Prelude.{◌≡◌, ◌≤◌, ◌^◌, None, Some, MatchResult, IfOk};
 ghost use Rattle.csv.specs.Records.{fields_of};
 ghost use Rattle.pb_election.specs.Instance.{IsProject, IsVoter};
 ghost use Rattle.pb_certificate.specs.PriceText.{payment_of};
@@ -8,9 +8,10 @@ ghost use Rattle.pb_certificate.specs.PriceRows.{as_payment, row_fault};
 use crate::CertFault;
 use crate::fields::{MOST_NUMERATOR, voter_in, whole_within, width};
 use csv::StringRecord;
-use pb_election::{Election, cell};
+use pb_election::Election;
+use pb_records::cell;
 
-/// A row: what a voter pays for a project.
+/// A row of a price certificate: what a voter pays for a project.
 #[derive(Clone, Copy, Debug, PartialEq, Eq)]
 pub struct PriceRow {
     /// The voter's number, from 1.
@@ -27,6 +28,7 @@ pub fn price_row(row: &StringRecord, election: &Election) -> Result<PriceRow, Ce
     ensures none { IfOk result (λ q. row_fault election.now (fields_of row.now) ≡ None) }
     ensures voter { IfOk result (λ q. IsVoter election.now q.voter) }
     ensures project { IfOk result (λ q. IsProject election.now q.project) }
+    ensures small { IfOk result (λ q. q.payment ≤ 10 ^ 21) }
 {
     if width(row) != 3 {
         return Err(CertFault::BadRow);

@@ -1,13 +1,14 @@
 //! Price systems.
-ghost use Rattle.std.specs.Prelude.{◌≡◌, ◌≤◌, ◌^◌, ◌↔◌, ◌⊎◌, IsTrue, IfOk, IfErr, MatchResult, length, map};
+ghost use Rattle.std.specs.Prelude.{◌≡◌, ◌≤◌, ◌^◌, ◌↔◌, ◌⊎◌, [], IsTrue, IfOk, IfErr, MatchResult, length};
 ghost use Rattle.pb_certificate.specs.Faults.{Refuses, certificate_records, no_memory, price_form};
 ghost use Rattle.pb_certificate.specs.Prices as spec;
 ghost use Rattle.pb_certificate.specs.Prices.{ArePrices, Fits, IsPaymentMap, IsPriceSystem};
 ghost use Rattle.pb_certificate.specs.PriceText.{IsPriceText};
 
-use crate::CertRefusal;
-use crate::price_draft::PriceDraft;
-use pb_election::{Election, take_all};
+use crate::gathering::gather;
+use crate::{CertRefusal, Rows};
+use pb_election::Election;
+use pb_records::Runs;
 use std::alloc::Global;
 use std::marker::Model;
 
@@ -19,11 +20,10 @@ pub struct Prices {
     projects: u32,
     denominator: u32,
     budget: u128,
-    payments: Vec<Vec<(u32, u128)>>,
+    payments: Runs<(u32, u128)>,
 }
 
 impl Model for Prices {
-    ghost use Rattle.std.specs.Prelude.{map};
     ghost use Rattle.pb_certificate.specs.Prices as spec;
     ghost use Rattle.pb_certificate.specs.Prices.{IsPriceSystem};
 
@@ -33,20 +33,21 @@ impl Model for Prices {
       projects = a.projects;
       denominator = a.denominator;
       budget = a.budget;
-      payments = map (λ v. v.items) a.payments.items;
+      payments = a.payments;
     } };
 
     ghost invariant = { λ a. IsPriceSystem (record {
       projects = a.projects;
       denominator = a.denominator;
       budget = a.budget;
-      payments = map (λ v. v.items) a.payments.items;
+      payments = a.payments;
     }) };
 }
 
 impl Prices {
     /// The prices that the bytes of a price certificate state for an election, or the first fault: the one at the least
-    /// record, and of those there the one with the lowest number. Want of memory comes only where a growth was refused.
+    /// record, and of those there the one with the lowest number. Want of memory comes only where a growth was refused,
+    /// which is tested and not proved.
     ///
     /// The head records are `pb-prices,1`, `denominator,D`, `voter_budget,N` and `voter,project,payment`. A row has a voter's
     /// number, a project's id and a numerator, and there are at most 10,000,000 rows. The voters do not fall from row to row,
@@ -59,13 +60,14 @@ impl Prices {
         // Where the bytes state prices, those are answered, memory aside.
         ensures only { (p : spec.Prices) → IsPriceText (certificate_records bytes.now) election.now p → MatchResult result (λ found. found ≡ p) (λ r. r ≡ no_memory) }
     {
-        let Ok(mut draft) = PriceDraft::new(alloc, election) else {
+        let rows = Rows::open(alloc, bytes, election)?;
+        let denominator = rows.denominator();
+        let budget = rows.budget();
+        let Ok(mut payments) = Runs::new(alloc) else {
             return Err(CertRefusal::NO_MEMORY);
         };
-        match take_all(alloc, bytes, b',', election, &mut draft) {
-            Ok(()) => Ok(draft.into_prices()),
-            Err(stop) => Err(CertRefusal::of(stop)),
-        }
+        gather(alloc, rows, election.voters(), &mut payments)?;
+        Ok(Prices::new(election.projects(), denominator, budget, payments))
     }
 
     // The prices of these parts. The payments are those of each voter, by rising project.
@@ -73,10 +75,10 @@ impl Prices {
         projects: u32,
         denominator: u32,
         budget: u128,
-        payments: Vec<Vec<(u32, u128)>>,
+        payments: Runs<(u32, u128)>,
     ) -> Prices
-        requires { IsPriceSystem (record { projects = projects; denominator = denominator; budget = budget; payments = map (λ v. v.items) payments.items }) }
-        ensures { result ≡ record { projects = projects; denominator = denominator; budget = budget; payments = map (λ v. v.items) payments.items } }
+        requires { IsPriceSystem (record { projects = projects; denominator = denominator; budget = budget; payments = payments }) }
+        ensures { result ≡ record { projects = projects; denominator = denominator; budget = budget; payments = payments } }
     {
         Prices {
             projects,
@@ -127,7 +129,7 @@ impl Prices {
         ensures value { result.now ≡ spec.payments_of self.now i }
         ensures map { IsPaymentMap (self.now).projects result.now }
     {
-        &self.payments[i as usize - 1]
+        self.payments.get(i as usize - 1)
     }
 
     /// Whether these prices are for as many voters and projects as the election has.

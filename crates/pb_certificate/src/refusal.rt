@@ -2,7 +2,7 @@
 ghost use Rattle.std.specs.Prelude.{◌≡◌};
 ghost use Rattle.pb_certificate.specs.Faults.{fault_name, fault_number, refusal_of};
 
-use pb_election::{FaultAt, Stop};
+use pb_records::{FaultAt, Stop};
 
 /// Why a file is refused as a certificate or as an outcome file.
 #[derive(Clone, Copy, Debug, PartialEq, Eq)]
@@ -29,7 +29,7 @@ pub enum CertFault {
     Repeated,
     /// A price certificate has more than 10,000,000 rows: this is the next one.
     TooMany,
-    /// Memory was wanted and a growth was refused.
+    /// Memory was wanted. No record causes it.
     Memory,
 }
 

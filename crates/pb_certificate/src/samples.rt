@@ -4,13 +4,14 @@ ghost use Rattle.std.specs.Prelude.{true, false, ◌≡◌, ◌∷◌, ◌++◌,
 ghost use Rattle.pb_election.specs.Instance.{all_voters};
 ghost use Rattle.pb_certificate.specs.Canon.{Canon, line, line_end};
 ghost use Rattle.pb_certificate.specs.Faults.{outcome_form, price_form, violation_form};
-ghost use Rattle.pb_certificate.specs.ViolationText.{IsViolationText, Named, named_of};
-ghost use Rattle.pb_certificate.specs.ViolationText.Named.{Member, Demanded};
+ghost use Rattle.pb_certificate.specs.NamedRows.{Named, named_of};
+ghost use Rattle.pb_certificate.specs.NamedRows.Named.{Voter};
+ghost use Rattle.pb_certificate.specs.ViolationText.{IsViolationText};
 ghost use Rattle.pb_certificate.specs.OutcomeText.{IsOutcomeText};
 ghost use Rattle.pb_certificate.specs.PriceText.{IsPriceText, payment_of, payments_stated};
-ghost use Rattle.pb_certificate.specs.Samples.{demand_x1, demand_x2, first_refusal, member_1, outcome_records, price_columns, price_records, row_1a, row_1b, row_2a, row_3b, sample_election, sample_prices, three, two, unfair_election, violation_records};
+ghost use Rattle.pb_certificate.specs.Samples.{demand_x1, demand_x2, first_refusal, measured_records, member_1, outcome_records, price_columns, price_records, row_1a, row_1b, row_2a, row_3b, sample_election, sample_prices, three, two, unfair_election, violation_records};
 
-use crate::CertFault;
+use crate::{CertFault, Measure};
 
 /// A price certificate and its canonical text.
 pub fn sample_certificate()
@@ -55,9 +56,15 @@ pub fn faults_of_price_rows()
 /// Violation certificates.
 pub fn violation_certificates()
     ensures accepted { first_refusal (violation_form unfair_election) (violation_records (demand_x1 ∷ demand_x2 ∷ member_1 ∷ two (codes "voter") (codes "2") ∷ [])) ≡ None }
-    ensures members { named_of unfair_election member_1 ≡ Some (Member 1) }
+    ensures members { named_of unfair_election member_1 ≡ Some (Voter 1) }
     ensures repeated { first_refusal (violation_form unfair_election) (violation_records (demand_x1 ∷ demand_x2 ∷ member_1 ∷ two (codes "voter") (codes "2") ∷ member_1 ∷ [])) ≡ Some (CertFault.Repeated, 6) }
-    ensures version { first_refusal (violation_form unfair_election) (two (codes "pb-violation") (codes "2") ∷ demand_x1 ∷ []) ≡ Some (CertFault.BadHead, 1) }
+    ensures version { first_refusal (violation_form unfair_election) (two (codes "pb-violation") (codes "3") ∷ demand_x1 ∷ []) ≡ Some (CertFault.BadHead, 1) }
+    ensures by_cost { first_refusal (violation_form unfair_election) (measured_records (codes "cost") (demand_x1 ∷ demand_x2 ∷ member_1 ∷ [])) ≡ None }
+    ensures no_measure { first_refusal (violation_form unfair_election) (two (codes "pb-violation") (codes "2") ∷ demand_x1 ∷ []) ≡ Some (CertFault.BadHead, 2) }
+    ensures end { first_refusal (violation_form unfair_election) (two (codes "pb-violation") (codes "2") ∷ []) ≡ Some (CertFault.BadHead, 2) }
+    ensures another { first_refusal (violation_form unfair_election) (measured_records (codes "share") (demand_x1 ∷ [])) ≡ Some (CertFault.BadHead, 2) }
+    ensures measured { first_refusal (violation_form unfair_election) (violation_records (two (codes "satisfaction") (codes "count") ∷ demand_x1 ∷ [])) ≡ Some (CertFault.BadRow, 2) }
+    ensures measured_twice { first_refusal (violation_form unfair_election) (measured_records (codes "cost") (two (codes "satisfaction") (codes "cost") ∷ demand_x1 ∷ [])) ≡ Some (CertFault.BadRow, 3) }
     ensures voter_5 { first_refusal (violation_form unfair_election) (violation_records (demand_x1 ∷ demand_x2 ∷ two (codes "voter") (codes "5") ∷ [])) ≡ Some (CertFault.UnknownVoter, 4) }
     ensures voter_x { first_refusal (violation_form unfair_election) (violation_records (demand_x1 ∷ demand_x2 ∷ two (codes "voter") (codes "x") ∷ [])) ≡ Some (CertFault.BadNumber, 4) }
     ensures voter_empty { first_refusal (violation_form unfair_election) (violation_records (demand_x1 ∷ demand_x2 ∷ two (codes "voter") [] ∷ [])) ≡ Some (CertFault.BadRow, 4) }
@@ -77,6 +84,7 @@ pub fn outcome_files()
 /// The sample certificates are texts of what they should be.
 pub fn sample_texts()
     ensures prices { IsPriceText (price_records (row_1a ∷ row_1b ∷ row_2a ∷ row_3b ∷ [])) sample_election sample_prices }
-    ensures group { IsViolationText (violation_records (demand_x1 ∷ demand_x2 ∷ member_1 ∷ two (codes "voter") (codes "2") ∷ [])) unfair_election (1 ∷ 2 ∷ []) (1 ∷ 2 ∷ []) }
+    ensures group { IsViolationText (violation_records (demand_x1 ∷ demand_x2 ∷ member_1 ∷ two (codes "voter") (codes "2") ∷ [])) unfair_election Measure.ByCount (1 ∷ 2 ∷ []) (1 ∷ 2 ∷ []) }
+    ensures by_cost { IsViolationText (measured_records (codes "cost") (demand_x1 ∷ demand_x2 ∷ member_1 ∷ [])) unfair_election Measure.ByCost (1 ∷ []) (1 ∷ 2 ∷ []) }
     ensures outcome { IsOutcomeText (outcome_records (two (codes "project") (codes "b") ∷ two (codes "project") (codes "a") ∷ [])) sample_election (true ∷ true ∷ false ∷ []) }
 {}

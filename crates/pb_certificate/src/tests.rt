@@ -2,4 +2,5 @@
 mod canonical;
 mod outcomes;
 mod prices;
+mod rows;
 mod violations;

@@ -5,21 +5,24 @@ ghost use Rattle.pb_certificate.specs.Claim.{Fits};
 ghost use Rattle.pb_certificate.specs.Faults.{Refuses, certificate_records, no_memory, violation_form};
 ghost use Rattle.pb_certificate.specs.ViolationText.{IsViolationText};
 ghost use Rattle.pb_certificate.specs.Marks.{marked};
+ghost use Rattle.pb_certificate.specs.declared.measure.Measure.{Measure};
 
-use crate::CertRefusal;
 use crate::marks::marked;
 use crate::violation_draft::ViolationDraft;
-use pb_election::{Election, take_all};
+use crate::{CertRefusal, Measure};
+use pb_election::Election;
+use pb_records::take_all;
 use std::alloc::{AllocError, Global};
 use std::marker::Model;
 
 /// What a violation certificate claims against extended justified representation, as Peters, Pierczyński and Skowron
-/// (2021) define it: a group of voters, and the projects that it demands. The form of violation certificates is this
-/// project's own.
+/// (2021) define it: a group of voters, the projects that it demands, and by what both are measured. The form of
+/// violation certificates is this project's own.
 #[derive(Drop)]
 pub struct Violation {
     voters: u32,
     projects: u32,
+    measure: Measure,
     group: Vec<u32>,
     demand: Vec<u32>,
 }
@@ -29,25 +32,26 @@ impl Model for Violation {
 
     ghost Value = { Claim };
 
-    ghost view = { λ a. record { voters = a.voters; projects = a.projects; group = a.group.items; demand = a.demand.items } };
+    ghost view = { λ a. record { voters = a.voters; projects = a.projects; measure = a.measure; group = a.group.items; demand = a.demand.items } };
 
-    ghost invariant = { λ a. IsClaim (record { voters = a.voters; projects = a.projects; group = a.group.items; demand = a.demand.items }) };
+    ghost invariant = { λ a. IsClaim (record { voters = a.voters; projects = a.projects; measure = a.measure; group = a.group.items; demand = a.demand.items }) };
 }
 
 impl Violation {
-    /// The group and the demand that the bytes of a violation certificate state for an election, or the first fault: the
-    /// one at the least record, and of those there the one with the lowest number. Want of memory comes only where a
-    /// growth was refused.
+    /// The measure, the group and the demand that the bytes of a violation certificate state for an election, or the first
+    /// fault: the one at the least record, and of those there the one with the lowest number. Want of memory comes only
+    /// where a growth was refused, which is tested and not proved.
     ///
-    /// The head record is `pb-violation,1`. A row is `voter` with a voter's number or `project` with a project's id, in any
-    /// order and none twice.
+    /// The head record is `pb-violation,1`, and the measure is then counting; or it is `pb-violation,2`, and a second head
+    /// record states the measure, `satisfaction,count` or `satisfaction,cost`. A row is `voter` with a voter's number or
+    /// `project` with a project's id, in any order and none twice.
     pub fn read(alloc: Global, bytes: &[u8], election: &Election) -> Result<Violation, CertRefusal>
-        ensures found { IfOk result (λ v. IsViolationText (certificate_records bytes.now) election.now v.group v.demand) }
+        ensures found { IfOk result (λ v. IsViolationText (certificate_records bytes.now) election.now v.measure v.group v.demand) }
         ensures fits { IfOk result (λ v. Fits v election.now) }
         ensures refused { IfErr result (λ r. (r ≡ no_memory) ⊎ Refuses (violation_form election.now) bytes.now r) }
 
-        // Where the bytes state a group and a demand, those are answered, memory aside.
-        ensures only { (s t : List ℕ) → IsViolationText (certificate_records bytes.now) election.now s t → MatchResult result (λ v. (v.group ≡ s) × (v.demand ≡ t)) (λ r. r ≡ no_memory) }
+        // Where the bytes state a measure, a group and a demand, those are answered, memory aside.
+        ensures only { (m : Measure) (s t : List ℕ) → IsViolationText (certificate_records bytes.now) election.now m s t → MatchResult result (λ v. (v.measure ≡ m) × (v.group ≡ s) × (v.demand ≡ t)) (λ r. r ≡ no_memory) }
     {
         let Ok(mut draft) = ViolationDraft::new(alloc, election) else {
             return Err(CertRefusal::NO_MEMORY);
@@ -69,6 +73,7 @@ impl Violation {
     ) -> Result<Violation, AllocError>
         requires group { length draft.now.group.items ≡ voters election.now }
         requires demand { length draft.now.demand.items ≡ projects election.now }
+        ensures measure { IfOk result (λ v. v.measure ≡ draft.now.measure) }
         ensures group { IfOk result (λ v. v.group ≡ marked draft.now.group.items) }
         ensures demand { IfOk result (λ v. v.demand ≡ marked draft.now.demand.items) }
         ensures fits { IfOk result (λ v. Fits v election.now) }
@@ -80,9 +85,17 @@ impl Violation {
         Ok(Violation {
             voters,
             projects,
+            measure: draft.measure,
             group,
             demand,
         })
+    }
+
+    /// By what the certificate measures what the members get and what they demand. Takes no memory.
+    pub fn satisfaction(&self) -> Measure
+        ensures { result ≡ (self.now).measure }
+    {
+        self.measure
     }
 
     /// The voters of the group, rising, from 1.

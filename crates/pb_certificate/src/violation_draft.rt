@@ -1,20 +1,35 @@
 //! A violation certificate, as far as it has been read.
-ghost use Rattle.std.specs.Prelude.{◌≡◌, [], IfOk, MatchResult, Ok, Err};
+ghost use Rattle.std.specs.Prelude.{◌≡◌, [], true, IfOk, MatchResult, Ok, Err};
 ghost use Rattle.csv.specs.Records.{fields_of};
-ghost use Rattle.pb_certificate.specs.ViolationDrafts.{ViolationTaken, after_violation_row};
+ghost use Rattle.pb_election.specs.Instance.{Instance};
+ghost use Rattle.pb_records.specs.Cells.{is_text};
+ghost use Rattle.pb_certificate.specs.ViolationDrafts.{Took, ViolationTaken, after_violation_row, reading};
 
-use crate::CertFault;
 use crate::fields::{is_pair, width};
 use crate::marks::{mark_project, mark_voter};
+use crate::{CertFault, Measure};
 use csv::StringRecord;
-use pb_election::{Draft, Election, Stop, cell};
+use pb_election::Election;
+use pb_records::{Draft, Stop, cell};
 use std::alloc::{AllocError, Global};
+
+/// What the next record of a violation certificate is to be.
+#[derive(Clone, Copy, Debug, PartialEq, Eq)]
+pub enum Awaited {
+    /// The record that names the format and its version.
+    Format,
+    /// The record that names the measure, which version 2 has.
+    Satisfaction,
+    /// A row, or the end.
+    Row,
+}
 
 /// A violation certificate, as far as it has been read.
 #[derive(Drop)]
 pub struct ViolationDraft {
-    // Whether the head record has been read.
-    begun: bool,
+    awaited: Awaited,
+    /// By what it measures: by counting, until a record says otherwise.
+    pub measure: Measure,
     /// Of each voter whether a row names it.
     pub group: Vec<bool>,
     /// Of each project whether a row names it.
@@ -24,20 +39,71 @@ pub struct ViolationDraft {
 impl ViolationDraft {
     /// Nothing has been read.
     pub fn new(alloc: Global, election: &Election) -> Result<ViolationDraft, AllocError>
-        ensures { IfOk result (λ d. ViolationTaken election.now d.begun d.group.items d.demand.items []) }
+        ensures { IfOk result (λ d. ViolationTaken election.now (reading d) []) }
     {
         let group = vec![in alloc; false; election.voters() as usize]?;
         let demand = vec![in alloc; false; election.projects() as usize]?;
         Ok(ViolationDraft {
-            begun: false,
+            awaited: Awaited::Format,
+            measure: Measure::ByCount,
             group,
             demand,
         })
     }
 
-    fn take_row(&mut self, election: &Election, row: &StringRecord) -> Result<(), CertFault>
+    // Takes the record that names the format. Version 1 counts.
+    fn take_format(&mut self, row: &StringRecord) -> Result<(), Stop<CertFault>>
+        requires text { is_text (fields_of row.now) ≡ true }
+        requires awaited { self.old.awaited ≡ Awaited.Format }
+        ensures { (e : Instance) → Took e (reading self.old) (reading self.new) (fields_of row.now) result }
+    {
+        if is_pair(row, "pb-violation", "1") {
+            self.awaited = Awaited::Row;
+            return Ok(());
+        }
+        if is_pair(row, "pb-violation", "2") {
+            self.awaited = Awaited::Satisfaction;
+            return Ok(());
+        }
+        Err(Stop::Fault(CertFault::BadHead))
+    }
+
+    // Takes the record that names the measure.
+    fn take_satisfaction(&mut self, row: &StringRecord) -> Result<(), Stop<CertFault>>
+        requires text { is_text (fields_of row.now) ≡ true }
+        requires awaited { self.old.awaited ≡ Awaited.Satisfaction }
+        ensures { (e : Instance) → Took e (reading self.old) (reading self.new) (fields_of row.now) result }
+    {
+        if is_pair(row, "satisfaction", "count") {
+            self.measure = Measure::ByCount;
+            self.awaited = Awaited::Row;
+            return Ok(());
+        }
+        if is_pair(row, "satisfaction", "cost") {
+            self.measure = Measure::ByCost;
+            self.awaited = Awaited::Row;
+            return Ok(());
+        }
+        Err(Stop::Fault(CertFault::BadHead))
+    }
+
+    // Takes a row.
+    fn take_row(&mut self, election: &Election, row: &StringRecord) -> Result<(), Stop<CertFault>>
+        requires text { is_text (fields_of row.now) ≡ true }
+        requires awaited { self.old.awaited ≡ Awaited.Row }
+        ensures { Took election.now (reading self.old) (reading self.new) (fields_of row.now) result }
+    {
+        match self.mark_row(election, row) {
+            Ok(()) => Ok(()),
+            Err(fault) => Err(Stop::Fault(fault)),
+        }
+    }
+
+    // Marks what a row names.
+    fn mark_row(&mut self, election: &Election, row: &StringRecord) -> Result<(), CertFault>
         ensures marks { MatchResult result (λ done. after_violation_row election.now self.old.group.items self.old.demand.items (fields_of row.now) ≡ Ok (self.new.group.items, self.new.demand.items)) (λ fault. after_violation_row election.now self.old.group.items self.old.demand.items (fields_of row.now) ≡ Err fault) }
-        ensures begun { self.new.begun ≡ self.old.begun }
+        ensures awaited { self.new.awaited ≡ self.old.awaited }
+        ensures measure { self.new.measure ≡ self.old.measure }
     {
         if width(row) != 2 {
             return Err(CertFault::BadRow);
@@ -55,33 +121,27 @@ impl ViolationDraft {
 
 impl Draft<Election> for ViolationDraft {
     ghost use Rattle.pb_certificate.specs.Faults.{violation_form};
-    ghost use Rattle.pb_certificate.specs.ViolationDrafts.{ViolationTaken};
+    ghost use Rattle.pb_certificate.specs.ViolationDrafts.{ViolationTaken, reading};
 
     type Fault = CertFault;
 
     ghost form = { violation_form };
 
-    ghost HasTaken = { λ e d. ViolationTaken e d.begun d.group.items d.demand.items };
+    ghost HasTaken = { λ e d. ViolationTaken e (reading d) };
 
     fn take(&mut self, election: &Election, row: &StringRecord) -> Result<(), Stop<CertFault>> {
-        if !self.begun {
-            if !is_pair(row, "pb-violation", "1") {
-                return Err(Stop::Fault(CertFault::BadHead));
-            }
-            self.begun = true;
-            return Ok(());
-        }
-        match self.take_row(election, row) {
-            Ok(()) => Ok(()),
-            Err(fault) => Err(Stop::Fault(fault)),
+        match self.awaited {
+            Awaited::Format => self.take_format(row),
+            Awaited::Satisfaction => self.take_satisfaction(row),
+            Awaited::Row => self.take_row(election, row),
         }
     }
 
     fn end(&self, _election: &Election) -> Option<CertFault> {
-        if self.begun {
-            return None;
+        match self.awaited {
+            Awaited::Row => None,
+            _ => Some(CertFault::BadHead),
         }
-        Some(CertFault::BadHead)
     }
 
     fn not_text(&self, _election: &Election) -> CertFault {

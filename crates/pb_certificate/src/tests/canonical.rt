@@ -1,5 +1,5 @@
 //! The canonical text of a sample certificate.
-use crate::Prices;
+use crate::{Prices, canonical_text_of};
 use pb_election::{Election, Output};
 use std::test::Fail;
 
@@ -23,6 +23,14 @@ fn writes_the_canonical_text(rt: HostRuntime) -> Result<(), Fail> {
     let mut text = Vec::new(rt.alloc());
     let written = prices.write(rt.alloc(), &election, &mut Output::new(&mut text));
     assert_eq!(rt; written, Ok(()));
+    assert_eq!(rt; text.as_slice(), CANONICAL);
+    Ok(())
+}
+
+#[test]
+fn tidies_a_certificate(rt: HostRuntime) -> Result<(), Fail> {
+    let election = Election::read(rt.alloc(), ELECTION)?;
+    let text = canonical_text_of(rt.alloc(), LENIENT, &election)?;
     assert_eq!(rt; text.as_slice(), CANONICAL);
     Ok(())
 }

@@ -6,7 +6,7 @@ use std::process::Abort;
 use std::test::Fail;
 
 /// Three voters, and the projects a, b and c.
-const SAMPLE: &[u8] =
+pub const SAMPLE: &[u8] =
     b"META\nkey;value\ndescription;Sample\nnum_projects;3\nnum_votes;3\nbudget;10\nvote_type;approval\nPROJECTS\nproject_id;cost;name;selected\na;6;Park;1\nb;4;Library;1\nc;9;Pool;0\nVOTES\nvoter_id;vote\n1;a,b\n2;a\n3;b,c\n";
 
 /// One voter and one project of the greatest cost.
@@ -14,9 +14,9 @@ const RICH: &[u8] =
     b"META\nkey;value\nbudget;1000000000000\nvote_type;approval\nPROJECTS\nproject_id;cost;selected\nx;1000000000000;1\nVOTES\nvoter_id;vote\n1;x\n";
 
 /// The head records of the sample prices, and their rows.
-const HEAD: &str = "pb-prices,1\ndenominator,1\nvoter_budget,4\nvoter,project,payment\n";
+pub const HEAD: &str = "pb-prices,1\ndenominator,1\nvoter_budget,4\nvoter,project,payment\n";
 
-const ROWS: &str = "1,a,2\n1,b,2\n2,a,4\n3,b,2\n";
+pub const ROWS: &str = "1,a,2\n1,b,2\n2,a,4\n3,b,2\n";
 
 #[test]
 fn reads_prices(rt: HostRuntime) -> Result<(), Fail> {

@@ -1,5 +1,5 @@
 //! Violation certificates for four voters and the projects x1, x2 and y.
-use crate::Violation;
+use crate::{Measure, Violation};
 use pb_election::Election;
 use std::test::Fail;
 
@@ -10,12 +10,28 @@ const SAMPLE: &[u8] =
 fn reads_violations(rt: HostRuntime) -> Result<(), Fail> {
     let election = Election::read(rt.alloc(), SAMPLE)?;
     // As it should be, and in another order, with blanks, a leading zero and an empty field at the end.
-    for text in [
-        "pb-violation,1\nproject,x1\nproject,x2\nvoter,1\nvoter,2\n",
-        "pb-violation,1\nvoter,02\nproject,x2,\n\nvoter, 1\nproject,x1\n",
-    ] {
+    let samples = [
+        (
+            "pb-violation,1\nproject,x1\nproject,x2\nvoter,1\nvoter,2\n",
+            Measure::ByCount,
+        ),
+        (
+            "pb-violation,1\nvoter,02\nproject,x2,\n\nvoter, 1\nproject,x1\n",
+            Measure::ByCount,
+        ),
+        (
+            "pb-violation,2\nsatisfaction,count\nproject,x1\nproject,x2\nvoter,1\nvoter,2\n",
+            Measure::ByCount,
+        ),
+        (
+            "pb-violation,2\n,\nsatisfaction, cost,\nvoter,2\nproject,x2\nproject,x1\nvoter,1\n",
+            Measure::ByCost,
+        ),
+    ];
+    for (text, measure) in samples {
         let violation = Violation::read(rt.alloc(), text.as_bytes(), &election)?;
         assert!(rt; violation.fits(&election));
+        assert_eq!(rt; violation.satisfaction(), measure, "at {text}");
         assert_eq!(rt; violation.group(), [1, 2].as_slice());
         assert_eq!(rt; violation.demand(), [1, 2].as_slice());
     }
@@ -26,7 +42,8 @@ fn reads_violations(rt: HostRuntime) -> Result<(), Fail> {
 fn refuses_violations(rt: HostRuntime) -> Result<(), Fail> {
     let election = Election::read(rt.alloc(), SAMPLE)?;
     let samples = [
-        ("pb-violation,2\n", 21, 1),
+        ("", 21, 1),
+        ("pb-violation,3\n", 21, 1),
         ("pb-violation,1\nproject,x1\nproject,x2\nvoter,5\n", 24, 4),
         ("pb-violation,1\nproject,x1\nproject,x2\nvoter,0\n", 24, 4),
         (
@@ -43,6 +60,47 @@ fn refuses_violations(rt: HostRuntime) -> Result<(), Fail> {
             27,
             6,
         ),
+    ];
+    for (text, number, place) in samples {
+        let found = Violation::read(rt.alloc(), text.as_bytes(), &election);
+        let refusal = found.err().map(|refusal| (refusal.number(), refusal.place));
+        assert_eq!(rt; refusal, Some((number, place)), "at {text}");
+    }
+    Ok(())
+}
+
+// Version 2 has a second head record, of these two forms alone, and version 1 has none.
+#[test]
+fn refuses_measures(rt: HostRuntime) -> Result<(), Fail> {
+    let election = Election::read(rt.alloc(), SAMPLE)?;
+    let samples = [
+        ("pb-violation,2\n", 21, 2),
+        ("pb-violation,2\n\n \n", 21, 3),
+        (
+            "pb-violation,2\nproject,x1\nproject,x2\nvoter,1\nvoter,2\n",
+            21,
+            2,
+        ),
+        ("pb-violation,2\nsatisfaction,Cost\n", 21, 2),
+        ("pb-violation,2\nsatisfaction,costs\n", 21, 2),
+        ("pb-violation,2\nSatisfaction,cost\n", 21, 2),
+        ("pb-violation,2\nsatisfaction\n", 21, 2),
+        ("pb-violation,2\nsatisfaction,count,cost\n", 21, 2),
+        ("pb-violation,2\nmeasure,cost\n", 21, 2),
+        ("pb-violation,2\npb-violation,2\n", 21, 2),
+        (
+            "pb-violation,2\nsatisfaction,cost\nsatisfaction,cost\n",
+            22,
+            3,
+        ),
+        ("pb-violation,2\nsatisfaction,cost\nvoter,5\n", 24, 3),
+        (
+            "pb-violation,2\nsatisfaction,count\nvoter,1\nproject,x1\nvoter,1\n",
+            27,
+            5,
+        ),
+        ("pb-violation,1\nsatisfaction,count\n", 22, 2),
+        ("pb-violation,1\nvoter,1\nsatisfaction,cost\n", 22, 3),
     ];
     for (text, number, place) in samples {
         let found = Violation::read(rt.alloc(), text.as_bytes(), &election);

@@ -1,7 +1,7 @@
 use Rattle.std.proofs.Common.{◌≡◌, ◌∙◌, ap, sym, arith, length, true, false, ℕ, List}
 use Rattle.csv.specs.Records.{fields_of}
 use Rattle.pb_money.specs.Digits.{is_empty}
-use Rattle.pb_election.specs.Cells.{clean}
+use Rattle.pb_records.specs.Cells.{clean}
 use Rattle.pb_certificate.specs.Fields.{fields}
 use Rattle.pb_certificate.proofs.Widths.{field-some, is-empty, width-done, width-start, width-step}
 use Rattle.pb_certificate.proofs.fields.width.Goals as goal

@@ -1,7 +1,7 @@
 use Rattle.std.proofs.Common.{◌≡◌, ◌∙◌, length, sym, ap, Some}
 use Rattle.std.proofs.lemmas.Bool.{eq-eqb}
 use Rattle.csv.specs.Records.{fields_of}
-use Rattle.pb_election.specs.Cells.{cell}
+use Rattle.pb_records.specs.Cells.{cell}
 use Rattle.pb_certificate.specs.Fields.{fields, project_in, voter_in, whole_in}
 use Rattle.pb_certificate.specs.PriceText.{numerator_of}
 use Rattle.pb_certificate.proofs.Numbers.{voter-was}

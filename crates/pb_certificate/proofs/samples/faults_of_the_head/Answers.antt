@@ -4,7 +4,7 @@ use Rattle.std.specs.Char.{encode_utf8}
 use Rattle.std.specs.Fmt.{digits}
 use Rattle.csv.specs.Records.{field_at}
 use Rattle.pb_money.specs.Digits.{drop_back, drop_front}
-use Rattle.pb_election.specs.Cells.{is_blank, is_text}
+use Rattle.pb_records.specs.Cells.{is_blank, is_text}
 use Rattle.pb_certificate.specs.Fields.{whole_in}
 use Rattle.pb_certificate.proofs.samples.faults_of_the_head.Goals as goal
 

@@ -5,9 +5,9 @@ use Rattle.std.specs.Str.{chars, is_utf8}
 use Rattle.std.specs.Char.{encode_utf8}
 use Rattle.csv.specs.Records.{field_at}
 use Rattle.pb_money.specs.Digits.{drop_back, drop_front}
-use Rattle.pb_election.specs.Cells.{is_blank, is_text}
+use Rattle.pb_records.specs.Cells.{is_blank, is_text}
 use Rattle.pb_certificate.specs.Fields.{whole_in}
-use Rattle.pb_certificate.specs.ViolationText.Named.{Member, Demanded}
+use Rattle.pb_certificate.specs.NamedRows.Named.{Voter, Project}
 use Rattle.pb_certificate.specs.Samples.{demand_x1, demand_x2, member_1, price_columns, row_1a, row_1b, row_2a, row_3b, two}
 use Rattle.pb_certificate.proofs.PriceClear.{cons-rises, nil-rises}
 use Rattle.pb_certificate.proofs.samples.sample_texts.Goals as goal
@@ -38,14 +38,27 @@ returns-clause-prices c = record {
 pub returns-clause-group : goal.returns-clause-group
 unfolding field_at drop_front drop_back is_blank is_text whole_in is_utf8 chars encode_utf8 IsDistinct
 returns-clause-group c = record {
-  head = two (codes "pb-violation") (codes "1");
+  heads = two (codes "pb-violation") (codes "1") ∷ [];
   rows = demand_x1 ∷ demand_x2 ∷ member_1 ∷ two (codes "voter") (codes "2") ∷ [];
-  names = Demanded 1 ∷ Demanded 2 ∷ Member 1 ∷ Member 2 ∷ [];
+  names = Project 1 ∷ Project 2 ∷ Voter 1 ∷ Voter 2 ∷ [];
   cut = refl;
   text = (refl, (refl, (refl, (refl, (refl, tt)))));
-  is_head = refl;
-  each_row = refl;
-  once = ((refl, (refl, (refl, tt))), ((refl, (refl, tt)), ((refl, tt), (tt, tt))));
+  measure = (refl, refl);
+  named = record { each_row = refl; once = ((refl, (refl, (refl, tt))), ((refl, (refl, tt)), ((refl, tt), (tt, tt)))) };
+  same_group = refl;
+  same_demand = refl;
+}
+
+pub returns-clause-by_cost : goal.returns-clause-by_cost
+unfolding field_at drop_front drop_back is_blank is_text whole_in is_utf8 chars encode_utf8 IsDistinct
+returns-clause-by_cost c = record {
+  heads = two (codes "pb-violation") (codes "2") ∷ two (codes "satisfaction") (codes "cost") ∷ [];
+  rows = demand_x1 ∷ demand_x2 ∷ member_1 ∷ [];
+  names = Project 1 ∷ Project 2 ∷ Voter 1 ∷ [];
+  cut = refl;
+  text = (refl, (refl, (refl, (refl, (refl, tt)))));
+  measure = (refl, refl);
+  named = record { each_row = refl; once = ((refl, (refl, tt)), ((refl, tt), (tt, tt))) };
   same_group = refl;
   same_demand = refl;
 }
@@ -55,11 +68,11 @@ unfolding field_at drop_front drop_back is_blank is_text whole_in is_utf8 chars 
 returns-clause-outcome c = record {
   head = two (codes "pb-outcome") (codes "1");
   rows = two (codes "project") (codes "b") ∷ two (codes "project") (codes "a") ∷ [];
-  names = 2 ∷ 1 ∷ [];
+  names = Project 2 ∷ Project 1 ∷ [];
   cut = refl;
   text = (refl, (refl, (refl, tt)));
   is_head = refl;
-  each_row = refl;
-  once = ((refl, tt), (tt, tt));
+  named = record { each_row = refl; once = ((refl, tt), (tt, tt)) };
+  projects_alone = (refl, (refl, tt));
   same_outcome = refl;
 }

@@ -4,7 +4,7 @@ use Rattle.std.specs.Char.{encode_utf8}
 use Rattle.std.specs.Fmt.{digits}
 use Rattle.csv.specs.Records.{field_at}
 use Rattle.pb_money.specs.Digits.{drop_back, drop_front}
-use Rattle.pb_election.specs.Cells.{is_blank, is_text}
+use Rattle.pb_records.specs.Cells.{is_blank, is_text}
 use Rattle.pb_certificate.specs.Fields.{whole_in}
 use Rattle.pb_certificate.proofs.samples.violation_certificates.Goals as goal
 
@@ -43,3 +43,27 @@ returns-clause-group c = refl
 pub returns-clause-project_z : goal.returns-clause-project_z
 unfolding field_at drop_front drop_back is_blank is_text whole_in is_utf8 chars encode_utf8 digits
 returns-clause-project_z c = refl
+
+pub returns-clause-by_cost : goal.returns-clause-by_cost
+unfolding field_at drop_front drop_back is_blank is_text whole_in is_utf8 chars encode_utf8 digits
+returns-clause-by_cost c = refl
+
+pub returns-clause-no_measure : goal.returns-clause-no_measure
+unfolding field_at drop_front drop_back is_blank is_text whole_in is_utf8 chars encode_utf8 digits
+returns-clause-no_measure c = refl
+
+pub returns-clause-end : goal.returns-clause-end
+unfolding field_at drop_front drop_back is_blank is_text whole_in is_utf8 chars encode_utf8 digits
+returns-clause-end c = refl
+
+pub returns-clause-another : goal.returns-clause-another
+unfolding field_at drop_front drop_back is_blank is_text whole_in is_utf8 chars encode_utf8 digits
+returns-clause-another c = refl
+
+pub returns-clause-measured : goal.returns-clause-measured
+unfolding field_at drop_front drop_back is_blank is_text whole_in is_utf8 chars encode_utf8 digits
+returns-clause-measured c = refl
+
+pub returns-clause-measured_twice : goal.returns-clause-measured_twice
+unfolding field_at drop_front drop_back is_blank is_text whole_in is_utf8 chars encode_utf8 digits
+returns-clause-measured_twice c = refl

@@ -1,40 +1,49 @@
-use Rattle.std.proofs.Common.{◌≡◌, ◌∙◌, subst, sym}
-use Rattle.std.specs.Prelude.{◌⊎◌}
-use Rattle.pb_certificate.specs.Faults.{Refuses, certificate_records, no_memory, price_form}
-use Rattle.pb_certificate.specs.PriceDrafts.{state}
-use Rattle.pb_certificate.specs.declared.refusal.CertRefusal.{CertRefusal}
-use Rattle.pb_certificate.proofs.PriceWhole.{read-states, refused-by, stopped-text, whole-of}
+use Rattle.std.proofs.Common.{subst, sym}
+use Rattle.std.proofs.lemmas.Result.{err_from_is_err_and}
+use Rattle.pb_certificate.specs.Faults.{certificate_records}
+use Rattle.pb_certificate.specs.PriceText.{IsPriceText}
+use Rattle.pb_certificate.proofs.GatherSteps.{prices-by, refused-file, runs-state, text-refused}
 use Rattle.pb_certificate.proofs.Texts.{states-prices}
 use Rattle.pb_certificate.proofs.Unique.{price-text-same}
 use Rattle.pb_certificate.proofs.prices.Prices.read.Goals as goal
 
-pub into_prices-requires : goal.into_prices-requires
-into_prices-requires c =
-    let recs = certificate_records c.args.bytes.now in
-    (recs, whole-of c.args.election.now (state c.take_all.new.draft) recs c.in-Ok-take_all.ensures.taken c.in-Ok-take_all.ensures.none)
-
-pub returns-in-Err-clause-refused : goal.returns-in-Err-clause-refused
-returns-in-Err-clause-refused c =
-    let e = c.args.election.now in
-    let bytes = c.args.bytes.now in
-    subst (λ (r : CertRefusal). (r ≡ no_memory) ⊎ Refuses (price_form e) bytes r) (sym c.of.ensures) (refused-by (price_form e) (certificate_records bytes) c.in-Err.stop c.in-Err.ensures.stopped)
-
-pub returns-in-Err-clause-only : goal.returns-in-Err-clause-only
-returns-in-Err-clause-only c = λ p text. (c.of.ensures ∙ stopped-text (certificate_records c.args.bytes.now) c.args.election.now p c.in-Err.stop text c.in-Err.ensures.stopped)
-
-pub returns-in-Ok-take_all-clause-found : goal.returns-in-Ok-take_all-clause-found
-returns-in-Ok-take_all-clause-found c =
-    read-states c.args.election.now (state c.take_all.new.draft) (certificate_records c.args.bytes.now) c.into_prices.result c.in-Ok-take_all.ensures.taken c.in-Ok-take_all.ensures.none c.into_prices.ensures
-
-pub returns-in-Ok-take_all-clause-sound : goal.returns-in-Ok-take_all-clause-sound
-returns-in-Ok-take_all-clause-sound c =
-    let recs = certificate_records c.args.bytes.now in
-    states-prices recs c.args.election.now c.into_prices.result
-    (read-states c.args.election.now (state c.take_all.new.draft) recs c.into_prices.result c.in-Ok-take_all.ensures.taken c.in-Ok-take_all.ensures.none c.into_prices.ensures)
-
-pub returns-in-Ok-take_all-clause-only : goal.returns-in-Ok-take_all-clause-only
-returns-in-Ok-take_all-clause-only c = λ p text. (
-    let recs = certificate_records c.args.bytes.now in
-    price-text-same recs c.args.election.now c.into_prices.result p
-    (read-states c.args.election.now (state c.take_all.new.draft) recs c.into_prices.result c.in-Ok-take_all.ensures.taken c.in-Ok-take_all.ensures.none c.into_prices.ensures) text
+pub returns-in_err-rows-clause-only : goal.returns-in_err-rows-clause-only
+returns-in_err-rows-clause-only c = λ p text. (
+    let err = err_from_is_err_and c.from_residual.result c.from_residual.ensures.1 in
+    rw (err.1, err.2) (text-refused (certificate_records c.args.bytes.now) c.args.election.now p c.in_err-rows.field-0.0 text c.in_err-rows.ensures.refused)
     )
+
+pub returns-in_err-gather-clause-only : goal.returns-in_err-gather-clause-only
+returns-in_err-gather-clause-only c = λ p text. (
+    let recs = certificate_records c.args.bytes.now in
+    let e = c.args.election.now in
+    let err = err_from_is_err_and c.from_residual-in_err-gather.result c.from_residual-in_err-gather.ensures.1 in
+    let refused = refused-file recs e c.in_ok-rows.rows c.in_err-gather.field-0.0 c.in_ok-rows.ensures.election c.in_ok-rows.ensures.records c.in_err-gather.ensures.refused in
+    rw (err.1, err.2) (text-refused recs e p c.in_err-gather.field-0.0 text refused)
+    )
+
+pub new-requires-2 : goal.new-requires-2
+new-requires-2 c =
+    let e = c.args.election.now in
+    let recs = certificate_records c.args.bytes.now in
+    let text =
+    runs-state recs e c.in_ok-rows.rows c.projects.result c.denominator-denominator.result c.budget-budget.result c.gather.new.ledger c.in_ok-gather.ensures.all c.in_ok-rows.ensures.election
+    c.in_ok-rows.ensures.records c.projects.ensures.value c.denominator-denominator.ensures.value c.budget-budget.ensures.value in
+    (states-prices recs e (prices-by c.projects.result c.denominator-denominator.result c.budget-budget.result c.gather.new.ledger) text).system
+
+pub returns-clause-found : goal.returns-clause-found
+returns-clause-found c =
+    let e = c.args.election.now in
+    let recs = certificate_records c.args.bytes.now in
+    let text =
+    runs-state recs e c.in_ok-rows.rows c.projects.result c.denominator-denominator.result c.budget-budget.result c.gather.new.ledger c.in_ok-gather.ensures.all c.in_ok-rows.ensures.election
+    c.in_ok-rows.ensures.records c.projects.ensures.value c.denominator-denominator.ensures.value c.budget-budget.ensures.value in
+    subst (IsPriceText recs e) (sym c.new-2.ensures) text
+
+pub returns-clause-sound : goal.returns-clause-sound
+unfolding returns-clause-found
+returns-clause-sound c = states-prices (certificate_records c.args.bytes.now) c.args.election.now c.new-2.result (returns-clause-found c)
+
+pub returns-clause-only : goal.returns-clause-only
+unfolding returns-clause-found
+returns-clause-only c = λ p stated. (price-text-same (certificate_records c.args.bytes.now) c.args.election.now c.new-2.result p (returns-clause-found c) stated)

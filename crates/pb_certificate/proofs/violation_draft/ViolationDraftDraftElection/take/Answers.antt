@@ -1,25 +1,24 @@
-use Rattle.std.proofs.Common.{◌∙◌, sym}
 use Rattle.csv.specs.Records.{fields_of}
-use Rattle.pb_certificate.proofs.ViolationSteps.{head-refused, head-taken, row-refused, row-taken}
+use Rattle.pb_certificate.specs.ViolationDrafts.{reading}
+use Rattle.pb_certificate.proofs.ViolationSteps.{took-err, took-ok}
 use Rattle.pb_certificate.proofs.violation_draft.ViolationDraftDraftElection.take.Goals as goal
 
-pub returns-then-not-is_pair-clause-stopped : goal.returns-then-not-is_pair-clause-stopped
-returns-then-not-is_pair-clause-stopped c =
-    let old = c.args.self.now in
-    head-refused c.args.election.now old.begun old.group.items old.demand.items (fields_of c.args.row.now) c.requires.text c.if-not-self.true (sym c.is_pair.ensures ∙ c.if-not-is_pair.true)
+pub returns-in-Format-clause-taken : goal.returns-in-Format-clause-taken
+returns-in-Format-clause-taken c =
+    let e = c.args.election.now in
+    took-ok e (reading c.args.self.now) (reading c.take_format.new.self) (fields_of c.args.row.now) c.take_format.result (c.take_format.ensures e)
 
-pub returns-then-not-self-clause-taken : goal.returns-then-not-self-clause-taken
-returns-then-not-self-clause-taken c =
-    let old = c.args.self.now in
-    head-taken c.args.election.now old.begun old.group.items old.demand.items (fields_of c.args.row.now) c.requires.text c.if-not-self.true (sym c.is_pair.ensures ∙ c.if-not-is_pair.false)
+pub returns-in-Format-clause-stopped : goal.returns-in-Format-clause-stopped
+returns-in-Format-clause-stopped c =
+    let e = c.args.election.now in
+    took-err e (reading c.args.self.now) (reading c.take_format.new.self) (fields_of c.args.row.now) c.take_format.result (c.take_format.ensures e)
 
-pub returns-in-Ok-clause-taken : goal.returns-in-Ok-clause-taken
-returns-in-Ok-clause-taken c =
-    let old = c.args.self.now in
-    let new = c.take_row.new.self in
-    row-taken c.args.election.now old.begun new.begun old.group.items old.demand.items new.group.items new.demand.items (fields_of c.args.row.now) c.requires.text c.if-not-self.false c.in-Ok.ensures.begun c.in-Ok.ensures.marks
+pub returns-in-Satisfaction-clause-taken : goal.returns-in-Satisfaction-clause-taken
+returns-in-Satisfaction-clause-taken c =
+    let e = c.args.election.now in
+    took-ok e (reading c.args.self.now) (reading c.take_satisfaction.new.self) (fields_of c.args.row.now) c.take_satisfaction.result (c.take_satisfaction.ensures e)
 
-pub returns-in-Err-clause-stopped : goal.returns-in-Err-clause-stopped
-returns-in-Err-clause-stopped c =
-    let old = c.args.self.now in
-    row-refused c.args.election.now old.begun old.group.items old.demand.items (fields_of c.args.row.now) c.in-Err.fault c.requires.text c.if-not-self.false c.in-Err.ensures.marks
+pub returns-in-Satisfaction-clause-stopped : goal.returns-in-Satisfaction-clause-stopped
+returns-in-Satisfaction-clause-stopped c =
+    let e = c.args.election.now in
+    took-err e (reading c.args.self.now) (reading c.take_satisfaction.new.self) (fields_of c.args.row.now) c.take_satisfaction.result (c.take_satisfaction.ensures e)

@@ -1,0 +1,82 @@
+//! Going over the rows of a price certificate.
+ghost use Rattle.std.specs.Prelude.{◌≡◌, ◌⊎◌, IfOk, IfErr};
+
+use crate::CertRefusal;
+use crate::places::next_record;
+use crate::price_head::{PriceHead, read_head};
+use crate::price_row::PriceRow;
+use crate::prior_rows::PriorRows;
+use pb_election::Election;
+use pb_records::Cursor;
+use std::alloc::Global;
+
+/// A place between the rows of a price certificate.
+#[derive(Drop)]
+pub struct RowReader<'a> {
+    // The file: the proofs speak of all its records.
+    bytes: &'a [u8],
+    election: &'a Election,
+    /// The denominator that the head states.
+    pub denominator: u32,
+    /// The numerator of the voters' budget that the head states.
+    pub budget: u128,
+    cursor: Box<Cursor<'a>>,
+    prior: PriorRows,
+}
+
+impl<'a> RowReader<'a> {
+    ghost use Rattle.std.specs.Prelude.{◌≡◌, [], ℕ};
+    ghost use Rattle.pb_certificate.specs.Faults.{Refuses, certificate_records, no_memory, price_form};
+    ghost use Rattle.pb_certificate.specs.Rows.{IsInHead, given};
+    ghost use Rattle.pb_certificate.specs.RowReader.{Advances, IsReading, place_of};
+
+    /// Behind the head of a price certificate, or its first fault where that stands in the head.
+    pub fn open(
+        alloc: Global,
+        bytes: &'a [u8],
+        election: &'a Election,
+    ) -> Result<RowReader<'a>, CertRefusal>
+        ensures reading { IfOk result (λ r. IsReading r) }
+        ensures election { IfOk result (λ r. r.election.now ≡ election.now) }
+        ensures bytes { IfOk result (λ r. r.bytes.now ≡ bytes.now) }
+        ensures none_given { IfOk result (λ r. given (place_of r) ≡ []) }
+        ensures refused { IfErr result (λ r. (r ≡ no_memory) ⊎ Refuses (price_form election.now) bytes.now r) }
+        ensures in_head { IfErr result (λ r. IsInHead (certificate_records bytes.now) r) }
+    {
+        let Ok(mut cursor) = Box::new(alloc, Cursor::open(alloc, bytes, b',')) else {
+            return Err(CertRefusal::NO_MEMORY);
+        };
+        let PriceHead {
+            denominator,
+            budget,
+        } = read_head(&mut cursor)?;
+        let Ok(prior) = PriorRows::new(alloc, election.projects()) else {
+            return Err(CertRefusal::NO_MEMORY);
+        };
+        Ok(RowReader {
+            bytes,
+            election,
+            denominator,
+            budget,
+            cursor,
+            prior,
+        })
+    }
+
+    /// Goes behind the next row and gives it, or none at the end, or the fault of the next record.
+    pub fn advance(&mut self) -> Result<Option<PriceRow>, CertRefusal>
+        requires { IsReading self.old }
+        ensures { Advances self.old self.new result }
+    {
+        if !next_record(&mut self.cursor)? {
+            return Ok(None);
+        }
+        match self.prior.take(self.cursor.row(), self.election) {
+            Ok(row) => Ok(Some(row)),
+            Err(fault) => Err(CertRefusal {
+                fault,
+                place: self.cursor.place(),
+            }),
+        }
+    }
+}
