@@ -1,20 +1,21 @@
 -- Under stable prices no group is left with less than it deserves.
-use Rattle.std.proofs.Common.{◌≡◌, ℕ, suc, ◌+◌, ◌*◌, ◌<◌, ◌≤◌, Bool, true, List, [], ◌∷◌, length, refl, sym, ◌∙◌, ap, ◌⊎◌, inl, inr, arith}
-use Rattle.std.specs.Prelude.{◌&&◌, not, All, Any, sum_by, filter}
+use Rattle.std.proofs.Common.{◌≡◌, ℕ, suc, ◌+◌, ◌*◌, ◌<◌, ◌≤◌, Bool, true, List, [], ◌∷◌, length, refl, sym, ◌∙◌, ap, subst, ◌⊎◌, inl, inr, arith, get_or}
+use Rattle.std.specs.Prelude.{◌&&◌, not, ◌≢◌, All, Any, sum_by, filter}
 use Rattle.std.specs.List.{AllByRecursion}
 use Rattle.std.proofs.lemmas.Bool.{cases_Bool, cases_lt}
 use Rattle.std.proofs.lemmas.List.Elements.{recursion_from_All}
 use Rattle.std.proofs.lemmas.List.Sums.{sum_by-cons}
-use Rattle.std.proofs.Math.Nat.{mul-le-mul_right, mul_comm}
-use Rattle.pb_election.specs.Instance.{Approves, Instance, IsProject, IsVoter, all_projects, approves, projects, voters}
+use Rattle.std.proofs.Math.Nat.{lt_of_mul-lt-mul_left, mul-le-mul_right, mul-lt-mul_of_pos_left, mul_assoc, mul_comm, mul_left_comm}
+use Rattle.pb_election.specs.Instance.{Approves, Instance, IsProject, IsVoter, all_projects, approves, cost_of, cost_of_all, projects, voters}
 use Rattle.pb_certificate.specs.Prices.{Prices}
 use Rattle.pb_cohesion.specs.Amounts.{beta, cost, paid, pays, spent, top}
 use Rattle.pb_election.specs.Outcome.{has}
 use Rattle.pb_cohesion.specs.Outcome.{IsFunded, IsUnfunded}
-use Rattle.pb_cohesion.specs.Conditions.{C1, C3, C4, S5}
-use Rattle.pb_cohesion.specs.Groups.{AreProjects, IsGroup, gets}
-use Rattle.pb_cohesion.proofs.Sums.{all-among, among, at, range-le, range-same, sum-add, sum-const, sum-exchange, sum-filter, sum-le, sum-mul, sum-set, where_passes}
-use Rattle.pb_cohesion.proofs.Sets.{all-both, all-weaker, largest-at, set-all, set-le-range}
+use Rattle.pb_cohesion.specs.Conditions.{C1, C3, C4, Cover, S5}
+use Rattle.pb_cohesion.specs.Groups.{AreProjects, IsGroup, Violates, gets, sat}
+use Rattle.pb_cohesion.specs.Satisfactions.{by_count}
+use Rattle.pb_cohesion.proofs.Sums.{all-among, among, at, range-le, range-same, sum-add, sum-const, sum-exchange, sum-filter, sum-le, sum-mul, sum-same, sum-set, where_passes}
+use Rattle.pb_cohesion.proofs.Sets.{all-both, all-every, all-weaker, largest-at, set-all, set-le-range}
 use Rattle.pb_cohesion.proofs.Plain.{left_ℕ}
 use Rattle.pb_cohesion.proofs.Stable.{group-offers, most_ℕ}
 use Rattle.pb_cohesion.proofs.Reaches.{pays-none, pays-wasted}
@@ -157,3 +158,27 @@ stable_is_fair e w p s t approved paid_for none_wasted stable group projects_t a
       | inl some ↦ some
       | inr each ↦ (let poor : length s * beta p ≤ sum_by (cost e p) t = all_less e w p s t approved paid_for none_wasted stable group projects_t approve each in absurd (omega arith))
     ]
+
+-- a list that isn't empty has an element
+pub not-empty : (s : List ℕ) → s ≢ [] → 0 < length s
+not-empty [] h = absurd (h refl)
+not-empty (i ∷ s) h = omega arith
+
+-- where the budgets together exceed the limit, those of a cohesive group exceed what its set costs
+pub cohesive-rich : (n c d b l s : ℕ) → 0 < s → n * c ≤ s * l → l * d < n * b → c * d < s * b
+cohesive-rich n c d b l s some large cover =
+    let first : n * c * d ≤ s * l * d = mul-le-mul_right d large in
+    let second : s * (l * d) < s * (n * b) = mul-lt-mul_of_pos_left cover some in
+    let shape : n * (c * d) < n * (s * b) = (omega (arith, first, second, mul_assoc n c d, mul_assoc s l d, mul_left_comm s n b)) in
+    lt_of_mul-lt-mul_left n shape
+
+pub stable_has_no_violation : (e : Instance) (w : List Bool) (p : Prices) (s t : List ℕ) → C1 e p → C3 e w p → C4 e w p → S5 e w p → Cover e p
+    → IsGroup e s → AreProjects e t → Violates by_count e w s t → ⊥
+stable_has_no_violation e w p s t approved paid_for none_wasted stable cover group projects_t v =
+    let costs : sum_by (cost e p) t ≡ cost_of_all e t * p.denominator = sum-same (cost e p) (λ j. p.denominator * cost_of e j) t (all-every (λ j. cost e p j ≡ p.denominator * cost_of e j) t (λ j. mul_comm (cost_of e j) p.denominator)) ∙ sum-mul p.denominator (cost_of e) t ∙ mul_comm p.denominator (cost_of_all e t) in
+    let rich : cost_of_all e t * p.denominator < length s * beta p = cohesive-rich (voters e) (cost_of_all e t) p.denominator (beta p) e.limit (length s) (not-empty s v.cohesive.not_empty) v.cohesive.large cover in
+    let some : Any (λ i. length t ≤ length (gets e w i)) s = stable_is_fair e w p s t approved paid_for none_wasted stable group projects_t v.cohesive.approve (omega arith) in
+    let less : sat by_count (gets e w (get_or s some.0 some.1)) < sat by_count t = v.less some.0 some.1 some.2 in
+    let less_here : sat by_count (gets e w some.1) < sat by_count t = subst (λ i. sat by_count (gets e w i) < sat by_count t) some.3 less in
+    let enough : length t ≤ length (gets e w some.1) = some.4 in
+    absurd (omega (arith, sum-ones t, sum-ones (gets e w some.1)))

@@ -9,6 +9,10 @@ use Rattle.pb_certificate.specs.Prices.{Prices, payment}
 abbrev pub cost : Instance → Prices → ℕ → ℕ
 cost e p c = cost_grains (cost_of e c) p.denominator
 
+-- the limit of what the funded projects may cost together
+abbrev pub budget_limit : Instance → Prices → ℕ
+budget_limit e p = cost_grains e.limit p.denominator
+
 -- the budget of each voter
 abbrev pub beta : Prices → ℕ
 beta p = payment_grains p.budget

@@ -1,11 +1,11 @@
 -- When a price system supports an outcome: each condition, and its culprits in order. C1 to C5 are after Peters,
 -- Pierczyński and Skowron (2021), and S5 is after the stable form that Peters, Pierczyński, Shah and Skowron (2021) give for
--- committees. The form of S5 for projects with costs, Feasible and Exhaustive are this project's own.
-use Rattle.std.specs.Prelude.{◌≡◌, ◌<◌, ◌≤◌, ◌+◌, ◌==◌, ◌&&◌, not, nat_lt, nat_le, int_lt, ℕ, ℤ, pos, ◌+ℤ◌, ◌≤ℤ◌, Bool, IsFalse, IsTrue, List, [], ◌∷◌, map, filter, flat_map}
+-- committees. The form of S5 for projects with costs, Feasible, Exhaustive and Cover are this project's own.
+use Rattle.std.specs.Prelude.{◌≡◌, ◌<◌, ◌≤◌, ◌+◌, ◌*◌, ◌==◌, ◌&&◌, not, nat_lt, nat_le, int_lt, ℕ, ℤ, pos, ◌+ℤ◌, ◌≤ℤ◌, Bool, IsFalse, IsTrue, List, [], ◌∷◌, map, filter, flat_map}
 use Rattle.std.specs.Int.{int_max}
-use Rattle.pb_election.specs.Instance.{Approves, Instance, IsProject, IsVoter, all_projects, all_voters, approves, cost_of, supporters}
+use Rattle.pb_election.specs.Instance.{Approves, Instance, IsProject, IsVoter, all_projects, all_voters, approves, cost_of, supporters, voters}
 use Rattle.pb_certificate.specs.Prices.{Prices, payment}
-use Rattle.pb_cohesion.specs.Amounts.{beta, cost, left, paid, spent, top}
+use Rattle.pb_cohesion.specs.Amounts.{beta, budget_limit, cost, left, paid, spent, top}
 use Rattle.pb_cohesion.specs.Outcome.{IsFunded, IsUnfunded, funded, total, unfunded}
 
 -- Throughout, e is an election, w an outcome as the marks of its funded projects, p a price system, i a voter and c a
@@ -29,6 +29,10 @@ Feasible e w = total e w ≤ e.limit
 -- no unfunded project can be added within the limit
 abbrev pub Exhaustive : Instance → List Bool → Type 0
 Exhaustive e w = (c : ℕ) → IsUnfunded e w c → e.limit < total e w + cost_of e c
+
+-- the budgets of all voters together are more than the limit
+abbrev pub Cover : Instance → Prices → Type 0
+Cover e p = budget_limit e p < voters e * beta p
 
 -- a voter pays only for projects that it approves
 abbrev pub C1 : Instance → Prices → Type 0
@@ -76,10 +80,11 @@ culprits_of_C5 e w p = filter (λ c. int_lt (pos (cost e p c)) (sum_ℤ (left e 
 abbrev pub culprits_of_S5 : Instance → List Bool → Prices → List ℕ
 culprits_of_S5 e w p = filter (λ c. int_lt (pos (cost e p c)) (sum_ℤ (most_of e p) (supporters e c))) (unfunded e w)
 
--- the prices support the outcome, in the plain or the stable form, with or without the test that it is exhaustive
-pub record Supports (stable exhaustive : Bool) (e : Instance) (w : List Bool) (p : Prices) : Type 0 where
+-- the prices support the outcome, in the plain or the stable form, with or without Exhaustive and Cover
+pub record Supports (stable exhaustive cover : Bool) (e : Instance) (w : List Bool) (p : Prices) : Type 0 where
   pub feasible : Feasible e w
   pub exhausts : IsTrue exhaustive → Exhaustive e w
+  pub covers : IsTrue cover → Cover e p
   pub approved : C1 e p
   pub within_budget : C2 e p
   pub paid_for : C3 e w p

@@ -31,7 +31,3 @@ FirstV worth e w s t = slice_get (failures_of worth e w s t) 0
 abbrev pub verdict_of : Option ViolationFailure → ViolationVerdict
 verdict_of None = verdict.Violation
 verdict_of (Some f) = verdict.Failed f
-
--- each project is worth 1
-abbrev pub by_count : ℕ → ℕ
-by_count j = 1

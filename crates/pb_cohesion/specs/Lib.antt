@@ -4,3 +4,4 @@ pub mod Conditions
 pub mod Groups
 pub mod EveryGroup
 pub mod FirstV
+pub mod Satisfactions

@@ -6,8 +6,8 @@ ghost use Rattle.pb_election.specs.Outcome.{Fits, funds};
 ghost use Rattle.pb_election.specs.Text.{IsElection};
 ghost use Rattle.pb_certificate.specs.Prices.{Prices};
 ghost use Rattle.pb_cohesion.specs.Amounts.{beta, cost, left, paid, spent};
-ghost use Rattle.pb_cohesion.specs.Conditions.{C1, C2, C3, C4, C5, Exhaustive, S5, culprits_of_C1, culprits_of_C2, culprits_of_C3, culprits_of_C4, culprits_of_C5, culprits_of_Exhaustive, culprits_of_S5, most_of, sum_ℤ};
-ghost use Rattle.pb_cohesion.specs.EveryGroup.{BudgetsAreWithinReach, NoGroupHasMoreLeft, NothingBlocks, SupportersBlock, SupportersHaveMoreLeft};
+ghost use Rattle.pb_cohesion.specs.Conditions.{C1, C2, C3, C4, C5, Cover, Exhaustive, S5, culprits_of_C1, culprits_of_C2, culprits_of_C3, culprits_of_C4, culprits_of_C5, culprits_of_Exhaustive, culprits_of_S5, most_of, sum_ℤ};
+ghost use Rattle.pb_cohesion.specs.EveryGroup.{BudgetsAreWithinReach, GroupsGetTheirShare, NoGroupHasMoreLeft, NoViolationByCounting, NothingBlocks, SupportersBlock, SupportersHaveMoreLeft};
 ghost use Rattle.pb_cohesion.specs.FirstV.{FirstV};
 ghost use Rattle.pb_cohesion.specs.Groups.{AreProjects, Blocks, IsGroup, IsGroupWithin, Offer, Violates, gets, reach};
 ghost use Rattle.pb_cohesion.specs.Outcome.{IsUnfunded, total};
@@ -59,9 +59,13 @@ pub fn budgets_within_reach()
 /// Stable prices are fair: under C1 to C4 and S5, where the budgets of a group come to more than what a set of projects
 /// costs, and all members approve the set, some member approves at least as many funded projects.
 pub fn stable_prices_are_fair()
-    ensures { (e : Instance) (w : List Bool) (p : Prices) (s t : List ℕ) → C1 e p → C2 e p → C3 e w p → C4 e w p → S5 e w p
-        → IsGroup e s → s ≢ [] → AreProjects e t → All (λ i. All (λ j. Approves e i j) t) s
-        → sum_by (cost e p) t < length s * beta p → Any (λ i. length t ≤ length (gets e w i)) s }
+    ensures { (e : Instance) (w : List Bool) (p : Prices) → C1 e p → C2 e p → C3 e w p → C4 e w p → S5 e w p → GroupsGetTheirShare e w p }
+{}
+
+/// Stable prices exclude violations: under C1 to C4 and S5, and Cover, no group and no demand are a violation by counting.
+/// Of violations by cost nothing is said.
+pub fn stable_prices_exclude_violations()
+    ensures { (e : Instance) (w : List Bool) (p : Prices) → C1 e p → C2 e p → C3 e w p → C4 e w p → S5 e w p → Cover e p → NoViolationByCounting e w }
 {}
 
 /// Each condition holds exactly where it has no culprit.

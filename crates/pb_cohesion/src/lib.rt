@@ -4,40 +4,14 @@
 
 pub mod laws;
 mod samples;
+mod satisfactions;
+#[cfg(test)]
+mod tests;
 mod violations;
 mod worths;
 
-ghost use Rattle.std.specs.Prelude.{◌≡◌, ◌≤◌, ◌^◌, ℕ};
-ghost use Rattle.pb_election.specs.Instance.{Instance, IsProject};
-ghost use Rattle.pb_cohesion.specs.FirstV.{by_count};
-
-use pb_election::Election;
+pub use satisfactions::{Cost, Count, Satisfaction};
 pub use violations::check_violation;
-
-/// A measure of what projects are worth to the voters that approve them. The worth of several projects is the sum of
-/// theirs.
-pub trait Satisfaction {
-    // What each project of an election is worth, by its number.
-    ghost meaning: { Self → Instance → ℕ → ℕ };
-
-    /// What project `j` of the election is worth: at most 10^18. Projects are numbered from 1.
-    fn worth(&self, election: &Election, j: u32) -> u128
-        requires { IsProject election.now j }
-        ensures value { result ≡ meaning self.now election.now j }
-        ensures small { result ≤ 10 ^ 18 };
-}
-
-/// Satisfaction by counting: each project is worth 1.
-#[derive(Clone, Copy, Debug, PartialEq, Eq)]
-pub struct Count;
-
-impl Satisfaction for Count {
-    ghost meaning = { λ s e. by_count };
-
-    fn worth(&self, _election: &Election, _j: u32) -> u128 {
-        1
-    }
-}
 
 /// Whether a violation certificate proves a violation.
 #[derive(Clone, Copy, Debug, PartialEq, Eq)]
