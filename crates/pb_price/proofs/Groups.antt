@@ -1,16 +1,18 @@
 -- What a verdict says of every group of supporters.
-use Rattle.std.proofs.Common.{◌≡◌, ◌⊎◌, ℕ, Bool, true, false, List, inl, inr}
-use Rattle.std.specs.Prelude.{Ok, Result, Some, None}
+use Rattle.std.proofs.Common.{◌≡◌, ◌⊎◌, ℕ, Bool, true, false, List, refl, sym, ◌∙◌, ap, inl, inr}
+use Rattle.std.specs.Prelude.{Ok, Option, Result, Some, None}
 use Rattle.std.proofs.lemmas.Bool.{cases_Bool}
 use Rattle.pb_election.specs.Instance.{Instance}
 use Rattle.pb_certificate.specs.Prices.{Prices}
 use Rattle.pb_cohesion.specs.Conditions.{C5, S5, Supports}
-use Rattle.pb_cohesion.specs.EveryGroup.{BudgetsAreWithinReach, NoGroupHasMoreLeft, NothingBlocks, SupportersBlock, SupportersHaveMoreLeft}
+use Rattle.pb_cohesion.specs.EveryGroup.{BudgetsAreWithinReach, GroupsGetTheirShare, NoGroupHasMoreLeft, NoViolationByCounting, NothingBlocks, SupportersBlock, SupportersHaveMoreLeft}
+use Rattle.pb_cohesion.proofs.Justified.{stable_has_no_violation, stable_is_fair}
 use Rattle.pb_cohesion.proofs.Plain as plain
 use Rattle.pb_cohesion.proofs.Reaches.{within_reach}
 use Rattle.pb_cohesion.proofs.Stable as stable
 use Rattle.pb_price.proofs.Verdicts.{after_C5, after_S5, supports-iff}
-use Rattle.pb_price.specs.First.{First}
+use Rattle.pb_price.specs.Answers.{IsVerdictOn}
+use Rattle.pb_price.specs.First.{First, verdict_of}
 use Rattle.pb_price.specs.declared.Mode.{Mode}
 use Rattle.pb_price.specs.declared.Failure.{Failure}
 use Rattle.pb_price.specs.declared.Failure.TheVariants as failure
@@ -19,7 +21,7 @@ use Rattle.pb_price.specs.declared.Verdict.TheVariants as verdict
 
 pub plain-yes : (m : Mode) (e : Instance) (w : List Bool) (p : Prices) → First m e w p ≡ None → m.stable ≡ false → NoGroupHasMoreLeft e w p
 plain-yes m e w p none is_plain s c unfunded group =
-    let yes' : Supports m.stable m.exhaustive e w p = (supports-iff m e w p).0 none in
+    let yes' : Supports m.stable m.exhaustive m.cover e w p = (supports-iff m e w p).0 none in
     plain.every_group e w p s c yes'.within_budget (yes'.plain is_plain) unfunded group
 
 pub plain-no : (m : Mode) (e : Instance) (w : List Bool) (p : Prices) (c : ℕ) → First m e w p ≡ Some (failure.C5 c) → SupportersHaveMoreLeft e p c
@@ -27,7 +29,7 @@ plain-no m e w p c h = plain.after_C5 e w p c (after_C5 m e w p c h)
 
 pub stable-yes : (m : Mode) (e : Instance) (w : List Bool) (p : Prices) → First m e w p ≡ None → m.stable ≡ true → NothingBlocks e w p
 stable-yes m e w p none is_stable s c x blocks =
-    let yes' : Supports m.stable m.exhaustive e w p = (supports-iff m e w p).0 none in
+    let yes' : Supports m.stable m.exhaustive m.cover e w p = (supports-iff m e w p).0 none in
     stable.none_blocks e w p s c x (yes'.stable_form is_stable) blocks
 
 pub stable-no : (m : Mode) (e : Instance) (w : List Bool) (p : Prices) (c : ℕ) → First m e w p ≡ Some (failure.S5 c) → SupportersBlock e w p c
@@ -37,16 +39,46 @@ stable-no m e w p c h =
 
 pub budgets : (m : Mode) (e : Instance) (w : List Bool) (p : Prices) → First m e w p ≡ None → BudgetsAreWithinReach e w p
 budgets m e w p none s c unfunded group =
-    let yes' : Supports m.stable m.exhaustive e w p = (supports-iff m e w p).0 none in
+    let yes' : Supports m.stable m.exhaustive m.cover e w p = (supports-iff m e w p).0 none in
     let form : C5 e w p ⊎ S5 e w p = elim (cases_Bool m.stable) [ inl k ↦ inr (yes'.stable_form k) | inr k ↦ inl (yes'.plain k) ] in
     within_reach e w p s c yes'.approved yes'.within_budget yes'.paid_for yes'.none_wasted form unfunded group
 
--- an answer tells its failure
-pub no-failure : {E : Type 0} (f : Failure) → ◌≡◌ {A = Result Verdict E} (Ok (verdict.Failed f)) (Ok verdict.Supported) → ⊥
-no-failure f h = cc
+pub fair : (m : Mode) (e : Instance) (w : List Bool) (p : Prices) → First m e w p ≡ None → m.stable ≡ true → GroupsGetTheirShare e w p
+fair m e w p none is_stable s t group not_empty projects approve rich =
+    let yes' : Supports m.stable m.exhaustive m.cover e w p = (supports-iff m e w p).0 none in
+    stable_is_fair e w p s t yes'.approved yes'.paid_for yes'.none_wasted (yes'.stable_form is_stable) group projects approve rich
 
-pub no-support : {E : Type 0} (f : Failure) → ◌≡◌ {A = Result Verdict E} (Ok verdict.Supported) (Ok (verdict.Failed f)) → ⊥
-no-support f h = cc
+pub no-violation : (m : Mode) (e : Instance) (w : List Bool) (p : Prices) → First m e w p ≡ None → m.stable ≡ true → m.cover ≡ true → NoViolationByCounting e w
+no-violation m e w p none is_stable is_covered s t group projects violation =
+    let yes' : Supports m.stable m.exhaustive m.cover e w p = (supports-iff m e w p).0 none in
+    stable_has_no_violation e w p s t yes'.approved yes'.paid_for yes'.none_wasted (yes'.stable_form is_stable) (yes'.covers is_covered) group projects violation
 
-pub same-failure : {E : Type 0} (f g : Failure) → ◌≡◌ {A = Result Verdict E} (Ok (verdict.Failed f)) (Ok (verdict.Failed g)) → f ≡ g
-same-failure f g h = cc
+-- a verdict tells its failure
+supported-none : (o : Option Failure) → verdict_of o ≡ verdict.Supported → o ≡ None
+supported-none None h = refl
+supported-none (Some f) h = cc
+
+failed-some : (o : Option Failure) (f : Failure) → verdict_of o ≡ verdict.Failed f → o ≡ Some f
+failed-some None f h = cc
+failed-some (Some g) f h = let same : g ≡ f = cc in ap Some same
+
+-- the verdict by the first failure, with what it says of every group
+pub on-prices : (m : Mode) (e : Instance) (w : List Bool) (p : Prices) (v : Verdict) → v ≡ verdict_of (First m e w p) → IsVerdictOn m e w p v
+on-prices m e w p v is = record {
+  first = is;
+  supported = (λ h. (supports-iff m e w p).0 (none h), λ s. is ∙ ap verdict_of ((supports-iff m e w p).1 s));
+  plain_yes = λ h plain'. plain-yes m e w p (none h) plain';
+  plain_no = λ c h. plain-no m e w p c (failed-some (First m e w p) (failure.C5 c) (sym is ∙ h));
+  stable_yes = λ h stable'. stable-yes m e w p (none h) stable';
+  stable_no = λ c h. stable-no m e w p c (failed-some (First m e w p) (failure.S5 c) (sym is ∙ h));
+  any_yes = λ h. budgets m e w p (none h);
+  fair_yes = λ h stable'. fair m e w p (none h) stable';
+  covered_yes = λ h stable' cover'. no-violation m e w p (none h) stable' cover';
+}
+  where
+    none : v ≡ verdict.Supported → First m e w p ≡ None
+    none h = supported-none (First m e w p) (sym is ∙ h)
+
+-- what an answer says of its verdict
+pub same-answer : {E : Type 0} (v x : Verdict) → ◌≡◌ {A = Result Verdict E} (Ok v) (Ok x) → v ≡ x
+same-answer v x h = cc

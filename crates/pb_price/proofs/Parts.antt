@@ -1,14 +1,15 @@
 -- The first failure of each part of the list of all failures.
 use Rattle.std.proofs.Common.{◌≡◌, ℕ, ◌<◌, ◌≤◌, Bool, true, false, cond, List, [], ◌∷◌, ◌++◌, refl, ◌∙◌, ap}
-use Rattle.std.specs.Prelude.{Some, None, map, slice_get}
-use Rattle.std.proofs.lemmas.Bool.{le-ltb, lt-ltb}
-use Rattle.pb_election.specs.Instance.{Instance}
+use Rattle.std.specs.Prelude.{◌*◌, Some, None, map, nat_le, slice_get}
+use Rattle.std.proofs.lemmas.Bool.{le-leb, le-ltb, lt-leb, lt-ltb}
+use Rattle.pb_election.specs.Instance.{Instance, voters}
 use Rattle.pb_certificate.specs.Prices.{Prices}
+use Rattle.pb_cohesion.specs.Amounts.{beta, budget_limit}
 use Rattle.pb_cohesion.specs.Outcome.{total}
 use Rattle.pb_cohesion.specs.Conditions.{C2, culprits_of_C1, culprits_of_C2, culprits_of_C3, culprits_of_C4, culprits_of_C5, culprits_of_Exhaustive, culprits_of_S5}
 use Rattle.pb_cohesion.proofs.Culprits.{C2-iff, append-nil, map-nil}
 use Rattle.pb_cohesion.proofs.Firsts.{first-left, first-right, none-first}
-use Rattle.pb_price.specs.First.{First, failures_of_outcome, failures_of_payments, failures_of_supporters}
+use Rattle.pb_price.specs.First.{First, failures_of_budgets, failures_of_outcome, failures_of_payments, failures_of_supporters}
 use Rattle.pb_price.specs.declared.Mode.{Mode}
 use Rattle.pb_price.specs.declared.Failure.{Failure}
 use Rattle.pb_price.specs.declared.Failure.TheVariants as failure
@@ -78,28 +79,9 @@ nil-joined (x ∷ xs) ys h k = cc
 two-none : (e : Instance) (p : Prices) → slice_get (culprits_of_C1 e p) 0 ≡ None → slice_get (culprits_of_C2 e p) 0 ≡ None → first_list e p ++ second_list e p ≡ []
 two-none e p a b = nil-joined (first_list e p) (second_list e p) (none-mapped _ (culprits_of_C1 e p) a) (none-mapped failure.C2 (culprits_of_C2 e p) b)
 
-pub payments-third : (e : Instance) (w : List Bool) (p : Prices) (j : ℕ) → slice_get (culprits_of_C1 e p) 0 ≡ None → slice_get (culprits_of_C2 e p) 0 ≡ None → slice_get (culprits_of_C3 e w p) 0 ≡ Some j
-    → slice_get (failures_of_payments e w p) 0 ≡ Some (failure.C3 j)
-payments-third e w p j a b h =
-    first-left (first_list e p ++ second_list e p ++ third_list e w p) (fourth_list e w p) _
-    (first-right (first_list e p ++ second_list e p) (third_list e w p) (two-none e p a b)
-    ∙ first-some failure.C3 (culprits_of_C3 e w p) j h)
-
-three-none : (e : Instance) (w : List Bool) (p : Prices) → slice_get (culprits_of_C1 e p) 0 ≡ None → slice_get (culprits_of_C2 e p) 0 ≡ None → slice_get (culprits_of_C3 e w p) 0 ≡ None
-    → first_list e p ++ second_list e p ++ third_list e w p ≡ []
-three-none e w p a b c = nil-joined (first_list e p ++ second_list e p) (third_list e w p) (two-none e p a b) (none-mapped failure.C3 (culprits_of_C3 e w p) c)
-
-pub payments-fourth : (e : Instance) (w : List Bool) (p : Prices) (j : ℕ) → slice_get (culprits_of_C1 e p) 0 ≡ None → slice_get (culprits_of_C2 e p) 0 ≡ None → slice_get (culprits_of_C3 e w p) 0 ≡ None → slice_get (culprits_of_C4 e w p) 0 ≡ Some j
-    → slice_get (failures_of_payments e w p) 0 ≡ Some (failure.C4 j)
-payments-fourth e w p j a b c h =
-    first-right (first_list e p ++ second_list e p ++ third_list e w p) (fourth_list e w p) (three-none e w p a b c)
-    ∙ first-some failure.C4 (culprits_of_C4 e w p) j h
-
-pub payments-none : (e : Instance) (w : List Bool) (p : Prices) → slice_get (culprits_of_C1 e p) 0 ≡ None → slice_get (culprits_of_C2 e p) 0 ≡ None → slice_get (culprits_of_C3 e w p) 0 ≡ None → slice_get (culprits_of_C4 e w p) 0 ≡ None
-    → slice_get (failures_of_payments e w p) 0 ≡ None
-payments-none e w p a b c d =
-    first-right (first_list e p ++ second_list e p ++ third_list e w p) (fourth_list e w p) (three-none e w p a b c)
-    ∙ first-mapped failure.C4 (culprits_of_C4 e w p) d
+-- where the first two conditions hold, the failures are those of the other two
+pub payments-rest : (e : Instance) (w : List Bool) (p : Prices) → slice_get (culprits_of_C1 e p) 0 ≡ None → slice_get (culprits_of_C2 e p) 0 ≡ None → slice_get (failures_of_payments e w p) 0 ≡ slice_get (third_list e w p ++ fourth_list e w p) 0
+payments-rest e w p a b = ap (λ xs. slice_get ((xs ++ third_list e w p) ++ fourth_list e w p) 0) (two-none e p a b)
 
 -- no failure of the payments leaves each voter within its budget
 pub payments-within : (e : Instance) (w : List Bool) (p : Prices) → slice_get (failures_of_payments e w p) 0 ≡ None → C2 e p
@@ -123,18 +105,47 @@ supporters-stable-none m e w p is h = rw is (first-mapped failure.S5 (culprits_o
 pub supporters-plain-none : (m : Mode) (e : Instance) (w : List Bool) (p : Prices) → m.stable ≡ false → slice_get (culprits_of_C5 e w p) 0 ≡ None → slice_get (failures_of_supporters m e w p) 0 ≡ None
 supporters-plain-none m e w p is h = rw is (first-mapped failure.C5 (culprits_of_C5 e w p) h)
 
+-- the budgets
+pub budgets-short : (m : Mode) (e : Instance) (p : Prices) → m.cover ≡ true → voters e * beta p ≤ budget_limit e p → slice_get (failures_of_budgets m e p) 0 ≡ Some failure.Cover
+budgets-short m e p asked h = rw (asked, le-leb (voters e * beta p) (budget_limit e p) h) refl
+
+pub budgets-over : (m : Mode) (e : Instance) (p : Prices) → budget_limit e p < voters e * beta p → slice_get (failures_of_budgets m e p) 0 ≡ None
+budgets-over m e p h = go m.cover
+  where
+    go : (b : Bool) → slice_get (cond b (cond (nat_le (voters e * beta p) (budget_limit e p)) (failure.Cover ∷ []) []) []) 0 ≡ None
+    go true = rw (lt-leb (voters e * beta p) (budget_limit e p) h) refl
+    go false = refl
+
+pub budgets-any : (m : Mode) (e : Instance) (p : Prices) → m.cover ≡ false → slice_get (failures_of_budgets m e p) 0 ≡ None
+budgets-any m e p any = rw any refl
+
 -- all of them
 pub first-outcome : (m : Mode) (e : Instance) (w : List Bool) (p : Prices) (f : Failure) → slice_get (failures_of_outcome m e w) 0 ≡ Some f → First m e w p ≡ Some f
 first-outcome m e w p f h =
-    first-left (failures_of_outcome m e w ++ failures_of_payments e w p) (failures_of_supporters m e w p) f
-    (first-left (failures_of_outcome m e w) (failures_of_payments e w p) f h)
+    first-left (failures_of_outcome m e w ++ failures_of_budgets m e p ++ failures_of_payments e w p) (failures_of_supporters m e w p) f
+    (first-left (failures_of_outcome m e w ++ failures_of_budgets m e p) (failures_of_payments e w p) f
+    (first-left (failures_of_outcome m e w) (failures_of_budgets m e p) f h))
 
-pub first-payments : (m : Mode) (e : Instance) (w : List Bool) (p : Prices) (f : Failure) → slice_get (failures_of_outcome m e w) 0 ≡ None → slice_get (failures_of_payments e w p) 0 ≡ Some f → First m e w p ≡ Some f
-first-payments m e w p f a h =
-    first-left (failures_of_outcome m e w ++ failures_of_payments e w p) (failures_of_supporters m e w p) f
-    (first-right (failures_of_outcome m e w) (failures_of_payments e w p) (none-first (failures_of_outcome m e w) a) ∙ h)
+pub first-budgets : (m : Mode) (e : Instance) (w : List Bool) (p : Prices) (f : Failure) → slice_get (failures_of_outcome m e w) 0 ≡ None → slice_get (failures_of_budgets m e p) 0 ≡ Some f
+    → First m e w p ≡ Some f
+first-budgets m e w p f a h =
+    first-left (failures_of_outcome m e w ++ failures_of_budgets m e p ++ failures_of_payments e w p) (failures_of_supporters m e w p) f
+    (first-left (failures_of_outcome m e w ++ failures_of_budgets m e p) (failures_of_payments e w p) f
+    (first-right (failures_of_outcome m e w) (failures_of_budgets m e p) (none-first (failures_of_outcome m e w) a) ∙ h))
 
-pub first-supporters : (m : Mode) (e : Instance) (w : List Bool) (p : Prices) → slice_get (failures_of_outcome m e w) 0 ≡ None → slice_get (failures_of_payments e w p) 0 ≡ None → First m e w p ≡ slice_get (failures_of_supporters m e w p) 0
-first-supporters m e w p a b =
-    first-right (failures_of_outcome m e w ++ failures_of_payments e w p) (failures_of_supporters m e w p)
-    (nil-joined (failures_of_outcome m e w) (failures_of_payments e w p) (none-first (failures_of_outcome m e w) a) (none-first (failures_of_payments e w p) b))
+-- no failure of the outcome and of the budgets
+both-none : (m : Mode) (e : Instance) (w : List Bool) (p : Prices) → slice_get (failures_of_outcome m e w) 0 ≡ None → slice_get (failures_of_budgets m e p) 0 ≡ None
+    → failures_of_outcome m e w ++ failures_of_budgets m e p ≡ []
+both-none m e w p a b = nil-joined (failures_of_outcome m e w) (failures_of_budgets m e p) (none-first (failures_of_outcome m e w) a) (none-first (failures_of_budgets m e p) b)
+
+pub first-payments : (m : Mode) (e : Instance) (w : List Bool) (p : Prices) (f : Failure) → slice_get (failures_of_outcome m e w) 0 ≡ None → slice_get (failures_of_budgets m e p) 0 ≡ None
+    → slice_get (failures_of_payments e w p) 0 ≡ Some f → First m e w p ≡ Some f
+first-payments m e w p f a b h =
+    first-left (failures_of_outcome m e w ++ failures_of_budgets m e p ++ failures_of_payments e w p) (failures_of_supporters m e w p) f
+    (first-right (failures_of_outcome m e w ++ failures_of_budgets m e p) (failures_of_payments e w p) (both-none m e w p a b) ∙ h)
+
+pub first-supporters : (m : Mode) (e : Instance) (w : List Bool) (p : Prices) → slice_get (failures_of_outcome m e w) 0 ≡ None → slice_get (failures_of_budgets m e p) 0 ≡ None
+    → slice_get (failures_of_payments e w p) 0 ≡ None → First m e w p ≡ slice_get (failures_of_supporters m e w p) 0
+first-supporters m e w p a b c =
+    first-right (failures_of_outcome m e w ++ failures_of_budgets m e p ++ failures_of_payments e w p) (failures_of_supporters m e w p)
+    (nil-joined (failures_of_outcome m e w ++ failures_of_budgets m e p) (failures_of_payments e w p) (both-none m e w p a b) (none-first (failures_of_payments e w p) c))

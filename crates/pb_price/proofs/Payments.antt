@@ -1,178 +1,176 @@
--- What a voter pays, as the list of its payments and over all projects.
-use Rattle.std.proofs.Common.{◌≡◌, ℕ, zero, suc, ◌+◌, ◌-◌, ◌<◌, ◌≤◌, max, Bool, true, false, List, [], ◌∷◌, length, get_or, take, refl, sym, ◌∙◌, ap, subst, inl, inr, arith}
-use Rattle.std.specs.Prelude.{◌&&◌, Some, None, filter, map, nat_lt, slice_get, sum_by}
-use Rattle.std.specs.List.{AllByRecursion, range_with_len}
-use Rattle.std.proofs.lemmas.Bool.{cases_eq, eq-eqb, lt-ltb, ne_eqb}
-use Rattle.std.proofs.lemmas.List.Elements.{recursion_from_All}
-use Rattle.std.proofs.lemmas.List.Sums.{sum_by-cons}
-use Rattle.pb_money.specs.Grains.{payment_grains}
-use Rattle.pb_election.specs.Instance.{Instance, IsSet, all_projects, projects}
-use Rattle.pb_certificate.specs.Prices.{IsPaymentMap, Prices, numerator_in, payment, payments_of}
-use Rattle.pb_cohesion.specs.Amounts.{largest_by, spent, top}
-use Rattle.std.proofs.lemmas.List.{length-map}
-use Rattle.pb_cohesion.proofs.Culprits.{filter-filter}
-use Rattle.pb_cohesion.proofs.Firsts.{filter-end, filter-first, filter-more}
+-- The payments of a voter, one after another.
+use Rattle.std.proofs.Common.{◌≡◌, ℕ, zero, suc, ◌+◌, ◌-◌, ◌^◌, ◌<◌, ◌≤◌, List, [], ◌∷◌, length, get_or, take, refl, sym, ◌∙◌, ap, inl, inr, arith}
+use Rattle.std.specs.Prelude.{map, nat_lt}
+use Rattle.std.proofs.lemmas.Bool.{cases_eq, cases_lt, eq-eqb, le-ltb, lt-ltb, ne_eqb}
+use Rattle.std.proofs.lemmas.List.{length-map, take_all}
+use Rattle.pb_election.specs.Instance.{Instance, IsSet, IsVoter, voters}
+use Rattle.pb_certificate.specs.Prices.{Fits, IsPaymentMap, Prices, numerator_in, payment, payments_of}
+use Rattle.pb_certificate.specs.declared.price_row.PriceRow.{PriceRow}
 use Rattle.pb_cohesion.proofs.Loops.{set-at, set-length}
-use Rattle.pb_cohesion.proofs.Ballots.{filter-same, set-is}
-use Rattle.pb_cohesion.proofs.Sums.{among, range-same, sum-zero}
+use Rattle.pb_cohesion.specs.Amounts.{beta}
+use Rattle.pb_price.specs.Tallies.{CanTake, IsTallyOf, Taken, TakesRow, Tallied}
+use Rattle.pb_price.proofs.Starting.{no_payment}
+use Rattle.pb_price.proofs.Whole.{Agree, whole}
+use Rattle.pb_price.specs.Takings.{TakesUntil, pays_until}
+use Rattle.pb_price.specs.declared.tally.Tally.{Tally}
 
--- the projects that are paid for, and the amount of each payment
-abbrev pub paid_projects : List (ℕ × ℕ) → List ℕ
+-- the projects that are paid for
+abbrev paid_projects : List (ℕ × ℕ) → List ℕ
 paid_projects qs = map (λ q. q.0) qs
 
-abbrev pub amount : ℕ × ℕ → ℕ
-amount q = payment_grains q.1
-
--- the largest payment of a list
-abbrev pub largest_of : List (ℕ × ℕ) → ℕ
-largest_of [] = 0
-largest_of (q ∷ qs) = max (amount q) (largest_of qs)
-
--- what a list of payments has for a project, in grains
-abbrev pub amount_in : List (ℕ × ℕ) → ℕ → ℕ
-amount_in qs c = payment_grains (numerator_in qs c)
-
--- a list of payments for projects from a bound on has nothing for a lower project
-amount-below : (qs : List (ℕ × ℕ)) (a high c : ℕ) → IsSet a high (paid_projects qs) → c < a → amount_in qs c ≡ 0
-amount-below [] a high c h b = refl
-amount-below (q ∷ qs) a high c h b =
-    let low : a ≤ q.0 = h.0 in
-    rw (ne_eqb q.0 c (λ e. omega arith)) (amount-below qs (q.0 + 1) high c h.2 (omega arith))
-
-amount-here : (q : ℕ × ℕ) (qs : List (ℕ × ℕ)) (a : ℕ) → q.0 ≡ a → amount_in (q ∷ qs) a ≡ amount q
-amount-here q qs a e = rw (eq-eqb q.0 a e) refl
-
-amount-later : (q : ℕ × ℕ) (qs : List (ℕ × ℕ)) (c : ℕ) → q.0 < c → amount_in (q ∷ qs) c ≡ amount_in qs c
-amount-later q qs c h = rw (ne_eqb q.0 c (λ e. omega arith)) refl
-
--- the sum over a range of projects is the sum over the payments
-sum-payments : (n a high : ℕ) (qs : List (ℕ × ℕ)) → high < a + n → IsSet a high (paid_projects qs) → sum_by (amount_in qs) (range_with_len a n) ≡ sum_by amount qs
-sum-payments n a high [] b h = sum-zero (range_with_len a n)
-sum-payments zero a high (q ∷ qs) b h = let low : a ≤ q.0 = h.0 in let top_is : q.0 ≤ high = h.1 in absurd (omega arith)
-sum-payments (suc n) a high (q ∷ qs) b h = elim (cases_eq q.0 a) [
-  | inl e ↦
-      let rises : IsSet (a + 1) high (paid_projects qs) = subst (λ k. IsSet (k + 1) high (paid_projects qs)) e h.2 in
-      let rest : sum_by (amount_in qs) (range_with_len (a + 1) n) ≡ sum_by amount qs = sum-payments n (a + 1) high qs (omega arith) rises in
-      let same : sum_by (amount_in (q ∷ qs)) (range_with_len (a + 1) n) ≡ sum_by (amount_in qs) (range_with_len (a + 1) n) = range-same (amount_in (q ∷ qs)) (amount_in qs) (a + 1) n (λ c low high'. amount-later q qs c (omega arith)) in
-      omega (arith, amount-here q qs a e, sum_by-cons (amount_in (q ∷ qs)) a (range_with_len (a + 1) n), sum_by-cons amount q qs)
-  | inr e ↦
-      let low : a ≤ q.0 = h.0 in
-      let rises : IsSet (a + 1) high (paid_projects (q ∷ qs)) = (omega arith, h.1, h.2) in
-      let rest : sum_by (amount_in (q ∷ qs)) (range_with_len (a + 1) n) ≡ sum_by amount (q ∷ qs) = sum-payments n (a + 1) high (q ∷ qs) (omega arith) rises in
-      omega (arith, amount-below (q ∷ qs) (a + 1) high a rises (omega arith), sum_by-cons (amount_in (q ∷ qs)) a (range_with_len (a + 1) n))
-]
-
--- a largest value of equal terms
-largest-same : (f g : ℕ → ℕ) (a n : ℕ) → ((j : ℕ) → a ≤ j → j < a + n → f j ≡ g j) → largest_by f (range_with_len a n) ≡ largest_by g (range_with_len a n)
-largest-same f g a zero h = refl
-largest-same f g a (suc n) h =
-    let here : f a ≡ g a = h a (omega arith) (omega arith) in
-    let rest : largest_by f (range_with_len (a + 1) n) ≡ largest_by g (range_with_len (a + 1) n) = largest-same f g (a + 1) n (λ j low high. h j (omega arith) (omega arith)) in
-    rw (here, rest) refl
-
-largest-zero : (a n : ℕ) → largest_by (λ c. 0) (range_with_len a n) ≡ 0
-largest-zero a zero = refl
-largest-zero a (suc n) = let rest : largest_by (λ c. 0) (range_with_len (a + 1) n) ≡ 0 = largest-zero (a + 1) n in rw rest refl
-
-zero-max : (n : ℕ) → max 0 n ≡ n
-zero-max n = omega arith
-
--- the largest payment over a range of projects is the largest of the list
-largest-payment : (n a high : ℕ) (qs : List (ℕ × ℕ)) → high < a + n → IsSet a high (paid_projects qs) → largest_by (amount_in qs) (range_with_len a n) ≡ largest_of qs
-largest-payment n a high [] b h = largest-zero a n
-largest-payment zero a high (q ∷ qs) b h = let low : a ≤ q.0 = h.0 in let top_is : q.0 ≤ high = h.1 in absurd (omega arith)
-largest-payment (suc n) a high (q ∷ qs) b h = elim (cases_eq q.0 a) [
-  | inl e ↦
-      let rises : IsSet (a + 1) high (paid_projects qs) = subst (λ k. IsSet (k + 1) high (paid_projects qs)) e h.2 in
-      let rest : largest_by (amount_in qs) (range_with_len (a + 1) n) ≡ largest_of qs = largest-payment n (a + 1) high qs (omega arith) rises in
-      let same : largest_by (amount_in (q ∷ qs)) (range_with_len (a + 1) n) ≡ largest_by (amount_in qs) (range_with_len (a + 1) n) = largest-same (amount_in (q ∷ qs)) (amount_in qs) (a + 1) n (λ c low high'. amount-later q qs c (omega arith)) in
-      ap (λ x. max x (largest_by (amount_in (q ∷ qs)) (range_with_len (a + 1) n))) (amount-here q qs a e) ∙ ap (λ x. max (amount q) x) (same ∙ rest)
-  | inr e ↦
-      let low : a ≤ q.0 = h.0 in
-      let rises : IsSet (a + 1) high (paid_projects (q ∷ qs)) = (omega arith, h.1, h.2) in
-      let rest : largest_by (amount_in (q ∷ qs)) (range_with_len (a + 1) n) ≡ largest_of (q ∷ qs) = largest-payment n (a + 1) high (q ∷ qs) (omega arith) rises in
-      let none : amount_in (q ∷ qs) a ≡ 0 = amount-below (q ∷ qs) (a + 1) high a rises (omega arith) in
-      ap (λ x. max x (largest_by (amount_in (q ∷ qs)) (range_with_len (a + 1) n))) none ∙ zero-max (largest_by (amount_in (q ∷ qs)) (range_with_len (a + 1) n)) ∙ rest
-]
-
-pub spent-is : (e : Instance) (p : Prices) (i : ℕ) (qs : List (ℕ × ℕ)) → p.projects ≡ projects e → qs ≡ payments_of p i → IsPaymentMap p.projects qs → spent e p i ≡ sum_by amount qs
-spent-is e p i qs same is m =
-    ap (λ xs. sum_by (amount_in xs) (all_projects e)) (sym is)
-    ∙ sum-payments (projects e) 1 (projects e) qs (omega arith) (subst (λ n. IsSet 1 n (paid_projects qs)) same m.projects_rise)
-
-pub top-is : (e : Instance) (p : Prices) (i : ℕ) (qs : List (ℕ × ℕ)) → p.projects ≡ projects e → qs ≡ payments_of p i → IsPaymentMap p.projects qs → top e p i ≡ largest_of qs
-top-is e p i qs same is m =
-    ap (λ xs. largest_by (amount_in xs) (all_projects e)) (sym is)
-    ∙ largest-payment (projects e) 1 (projects e) qs (omega arith) (subst (λ n. IsSet 1 n (paid_projects qs)) same m.projects_rise)
-
--- the largest payment with one more
-largest-suc : (qs : List (ℕ × ℕ)) (k : ℕ) (d : ℕ × ℕ) → k < length qs → largest_of (take (suc k) qs) ≡ max (amount (get_or qs k d)) (largest_of (take k qs))
-largest-suc [] k d h = absurd (omega arith)
-largest-suc (q ∷ qs) zero d h = refl
-largest-suc (q ∷ qs) (suc k) d h = ap (λ x. max (amount q) x) (largest-suc qs k d (omega arith)) ∙ turn (amount q) (largest_of (take k qs)) (amount (get_or qs k d))
-  where
-    turn : (a b c : ℕ) → max a (max c b) ≡ max c (max a b)
-    turn a b c = omega arith
-
-pub largest-next : (qs : List (ℕ × ℕ)) (k : ℕ) (d : ℕ × ℕ) → k < length qs → largest_of (take (k + 1) qs) ≡ max (amount (get_or qs k d)) (largest_of (take k qs))
-largest-next qs k d h = let next : k + 1 ≡ suc k = omega arith in ap (λ m. largest_of (take m qs)) next ∙ largest-suc qs k d h
-
--- a payment is made just for the projects in the list
-pays-among : (qs : List (ℕ × ℕ)) (c : ℕ) → AllByRecursion (λ q. 0 < q.1) qs → nat_lt 0 (numerator_in qs c) ≡ among (paid_projects qs) c
-pays-among [] c h = refl
-pays-among (q ∷ qs) c h = elim (cases_eq q.0 c) [
-  | inl e ↦ rw (eq-eqb q.0 c e, lt-ltb 0 q.1 h.0) refl
-  | inr e ↦ rw (ne_eqb q.0 c e) (pays-among qs c h.1)
-]
-
--- the projects with a payment that pass a test are those of the list that pass it
-pub paid-passing : (e : Instance) (p : Prices) (i : ℕ) (r : ℕ → Bool) → p.projects ≡ projects e → IsPaymentMap p.projects (payments_of p i)
-    → filter (λ c. nat_lt 0 (payment p i c) && r c) (all_projects e) ≡ filter r (paid_projects (payments_of p i))
-paid-passing e p i r same m =
-    let qs : List (ℕ × ℕ) = payments_of p i in
-    let none_zero : AllByRecursion (λ q. 0 < q.1) (payments_of p i) = recursion_from_All (λ q. 0 < q.1) (payments_of p i) m.none_zero in
-    filter-same (λ c. nat_lt 0 (payment p i c) && r c) (λ c. among (paid_projects (payments_of p i)) c && r c) (projects e) 1 (λ c low high. ap (λ b. b && r c) (pays-among (payments_of p i) c none_zero))
-    ∙ sym (filter-filter r (among (paid_projects (payments_of p i))) (all_projects e))
-    ∙ ap (filter r) (set-is (projects e) 1 (projects e) (paid_projects (payments_of p i)) (omega arith) (subst (λ n. IsSet 1 n (paid_projects (payments_of p i))) same m.projects_rise))
-
--- the project of a payment of the list
-pub project-at : (qs : List (ℕ × ℕ)) (k : ℕ) (d : ℕ × ℕ) → k < length qs → get_or (paid_projects qs) k 0 ≡ (get_or qs k d).0
+project-at : (qs : List (ℕ × ℕ)) (k : ℕ) (d : ℕ × ℕ) → k < length qs → get_or (paid_projects qs) k 0 ≡ (get_or qs k d).0
 project-at [] k d h = absurd (omega arith)
 project-at (q ∷ qs) zero d h = refl
 project-at (q ∷ qs) (suc k) d h = project-at qs k d (omega arith)
 
-pub is-project-at : (n : ℕ) (qs : List (ℕ × ℕ)) (k : ℕ) (d : ℕ × ℕ) → IsPaymentMap n qs → k < length qs → (1 ≤ (get_or qs k d).0) × ((get_or qs k d).0 ≤ n)
-is-project-at n qs k d m h =
+in-set : (low high : ℕ) (qs : List (ℕ × ℕ)) (k : ℕ) (d : ℕ × ℕ) → IsSet low high (paid_projects qs) → k < length qs → (low ≤ (get_or qs k d).0) × ((get_or qs k d).0 ≤ high)
+in-set low high qs k d s h =
     let within : k < length (paid_projects qs) = rw (length-map qs (λ (q : ℕ × ℕ). q.0)) h in
-    let at : (1 ≤ get_or (paid_projects qs) k 0) × (get_or (paid_projects qs) k 0 ≤ n) = set-at 1 n (paid_projects qs) k m.projects_rise within in
+    let at : (low ≤ get_or (paid_projects qs) k 0) × (get_or (paid_projects qs) k 0 ≤ high) = set-at low high (paid_projects qs) k s within in
     let is : get_or (paid_projects qs) k 0 ≡ (get_or qs k d).0 = project-at qs k d h in
     (omega (arith, at.0), omega (arith, at.1))
 
--- no more projects are paid for than there are
-pub few-payments : (n : ℕ) (qs : List (ℕ × ℕ)) → IsPaymentMap n qs → length qs ≤ n
+few-payments : (n : ℕ) (qs : List (ℕ × ℕ)) → IsPaymentMap n qs → length qs ≤ n
 few-payments n qs m =
     let few : length (paid_projects qs) ≤ n + 1 - 1 = set-length 1 n (paid_projects qs) m.projects_rise in
     omega (arith, length-map qs (λ (q : ℕ × ℕ). q.0))
 
--- a loop over the payments finds the first project that passes a test
-pub paid-first : (e : Instance) (p : Prices) (i : ℕ) (r : ℕ → Bool) (qs : List (ℕ × ℕ)) (k : ℕ) (d : ℕ × ℕ) → p.projects ≡ projects e → qs ≡ payments_of p i → IsPaymentMap p.projects qs
-    → filter r (take k (paid_projects qs)) ≡ [] → k < length qs → r (get_or qs k d).0 ≡ true → slice_get (filter (λ c. nat_lt 0 (payment p i c) && r c) (all_projects e)) 0 ≡ Some (get_or qs k d).0
-paid-first e p i r qs k d same is m none within passes =
-    let m' : IsPaymentMap p.projects (payments_of p i) = subst (λ xs. IsPaymentMap p.projects xs) is m in
-    let is_at : get_or (paid_projects qs) k 0 ≡ (get_or qs k d).0 = project-at qs k d within in
-    let within' : k < length (paid_projects qs) = rw (length-map qs (λ (q : ℕ × ℕ). q.0)) within in
-    ap (λ xs. slice_get xs 0) (paid-passing e p i r same m' ∙ ap (λ xs. filter r (paid_projects xs)) (sym is))
-    ∙ filter-first r (paid_projects qs) k none within' (ap r is_at ∙ passes) ∙ ap Some is_at
+-- what the front of the list has for a project, with one payment more
+fresh : (low high : ℕ) (qs : List (ℕ × ℕ)) (k : ℕ) (d : ℕ × ℕ) → IsSet low high (paid_projects qs) → k < length qs → numerator_in (take k qs) (get_or qs k d).0 ≡ 0
+fresh low high [] k d s h = absurd (omega arith)
+fresh low high (q ∷ qs) zero d s h = refl
+fresh low high (q ∷ qs) (suc k) d s h =
+    let later : (q.0 + 1 ≤ (get_or qs k d).0) × ((get_or qs k d).0 ≤ high) = in-set (q.0 + 1) high qs k d s.2 (omega arith) in
+    rw (ne_eqb q.0 (get_or qs k d).0 (λ e. omega (arith, later.0))) (fresh (q.0 + 1) high qs k d s.2 (omega arith))
 
-pub paid-more : (r : ℕ → Bool) (qs : List (ℕ × ℕ)) (k : ℕ) (d : ℕ × ℕ) → filter r (take k (paid_projects qs)) ≡ [] → k < length qs → r (get_or qs k d).0 ≡ false → filter r (take (k + 1) (paid_projects qs)) ≡ []
-paid-more r qs k d none within fails =
-    let within' : k < length (paid_projects qs) = rw (length-map qs (λ (q : ℕ × ℕ). q.0)) within in
-    filter-more r (paid_projects qs) k none within' (ap r (project-at qs k d within) ∙ fails)
+here-suc : (low high : ℕ) (qs : List (ℕ × ℕ)) (k : ℕ) (d : ℕ × ℕ) → IsSet low high (paid_projects qs) → k < length qs → numerator_in (take (suc k) qs) (get_or qs k d).0 ≡ (get_or qs k d).1
+here-suc low high [] k d s h = absurd (omega arith)
+here-suc low high (q ∷ qs) zero d s h = rw (eq-eqb q.0 q.0 refl) refl
+here-suc low high (q ∷ qs) (suc k) d s h =
+    let later : (q.0 + 1 ≤ (get_or qs k d).0) × ((get_or qs k d).0 ≤ high) = in-set (q.0 + 1) high qs k d s.2 (omega arith) in
+    rw (ne_eqb q.0 (get_or qs k d).0 (λ e. omega (arith, later.0))) (here-suc (q.0 + 1) high qs k d s.2 (omega arith))
 
-pub paid-end : (e : Instance) (p : Prices) (i : ℕ) (r : ℕ → Bool) (qs : List (ℕ × ℕ)) (k : ℕ) → p.projects ≡ projects e → qs ≡ payments_of p i → IsPaymentMap p.projects qs
-    → filter r (take k (paid_projects qs)) ≡ [] → length qs ≤ k → slice_get (filter (λ c. nat_lt 0 (payment p i c) && r c) (all_projects e)) 0 ≡ None
-paid-end e p i r qs k same is m none end =
-    let m' : IsPaymentMap p.projects (payments_of p i) = subst (λ xs. IsPaymentMap p.projects xs) is m in
-    let end' : length (paid_projects qs) ≤ k = rw (length-map qs (λ (q : ℕ × ℕ). q.0)) end in
-    ap (λ xs. slice_get xs 0) (paid-passing e p i r same m' ∙ ap (λ xs. filter r (paid_projects xs)) (sym is))
-    ∙ filter-end r (paid_projects qs) k none end'
+other-suc : (qs : List (ℕ × ℕ)) (k c : ℕ) (d : ℕ × ℕ) → k < length qs → (c ≡ (get_or qs k d).0 → ⊥) → numerator_in (take (suc k) qs) c ≡ numerator_in (take k qs) c
+other-suc [] k c d h ne = absurd (omega arith)
+other-suc (q ∷ qs) zero c d h ne = rw (ne_eqb q.0 c (λ e. ne (sym e))) refl
+other-suc (q ∷ qs) (suc k) c d h ne = rw (other-suc qs k c d (omega arith) ne) refl
+
+-- the row of a payment, and what is taken with it
+abbrev pub row_of : ℕ → ℕ × ℕ → PriceRow
+row_of i x = record { voter = i; project = x.0; payment = x.1 }
+
+abbrev pub with_next : Prices → ℕ → ℕ → Taken → Taken
+with_next p i k a = record { budget = a.budget; pays = pays_until p i (k + 1); rows = a.rows + 1 }
+
+pays-other : (p : Prices) (i k l a b : ℕ) → (a ≡ i → ⊥) → pays_until p i k a b ≡ pays_until p i l a b
+pays-other p i k l a b ne = rw (ne_eqb a i ne) refl
+
+pays-here : (p : Prices) (i k b : ℕ) → pays_until p i k i b ≡ numerator_in (take k (payments_of p i)) b
+pays-here p i k b = rw (eq-eqb i i refl) refl
+
+pub takes-next : (e : Instance) (p : Prices) (i k : ℕ) (d : ℕ × ℕ) (t : Tally) (u : TakesUntil e p i k t) → IsPaymentMap p.projects (payments_of p i) → k < length (payments_of p i)
+    → TakesRow u.taken (with_next p i k u.taken) (row_of i (get_or (payments_of p i) k d))
+takes-next e p i k d t u m w =
+    let x : ℕ × ℕ = get_or (payments_of p i) k d in
+    let next : k + 1 ≡ suc k = omega arith in
+    record {
+      budget = refl;
+      rows = refl;
+      none_yet = u.pays_is i (get_or (payments_of p i) k d).0 ∙ pays-here p i k (get_or (payments_of p i) k d).0 ∙ fresh 1 p.projects (payments_of p i) k d m.projects_rise w;
+      here = pays-here p i (k + 1) (get_or (payments_of p i) k d).0 ∙ ap (λ n. numerator_in (take n (payments_of p i)) (get_or (payments_of p i) k d).0) next ∙ here-suc 1 p.projects (payments_of p i) k d m.projects_rise w;
+      voters = λ a b ne. (pays-other p i (k + 1) k a b ne ∙ sym (u.pays_is a b));
+      projects = λ a b ne. (elim (cases_eq a i) [
+        | inl is ↦
+            ap (λ y. pays_until p i (k + 1) y b) is ∙ pays-here p i (k + 1) b ∙ ap (λ n. numerator_in (take n (payments_of p i)) b) next ∙ other-suc (payments_of p i) k b d w ne
+            ∙ sym (pays-here p i k b) ∙ ap (λ y. pays_until p i k y b) (sym is) ∙ sym (u.pays_is a b)
+        | inr other ↦ pays-other p i (k + 1) k a b other ∙ sym (u.pays_is a b)
+      ]);
+    }
+
+pub can-take : (e : Instance) (p : Prices) (i k : ℕ) (d : ℕ × ℕ) (t : Tally) → TakesUntil e p i k t → Fits p e → IsPaymentMap p.projects (payments_of p i) → k < length (payments_of p i) → IsVoter e i → CanTake e t (row_of i (get_or (payments_of p i) k d))
+can-take e p i k d t u fits m w v =
+    let at : (1 ≤ (get_or (payments_of p i) k d).0) × ((get_or (payments_of p i) k d).0 ≤ p.projects) = in-set 1 p.projects (payments_of p i) k d m.projects_rise w in
+    record {
+      taken = u.taken;
+      tallied = u.tallied;
+      voter = v;
+      project = (at.0, omega (arith, at.1, fits.each_project));
+      small = m.none_large k d w;
+      follows = u.follows;
+      none_yet = (takes-next e p i k d t u m w).none_yet;
+      few = omega (arith, u.few, w, v.1, few-payments p.projects (payments_of p i) m, fits.each_project, u.tallied.sound.few_projects, u.tallied.sound.few_voters);
+    }
+
+pub took-next : (e : Instance) (p : Prices) (i k : ℕ) (d : ℕ × ℕ) (t new : Tally) (u : TakesUntil e p i k t) → Tallied e (with_next p i k u.taken) new → new.closed + 1 ≡ i → TakesUntil e p i (k + 1) new
+took-next e p i k d t new u h at_hand = record {
+  taken = with_next p i k u.taken;
+  tallied = h;
+  budget_is = u.budget_is;
+  pays_is = λ a b. refl;
+  few = omega (arith, u.few);
+  follows = omega arith;
+}
+
+-- all payments of a voter, and none of the next
+all-of-voter : (p : Prices) (i k a b : ℕ) → 1 ≤ i → length (payments_of p i) ≤ k → pays_until p i k a b ≡ pays_until p (i + 1) 0 a b
+all-of-voter p i k a b low end = elim (cases_eq a i) [
+  | inl is ↦
+      ap (λ y. pays_until p i k y b) is ∙ pays-here p i k b ∙ ap (λ qs. numerator_in qs b) (take_all k (payments_of p i) end)
+      ∙ sym (rw (ne_eqb i (i + 1) (λ e. omega arith), lt-ltb 0 i (omega arith), lt-ltb i (i + 1) (omega arith)) refl) ∙ ap (λ y. pays_until p (i + 1) 0 y b) (sym is)
+  | inr other ↦ elim (cases_eq a (i + 1)) [
+    | inl is ↦
+        ap (λ y. pays_until p i k y b) is
+        ∙ rw (ne_eqb (i + 1) i (λ e. omega arith), le-ltb (i + 1) i (omega arith), lt-ltb 0 (i + 1) (omega arith), eq-eqb (i + 1) (i + 1) refl) refl
+        ∙ ap (λ y. pays_until p (i + 1) 0 y b) (sym is)
+    | inr other' ↦ rw (ne_eqb a i other, ne_eqb a (i + 1) other', same-test a i other) refl
+  ]
+]
+  where
+    same-test : (x y : ℕ) → (x ≡ y → ⊥) → nat_lt x y ≡ nat_lt x (y + 1)
+    same-test x y ne = elim (cases_lt x y) [
+      | inl less ↦ lt-ltb x y less ∙ sym (lt-ltb x (y + 1) (omega arith))
+      | inr more ↦ le-ltb x y more ∙ sym (le-ltb x (y + 1) (omega arith))
+    ]
+
+pub took-voter : (e : Instance) (p : Prices) (i k : ℕ) (t : Tally) → TakesUntil e p i k t → IsVoter e i → Fits p e → IsPaymentMap p.projects (payments_of p i) → k ≡ length (payments_of p i) → TakesUntil e p (i + 1) 0 t
+took-voter e p i k t u v fits m end = record {
+  taken = u.taken;
+  tallied = u.tallied;
+  budget_is = u.budget_is;
+  pays_is = λ a b. (u.pays_is a b ∙ all-of-voter p i k a b v.0 (omega arith));
+  few = omega (arith, u.few, v.0, few-payments p.projects (payments_of p i) m, fits.each_project, u.tallied.sound.few_projects);
+  follows = omega (arith, u.follows);
+}
+
+-- no payment was taken
+none-until : (p : Prices) (a b : ℕ) → 0 ≡ pays_until p 1 0 a b
+none-until p a b = elim (cases_eq a 1) [
+  | inl is ↦ sym (rw (eq-eqb a 1 is) refl)
+  | inr other ↦ elim (cases_lt 0 a) [
+    | inl above ↦ sym (rw (ne_eqb a 1 other, lt-ltb 0 a above, le-ltb a 1 (omega arith)) refl)
+    | inr below ↦ sym (rw (ne_eqb a 1 other, le-ltb 0 a below) refl)
+  ]
+]
+
+pub takes-none : (e : Instance) (p : Prices) (b : ℕ) (t : Tally) → Tallied e (no_payment b) t → t.closed ≡ 0 → b ≡ beta p → TakesUntil e p 1 0 t
+takes-none e p b t h none is = record {
+  taken = no_payment b;
+  tallied = h;
+  budget_is = is;
+  pays_is = λ i j. none-until p i j;
+  few = omega arith;
+  follows = omega arith;
+}
+
+-- all payments were taken
+pub takes-all : (e : Instance) (p : Prices) (t : Tally) (u : TakesUntil e p (voters e + 1) 0 t) → Agree e u.taken.pays (payment p)
+takes-all e p t u = record {
+  pays = λ i c iv ip. (u.pays_is i c ∙ (let high : i ≤ voters e = iv.1 in rw (ne_eqb i (voters e + 1) (λ is. omega arith), lt-ltb 0 i iv.0, lt-ltb i (voters e + 1) (omega arith)) refl));
+}
+
+pub few-rows : (e : Instance) (p : Prices) (t : Tally) (u : TakesUntil e p (voters e + 1) 0 t) → u.taken.rows ≤ 10 ^ 12
+few-rows e p t u = omega (arith, u.few, u.tallied.sound.few_voters)
+
+-- the tally of these prices, once all voters are closed
+pub tally-of : (e : Instance) (p : Prices) (t new : Tally) (u : TakesUntil e p (voters e + 1) 0 t) → Tallied e u.taken new → new.closed ≡ voters e → IsTallyOf e p new
+tally-of e p t new u h all = whole e u.taken new p h all u.budget_is (takes-all e p t u)

@@ -1,17 +1,18 @@
 -- The first failure: none where the prices support the outcome, and the last condition only where the others hold.
-use Rattle.std.proofs.Common.{◌≡◌, ℕ, ◌≤◌, Bool, true, false, cond, List, [], ◌∷◌, ◌++◌, refl, sym, ◌∙◌, ap, subst, arith}
-use Rattle.std.specs.Prelude.{◌↔◌, Contains, map, nat_lt, slice_get, Some, None}
+use Rattle.std.proofs.Common.{◌≡◌, ℕ, ◌*◌, ◌≤◌, Bool, true, false, cond, List, [], ◌∷◌, ◌++◌, refl, sym, ◌∙◌, ap, subst, arith}
+use Rattle.std.specs.Prelude.{◌↔◌, Contains, map, nat_le, nat_lt, slice_get, Some, None}
 use Rattle.std.specs.List.{AllByRecursion}
-use Rattle.std.proofs.lemmas.Bool.{false≢true, le-ltb, ltb-false}
-use Rattle.pb_election.specs.Instance.{Instance}
+use Rattle.std.proofs.lemmas.Bool.{false≢true, le-ltb, leb-false, lt-leb, ltb-false}
+use Rattle.pb_election.specs.Instance.{Instance, voters}
 use Rattle.pb_certificate.specs.Prices.{Prices}
+use Rattle.pb_cohesion.specs.Amounts.{beta, budget_limit}
 use Rattle.pb_cohesion.specs.Outcome.{total}
-use Rattle.pb_cohesion.specs.Conditions.{C1, C2, C3, C4, Supports, culprits_of_C1, culprits_of_C2, culprits_of_C3, culprits_of_C4, culprits_of_C5, culprits_of_Exhaustive, culprits_of_S5}
+use Rattle.pb_cohesion.specs.Conditions.{C1, C2, C3, C4, Cover, Supports, culprits_of_C1, culprits_of_C2, culprits_of_C3, culprits_of_C4, culprits_of_C5, culprits_of_Exhaustive, culprits_of_S5}
 use Rattle.pb_cohesion.proofs.Culprits.{C1-iff, C2-iff, C3-iff, C4-iff, C5-iff, Exhaustive-iff, S5-iff, append-nil, first-none, if-nil, map-nil, nil-append, nil-map, when-nil}
 use Rattle.pb_price.specs.declared.Mode.{Mode}
 use Rattle.pb_price.specs.declared.Failure.{Failure}
 use Rattle.pb_price.specs.declared.Failure.TheVariants as failure
-use Rattle.pb_price.specs.First.{First, failures_of, failures_of_outcome, failures_of_payments, failures_of_supporters}
+use Rattle.pb_price.specs.First.{First, failures_of, failures_of_budgets, failures_of_outcome, failures_of_payments, failures_of_supporters}
 
 -- one of two lists is empty where the chosen one is
 choice-nil : {A : Type 0} (b : Bool) (xs ys : List A) → (cond b xs ys ≡ []) ↔ ((b ≡ true → xs ≡ []) × (b ≡ false → ys ≡ []))
@@ -20,7 +21,7 @@ choice-nil false xs ys = (λ h. (λ e. cc, λ e. h), λ h. h.1 refl)
 
 -- the failures of all conditions but the last
 abbrev before_last : Mode → Instance → List Bool → Prices → List Failure
-before_last m e w p = failures_of_outcome m e w ++ failures_of_payments e w p
+before_last m e w p = failures_of_outcome m e w ++ failures_of_budgets m e p ++ failures_of_payments e w p
 
 abbrev the_last : Mode → Instance → List Bool → Prices → List Failure
 the_last m e w p = failures_of_supporters m e w p
@@ -29,6 +30,7 @@ the_last m e w p = failures_of_supporters m e w p
 record HoldBefore (m : Mode) (e : Instance) (w : List Bool) (p : Prices) : Type 0 where
   feasible : total e w ≤ e.limit
   exhausts : m.exhaustive ≡ true → culprits_of_Exhaustive e w ≡ []
+  covers : m.cover ≡ true → Cover e p
   approved : C1 e p
   within_budget : C2 e p
   paid_for : C3 e w p
@@ -36,21 +38,23 @@ record HoldBefore (m : Mode) (e : Instance) (w : List Bool) (p : Prices) : Type 
 
 before-nil : (m : Mode) (e : Instance) (w : List Bool) (p : Prices) → before_last m e w p ≡ [] → HoldBefore m e w p
 before-nil m e w p h =
-    let parts : (failures_of_outcome m e w ≡ []) × (failures_of_payments e w p ≡ []) = append-nil _ _ h in
-    let second = append-nil _ _ parts.0 in
+    let parts : (failures_of_outcome m e w ++ failures_of_budgets m e p ≡ []) × (failures_of_payments e w p ≡ []) = append-nil _ _ h in
+    let third : (failures_of_outcome m e w ≡ []) × (failures_of_budgets m e p ≡ []) = append-nil _ _ parts.0 in
+    let second = append-nil _ _ third.0 in
     let sixth = append-nil _ _ parts.1 in
     let fifth = append-nil _ _ sixth.0 in
     let fourth = append-nil _ _ fifth.0 in
     record {
       feasible = ltb-false e.limit (total e w) ((if-nil (nat_lt e.limit (total e w)) failure.Feasible).0 second.0);
       exhausts = λ yes'. map-nil failure.Exhaustive (culprits_of_Exhaustive e w) ((when-nil m.exhaustive (map failure.Exhaustive (culprits_of_Exhaustive e w))).0 second.1 yes');
+      covers = λ yes'. leb-false (voters e * beta p) (budget_limit e p) ((if-nil (nat_le (voters e * beta p) (budget_limit e p)) failure.Cover).0 ((when-nil m.cover _).0 third.1 yes'));
       approved = (C1-iff e p).0 (map-nil _ _ fourth.0);
       within_budget = (C2-iff e p).0 (map-nil _ _ fourth.1);
       paid_for = (C3-iff e w p).0 (map-nil _ _ fifth.1);
       none_wasted = (C4-iff e w p).0 (map-nil _ _ sixth.1);
     }
 
-pub supports-iff : (m : Mode) (e : Instance) (w : List Bool) (p : Prices) → (First m e w p ≡ None) ↔ Supports m.stable m.exhaustive e w p
+pub supports-iff : (m : Mode) (e : Instance) (w : List Bool) (p : Prices) → (First m e w p ≡ None) ↔ Supports m.stable m.exhaustive m.cover e w p
 supports-iff m e w p = (
   λ h.
       let all : failures_of m e w p ≡ [] = (first-none (failures_of m e w p)).0 h in
@@ -60,6 +64,7 @@ supports-iff m e w p = (
       record {
         feasible = before.feasible;
         exhausts = λ yes'. (Exhaustive-iff e w).0 (before.exhausts yes');
+        covers = before.covers;
         approved = before.approved;
         within_budget = before.within_budget;
         paid_for = before.paid_for;
@@ -68,10 +73,12 @@ supports-iff m e w p = (
         stable_form = λ k. (S5-iff e w p).0 (map-nil failure.S5 (culprits_of_S5 e w p) (last.0 k));
       },
   λ s. (first-none (failures_of m e w p)).1 (nil-append (before_last m e w p) (the_last m e w p)
-      (nil-append (failures_of_outcome m e w) (failures_of_payments e w p)
+      (nil-append (failures_of_outcome m e w ++ failures_of_budgets m e p) (failures_of_payments e w p)
+      (nil-append (failures_of_outcome m e w) (failures_of_budgets m e p)
       (nil-append _ _
       ((if-nil (nat_lt e.limit (total e w)) failure.Feasible).1 (le-ltb e.limit (total e w) s.feasible))
       ((when-nil m.exhaustive (map failure.Exhaustive (culprits_of_Exhaustive e w))).1 (λ yes'. nil-map failure.Exhaustive (culprits_of_Exhaustive e w) ((Exhaustive-iff e w).1 (s.exhausts yes')))))
+      ((when-nil m.cover _).1 (λ yes'. (if-nil (nat_le (voters e * beta p) (budget_limit e p)) failure.Cover).1 (lt-leb (voters e * beta p) (budget_limit e p) (s.covers yes')))))
       (nil-append _ _ (nil-append _ _ (nil-append _ _
       (nil-map _ _ ((C1-iff e p).1 s.approved))
       (nil-map _ _ ((C2-iff e p).1 s.within_budget)))
@@ -85,6 +92,7 @@ supports-iff m e w p = (
 abbrev is_last : Failure → Bool
 is_last failure.Feasible = false
 is_last (failure.Exhaustive j) = false
+is_last failure.Cover = false
 is_last (failure.C1 i j) = false
 is_last (failure.C2 i) = false
 is_last (failure.C3 j) = false
@@ -109,10 +117,12 @@ earlier-if false xs h = tt
 
 before-earlier : (m : Mode) (e : Instance) (w : List Bool) (p : Prices) → Earlier (before_last m e w p)
 before-earlier m e w p =
-    earlier-append (failures_of_outcome m e w) (failures_of_payments e w p)
+    earlier-append (failures_of_outcome m e w ++ failures_of_budgets m e p) (failures_of_payments e w p)
+    (earlier-append (failures_of_outcome m e w) (failures_of_budgets m e p)
     (earlier-append _ _
     (earlier-if (nat_lt e.limit (total e w)) (failure.Feasible ∷ []) (refl, tt))
     (earlier-if m.exhaustive _ (earlier-map failure.Exhaustive (culprits_of_Exhaustive e w) (λ x. refl))))
+    (earlier-if m.cover _ (earlier-if (nat_le (voters e * beta p) (budget_limit e p)) (failure.Cover ∷ []) (refl, tt))))
     (earlier-append _ _ (earlier-append _ _ (earlier-append _ _
     (earlier-map (λ q. failure.C1 q.0 q.1) (culprits_of_C1 e p) (λ x. refl))
     (earlier-map failure.C2 (culprits_of_C2 e p) (λ x. refl)))

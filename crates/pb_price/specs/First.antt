@@ -1,7 +1,8 @@
 -- The first condition that is false, with its first culprit.
-use Rattle.std.specs.Prelude.{nat_lt, if◌then◌else◌, Bool, List, [], ◌∷◌, ◌++◌, map, slice_get, Option, Some, None}
-use Rattle.pb_election.specs.Instance.{Instance}
+use Rattle.std.specs.Prelude.{◌*◌, nat_lt, nat_le, if◌then◌else◌, Bool, List, [], ◌∷◌, ◌++◌, map, slice_get, Option, Some, None}
+use Rattle.pb_election.specs.Instance.{Instance, voters}
 use Rattle.pb_certificate.specs.Prices.{Prices}
+use Rattle.pb_cohesion.specs.Amounts.{beta, budget_limit}
 use Rattle.pb_cohesion.specs.Outcome.{total}
 use Rattle.pb_cohesion.specs.Conditions.{culprits_of_C1, culprits_of_C2, culprits_of_C3, culprits_of_C4, culprits_of_C5, culprits_of_Exhaustive, culprits_of_S5}
 use Rattle.pb_price.specs.declared.Mode.{Mode}
@@ -18,6 +19,10 @@ failures_of_outcome m e w =
     (if nat_lt e.limit (total e w) then failure.Feasible ∷ [] else [])
     ++ (if m.exhaustive then map failure.Exhaustive (culprits_of_Exhaustive e w) else [])
 
+-- then Cover, where the mode asks for it
+abbrev pub failures_of_budgets : Mode → Instance → Prices → List Failure
+failures_of_budgets m e p = if m.cover then if nat_le (voters e * beta p) (budget_limit e p) then failure.Cover ∷ [] else [] else []
+
 -- then C1, C2, C3 and C4
 abbrev pub failures_of_payments : Instance → List Bool → Prices → List Failure
 failures_of_payments e w p =
@@ -33,7 +38,8 @@ failures_of_supporters m e w p =
 
 -- all of them
 abbrev pub failures_of : Mode → Instance → List Bool → Prices → List Failure
-failures_of m e w p = failures_of_outcome m e w ++ failures_of_payments e w p ++ failures_of_supporters m e w p
+failures_of m e w p =
+    failures_of_outcome m e w ++ failures_of_budgets m e p ++ failures_of_payments e w p ++ failures_of_supporters m e w p
 
 -- the first failure, where there is one
 abbrev pub First : Mode → Instance → List Bool → Prices → Option Failure

@@ -1,27 +1,31 @@
 //! The verdict on a price system.
 
-ghost use Rattle.std.specs.Prelude.{◌≡◌, ◌↔◌, ℕ, IfOk, IsFalse, IsOk, IsTrue, Ok, slice_get};
+ghost use Rattle.std.specs.Prelude.{◌≡◌, ◌≤◌, ◌+◌, ◌*◌, ◌^◌, ◌↔◌, ◌⊎◌, ℕ, length, IfErr, IfOk, IsFalse, IsTrue, MatchResult, Ok};
+ghost use Rattle.pb_election.specs.Instance.{projects};
 ghost use Rattle.pb_election.specs.Outcome as outcomes;
+ghost use Rattle.pb_certificate.specs.Faults.{Refuses, certificate_records, no_memory, price_form};
 ghost use Rattle.pb_certificate.specs.Prices as spec;
-ghost use Rattle.pb_cohesion.specs.Conditions.{C2, Supports};
-ghost use Rattle.pb_cohesion.specs.EveryGroup.{BudgetsAreWithinReach, NoGroupHasMoreLeft, NothingBlocks, SupportersBlock, SupportersHaveMoreLeft};
-ghost use Rattle.pb_price.specs.First.{First, failures_of_outcome, failures_of_payments, failures_of_supporters, verdict_of};
+ghost use Rattle.pb_certificate.specs.PriceText.{IsPriceText};
+ghost use Rattle.pb_cohesion.specs.Conditions.{Supports};
+ghost use Rattle.pb_cohesion.specs.EveryGroup.{BudgetsAreWithinReach, GroupsGetTheirShare, NoGroupHasMoreLeft, NoViolationByCounting, NothingBlocks, SupportersBlock, SupportersHaveMoreLeft};
+ghost use Rattle.pb_price.specs.Answers.{AreStepsOf, IsVerdictOn, payment_rows};
+ghost use Rattle.pb_price.specs.First.{First, verdict_of};
+ghost use Rattle.pb_price.specs.Tallies.{IsTallyOf};
 
-use crate::amounts::cost_of_funded;
-use crate::conditions::{
-    first_affordable, first_not_approved, first_not_paid_exactly, first_over_budget,
-    first_paid_in_vain, first_with_more_left, first_with_more_offered,
-};
-use crate::{Failure, Mode, Verdict};
-use pb_certificate::Prices;
+use crate::conditions::first_failure;
+use crate::takings::{take_certificate, take_prices};
+use crate::tally::Tally;
+use crate::{Checked, Failure, Mode, Verdict};
+use pb_certificate::{CertRefusal, Prices};
 use pb_election::{Election, Outcome};
+use pb_money::payment_grains;
 use std::alloc::{AllocError, Global};
 
 /// Whether the prices support the outcome by the conditions of the mode, or else the first condition that is false,
-/// with its first culprit. The costs are those of this election. The outcome and the prices are to fit it. Takes no
-/// memory, and always answers `Ok`.
+/// with its first culprit. The costs are those of this election. The outcome and the prices are to fit it. An error is
+/// want of memory. It comes only where a growth was refused, which is tested and not proved.
 pub fn check(
-    _alloc: Global,
+    alloc: Global,
     election: &Election,
     outcome: &Outcome,
     prices: &Prices,
@@ -29,9 +33,8 @@ pub fn check(
 ) -> Result<Verdict, AllocError>
     requires outcome { outcomes.Fits outcome.now election.now }
     requires prices { spec.Fits prices.now election.now }
-    ensures answers { IsOk result }
     ensures first { IfOk result (λ v. v ≡ verdict_of (First mode election.now (outcome.now).marks prices.now)) }
-    ensures supported { (result ≡ Ok Verdict.Supported) ↔ Supports mode.stable mode.exhaustive election.now (outcome.now).marks prices.now }
+    ensures supported { IfOk result (λ v. (v ≡ Verdict.Supported) ↔ Supports mode.stable mode.exhaustive mode.cover election.now (outcome.now).marks prices.now) }
 
     // What a plain answer says of every group.
     ensures plain_yes { result ≡ Ok Verdict.Supported → IsFalse mode.stable → NoGroupHasMoreLeft election.now (outcome.now).marks prices.now }
@@ -41,86 +44,81 @@ pub fn check(
     ensures stable_yes { result ≡ Ok Verdict.Supported → IsTrue mode.stable → NothingBlocks election.now (outcome.now).marks prices.now }
     ensures stable_no { (c : ℕ) → result ≡ Ok (Verdict.Failed (Failure.S5 c)) → SupportersBlock election.now (outcome.now).marks prices.now c }
 
+    // What a stable yes says of what groups deserve, and with Cover.
+    ensures fair_yes { result ≡ Ok Verdict.Supported → IsTrue mode.stable → GroupsGetTheirShare election.now (outcome.now).marks prices.now }
+    ensures covered_yes { result ≡ Ok Verdict.Supported → IsTrue mode.stable → IsTrue mode.cover → NoViolationByCounting election.now (outcome.now).marks }
+
     // What a yes in either form says.
     ensures any_yes { result ≡ Ok Verdict.Supported → BudgetsAreWithinReach election.now (outcome.now).marks prices.now }
 {
-    match first_failure(election, outcome, prices, mode) {
-        None => Ok(Verdict::Supported),
-        Some(failure) => Ok(Verdict::Failed(failure)),
-    }
+    let budget = payment_grains(prices.budget());
+    let mut tally = Tally::new(alloc, election, budget)?;
+    take_prices(&mut tally, election, prices);
+    tally.finish(election);
+    let checked = judge(election, outcome, mode, prices.denominator(), &tally);
+    Ok(checked.verdict)
 }
 
-/// The first condition that is false, with its first culprit.
-fn first_failure(
+/// Whether the prices that the bytes of a price certificate state support the outcome, as `check` answers for them, in one
+/// pass over the certificate that keeps no table of its payments. The outcome is to fit the election. A refusal is that of
+/// `Prices::read`, and comes before any verdict: the last row is refused though a condition failed at the first.
+pub fn check_rows(
+    alloc: Global,
     election: &Election,
     outcome: &Outcome,
-    prices: &Prices,
+    bytes: &[u8],
     mode: Mode,
-) -> Option<Failure>
-    requires outcome { outcomes.Fits outcome.now election.now }
-    requires prices { spec.Fits prices.now election.now }
-    ensures { result ≡ First mode election.now (outcome.now).marks prices.now }
-{
-    if let Some(failure) = failure_of_outcome(election, outcome, mode) {
-        return Some(failure);
-    }
-    if let Some(failure) = failure_of_payments(election, outcome, prices) {
-        return Some(failure);
-    }
-    failure_of_supporters(election, outcome, prices, mode)
-}
-
-/// Whether the funded projects keep within the limit, and leave no room for another where the mode asks for that.
-fn failure_of_outcome(election: &Election, outcome: &Outcome, mode: Mode) -> Option<Failure>
+) -> Result<Checked, CertRefusal>
     requires { outcomes.Fits outcome.now election.now }
-    ensures { result ≡ slice_get (failures_of_outcome mode election.now (outcome.now).marks) 0 }
+
+    // The bytes state prices, and the verdict is the one on them.
+    ensures found { IfOk result (λ a. (p : spec.Prices) × IsPriceText (certificate_records bytes.now) election.now p × IsVerdictOn mode election.now (outcome.now).marks p a.verdict) }
+
+    // The steps are at least one for each row and each voter, and at most so many for rows, approvals, voters and projects.
+    ensures steps { IfOk result (λ a. AreStepsOf election.now (payment_rows bytes.now) a.steps) }
+
+    // A refusal is the first fault, or want of memory.
+    ensures refused { IfErr result (λ r. (r ≡ no_memory) ⊎ Refuses (price_form election.now) bytes.now r) }
+
+    // Where the bytes state prices the verdict is the one on those, memory aside.
+    ensures only { (p : spec.Prices) → IsPriceText (certificate_records bytes.now) election.now p → MatchResult result (λ a. IsVerdictOn mode election.now (outcome.now).marks p a.verdict) (λ r. r ≡ no_memory) }
 {
-    let cost = cost_of_funded(election, outcome);
-    if u128::from(election.limit().millionths()) < cost {
-        return Some(Failure::Feasible);
-    }
-    if !mode.exhaustive {
-        return None;
-    }
-    let j = first_affordable(election, outcome, cost)?;
-    Some(Failure::Exhaustive(j))
+    let taken = take_certificate(alloc, election, bytes)?;
+    Ok(judge(election, outcome, mode, taken.denominator, &taken.tally))
 }
 
-/// Who pays how much for what.
-fn failure_of_payments(election: &Election, outcome: &Outcome, prices: &Prices) -> Option<Failure>
-    requires outcome { outcomes.Fits outcome.now election.now }
-    requires prices { spec.Fits prices.now election.now }
-    ensures { result ≡ slice_get (failures_of_payments election.now (outcome.now).marks prices.now) 0 }
-{
-    if let Some((i, j)) = first_not_approved(election, prices) {
-        return Some(Failure::C1(i, j));
-    }
-    if let Some(i) = first_over_budget(election, prices) {
-        return Some(Failure::C2(i));
-    }
-    if let Some(j) = first_not_paid_exactly(election, outcome, prices) {
-        return Some(Failure::C3(j));
-    }
-    let j = first_paid_in_vain(election, outcome, prices)?;
-    Some(Failure::C4(j))
-}
-
-/// What the supporters of unfunded projects have left, or can offer.
-fn failure_of_supporters(
+// The verdict by the tally of all payments, which are over this denominator.
+fn judge(
     election: &Election,
     outcome: &Outcome,
-    prices: &Prices,
     mode: Mode,
-) -> Option<Failure>
+    denominator: u32,
+    tally: &Tally,
+) -> Checked
     requires outcome { outcomes.Fits outcome.now election.now }
-    requires prices { spec.Fits prices.now election.now }
-    requires within_budget { C2 election.now prices.now }
-    ensures { result ≡ slice_get (failures_of_supporters mode election.now (outcome.now).marks prices.now) 0 }
+    requires low { 1 ≤ denominator }
+    requires high { denominator ≤ 10 ^ 9 }
+    requires sums { length (tally.now).projects.items ≡ projects election.now }
+    requires budget { (tally.now).budget ≤ 10 ^ 27 }
+    requires steps { (tally.now).steps ≤ 2 ^ 62 }
+    ensures verdict { (p : spec.Prices) → p.denominator ≡ denominator → IsTallyOf election.now p tally.now → result.verdict ≡ verdict_of (First mode election.now (outcome.now).marks p) }
+    ensures fewest { (tally.now).steps ≤ result.steps }
+    ensures most { result.steps ≤ (tally.now).steps + 4 * projects election.now }
 {
-    if mode.stable {
-        let j = first_with_more_offered(election, outcome, prices)?;
-        return Some(Failure::S5(j));
+    let mut steps = tally.steps;
+    let failure = first_failure(election, outcome, mode, denominator, tally, &mut steps);
+    Checked {
+        verdict: verdict_by(failure),
+        steps,
     }
-    let j = first_with_more_left(election, outcome, prices)?;
-    Some(Failure::C5(j))
+}
+
+// The verdict by the first condition that is false, if there is one.
+fn verdict_by(failure: Option<Failure>) -> Verdict
+    ensures { result ≡ verdict_of failure }
+{
+    match failure {
+        None => Verdict::Supported,
+        Some(failure) => Verdict::Failed(failure),
+    }
 }

@@ -1,13 +1,22 @@
-//! The law of the verdict, over the definitions alone.
+//! Laws of the verdict and of the sums that it compares, over the definitions alone.
 
 ghost use Rattle.std.specs.Prelude.{◌≡◌, ◌↔◌, Bool, List, None};
 ghost use Rattle.pb_election.specs.Instance.{Instance};
-ghost use Rattle.pb_certificate.specs.Prices.{Prices};
+ghost use Rattle.pb_election.specs.Text.{IsElection};
+ghost use Rattle.pb_certificate.specs.Prices.{ArePrices, Prices};
 ghost use Rattle.pb_cohesion.specs.Conditions.{Supports};
 ghost use Rattle.pb_price.specs.First.{First};
+ghost use Rattle.pb_price.specs.Ranges.{AllSumsFit};
 ghost use Rattle.pb_price.specs.declared.Mode.{Mode};
 
 /// The prices support the outcome exactly where no condition fails, whatever the mode asks for.
 pub fn supported_where_no_condition_fails()
-    ensures { (m : Mode) (e : Instance) (w : List Bool) (p : Prices) → (First m e w p ≡ None) ↔ Supports m.stable m.exhaustive e w p }
+    ensures { (m : Mode) (e : Instance) (w : List Bool) (p : Prices) → (First m e w p ≡ None) ↔ Supports m.stable m.exhaustive m.cover e w p }
+{}
+
+/// Within the limits on elections and certificates each sum that the conditions compare, and each sum over a part of the
+/// voters or projects, lies from -10^34 to 10^34 grains, and so fits 128 bits. What voters without a budget have left can
+/// reach the lower end.
+pub fn sums_fit()
+    ensures { (e : Instance) (w : List Bool) (p : Prices) → IsElection e → ArePrices e p → AllSumsFit e w p }
 {}

@@ -1,16 +1,20 @@
-//! The verdict on a price system: whether it supports an outcome. The conditions are after Peters, Pierczyński and Skowron
-//! (2021), and S5 after Peters, Pierczyński, Shah and Skowron (2021), each in this project's form for projects with costs.
+//! The verdict on a price system: whether it supports an outcome, and by what margins. The conditions are after Peters,
+//! Pierczyński and Skowron (2021), and S5 after Peters, Pierczyński, Shah and Skowron (2021), each in this project's form for
+//! projects with costs.
 #![tactic(auto)]
 
-mod amounts;
 mod checking;
 mod conditions;
+mod figures;
 pub mod laws;
 mod samples;
+mod takings;
+mod tally;
 #[cfg(test)]
 mod tests;
 
-pub use checking::check;
+pub use checking::{check, check_rows};
+pub use figures::margins_of;
 
 /// What is asked of a price system.
 #[derive(Clone, Copy, Debug, PartialEq, Eq)]
@@ -19,6 +23,23 @@ pub struct Mode {
     pub stable: bool,
     /// Whether no unfunded project may be affordable within the limit.
     pub exhaustive: bool,
+    /// Whether the voter budgets of all voters together have to be more than the limit.
+    pub cover: bool,
+}
+
+impl Mode {
+    /// The plain form, with Exhaustive and without Cover.
+    pub const PLAIN: Mode = Mode {
+        stable: false,
+        exhaustive: true,
+        cover: false,
+    };
+
+    /// The stable form, with Exhaustive and without Cover.
+    pub const STABLE: Mode = Mode {
+        stable: true,
+        ..Mode::PLAIN
+    };
 }
 
 /// Whether a price system supports an outcome.
@@ -38,6 +59,8 @@ pub enum Failure {
     Feasible,
     /// This unfunded project could be added within the limit.
     Exhaustive(u32),
+    /// The voter budgets of all voters together are at most the limit.
+    Cover,
     /// This voter pays for this project, and does not approve it.
     C1(u32, u32),
     /// This voter pays more than the voter budget.
@@ -51,4 +74,43 @@ pub enum Failure {
     /// The supporters of this unfunded project can offer together more than it costs, each either what it has left or
     /// its largest payment.
     S5(u32),
+}
+
+/// What a pass over a certificate answers.
+#[derive(Clone, Copy, Debug, PartialEq, Eq)]
+pub struct Checked {
+    /// The verdict on the prices that the certificate states.
+    pub verdict: Verdict,
+    /// The steps that it took: one for each payment row taken, each entry of a ballot looked at, each voter closed, and each
+    /// project looked at in a pass over the projects.
+    pub steps: u64,
+}
+
+/// The figures of each project by a price certificate. A grain is 1/(10^6 D) of the currency, where D is the denominator of
+/// the certificate.
+#[derive(Debug, Drop)]
+pub struct Margins {
+    /// How many grains one unit of the currency has: 10^6 D, from 10^6 to 10^15.
+    pub grains_per_unit: u64,
+    /// The figures of the projects, in the order of the election.
+    pub projects: Vec<ProjectMargins>,
+}
+
+/// The figures of a project, with all amounts in grains. How far the cost is from what is paid is the margin of C3 at a funded
+/// project, and from what is left or can be offered that of C5 or S5 at an unfunded one.
+#[derive(Clone, Copy, Debug, PartialEq, Eq)]
+pub struct ProjectMargins {
+    /// Whether it is funded.
+    pub funded: bool,
+    /// How many voters approve it, at most 1,000,000.
+    pub supporters: u32,
+    /// What it costs, at most 10^27.
+    pub cost: u128,
+    /// What all voters pay for it together, at most 10^33.
+    pub paid: u128,
+    /// What its supporters have left together, from -10^34 to 10^33: negative where they pay more than their budgets.
+    pub left: i128,
+    /// What its supporters can offer together in the stable form, each the larger of its largest payment and what it has left.
+    /// From 0 to 10^33.
+    pub offer: i128,
 }

@@ -8,19 +8,13 @@ ghost use Rattle.pb_price.specs.Samples.{moved_prices, overpaid_prices, overpayi
 
 use crate::{Failure, Mode};
 
-const PLAIN: Mode = Mode {
-    stable: false,
-    exhaustive: true,
-};
+const PLAIN: Mode = Mode::PLAIN;
 
-const STABLE: Mode = Mode {
-    stable: true,
-    exhaustive: true,
-};
+const STABLE: Mode = Mode::STABLE;
 
 const PLAIN_ALONE: Mode = Mode {
-    stable: false,
     exhaustive: false,
+    ..Mode::PLAIN
 };
 
 /// Prices that pay for two projects.

@@ -1,49 +1,46 @@
-use Rattle.std.proofs.Common.{◌≡◌, sym, ◌∙◌, ap, refl}
-use Rattle.std.specs.Prelude.{None, Some}
-use Rattle.pb_price.specs.First.{First}
-use Rattle.pb_price.specs.declared.Failure.TheVariants as failure
-use Rattle.pb_price.proofs.Groups.{budgets, no-failure, no-support, plain-no, plain-yes, same-failure, stable-no, stable-yes}
-use Rattle.pb_price.proofs.Verdicts.{supports-iff}
+use Rattle.std.proofs.Common.{sym, arith}
+use Rattle.pb_price.specs.Tallies.{IsTallyOf}
+use Rattle.pb_price.specs.Answers.{IsVerdictOn}
+use Rattle.pb_price.proofs.Bounds.{steps-bound}
+use Rattle.pb_price.proofs.Groups.{on-prices, same-answer}
+use Rattle.pb_price.proofs.Payments.{few-rows, takes-none, tally-of}
 use Rattle.pb_price.proofs.checking.check.Goals as goal
 
-pub returns-in-None-clause-supported : goal.returns-in-None-clause-supported
-returns-in-None-clause-supported c =
-    let none : First c.args.mode c.args.election.now c.args.outcome.now.marks c.args.prices.now ≡ None = sym c.first_failure.ensures ∙ c.in-None.is in
-    (λ h. (supports-iff c.args.mode c.args.election.now c.args.outcome.now.marks c.args.prices.now).0 none, λ s. refl)
+pub take_prices-requires : goal.take_prices-requires
+take_prices-requires c = record {
+  prices = c.requires.prices;
+  none = takes-none c.args.election.now c.args.prices.now c.payment_grains-budget.result c.in_ok-tally.tally c.in_ok-tally.ensures.0 c.in_ok-tally.ensures.1 (omega (arith, c.payment_grains-budget.ensures, c.budget.ensures.value));
+}
 
-pub returns-in-None-clause-plain_yes : goal.returns-in-None-clause-plain_yes
-returns-in-None-clause-plain_yes c h is_plain = plain-yes c.args.mode c.args.election.now c.args.outcome.now.marks c.args.prices.now (sym c.first_failure.ensures ∙ c.in-None.is) is_plain
+pub finish-requires : goal.finish-requires
+finish-requires c = (c.take_prices.ensures.taken, c.take_prices.ensures.tallied, few-rows _ _ _ c.take_prices.ensures)
 
-pub returns-in-None-clause-plain_no : goal.returns-in-None-clause-plain_no
-returns-in-None-clause-plain_no c project h = absurd (no-support (failure.C5 project) h)
+pub judge-checked-requires : goal.judge-checked-requires
+judge-checked-requires c =
+    let whole = c.finish.ensures.taken c.take_prices.ensures.taken c.take_prices.ensures.tallied in
+    record {
+      outcome = c.requires.outcome;
+      low = c.denominator.ensures.low;
+      high = c.denominator.ensures.high;
+      sums = whole.sums.as_many;
+      budget = omega (arith, whole.budget, whole.taken.small_budget);
+      steps = omega (arith, steps-bound c.args.election.now c.take_prices.ensures.taken c.finish.new.self whole (few-rows _ _ _ c.take_prices.ensures));
+    }
 
-pub returns-in-None-clause-stable_yes : goal.returns-in-None-clause-stable_yes
-returns-in-None-clause-stable_yes c h is_stable = stable-yes c.args.mode c.args.election.now c.args.outcome.now.marks c.args.prices.now (sym c.first_failure.ensures ∙ c.in-None.is) is_stable
-
-pub returns-in-None-clause-stable_no : goal.returns-in-None-clause-stable_no
-returns-in-None-clause-stable_no c project h = absurd (no-support (failure.S5 project) h)
-
-pub returns-in-None-clause-any_yes : goal.returns-in-None-clause-any_yes
-returns-in-None-clause-any_yes c h = budgets c.args.mode c.args.election.now c.args.outcome.now.marks c.args.prices.now (sym c.first_failure.ensures ∙ c.in-None.is)
-
-pub returns-in-Some-clause-supported : goal.returns-in-Some-clause-supported
-returns-in-Some-clause-supported c = (
-  λ h. absurd (no-failure c.in-Some.failure h),
-  λ s. let none : First c.args.mode c.args.election.now c.args.outcome.now.marks c.args.prices.now ≡ None = (supports-iff c.args.mode c.args.election.now c.args.outcome.now.marks c.args.prices.now).1 s in
-      let some : First c.args.mode c.args.election.now c.args.outcome.now.marks c.args.prices.now ≡ Some c.in-Some.failure = sym c.first_failure.ensures ∙ c.in-Some.is in cc,
-)
-
-pub returns-in-Some-clause-plain_yes : goal.returns-in-Some-clause-plain_yes
-returns-in-Some-clause-plain_yes c h = absurd (no-failure c.in-Some.failure h)
-
-pub returns-in-Some-clause-plain_no : goal.returns-in-Some-clause-plain_no
-returns-in-Some-clause-plain_no c project h = plain-no c.args.mode c.args.election.now c.args.outcome.now.marks c.args.prices.now project (sym c.first_failure.ensures ∙ c.in-Some.is ∙ ap Some (same-failure c.in-Some.failure (failure.C5 project) h))
-
-pub returns-in-Some-clause-stable_yes : goal.returns-in-Some-clause-stable_yes
-returns-in-Some-clause-stable_yes c h = absurd (no-failure c.in-Some.failure h)
-
-pub returns-in-Some-clause-stable_no : goal.returns-in-Some-clause-stable_no
-returns-in-Some-clause-stable_no c project h = stable-no c.args.mode c.args.election.now c.args.outcome.now.marks c.args.prices.now project (sym c.first_failure.ensures ∙ c.in-Some.is ∙ ap Some (same-failure c.in-Some.failure (failure.S5 project) h))
-
-pub returns-in-Some-clause-any_yes : goal.returns-in-Some-clause-any_yes
-returns-in-Some-clause-any_yes c h = absurd (no-failure c.in-Some.failure h)
+pub returns : goal.returns
+returns c =
+    let whole = c.finish.ensures.taken c.take_prices.ensures.taken c.take_prices.ensures.tallied in
+    let tally : IsTallyOf c.args.election.now c.args.prices.now c.finish.new.self = tally-of c.args.election.now c.args.prices.now c.take_prices.new.tally c.finish.new.self c.take_prices.ensures whole c.finish.ensures.closed in
+    let on : IsVerdictOn c.args.mode c.args.election.now c.args.outcome.now.marks c.args.prices.now c.judge-checked.result.verdict =
+    on-prices c.args.mode c.args.election.now c.args.outcome.now.marks c.args.prices.now c.judge-checked.result.verdict (c.judge-checked.ensures.verdict c.args.prices.now (sym c.denominator.ensures.value) tally) in
+    record {
+      first = on.first;
+      supported = on.supported;
+      plain_yes = λ h. on.plain_yes (same-answer _ _ h);
+      plain_no = λ project h. on.plain_no project (same-answer _ _ h);
+      stable_yes = λ h. on.stable_yes (same-answer _ _ h);
+      stable_no = λ project h. on.stable_no project (same-answer _ _ h);
+      any_yes = λ h. on.any_yes (same-answer _ _ h);
+      fair_yes = λ h. on.fair_yes (same-answer _ _ h);
+      covered_yes = λ h. on.covered_yes (same-answer _ _ h);
+    }

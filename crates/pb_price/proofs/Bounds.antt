@@ -1,0 +1,65 @@
+-- How large the sums of a tally can be.
+use Rattle.std.proofs.Common.{◌≡◌, ℕ, ◌+◌, ◌-◌, ◌*◌, ◌^◌, ◌<◌, ◌≤◌, List, [], length, get_or, ◌∙◌, ap, subst, inl, inr, arith}
+use Rattle.std.specs.Prelude.{ℤ, pos, neg_ℤ, ◌≤ℤ◌}
+use Rattle.std.proofs.lemmas.Bool.{cases_lt}
+use Rattle.std.proofs.lemmas.Int.{ints}
+use Rattle.std.proofs.lemmas.List.{get_or_past}
+use Rattle.std.proofs.lemmas.List.Sums.{get_or-le-sum_by, sum_by-take-le}
+use Rattle.pb_election.specs.Instance.{Instance, approvals, approves, ballot_of, projects, voters}
+use Rattle.pb_cohesion.specs.Conditions.{sum_ℤ}
+use Rattle.pb_price.specs.Tallies.{AreChanged, AreSmall, IsWithin, Taken, Tallied, first_supporters, left_by, most_by, paid_by}
+use Rattle.pb_price.specs.declared.tally.ProjectSums.{ProjectSums}
+use Rattle.pb_price.specs.declared.tally.Tally.{Tally}
+use Rattle.pb_price.proofs.Amounts.{left-small, most-small, paid-most, spent-most, top-most}
+use Rattle.pb_price.proofs.Signed.{count-most, signed-most}
+
+pub spent-bound : (e : Instance) (a : Taken) (t : Tally) → Tallied e a t → t.spent ≤ 20000 * 10 ^ 27
+spent-bound e a t h = omega (arith, h.spent, spent-most e a.pays (t.closed + 1) h.taken.small, h.sound.few_projects)
+
+pub largest-bound : (e : Instance) (a : Taken) (t : Tally) → Tallied e a t → t.largest ≤ 10 ^ 27
+largest-bound e a t h = omega (arith, h.largest, top-most e a.pays (t.closed + 1) h.taken.small)
+
+pub paid-bound : (e : Instance) (a : Taken) (t : Tally) (k : ℕ) (v : ProjectSums) → Tallied e a t → k < projects e → v ≡ get_or t.projects.items k v → v.paid ≤ 10 ^ 6 * 10 ^ 27
+paid-bound e a t k v h within is =
+    let paid_is : v.paid ≡ paid_by e a.pays (k + 1) = ap (λ x. x.paid) is ∙ h.sums.paid k v within in
+    omega (arith, paid_is, paid-most e a.pays (k + 1) h.taken.small, h.sound.few_voters)
+
+few-times : (n k : ℕ) (x : ℤ) → k ≤ n → n ≤ 1000000 → (neg_ℤ (pos (k * 10 ^ 32)) ≤ℤ x) × (x ≤ℤ pos (k * 10 ^ 32)) → IsWithin (10 ^ 38) x
+few-times n k x h few b =
+    let low = b.0 in
+    let high = b.1 in
+    (omega (arith, ints), omega (arith, ints))
+
+-- what is known of the voter at hand, and of the sums before it is closed
+pub left-bound : (e : Instance) (a : Taken) (t : Tally) (i : ℕ) → Tallied e a t → IsWithin (10 ^ 32) (left_by a.budget e a.pays i)
+left-bound e a t i h = left-small a.budget e a.pays i h.sound.few_projects h.taken.small_budget h.taken.small
+
+pub most-bound : (e : Instance) (a : Taken) (t : Tally) (i : ℕ) → Tallied e a t → IsWithin (10 ^ 32) (most_by a.budget e a.pays i)
+most-bound e a t i h = most-small a.budget e a.pays i h.taken.small_budget h.taken.small
+
+pub sums-bound : (e : Instance) (a : Taken) (t : Tally) (k : ℕ) (d : ProjectSums) → Tallied e a t → t.closed < voters e → k < projects e → AreSmall (get_or t.projects.items k d)
+sums-bound e a t k d h more within =
+    let few : length (first_supporters e t.closed (k + 1)) ≤ t.closed = count-most (λ i. approves e i (k + 1)) 1 t.closed in
+    let closed : t.closed ≤ 1000000 = omega (arith, h.sound.few_voters) in
+    record {
+      left = rw (h.sums.left k d within) (few-times t.closed (length (first_supporters e t.closed (k + 1))) (sum_ℤ (left_by a.budget e a.pays) (first_supporters e t.closed (k + 1))) few closed (signed-most (left_by a.budget e a.pays) (first_supporters e t.closed (k + 1)) (λ i. left-bound e a t i h)));
+      offer = rw (h.sums.offer k d within) (few-times t.closed (length (first_supporters e t.closed (k + 1))) (sum_ℤ (most_by a.budget e a.pays) (first_supporters e t.closed (k + 1))) few closed (signed-most (most_by a.budget e a.pays) (first_supporters e t.closed (k + 1)) (λ i. most-bound e a t i h)));
+      supporters = omega (arith, h.sums.count k d within);
+    }
+
+long : (bs : List (List ℕ)) (k : ℕ) → length (get_or bs k []) ≤ approvals bs
+long bs k = elim (cases_lt k (length bs)) [
+  | inl within ↦ get_or-le-sum_by (λ (xs : List ℕ). length xs) bs k [] within
+  | inr past ↦ let none : length (get_or bs k []) ≡ 0 = ap (λ xs. length xs) (get_or_past bs k [] past) in omega arith
+]
+
+pub ballot-bound : (e : Instance) (i : ℕ) → length (ballot_of e i) ≤ approvals e.ballots
+ballot-bound e i = long e.ballots (i - 1)
+
+pub steps-bound : (e : Instance) (a : Taken) (t : Tally) → Tallied e a t → a.rows ≤ 10 ^ 12 → t.steps ≤ 2 ^ 61
+steps-bound e a t h few =
+    omega (arith, h.steps.high, few, h.sound.few_approvals, h.sound.few_voters, h.taken.within, ballot-bound e (t.closed + 1), sum_by-take-le (λ (xs : List ℕ). length xs) e.ballots t.closed)
+
+-- the same lists
+pub changed-as : (change : ProjectSums → ProjectSums) (xs xs' ys ys' : List ProjectSums) (b b' : List ℕ) → xs' ≡ xs → ys' ≡ ys → b' ≡ b → AreChanged change xs' ys' b' → AreChanged change xs ys b
+changed-as change xs xs' ys ys' b b' p q r h = subst (λ z. AreChanged change xs ys z) r (subst (λ z. AreChanged change xs z b') q (subst (λ z. AreChanged change z ys' b') p h))

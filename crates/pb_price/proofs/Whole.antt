@@ -1,0 +1,104 @@
+-- A tally of all payments of a price system.
+use Rattle.std.proofs.Common.{◌≡◌, ℕ, ◌+◌, ◌-◌, ◌*◌, ◌≤◌, Bool, false, List, [], length, take, sym, ◌∙◌, ap, arith}
+use Rattle.std.specs.Prelude.{Option, Some, None, pos, ◌-ℤ◌, ◌&&◌, filter, flat_map, map, nat_lt, not, slice_get}
+use Rattle.std.specs.Int.{int_max}
+use Rattle.std.specs.List.{range_with_len}
+use Rattle.std.proofs.lemmas.List.{get_or_past, take_all}
+use Rattle.pb_money.specs.Grains.{payment_grains}
+use Rattle.pb_election.specs.Instance.{Instance, IsProject, IsVoter, all_projects, all_voters, approvals, approves, ballot_of, projects, supporters, voters}
+use Rattle.pb_certificate.specs.Prices.{Prices, payment}
+use Rattle.pb_cohesion.specs.Amounts.{beta, left, spent}
+use Rattle.pb_cohesion.specs.Conditions.{culprits_of_C1, most_of, sum_ℤ}
+use Rattle.pb_cohesion.proofs.Ballots.{filter-same}
+use Rattle.pb_cohesion.proofs.Culprits.{nil-filter, nil-flat_map, nil-map}
+use Rattle.pb_cohesion.proofs.Firsts.{first-mapped}
+use Rattle.pb_cohesion.proofs.Loops.{range-first, range-lists-first}
+use Rattle.pb_cohesion.proofs.Sums.{range-same}
+use Rattle.pb_price.specs.Answers.{AreStepsOf}
+use Rattle.pb_price.specs.Tallies.{IsFirstPair, IsTallyOf, Taken, Tallied, first_supporters, left_by, most_by, paid_by, pays_wrongly, spent_by, top_by}
+use Rattle.pb_price.specs.declared.tally.Tally.{Tally}
+use Rattle.pb_price.proofs.Signed.{signed-same}
+use Rattle.pb_price.proofs.Sums.{largest-same}
+
+-- two accounts of what each voter pays for each project
+pub record Agree (e : Instance) (f g : ℕ → ℕ → ℕ) : Type 0 where
+  pub pays : (i c : ℕ) → IsVoter e i → IsProject e c → f i c ≡ g i c
+
+paid-agree : (e : Instance) (f g : ℕ → ℕ → ℕ) (c : ℕ) → Agree e f g → IsProject e c → paid_by e f c ≡ paid_by e g c
+paid-agree e f g c h ip = range-same (λ i. payment_grains (f i c)) (λ i. payment_grains (g i c)) 1 (voters e) (λ i low high. ap payment_grains (h.pays i c (low, omega arith) ip))
+
+spent-agree : (e : Instance) (f g : ℕ → ℕ → ℕ) (i : ℕ) → Agree e f g → IsVoter e i → spent_by e f i ≡ spent_by e g i
+spent-agree e f g i h iv = range-same (λ c. payment_grains (f i c)) (λ c. payment_grains (g i c)) 1 (projects e) (λ c low high. ap payment_grains (h.pays i c iv (low, omega arith)))
+
+top-agree : (e : Instance) (f g : ℕ → ℕ → ℕ) (i : ℕ) → Agree e f g → IsVoter e i → top_by e f i ≡ top_by e g i
+top-agree e f g i h iv = largest-same (λ c. payment_grains (f i c)) (λ c. payment_grains (g i c)) 1 (projects e) (λ c low high. ap payment_grains (h.pays i c iv (low, omega arith)))
+
+left-agree : (b : ℕ) (e : Instance) (f g : ℕ → ℕ → ℕ) (i : ℕ) → Agree e f g → IsVoter e i → left_by b e f i ≡ left_by b e g i
+left-agree b e f g i h iv = ap (λ s. pos b -ℤ pos s) (spent-agree e f g i h iv)
+
+most-agree : (b : ℕ) (e : Instance) (f g : ℕ → ℕ → ℕ) (i : ℕ) → Agree e f g → IsVoter e i → most_by b e f i ≡ most_by b e g i
+most-agree b e f g i h iv = ap (λ t. int_max (pos t) (left_by b e f i)) (top-agree e f g i h iv) ∙ ap (int_max (pos (top_by e g i))) (left-agree b e f g i h iv)
+
+-- the first payment for a project that is not approved
+abbrev wrong : Instance → Prices → ℕ → ℕ → Bool
+wrong e p i c = nat_lt 0 (payment p i c) && not (approves e i c)
+
+abbrev pair : ℕ → ℕ → ℕ × ℕ
+pair i c = (i, c)
+
+abbrev wrong_of : Instance → Prices → ℕ → List (ℕ × ℕ)
+wrong_of e p i = map (λ c. pair i c) (filter (wrong e p i) (all_projects e))
+
+wrong-agree : (e : Instance) (f : ℕ → ℕ → ℕ) (p : Prices) (i c : ℕ) → Agree e f (payment p) → IsVoter e i → IsProject e c → wrong e p i c ≡ pays_wrongly e f i c
+wrong-agree e f p i c h iv ip = ap (λ n. nat_lt 0 n && not (approves e i c)) (sym (h.pays i c iv ip))
+
+none-wrong : (e : Instance) (f : ℕ → ℕ → ℕ) (p : Prices) (i : ℕ) → Agree e f (payment p) → IsVoter e i → ((c : ℕ) → pays_wrongly e f i c ≡ false) → wrong_of e p i ≡ []
+none-wrong e f p i h iv none = nil-map (λ c. pair i c) (filter (wrong e p i) (all_projects e)) (nil-filter (wrong e p i) (projects e) 1 (λ c low high. (wrong-agree e f p i c h iv (low, omega arith) ∙ none c)))
+
+first-wrong : (e : Instance) (f : ℕ → ℕ → ℕ) (p : Prices) (o : Option (ℕ × ℕ)) → Agree e f (payment p) → IsFirstPair e (pays_wrongly e f) o → o ≡ slice_get (culprits_of_C1 e p) 0
+first-wrong e f p None h first = sym (ap (λ xs. slice_get xs 0) (nil-flat_map (wrong_of e p) (voters e) 1 (λ i low high. none-wrong e f p i h (low, omega arith) (first i))))
+first-wrong e f p (Some q) h first =
+    let low : 1 ≤ q.0 = first.0.0 in
+    let high : q.0 ≤ voters e = first.0.1 in
+    let before : flat_map (wrong_of e p) (range_with_len 1 (q.0 - 1)) ≡ [] = nil-flat_map (wrong_of e p) (q.0 - 1) 1 (λ i l u. none-wrong e f p i h (l, omega arith) (λ c. first.3 i c (omega arith))) in
+    let low' : 1 ≤ q.1 = first.1.0 in
+    let high' : q.1 ≤ projects e = first.1.1 in
+    let before' : filter (wrong e p q.0) (range_with_len 1 (q.1 - 1)) ≡ [] = nil-filter (wrong e p q.0) (q.1 - 1) 1 (λ c l u. (wrong-agree e f p q.0 c h first.0 (l, omega arith) ∙ first.4 c (omega arith))) in
+    let here : slice_get (filter (wrong e p q.0) (all_projects e)) 0 ≡ Some q.1 = range-first (wrong e p q.0) (projects e) q.1 before' low' high' (wrong-agree e f p q.0 q.1 h first.0 first.1 ∙ first.2) in
+    sym (range-lists-first (wrong_of e p) (voters e) q.0 (pair q.0 q.1) before low high (first-mapped (λ c. pair q.0 c) (filter (wrong e p q.0) (all_projects e)) q.1 here))
+
+pub whole : (e : Instance) (a : Taken) (t : Tally) (p : Prices) → Tallied e a t → t.closed ≡ voters e → a.budget ≡ beta p → Agree e a.pays (payment p) → IsTallyOf e p t
+whole e a t p h all budget agree = record {
+  budget = h.budget ∙ budget;
+  sums = record {
+    as_many = h.sums.as_many;
+    paid = λ k d w. (h.sums.paid k d w ∙ paid-agree e a.pays (payment p) (k + 1) agree (omega arith, omega arith));
+    left = λ k d w. (
+        h.sums.left k d w ∙ ap (λ n. sum_ℤ (left_by a.budget e a.pays) (first_supporters e n (k + 1))) all
+        ∙ ap (λ b. sum_ℤ (left_by b e a.pays) (supporters e (k + 1))) budget
+        ∙ signed-same (left_by (beta p) e a.pays) (left e p) (λ i. approves e i (k + 1)) 1 (voters e) (λ i low high. left-agree (beta p) e a.pays (payment p) i agree (low, omega arith)));
+    offer = λ k d w. (
+        h.sums.offer k d w ∙ ap (λ n. sum_ℤ (most_by a.budget e a.pays) (first_supporters e n (k + 1))) all
+        ∙ ap (λ b. sum_ℤ (most_by b e a.pays) (supporters e (k + 1))) budget
+        ∙ signed-same (most_by (beta p) e a.pays) (most_of e p) (λ i. approves e i (k + 1)) 1 (voters e) (λ i low high. most-agree (beta p) e a.pays (payment p) i agree (low, omega arith)));
+    count = λ k d w. (h.sums.count k d w ∙ ap (λ n. length (first_supporters e n (k + 1))) all);
+  };
+  unapproved = first-wrong e a.pays p t.unapproved agree h.unapproved;
+  over_budget =
+      h.over_budget ∙ ap (λ n. slice_get (filter (λ i. nat_lt a.budget (spent_by e a.pays i)) (range_with_len 1 n)) 0) all
+      ∙ ap (λ b. slice_get (filter (λ i. nat_lt b (spent_by e a.pays i)) (all_voters e)) 0) budget
+      ∙ ap (λ xs. slice_get xs 0) (filter-same (λ i. nat_lt (beta p) (spent_by e a.pays i)) (λ i. nat_lt (beta p) (spent e p i)) (voters e) 1 (λ i low high. ap (nat_lt (beta p)) (spent-agree e a.pays (payment p) i agree (low, omega arith))));
+}
+
+-- the steps of a whole tally, and those of the passes over the projects
+pub whole-steps : (e : Instance) (a : Taken) (t : Tally) (rows steps : ℕ) → Tallied e a t → t.closed ≡ voters e → a.rows ≡ rows → t.steps ≤ steps → steps ≤ t.steps + 4 * projects e → AreStepsOf e rows steps
+whole-steps e a t rows steps h all count fewest most =
+    let every : approvals (take t.closed e.ballots) ≡ approvals e.ballots = ap approvals (take_all t.closed e.ballots (omega arith)) in
+    let none : length (ballot_of e (t.closed + 1)) ≡ 0 = ap length (past e t.closed (omega arith)) in
+    record {
+      fewest = omega (arith, h.steps.low);
+      most = omega (arith, h.steps.high, every, none);
+    }
+  where
+    past : (e' : Instance) (n : ℕ) → voters e' ≤ n → ballot_of e' (n + 1) ≡ []
+    past e' n late = get_or_past e'.ballots (n + 1 - 1) [] (omega arith)

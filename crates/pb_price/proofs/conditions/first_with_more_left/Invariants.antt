@@ -1,7 +1,0 @@
-use Rattle.std.proofs.Common.{◌≡◌, ◌-◌, [], filter}
-use Rattle.std.specs.List.{range_with_len}
-use Rattle.pb_price.proofs.Culprits.{more_left}
-use Rattle.pb_price.proofs.conditions.first_with_more_left.Given as goal
-
-abbrev pub invariant-loop-j : goal.invariant-loop-j
-invariant-loop-j l = filter (more_left l.election l.outcome.marks l.prices) (range_with_len 1 (l.j - 1)) ≡ []

@@ -1,0 +1,17 @@
+use Rattle.std.proofs.Common.{◌≡◌, ◌≤◌, ◌-◌, length}
+use Rattle.pb_certificate.specs.PriceRows.{last_voter}
+use Rattle.pb_certificate.specs.Rows.{given}
+use Rattle.pb_price.specs.Takings.{taken_from}
+use Rattle.pb_price.specs.Tallies.{Tallied}
+use Rattle.pb_price.proofs.takings.take_rows.Given as goal
+
+abbrev pub invariant-loop-behind : goal.invariant-loop-behind
+invariant-loop-behind l = record {
+  same : l.left ≡ record l.fn.rows { place = l.left.place };
+  tallied : Tallied l.election (taken_from l.left) l.tally;
+  closed : l.tally.closed ≤ last_voter (given l.left) - 1;
+  few : length (given l.left) ≤ 10000000;
+}
+
+abbrev pub decreases-loop-behind : goal.decreases-loop-behind
+decreases-loop-behind l = length l.left.records - l.left.place

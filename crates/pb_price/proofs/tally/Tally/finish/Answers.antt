@@ -1,0 +1,15 @@
+use Rattle.std.proofs.Common.{◌∙◌, arith}
+use Rattle.pb_price.proofs.tally.Tally.finish.Goals as goal
+
+pub close_to-requires : goal.close_to-requires
+close_to-requires c = record {
+  tallied = c.requires;
+  order = omega (arith, c.voters.ensures.value, c.requires.1.taken.within);
+  last = omega (arith, c.voters.ensures.value);
+}
+
+pub returns-clause-taken : goal.returns-clause-taken
+returns-clause-taken c = c.close_to.ensures.taken
+
+pub returns-clause-closed : goal.returns-clause-closed
+returns-clause-closed c = c.close_to.ensures.closed ∙ c.voters.ensures.value

@@ -1,0 +1,38 @@
+-- What a verdict on prices says.
+use Rattle.std.specs.Prelude.{◌≡◌, ◌↔◌, ◌≤◌, ◌+◌, ◌*◌, ℕ, Bool, IsFalse, IsTrue, List, drop, length}
+use Rattle.pb_election.specs.Instance.{Instance, approvals, projects, voters}
+use Rattle.pb_records.specs.Cells.{nonblank}
+use Rattle.pb_certificate.specs.Faults.{certificate_records}
+use Rattle.pb_certificate.specs.Prices.{Prices}
+use Rattle.pb_cohesion.specs.Conditions.{Supports}
+use Rattle.pb_cohesion.specs.EveryGroup.{BudgetsAreWithinReach, GroupsGetTheirShare, NoGroupHasMoreLeft, NoViolationByCounting, NothingBlocks, SupportersBlock, SupportersHaveMoreLeft}
+use Rattle.pb_price.specs.First.{First, verdict_of}
+use Rattle.pb_price.specs.declared.Failure.TheVariants as failure
+use Rattle.pb_price.specs.declared.Mode.{Mode}
+use Rattle.pb_price.specs.declared.Verdict.{Verdict}
+use Rattle.pb_price.specs.declared.Verdict.TheVariants as verdict
+
+-- the verdict is the one for these prices, with what it says of every group
+pub record IsVerdictOn (m : Mode) (e : Instance) (w : List Bool) (p : Prices) (v : Verdict) : Type 0 where
+  pub first : v ≡ verdict_of (First m e w p)
+  pub supported : (v ≡ verdict.Supported) ↔ Supports m.stable m.exhaustive m.cover e w p
+  -- what a plain answer says
+  pub plain_yes : v ≡ verdict.Supported → IsFalse m.stable → NoGroupHasMoreLeft e w p
+  pub plain_no : (c : ℕ) → v ≡ verdict.Failed (failure.C5 c) → SupportersHaveMoreLeft e p c
+  -- what a stable answer says
+  pub stable_yes : v ≡ verdict.Supported → IsTrue m.stable → NothingBlocks e w p
+  pub stable_no : (c : ℕ) → v ≡ verdict.Failed (failure.S5 c) → SupportersBlock e w p c
+  pub fair_yes : v ≡ verdict.Supported → IsTrue m.stable → GroupsGetTheirShare e w p
+  pub covered_yes : v ≡ verdict.Supported → IsTrue m.stable → IsTrue m.cover → NoViolationByCounting e w
+  -- what a yes in either form says
+  pub any_yes : v ≡ verdict.Supported → BudgetsAreWithinReach e w p
+
+-- how many rows of payments a certificate has: its records that are not blank, but for the four of the head
+abbrev pub payment_rows : List ℕ → ℕ
+payment_rows bytes = length (drop 4 (nonblank (certificate_records bytes)))
+
+-- at least a step for each row and each voter; at most one for each row, two for each approval, one for each voter, and four
+-- for each project
+pub record AreStepsOf (e : Instance) (rows steps : ℕ) : Type 0 where
+  pub fewest : rows + voters e ≤ steps
+  pub most : steps ≤ rows + 2 * approvals e.ballots + voters e + 4 * projects e

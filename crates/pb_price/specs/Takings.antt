@@ -1,0 +1,54 @@
+-- What the code's own tally is while the rows of a certificate or the payments of prices are taken. No claim on a certificate
+-- rests on this.
+use Rattle.std.specs.Prelude.{◌≡◌, ◌<◌, ◌≤◌, ◌+◌, ◌-◌, ◌*◌, ◌^◌, ◌==◌, ◌&&◌, if◌then◌else◌, nat_lt, [], ℕ, List, length, drop, take}
+use Rattle.pb_election.specs.Instance.{Instance, projects}
+use Rattle.pb_records.specs.Cells.{nonblank}
+use Rattle.pb_money.specs.Grains.{payment_grains}
+use Rattle.pb_certificate.specs.Faults.{certificate_records}
+use Rattle.pb_certificate.specs.PriceText.{IsPriceText, stated}
+use Rattle.pb_certificate.specs.Prices.{Prices, numerator_in, payment, payments_of}
+use Rattle.pb_certificate.specs.Rows.{Rows, given, prices_given}
+use Rattle.pb_cohesion.specs.Amounts.{beta}
+use Rattle.pb_price.specs.Tallies.{IsTallyOf, Taken, Tallied}
+use Rattle.pb_price.specs.Answers.{AreStepsOf, payment_rows}
+use Rattle.pb_price.specs.declared.takings.CertificateTally.{CertificateTally}
+use Rattle.pb_price.specs.declared.tally.Tally.{Tally}
+
+-- what the rows behind state
+abbrev pub taken_from : Rows → Taken
+taken_from s = record { budget = payment_grains s.budget; pays = stated (given s); rows = length (given s) }
+
+-- all rows of a certificate were taken
+pub record TakesCertificate (s : Rows) (t : Tally) : Type 0 where
+  pub end : Rows
+  pub same : end ≡ record s { place = end.place }
+  pub no_row_left : nonblank (drop end.place s.records) ≡ []
+  pub states : IsPriceText s.records s.election (prices_given end)
+  pub tallied : Tallied s.election (taken_from end) t
+  pub few : length (given end) ≤ 10000000
+
+-- the tally is that of the prices that the bytes of a certificate state
+pub record IsTallied (e : Instance) (bytes : List ℕ) (t : CertificateTally) : Type 0 where
+  pub prices : Prices
+  pub text : IsPriceText (certificate_records bytes) e prices
+  pub denominator : prices.denominator ≡ t.denominator
+  pub low : 1 ≤ t.denominator
+  pub high : t.denominator ≤ 10 ^ 9
+  pub tally : IsTallyOf e prices t.tally
+  pub small_budget : t.tally.budget ≤ 10 ^ 27
+  pub few_steps : t.tally.steps ≤ 2 ^ 61
+  -- with the passes over the projects, the steps are those that are promised
+  pub steps : (steps : ℕ) → t.tally.steps ≤ steps → steps ≤ t.tally.steps + 4 * projects e → AreStepsOf e (payment_rows bytes) steps
+
+-- what a voter pays for a project by the payments of the voters before i, and the first k of voter i
+abbrev pub pays_until : Prices → ℕ → ℕ → ℕ → ℕ → ℕ
+pays_until p i k a b = if a == i then numerator_in (take k (payments_of p i)) b else (if nat_lt 0 a && nat_lt a i then payment p a b else 0)
+
+-- those payments were taken
+pub record TakesUntil (e : Instance) (p : Prices) (i k : ℕ) (t : Tally) : Type 0 where
+  pub taken : Taken
+  pub tallied : Tallied e taken t
+  pub budget_is : taken.budget ≡ beta p
+  pub pays_is : (a b : ℕ) → taken.pays a b ≡ pays_until p i k a b
+  pub few : taken.rows ≤ 20000 * (i - 1) + k
+  pub follows : t.closed < i

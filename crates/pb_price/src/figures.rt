@@ -1,0 +1,80 @@
+//! The figures of each project by a price certificate, as a table shows them: what it costs, what is paid for it, and what its
+//! supporters have left and can offer. Amounts are in grains: a grain is 1/(10^6 D) of the currency, where D is the
+//! denominator.
+
+ghost use Rattle.std.specs.Prelude.{◌≡◌, ◌≤◌, ◌^◌, ◌⊎◌, IfErr, IfOk, MatchResult, length, map};
+ghost use Rattle.pb_election.specs.Instance.{all_projects, projects};
+ghost use Rattle.pb_election.specs.Outcome as outcomes;
+ghost use Rattle.pb_certificate.specs.Faults.{Refuses, certificate_records, no_memory, price_form};
+ghost use Rattle.pb_certificate.specs.PriceText.{IsPriceText};
+ghost use Rattle.pb_certificate.specs.Prices as spec;
+ghost use Rattle.pb_price.specs.Margins.{AreMargins};
+ghost use Rattle.pb_price.specs.Tallies.{figures_of};
+
+use crate::takings::{NO_MEMORY, take_certificate};
+use crate::tally::ProjectSums;
+use crate::{Margins, ProjectMargins};
+use pb_certificate::CertRefusal;
+use pb_election::{Election, Outcome};
+use pb_money::cost_grains;
+use std::alloc::{AllocError, Global};
+
+/// The figures of each project by the prices that the bytes of a price certificate state, in one pass over the certificate
+/// that keeps no table of its payments. The outcome is to fit the election. A refusal is that of `Prices::read`.
+pub fn margins_of(
+    alloc: Global,
+    election: &Election,
+    outcome: &Outcome,
+    bytes: &[u8],
+) -> Result<Margins, CertRefusal>
+    requires { outcomes.Fits outcome.now election.now }
+
+    // The bytes state prices, and the figures are those by them.
+    ensures found { IfOk result (λ m. (p : spec.Prices) × IsPriceText (certificate_records bytes.now) election.now p × AreMargins election.now (outcome.now).marks p m) }
+
+    // A refusal is the first fault, or want of memory.
+    ensures refused { IfErr result (λ r. (r ≡ no_memory) ⊎ Refuses (price_form election.now) bytes.now r) }
+
+    // Where the bytes state prices the figures are those by them, memory aside.
+    ensures only { (p : spec.Prices) → IsPriceText (certificate_records bytes.now) election.now p → MatchResult result (λ m. AreMargins election.now (outcome.now).marks p m) (λ r. r ≡ no_memory) }
+{
+    let taken = take_certificate(alloc, election, bytes)?;
+    let grains_per_unit = 1_000_000 * u64::from(taken.denominator);
+    let sums = &taken.tally.projects;
+    let Ok(projects) = margins_by(alloc, election, outcome, taken.denominator, sums) else {
+        return Err(NO_MEMORY);
+    };
+    Ok(Margins {
+        grains_per_unit,
+        projects,
+    })
+}
+
+// The figures of the projects, read off the sums of all payments, which are over this denominator.
+fn margins_by(
+    alloc: Global,
+    election: &Election,
+    outcome: &Outcome,
+    denominator: u32,
+    sums: &[ProjectSums],
+) -> Result<Vec<ProjectMargins>, AllocError>
+    requires outcome { outcomes.Fits outcome.now election.now }
+    requires low { 1 ≤ denominator }
+    requires high { denominator ≤ 10 ^ 9 }
+    requires sums { length sums.now ≡ projects election.now }
+    ensures { IfOk result (λ m. m.items ≡ map (figures_of election.now (outcome.now).marks denominator sums.now) (all_projects election.now)) }
+{
+    let mut margins = Vec::new(alloc);
+    for k in 0..election.projects() {
+        let of_project = sums[k as usize];
+        margins.push(ProjectMargins {
+            funded: outcome.has(k + 1),
+            supporters: of_project.supporters,
+            cost: cost_grains(election.cost(k + 1), denominator),
+            paid: of_project.paid,
+            left: of_project.left,
+            offer: of_project.offer,
+        })?;
+    }
+    Ok(margins)
+}

@@ -1,0 +1,237 @@
+//! A tally of payments: the sums that the conditions on a price system are read off. Amounts are in grains: a grain is
+//! 1/(10^6 D) of the currency, where D is the denominator.
+
+ghost use Rattle.std.specs.Prelude.{◌≡◌, ◌<◌, ◌≤◌, ◌+◌, ◌-◌, ◌*◌, ◌^◌, ◌&&◌, not, nat_lt, if◌then◌else◌, ℕ, pos, ◌-ℤ◌, IfOk, length, slice_index_or};
+ghost use Rattle.std.specs.Int.{int_max};
+ghost use Rattle.pb_election.specs.Instance.{IsSet, IsProject, IsVoter, voters};
+ghost use Rattle.pb_price.specs.Tallies.{AreChanged, AreSmall, CanTake, IsWithin, Taken, Tallied, TakesRow, first_number, first_pair, marked, with_supporter};
+
+use pb_certificate::PriceRow;
+use pb_election::Election;
+use pb_money::payment_grains;
+use std::alloc::{AllocError, Global};
+
+/// What a project has by the payments that were taken.
+#[derive(Clone, Copy, Debug, PartialEq, Eq)]
+pub(crate) struct ProjectSums {
+    /// What is paid for it.
+    pub paid: u128,
+    /// What its supporters have left together, which is negative where they spend more than their budgets.
+    pub left: i128,
+    /// What its supporters can offer together: each the larger of its largest payment and what it has left.
+    pub offer: i128,
+    /// How many supporters it has.
+    pub supporters: u32,
+    /// The last voter that was seen to approve it, and 0 before the first.
+    pub last_approver: u32,
+}
+
+/// The sums of the payments that were taken, which come by voter. The voters up to one are closed: they are counted among the
+/// supporters of the projects that they approve, with what they have left and can offer. The next one is at hand.
+#[derive(Drop)]
+pub(crate) struct Tally {
+    /// The budget of each voter.
+    pub budget: u128,
+    /// Of each project what it has.
+    pub projects: Vec<ProjectSums>,
+    /// The first voter that pays for a project that it does not approve, with the first such project.
+    pub unapproved: Option<(u32, u32)>,
+    /// The first voter that pays more than its budget.
+    pub over_budget: Option<u32>,
+    /// One for each row taken, entry of a ballot looked at, and voter closed.
+    pub steps: u64,
+    closed: u32,
+    // The last voter whose ballot was gone through for its rows.
+    opened: u32,
+    // What the voter at hand pays for all projects together, and the most that it pays for one.
+    spent: u128,
+    largest: u128,
+}
+
+impl Tally {
+    /// A tally of no payment, for voters with so many grains each.
+    pub fn new(alloc: Global, election: &Election, budget: u128) -> Result<Tally, AllocError>
+        requires { budget ≤ 10 ^ 27 }
+        ensures { IfOk result (λ t. Tallied election.now (record { budget = budget; pays = λ i c. 0; rows = 0 }) t × (t.closed ≡ 0)) }
+    {
+        let none = ProjectSums {
+            paid: 0,
+            left: 0,
+            offer: 0,
+            supporters: 0,
+            last_approver: 0,
+        };
+        Ok(Tally {
+            budget,
+            projects: vec![in alloc; none; election.projects() as usize]?,
+            unapproved: None,
+            over_budget: None,
+            steps: 0,
+            closed: 0,
+            opened: 0,
+            spent: 0,
+            largest: 0,
+        })
+    }
+
+    /// Takes a row. The rows come by voter, and none is on the voter and the project of another.
+    pub fn take(&mut self, election: &Election, row: PriceRow)
+        requires { CanTake election.now self.old row }
+        ensures taken { (a b : Taken) → Tallied election.now a self.old → TakesRow a b row → Tallied election.now b self.new }
+        ensures closed { (self.new).closed + 1 ≡ row.voter }
+    {
+        self.close_to(election, row.voter - 1);
+        self.open(election);
+        self.add(election, row);
+    }
+
+    /// Closes all voters, after the last row.
+    pub fn finish(&mut self, election: &Election)
+        requires { (a : Taken) × Tallied election.now a self.old × (a.rows ≤ 10 ^ 12) }
+        ensures taken { (a : Taken) → Tallied election.now a self.old → Tallied election.now a self.new }
+        ensures closed { (self.new).closed ≡ voters election.now }
+    {
+        self.close_to(election, election.voters());
+    }
+
+    // Closes the voters up to this one.
+    fn close_to(&mut self, election: &Election, last: u32)
+        requires tallied { (a : Taken) × Tallied election.now a self.old × (a.rows ≤ 10 ^ 12) }
+        requires order { (self.old).closed ≤ last }
+        requires last { last ≤ voters election.now }
+        ensures taken { (a : Taken) → Tallied election.now a self.old → Tallied election.now a self.new }
+        ensures closed { (self.new).closed ≡ last }
+    {
+        while self.closed < last {
+            self.close(election);
+        }
+    }
+
+    // Closes the voter at hand: what it has left and can offer goes to each project that it approves.
+    fn close(&mut self, election: &Election)
+        requires tallied { (a : Taken) × Tallied election.now a self.old × (a.rows ≤ 10 ^ 12) }
+        requires more { (self.old).closed < voters election.now }
+        ensures taken { (a : Taken) → Tallied election.now a self.old → Tallied election.now a self.new }
+        ensures closed { (self.new).closed ≡ (self.old).closed + 1 }
+    {
+        let voter = self.closed + 1;
+        let left = left_of(self.budget, self.spent);
+        let offer = offer_of(left, self.largest);
+        let ballot = election.ballot(voter);
+        give(&mut self.projects, ballot, left, offer);
+        self.over_budget = first_where(self.over_budget, self.budget < self.spent, voter);
+        self.steps += ballot.len() as u64 + 1;
+        self.closed = voter;
+        self.spent = 0;
+        self.largest = 0;
+    }
+
+    // Opens the voter at hand, where it is not open yet: marks the projects that it approves.
+    fn open(&mut self, election: &Election)
+        requires tallied { (a : Taken) × Tallied election.now a self.old × (a.rows ≤ 10 ^ 12) }
+        requires more { (self.old).closed < voters election.now }
+        ensures taken { (a : Taken) → Tallied election.now a self.old → Tallied election.now a self.new }
+        ensures closed { (self.new).closed ≡ (self.old).closed }
+        ensures opened { (self.new).opened ≡ (self.old).closed + 1 }
+    {
+        if self.closed < self.opened {
+            return;
+        }
+        let voter = self.closed + 1;
+        let ballot = election.ballot(voter);
+        mark(&mut self.projects, ballot, voter);
+        self.steps += ballot.len() as u64;
+        self.opened = voter;
+    }
+
+    // Adds a payment of the voter at hand, which is open.
+    fn add(&mut self, election: &Election, row: PriceRow)
+        requires can { CanTake election.now self.old row }
+        requires at_hand { (self.old).closed + 1 ≡ row.voter }
+        requires opened { (self.old).opened ≡ row.voter }
+        ensures taken { (a b : Taken) → Tallied election.now a self.old → TakesRow a b row → Tallied election.now b self.new }
+        ensures closed { (self.new).closed ≡ (self.old).closed }
+    {
+        let grains = payment_grains(row.payment);
+        let sums = &mut self.projects[row.project as usize - 1];
+        sums.paid += grains;
+        let approved = sums.last_approver == row.voter;
+        self.unapproved = first_unapproved(self.unapproved, approved, row);
+        self.spent += grains;
+        self.largest = self.largest.max(grains);
+        self.steps += 1;
+    }
+}
+
+// What a voter has left of its budget, which is negative where it spent more.
+fn left_of(budget: u128, spent: u128) -> i128
+    requires budget { budget ≤ 10 ^ 27 }
+    requires spent { spent ≤ 10 ^ 32 }
+    ensures { result ≡ pos budget -ℤ pos spent }
+{
+    budget as i128 - spent as i128
+}
+
+// The most that a voter can offer: the larger of its largest payment and what it has left.
+fn offer_of(left: i128, largest: u128) -> i128
+    requires { largest ≤ 10 ^ 32 }
+    ensures { result ≡ int_max (pos largest) left }
+{
+    (largest as i128).max(left)
+}
+
+/// The first number at which something holds, where one before is known or not.
+pub(crate) fn first_where(known: Option<u32>, holds: bool, number: u32) -> Option<u32>
+    ensures { result ≡ first_number known holds number }
+{
+    if known.is_none() && holds {
+        return Some(number);
+    }
+    known
+}
+
+// The first voter with the first project that it pays for and does not approve, where one of an earlier row is known or not.
+fn first_unapproved(known: Option<(u32, u32)>, approved: bool, row: PriceRow) -> Option<(u32, u32)>
+    ensures { result ≡ (if nat_lt 0 row.payment && not approved then first_pair known row.voter row.project else known) }
+{
+    if row.payment == 0 || approved {
+        return known;
+    }
+    first_of(known, row.voter, row.project)
+}
+
+// The first of a voter with a project that is known, if there is one, and another voter with a project that is not lower.
+fn first_of(known: Option<(u32, u32)>, voter: u32, project: u32) -> Option<(u32, u32)>
+    ensures { result ≡ first_pair known voter project }
+{
+    match known {
+        Some((i, j)) if i < voter || j < project => known,
+        _ => Some((voter, project)),
+    }
+}
+
+// Marks the projects of a voter's ballot with the voter.
+fn mark(projects: &mut [ProjectSums], ballot: &[u32], voter: u32)
+    requires { IsSet 1 (length projects.old) ballot.now }
+    ensures { AreChanged (marked voter) projects.old projects.new ballot.now }
+{
+    for j in ballot {
+        projects[*j as usize - 1].last_approver = voter;
+    }
+}
+
+// Adds a supporter, by what it has left and can offer, to each project of its ballot.
+fn give(projects: &mut [ProjectSums], ballot: &[u32], left: i128, offer: i128)
+    requires ballot { IsSet 1 (length projects.old) ballot.now }
+    requires left { IsWithin (10 ^ 32) left }
+    requires offer { IsWithin (10 ^ 32) offer }
+    requires fits { (k : ℕ) (d : ProjectSums) → k < length projects.old → AreSmall (slice_index_or projects.old k d) }
+    ensures { AreChanged (with_supporter left offer) projects.old projects.new ballot.now }
+{
+    for j in ballot {
+        let sums = &mut projects[*j as usize - 1];
+        sums.left += left;
+        sums.offer += offer;
+        sums.supporters += 1;
+    }
+}
