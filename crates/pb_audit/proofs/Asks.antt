@@ -13,7 +13,7 @@ use Rattle.clap.specs.Faults.{check_fault, defaults_fault, entered_fault, fault_
 use Rattle.clap.specs.Walk.{Held, Names, Outcome, Row, Rule, Step, Text, Waiting, Walk, after_flag, after_step, answers_to, arg_by_index, arg_by_long, bundle, done, first_of, long_met, long_or_other, next, nothing_held, option, plain_word, rows_after, settled, short_or_plain, subcommand, subcommand_met, subcommand_or_other, to_positional, trailing, value, waits, walk, walk_from, walked, walked_from, word_met}
 use Rattle.pb_audit.specs.Commands.{pbaudit}
 use Rattle.pb_audit.proofs.Written.{commands_written}
-use Rattle.pb_audit.specs.Tasks.{Asked, TaskOf, asked_by, asked_in, from_both}
+use Rattle.pb_audit.specs.Tasks.{Asked, TaskOf, asked_by, asked_in, from_both, from_three}
 use Rattle.pb_audit.proofs.Places.{IsFull, IsPlaced, found_row_full, level_full}
 
 or_else_none : (a b : Kinds) → or_else a b ≡ [] → (a ≡ []) × (b ≡ [])
@@ -154,6 +154,10 @@ both_some f None b ea eb = cc
 both_some f (Some x) None ea eb = cc
 both_some f (Some x) (Some y) ea eb = refl
 
+three_some : (f : Text → Text → Text → Asked) (a b d : Option Text) → is_some a ≡ true → is_some b ≡ true → is_some d ≡ true → is_some (from_three f a b d) ≡ true
+three_some f None b d ea eb ed = cc
+three_some f (Some x) b d ea eb ed = both_some (f x) b d eb ed
+
 one_given : (a : Bool) → (not a || false) ≡ false → a ≡ true
 one_given true e = refl
 one_given false e = cc
@@ -162,6 +166,10 @@ two_given : (a b : Bool) → (not a || (not b || false)) ≡ false → (a ≡ tr
 two_given true true e = (refl, refl)
 two_given true false e = cc
 two_given false b e = cc
+
+three_given : (a b d : Bool) → (not a || (not b || (not d || false))) ≡ false → (a ≡ true) × ((b ≡ true) × (d ≡ true))
+three_given true b d e = (refl, two_given b d e)
+three_given false b d e = cc
 
 sub_of : Text → Shape
 sub_of name = unwrap_or (find (λ s. bytes_eq s.name name) (built pbaudit).subs) help_shape
@@ -197,11 +205,29 @@ violation_asks n met other rest e =
     let s = sub_of (codes "violation") in
     pair_asks _ s rest refl refl (last_passes false false _ (level_check s [] rest e))
 
+both_asks : AsksByName (sub_of (codes "both"))
+unfolding sub_of commands_written
+both_asks n met other rest e =
+    let s = sub_of (codes "both") in
+    let rows = rows_after s.rules [] rest in
+    let given = three_given (is_given (codes "election") rows) (is_given (codes "prices") rows) (is_given (codes "violation") rows)
+    (last_passes false false _ (level_check s [] rest e)) in
+    three_some _ (first_of (codes "election") rows) (first_of (codes "prices") rows) (first_of (codes "violation") rows)
+    (given_first (codes "election") s rest refl given.0) (given_first (codes "prices") s rest refl given.1.0) (given_first (codes "violation") s rest refl given.1.1)
+
 tidy_asks : AsksByName (sub_of (codes "tidy"))
 unfolding sub_of commands_written
 tidy_asks n met other rest e =
     let s = sub_of (codes "tidy") in
     pair_asks _ s rest refl refl (last_passes false false _ (level_check s [] rest e))
+
+folder_asks : AsksByName (sub_of (codes "folder"))
+unfolding sub_of commands_written
+folder_asks n met other rest e =
+    let s = sub_of (codes "folder") in
+    let rows = rows_after s.rules [] rest in
+    let given = one_given (is_given (codes "folder") rows) (last_passes false false _ (level_check s [] rest e)) in
+    map_some _ (first_of (codes "folder") rows) (given_first (codes "folder") s rest refl given)
 
 or_no : (a : Bool) → (a || false) ≡ true → a ≡ true
 or_no true e = refl
@@ -216,7 +242,7 @@ help_asks n met other rest e =
 
 all_ask : AllAsk (built pbaudit).subs
 unfolding sub_of commands_written
-all_ask = (read_asks, (prices_asks, (violation_asks, (tidy_asks, (help_asks, tt)))))
+all_ask = (read_asks, (prices_asks, (violation_asks, (both_asks, (tidy_asks, (folder_asks, (help_asks, tt)))))))
 
 stop_asks : (o : Option (Text × List Text)) → IsNotHelp o → entered_fault (built pbaudit) o ≡ [] → is_some (asked_in (entered (built pbaudit) o)) ≡ true
 unfolding asked_in

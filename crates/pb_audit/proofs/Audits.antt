@@ -1,100 +1,224 @@
 -- The answers on several inputs.
-use Rattle.std.proofs.Common.{◌≡◌, ap, refl, subst, sym, Bool, Option, List, ℕ}
-use Rattle.std.specs.Prelude.{IfOk, Result, Ok, Err, Some, None}
+use Rattle.std.proofs.Common.{◌≡◌, ◌∙◌, ap, refl, subst, sym, Bool, Option, List, ℕ}
+use Rattle.std.specs.Prelude.{IfOk, IfSome, Result, Ok, Err, Some, None}
 use Rattle.pb_election.specs.Instance.{Instance, IsSet, projects}
-use Rattle.pb_election.specs.Loading.{Delivery, ReadCounts}
+use Rattle.pb_records.specs.Loading.{Delivery, ReadCounts}
+use Rattle.pb_records.specs.Loading as delivery
 use Rattle.pb_certificate.specs.Faults.{certificate_records}
 use Rattle.pb_certificate.specs.ViolationText.{IsViolationText}
-use Rattle.pb_certificate.specs.Prices.{Prices}
+use Rattle.pb_certificate.specs.declared.measure.Measure.{Measure}
 use Rattle.pb_certificate.proofs.Unique.{group-text-sets}
-use Rattle.pb_audit.specs.Answers.{Answer, AnswersAudit, AnswersTidy, Reply, TidyInputs, TidyOut, answer_of, refused, with_input}
-use Rattle.pb_audit.specs.Inputs.{FileReading, Gives, InTurn, IsUntouched, Reading, Stated, StatesElection, StatesOutcome, file_reading, reading, refusal_of}
-use Rattle.pb_audit.specs.Taking.{AuditsOutcome, IfTaken, TakesOutcome}
+use Rattle.pb_audit.specs.Answers.{Answer, AnswersAudit, AnswersTidy, Reply, refused, with_input}
+use Rattle.pb_audit.specs.Inputs.{InTurn, Stated, StatesElection, StatesOutcome, its_outcome, refusal_of}
 use Rattle.pb_audit.specs.Lines.{Refusal}
-use Rattle.pb_audit.specs.Writing.{IsCutShort, IsWritten}
+use Rattle.pb_audit.specs.Readers.{Delivers, FileReading, IsUntouched, Reading, ReadsAudit, ReadsTidy, file_reading, reading}
+use Rattle.pb_audit.specs.Taking.{AnswersCertificate, AuditsOutcome, Gives, IfTaken, ReadsOutcome, TidiesPrices, settled_answer, stopped}
 use Rattle.pb_audit.specs.declared.input.Stop.{Stop}
 use Rattle.pb_audit.specs.declared.input.Stop.TheVariants as stop
-use Rattle.pb_audit.specs.declared.status.Fault.{Fault}
 use Rattle.pb_audit.specs.declared.status.Status.{Status}
 
--- where the election is refused, the certificate may state anything
-pub tidy_refused : (election certificate : Reading) (r : Refusal) → Gives StatesElection election (Err r) → IsUntouched certificate → AnswersTidy election certificate (answer_of (refused r))
-tidy_refused election certificate r given untouched =
-    record { stated = Err r; prices = Err r; given = record { election_given = given; certificate_given = untouched }; out = refl }
+-- what a status promises of each reply of a kind
+abbrev pub Promised : {A : Type 0} → (Instance → List Bool → A → Reply) → (Status → Instance → List Bool → A → Type 0) → Type 0
+Promised {A} reply promise = (e : Instance) (w : List Bool) (c : A) → promise (reply e w c).status e w c
 
--- where both are accepted, what was written is the answer on them
-pub tidied_written : (election certificate : Reading) (e : Instance) (p : Prices) (result : Result Status Fault) (old new : Option (List ℕ)) → TidyInputs election certificate (Ok e) (Ok p)
-    → IfOk result (λ status. IsWritten (λ answer. answer ≡ TidyOut (Ok e) (Ok p)) status old new) → IfOk result (λ status. IsWritten (AnswersTidy election certificate) status old new)
-tidied_written election certificate e p (Ok status) old new given w =
-    record { answer = w.answer; of_inputs = record { stated = Ok e; prices = Ok p; given = given; out = w.of_inputs }; text = w.text; ends = w.ends }
-tidied_written election certificate e p (Err fault) old new given w = tt
-
-pub tidied_cut_short : (election certificate : Reading) (e : Instance) (p : Prices) (old new : Option (List ℕ)) → TidyInputs election certificate (Ok e) (Ok p)
-    → IsCutShort (λ answer. answer ≡ TidyOut (Ok e) (Ok p)) old new → IsCutShort (AnswersTidy election certificate) old new
-tidied_cut_short election certificate e p old new given w =
-    record { answer = w.answer; of_inputs = record { stated = Ok e; prices = Ok p; given = given; out = w.of_inputs }; front = w.front }
+abbrev pub status_of : Reply → Status
+status_of r = r.status
 
 -- An audit of an election, an outcome and a certificate. Where the election is refused, the others may state anything.
-pub election_refused : {A : Type 0} (states : Instance → Delivery → Stated A → Type 0) (reply : Instance → List Bool → A → Reply) (election : Reading) (outcome : FileReading) (certificate : Reading) (r : Refusal)
-    → Gives StatesElection election (Err r) → outcome.after ≡ outcome.before → IsUntouched certificate → AnswersAudit states reply election outcome certificate (answer_of (refused r))
-election_refused states reply election outcome certificate r given same untouched = record {
-  stated = Err r;
-  file = None;
-  stated_certificate = Err r;
-  given = record { election_given = given; outcome_given = same; certificate_given = untouched };
+abbrev pub election_refused : {A : Type 0} (states : Instance → Delivery → Stated A → Type 0) (reply : Instance → List Bool → A → Reply) (promise : Status → Instance → List Bool → A → Type 0)
+    (election : Delivery) (outcome : Option Delivery) (certificate : Delivery) (r : Refusal)
+    → StatesElection election (Err r) → AnswersAudit states reply promise election outcome certificate (refused r)
+election_refused states reply promise election outcome certificate r given = record {
+  e = Err r;
+  o = None;
+  c = Err r;
+  given = record { election_states = given; outcome_states = tt; certificate_states = tt };
   out = refl;
+  promised = tt;
 }
 
 -- where the outcome is, the certificate may
-pub outcome_refused : {A : Type 0} (states : Instance → Delivery → Stated A → Type 0) (reply : Instance → List Bool → A → Reply) (election : Reading) (outcome : FileReading) (certificate : Reading) (e : Instance) (r : Refusal)
-    → Gives StatesElection election (Ok e) → AuditsOutcome e outcome (Err r) → IsUntouched certificate → AnswersAudit states reply election outcome certificate (answer_of (refused r))
-outcome_refused {A} states reply election outcome certificate e r given taken untouched = record {
-  stated = Ok e;
-  file = taken.file;
-  stated_certificate = Err r;
+abbrev pub outcome_refused : {A : Type 0} (states : Instance → Delivery → Stated A → Type 0) (reply : Instance → List Bool → A → Reply) (promise : Status → Instance → List Bool → A → Type 0)
+    (election : Delivery) (outcome : Option Delivery) (certificate : Delivery) (e : Instance) (r : Refusal)
+    → StatesElection election (Ok e) → AuditsOutcome e outcome (Err r) → AnswersAudit states reply promise election outcome certificate (refused r)
+outcome_refused {A} states reply promise election outcome certificate e r given taken = record {
+  e = Ok e;
+  o = taken.file;
+  c = Err r;
   given = record {
-    election_given = given;
-    outcome_given = taken.given;
-    certificate_given = subst (λ (o : Stated (List Bool)). InTurn o (λ w. Gives (states e) certificate (Err r)) (IsUntouched certificate)) taken.is untouched;
+    election_states = given;
+    outcome_states = taken.given;
+    certificate_states = subst (λ (o : Stated (List Bool)). IfOk o (λ w. states e certificate (Err r))) taken.is tt;
   };
-  out = ap (λ (o : Stated (List Bool)). answer_of (with_input o (λ w. with_input {A = A} (Err r) (λ c. reply e w c)))) taken.is;
+  out = ap (λ (o : Stated (List Bool)). with_input o (λ w. with_input {A = A} (Err r) (λ c. reply e w c))) taken.is;
+  promised = subst (λ (o : Stated (List Bool)). IfOk o (λ w. Unit {0})) taken.is tt;
 }
 
--- the outcome is accepted, and the certificate is taken
-pub certificate_taken : {A : Type 0} (states : Instance → Delivery → Stated A → Type 0) (reply : Instance → List Bool → A → Reply) (election : Reading) (outcome : FileReading) (certificate : Reading) (e : Instance) (w : List Bool) (c : Stated A)
-    → Gives StatesElection election (Ok e) → AuditsOutcome e outcome (Ok w) → Gives (states e) certificate c → AnswersAudit states reply election outcome certificate (answer_of (with_input c (λ a. reply e w a)))
-certificate_taken states reply election outcome certificate e w c given taken certificate_is = record {
-  stated = Ok e;
-  file = taken.file;
-  stated_certificate = c;
+-- a reply on a certificate keeps what its status promises
+pub promised_of : {A : Type 0} (reply : Instance → List Bool → A → Reply) (promise : Status → Instance → List Bool → A → Type 0) → Promised reply promise
+    → (e : Instance) (w : List Bool) (c : Stated A) (r : Reply) → r ≡ with_input c (λ a. reply e w a) → IfOk c (λ a. promise r.status e w a)
+promised_of reply promise each e w (Ok a) r is = subst (λ (s : Status). promise s e w a) (sym (ap status_of is)) (each e w a)
+promised_of reply promise each e w (Err why) r is = tt
+
+-- the election and the outcome are accepted
+abbrev pub certificate_answered : {A : Type 0} (states : Instance → Delivery → Stated A → Type 0) (reply : Instance → List Bool → A → Reply) (promise : Status → Instance → List Bool → A → Type 0) → Promised reply promise
+    → (election : Delivery) (outcome : Option Delivery) (certificate : Delivery) (e : Instance) (w : List Bool) (r : Reply)
+    → StatesElection election (Ok e) → AuditsOutcome e outcome (Ok w) → AnswersCertificate states reply e w certificate r → AnswersAudit states reply promise election outcome certificate r
+certificate_answered {A} states reply promise each election outcome certificate e w r given taken answered = record {
+  e = Ok e;
+  o = taken.file;
+  c = answered.c;
   given = record {
-    election_given = given;
-    outcome_given = taken.given;
-    certificate_given = subst (λ (o : Stated (List Bool)). InTurn o (λ marks. Gives (states e) certificate c) (IsUntouched certificate)) taken.is certificate_is;
+    election_states = given;
+    outcome_states = taken.given;
+    certificate_states = subst (λ (o : Stated (List Bool)). IfOk o (λ marks. states e certificate answered.c)) taken.is answered.given;
   };
-  out = ap (λ (o : Stated (List Bool)). answer_of (with_input o (λ marks. with_input c (λ a. reply e marks a)))) taken.is;
+  out = answered.out ∙ ap (λ (o : Stated (List Bool)). with_input o (λ marks. with_input answered.c (λ a. reply e marks a))) taken.is;
+  promised = subst (λ (o : Stated (List Bool)). IfOk o (λ marks. IfOk answered.c (λ a. promise r.status e marks a))) taken.is (promised_of reply promise each e w answered.c r answered.out);
 }
 
-pub certificate_refused : {A : Type 0} (states : Instance → Delivery → Stated A → Type 0) (reply : Instance → List Bool → A → Reply) (election : Reading) (outcome : FileReading) (certificate : Reading) (e : Instance) (w : List Bool) (r : Refusal)
-    → Gives StatesElection election (Ok e) → AuditsOutcome e outcome (Ok w) → Gives (states e) certificate (Err r) → AnswersAudit states reply election outcome certificate (answer_of (refused r))
-certificate_refused states reply election outcome certificate e w r given taken certificate_is =
-    certificate_taken states reply election outcome certificate e w (Err r) given taken certificate_is
+-- The same where the work stopped.
+pub stopped_at_election : {A : Type 0} (states : Instance → Delivery → Stated A → Type 0) (reply : Instance → List Bool → A → Reply) (promise : Status → Instance → List Bool → A → Type 0)
+    (election : Delivery) (outcome : Option Delivery) (certificate : Delivery) (why : Stop)
+    → IfTaken {A = Instance} (Err why) (StatesElection election) → IfSome (stopped why) (AnswersAudit states reply promise election outcome certificate)
+stopped_at_election states reply promise election outcome certificate (stop.Refused input fault) given =
+    election_refused states reply promise election outcome certificate (refusal_of input fault) given
+stopped_at_election states reply promise election outcome certificate stop.Memory given = tt
 
-pub all_accepted : {A : Type 0} (states : Instance → Delivery → Stated A → Type 0) (reply : Instance → List Bool → A → Reply) (election : Reading) (outcome : FileReading) (certificate : Reading) (e : Instance) (w : List Bool) (c : A) (answer : Answer)
-    → Gives StatesElection election (Ok e) → AuditsOutcome e outcome (Ok w) → Gives (states e) certificate (Ok c) → answer ≡ answer_of (reply e w c) → AnswersAudit states reply election outcome certificate answer
-all_accepted states reply election outcome certificate e w c answer given taken certificate_is is =
-    subst (λ (a : Answer). AnswersAudit states reply election outcome certificate a) (sym is) (certificate_taken states reply election outcome certificate e w (Ok c) given taken certificate_is)
+pub stopped_at_outcome : {A : Type 0} (states : Instance → Delivery → Stated A → Type 0) (reply : Instance → List Bool → A → Reply) (promise : Status → Instance → List Bool → A → Type 0)
+    (election : Delivery) (outcome : Option Delivery) (certificate : Delivery) (e : Instance) (why : Stop)
+    → StatesElection election (Ok e) → IfTaken {A = List Bool} (Err why) (AuditsOutcome e outcome) → IfSome (stopped why) (AnswersAudit states reply promise election outcome certificate)
+stopped_at_outcome states reply promise election outcome certificate e (stop.Refused input fault) given taken =
+    outcome_refused states reply promise election outcome certificate e (refusal_of input fault) given taken
+stopped_at_outcome states reply promise election outcome certificate e stop.Memory given taken = tt
+
+pub certificate_settled : {A : Type 0} (states : Instance → Delivery → Stated A → Type 0) (reply : Instance → List Bool → A → Reply) (promise : Status → Instance → List Bool → A → Type 0) → Promised reply promise
+    → (election : Delivery) (outcome : Option Delivery) (certificate : Delivery) (e : Instance) (w : List Bool) (work : Option Reply)
+    → StatesElection election (Ok e) → AuditsOutcome e outcome (Ok w) → IfSome work (AnswersCertificate states reply e w certificate) → IfSome work (AnswersAudit states reply promise election outcome certificate)
+certificate_settled states reply promise each election outcome certificate e w None given taken answered = tt
+certificate_settled states reply promise each election outcome certificate e w (Some r) given taken answered =
+    certificate_answered states reply promise each election outcome certificate e w r given taken answered
+
+-- The same over readers.
+pub readers_stopped_at_election : {A : Type 0} (states : Instance → Delivery → Stated A → Type 0) (reply : Instance → List Bool → A → Reply) (promise : Status → Instance → List Bool → A → Type 0)
+    (election : Reading) (outcome : FileReading) (certificate : Reading) (why : Stop)
+    → IfTaken {A = Instance} (Err why) (Gives StatesElection election) → outcome.after ≡ outcome.before → IsUntouched certificate → IfSome (stopped why) (ReadsAudit states reply promise election outcome certificate)
+readers_stopped_at_election states reply promise election outcome certificate (stop.Refused input fault) given same untouched = record {
+  of_election = given.delivery;
+  of_outcome = None;
+  of_certificate = delivery.Read;
+  answers = election_refused states reply promise given.delivery None delivery.Read (refusal_of input fault) given.stating;
+  election_delivered = given.delivered;
+  outcome_delivered = same;
+  certificate_delivered = untouched;
+}
+readers_stopped_at_election states reply promise election outcome certificate stop.Memory given same untouched = tt
+
+pub readers_stopped_at_outcome : {A : Type 0} (states : Instance → Delivery → Stated A → Type 0) (reply : Instance → List Bool → A → Reply) (promise : Status → Instance → List Bool → A → Type 0)
+    (election : Reading) (outcome : FileReading) (certificate : Reading) (e : Instance) (why : Stop)
+    → Gives StatesElection election (Ok e) → IfTaken {A = List Bool} (Err why) (ReadsOutcome e outcome) → IsUntouched certificate → IfSome (stopped why) (ReadsAudit states reply promise election outcome certificate)
+readers_stopped_at_outcome states reply promise election outcome certificate e (stop.Refused input fault) given taken untouched = record {
+  of_election = given.delivery;
+  of_outcome = taken.delivery;
+  of_certificate = delivery.Read;
+  answers = outcome_refused states reply promise given.delivery taken.delivery delivery.Read e (refusal_of input fault) given.stating taken.audits;
+  election_delivered = given.delivered;
+  outcome_delivered = taken.delivered;
+  certificate_delivered = subst (λ (o : Stated (List Bool)). InTurn o (λ w. Delivers certificate delivery.Read) (IsUntouched certificate)) taken.audits.is untouched;
+}
+readers_stopped_at_outcome states reply promise election outcome certificate e stop.Memory given taken untouched = tt
+
+pub readers_settled : {A : Type 0} (states : Instance → Delivery → Stated A → Type 0) (reply : Instance → List Bool → A → Reply) (promise : Status → Instance → List Bool → A → Type 0) → Promised reply promise
+    → (election : Reading) (outcome : FileReading) (certificate : Reading) (e : Instance) (w : List Bool) (d : Delivery) (work : Option Reply)
+    → Gives StatesElection election (Ok e) → ReadsOutcome e outcome (Ok w) → Delivers certificate d → IfSome work (AnswersCertificate states reply e w d) → IfSome work (ReadsAudit states reply promise election outcome certificate)
+readers_settled states reply promise each election outcome certificate e w d None given taken delivered answered = tt
+readers_settled states reply promise each election outcome certificate e w d (Some r) given taken delivered answered = record {
+  of_election = given.delivery;
+  of_outcome = taken.delivery;
+  of_certificate = d;
+  answers = certificate_answered states reply promise each given.delivery taken.delivery d e w r given.stating taken.audits answered;
+  election_delivered = given.delivered;
+  outcome_delivered = taken.delivered;
+  certificate_delivered = subst (λ (o : Stated (List Bool)). InTurn o (λ w. Delivers certificate d) (IsUntouched certificate)) taken.audits.is delivered;
+}
 
 -- what is demanded is a set of projects
-pub demand_set : (bytes : List ℕ) (e : Instance) (group demand : List ℕ) → IsViolationText (certificate_records bytes) e group demand → IsSet 1 (projects e) demand
-demand_set bytes e group demand text = (group-text-sets (certificate_records bytes) e group demand text).1
+pub demand_set : (bytes : List ℕ) (e : Instance) (m : Measure) (group demand : List ℕ) → IsViolationText (certificate_records bytes) e m group demand → IsSet 1 (projects e) demand
+demand_set bytes e m group demand text = (group-text-sets (certificate_records bytes) e m group demand text).1
 
--- an outcome file that was read
-pub file_taken : {R : Type 0} (left : R → Option (List ℕ)) (counts : R → ReadCounts) (e : Instance) (old : Option R) (file new : R) (taken : Result (List Bool) Stop) → old ≡ Some file
-    → IfTaken taken (Gives (StatesOutcome e) (reading left counts file new)) → TakesOutcome e (file_reading left counts old (Some new)) taken
-file_taken {R} left counts e old file new taken is from = subst (λ (o : Option R). TakesOutcome e (file_reading left counts o (Some new)) taken) (sym is) (go taken from)
+-- the outcome that is audited, by the outcome file that was taken, or by the election's own
+pub file_audited : (e : Instance) (outcome : Option Delivery) (d : Delivery) (taken : Result (List Bool) Stop) → outcome ≡ Some d → IfTaken taken (StatesOutcome e d) → IfTaken taken (AuditsOutcome e outcome)
+file_audited e outcome d taken is states = subst (λ (o : Option Delivery). IfTaken taken (AuditsOutcome e o)) (sym is) (go taken states)
   where
-    go : (r : Result (List Bool) Stop) → IfTaken r (Gives (StatesOutcome e) (reading left counts file new)) → TakesOutcome e (file_reading left counts (Some file) (Some new)) r
-    go (Ok marks) g = record { file = Some (Ok marks); given = g; is = refl }
-    go (Err (stop.Refused input why)) g = record { file = Some (Err (refusal_of input why)); given = g; is = refl }
+    go : (r : Result (List Bool) Stop) → IfTaken r (StatesOutcome e d) → IfTaken r (AuditsOutcome e (Some d))
+    go (Ok marks) s = record { file = Some (Ok marks); given = s; is = refl }
+    go (Err (stop.Refused input why)) s = record { file = Some (Err (refusal_of input why)); given = s; is = refl }
+    go (Err stop.Memory) s = tt
+
+pub own_audited : (e : Instance) (outcome : Option Delivery) (taken : Result (List Bool) Stop) → outcome ≡ None → IfTaken taken (λ stated. stated ≡ its_outcome e.selected) → IfTaken taken (AuditsOutcome e outcome)
+own_audited e outcome taken is states = subst (λ (o : Option Delivery). IfTaken taken (AuditsOutcome e o)) (sym is) (go taken states)
+  where
+    go : (r : Result (List Bool) Stop) → IfTaken r (λ stated. stated ≡ its_outcome e.selected) → IfTaken r (AuditsOutcome e None)
+    go (Ok marks) s = record { file = None; given = tt; is = s }
+    go (Err (stop.Refused input why)) s = record { file = None; given = tt; is = s }
+    go (Err stop.Memory) s = tt
+
+-- the same with a reader of the outcome file
+pub file_read : {R : Type 0} (left : R → Option (List ℕ)) (counts : R → ReadCounts) (e : Instance) (old : Option R) (file new : R) (taken : Result (List Bool) Stop) → old ≡ Some file
+    → IfTaken taken (Gives (StatesOutcome e) (reading left counts file new)) → IfTaken taken (ReadsOutcome e (file_reading left counts old (Some new)))
+file_read {R} left counts e old file new taken is from = subst (λ (o : Option R). IfTaken taken (ReadsOutcome e (file_reading left counts o (Some new)))) (sym is) (go taken from)
+  where
+    go : (r : Result (List Bool) Stop) → IfTaken r (Gives (StatesOutcome e) (reading left counts file new)) → IfTaken r (ReadsOutcome e (file_reading left counts (Some file) (Some new)))
+    go (Ok marks) g = record { delivery = Some g.delivery; delivered = g.delivered; audits = record { file = Some (Ok marks); given = g.stating; is = refl } }
+    go (Err (stop.Refused input why)) g = record { delivery = Some g.delivery; delivered = g.delivered; audits = record { file = Some (Err (refusal_of input why)); given = g.stating; is = refl } }
     go (Err stop.Memory) g = tt
+
+pub own_read : {R : Type 0} (left : R → Option (List ℕ)) (counts : R → ReadCounts) (e : Instance) (old new : Option R) (taken : Result (List Bool) Stop) → old ≡ None → new ≡ None
+    → IfTaken taken (λ stated. stated ≡ its_outcome e.selected) → IfTaken taken (ReadsOutcome e (file_reading left counts old new))
+own_read {R} left counts e old new taken is then from =
+    subst (λ (o : Option R). IfTaken taken (ReadsOutcome e (file_reading left counts o new))) (sym is)
+    (subst (λ (n : Option R). IfTaken taken (ReadsOutcome e (file_reading left counts None n))) (sym then) (go taken from))
+  where
+    go : (r : Result (List Bool) Stop) → IfTaken r (λ stated. stated ≡ its_outcome e.selected) → IfTaken r (ReadsOutcome e (file_reading left counts None None))
+    go (Ok marks) s = record { delivery = None; delivered = tt; audits = record { file = None; given = tt; is = s } }
+    go (Err (stop.Refused input why)) s = record { delivery = None; delivered = tt; audits = record { file = None; given = tt; is = s } }
+    go (Err stop.Memory) s = tt
+
+-- Tidying. Where the election is refused, the certificate may state anything.
+pub tidy_stopped : (election certificate : Delivery) (why : Stop) → IfTaken {A = Instance} (Err why) (StatesElection election) → IfSome (settled_answer (Err why)) (AnswersTidy election certificate)
+tidy_stopped election certificate (stop.Refused input fault) given =
+    record { e = Err (refusal_of input fault); p = Err (refusal_of input fault); election_states = given; certificate_states = tt; out = refl }
+tidy_stopped election certificate stop.Memory given = tt
+
+abbrev pub tidy_answered : (election certificate : Delivery) (e : Instance) (work : Result Answer Stop) → StatesElection election (Ok e) → IfTaken work (TidiesPrices e certificate) → IfSome (settled_answer work) (AnswersTidy election certificate)
+tidy_answered election certificate e (Ok answer) given tidied = record { e = Ok e; p = Ok tidied.0; election_states = given; certificate_states = tidied.1.0; out = tidied.1.1 }
+tidy_answered election certificate e (Err (stop.Refused input fault)) given tidied =
+    record { e = Ok e; p = Err (refusal_of input fault); election_states = given; certificate_states = tidied; out = refl }
+tidy_answered election certificate e (Err stop.Memory) given tidied = tt
+
+pub readers_tidy_stopped : (election certificate : Reading) (why : Stop) → IfTaken {A = Instance} (Err why) (Gives StatesElection election) → IsUntouched certificate → IfSome (settled_answer (Err why)) (ReadsTidy election certificate)
+readers_tidy_stopped election certificate (stop.Refused input fault) given untouched = record {
+  of_election = given.delivery;
+  of_certificate = delivery.Read;
+  answers = record { e = Err (refusal_of input fault); p = Err (refusal_of input fault); election_states = given.stating; certificate_states = tt; out = refl };
+  election_delivered = given.delivered;
+  certificate_delivered = untouched;
+}
+readers_tidy_stopped election certificate stop.Memory given untouched = tt
+
+pub readers_tidy_answered : (election certificate : Reading) (e : Instance) (d : Delivery) (work : Result Answer Stop) → Gives StatesElection election (Ok e) → Delivers certificate d → IfTaken work (TidiesPrices e d) → IfSome (settled_answer work) (ReadsTidy election certificate)
+readers_tidy_answered election certificate e d (Ok answer) given delivered tidied = record {
+  of_election = given.delivery;
+  of_certificate = d;
+  answers = record { e = Ok e; p = Ok tidied.0; election_states = given.stating; certificate_states = tidied.1.0; out = tidied.1.1 };
+  election_delivered = given.delivered;
+  certificate_delivered = delivered;
+}
+readers_tidy_answered election certificate e d (Err (stop.Refused input fault)) given delivered tidied = record {
+  of_election = given.delivery;
+  of_certificate = d;
+  answers = record { e = Ok e; p = Err (refusal_of input fault); election_states = given.stating; certificate_states = tidied; out = refl };
+  election_delivered = given.delivered;
+  certificate_delivered = delivered;
+}
+readers_tidy_answered election certificate e d (Err stop.Memory) given delivered tidied = tt

@@ -1,9 +1,10 @@
 -- The projects that verdicts name are those of the election.
 use Rattle.std.proofs.Common.{◌≡◌, ℕ, zero, suc, ◌+◌, ◌<◌, ◌≤◌, Bool, List, [], ◌∷◌, ◌++◌, length, sym, subst, cond, true, false, if◌then◌else◌, arith}
-use Rattle.std.specs.Prelude.{◌==◌, nat_lt, ◌*◌, IfSome, Option, Some, None, filter, flat_map, map, slice_get}
+use Rattle.std.specs.Prelude.{◌==◌, nat_le, nat_lt, ◌*◌, IfSome, Option, Some, None, filter, flat_map, map, slice_get}
 use Rattle.std.specs.List.{AllByRecursion, range_with_len}
 use Rattle.pb_election.specs.Instance.{Instance, IsProject, IsSet, all_projects, all_voters, cost_of_all, projects, voters}
 use Rattle.pb_certificate.specs.Prices.{Prices}
+use Rattle.pb_cohesion.specs.Amounts.{beta, budget_limit}
 use Rattle.pb_cohesion.specs.Conditions.{culprits_of_C1, culprits_of_C2, culprits_of_C3, culprits_of_C4, culprits_of_C5, culprits_of_Exhaustive, culprits_of_S5}
 use Rattle.pb_cohesion.specs.FirstV.{FirstV, culprits_of_V2, culprits_of_V4}
 use Rattle.pb_cohesion.specs.FirstV as violations
@@ -11,7 +12,7 @@ use Rattle.pb_cohesion.specs.Outcome.{total}
 use Rattle.pb_cohesion.specs.declared.ViolationFailure.{ViolationFailure}
 use Rattle.pb_cohesion.specs.declared.ViolationFailure.TheVariants as violation_failure
 use Rattle.pb_cohesion.specs.declared.ViolationVerdict.{ViolationVerdict}
-use Rattle.pb_price.specs.First.{First, failures_of, failures_of_outcome, failures_of_payments, failures_of_supporters, verdict_of}
+use Rattle.pb_price.specs.First.{First, failures_of, failures_of_budgets, failures_of_outcome, failures_of_payments, failures_of_supporters, verdict_of}
 use Rattle.pb_price.specs.declared.Failure.{Failure}
 use Rattle.pb_price.specs.declared.Failure.TheVariants as failure
 use Rattle.pb_price.specs.declared.Mode.{Mode}
@@ -80,6 +81,11 @@ outcome-names m e w =
     (all-if (Names e) (nat_lt e.limit (total e w)) (failure.Feasible ∷ []) [] (tt, tt) tt)
     (all-if (Names e) m.exhaustive (map failure.Exhaustive (culprits_of_Exhaustive e w)) [] (all-map (Names e) failure.Exhaustive (culprits_of_Exhaustive e w) (among-projects e _ _)) tt)
 
+pub budget-names : (m : Mode) (e : Instance) (p : Prices) → AllByRecursion (Names e) (failures_of_budgets m e p)
+budget-names m e p =
+    all-if (Names e) m.cover (if nat_le (voters e * beta p) (budget_limit e p) then failure.Cover ∷ [] else []) []
+    (all-if (Names e) (nat_le (voters e * beta p) (budget_limit e p)) (failure.Cover ∷ []) [] (tt, tt) tt) tt
+
 pub payment-names : (e : Instance) (w : List Bool) (p : Prices) → AllByRecursion (Names e) (failures_of_payments e w p)
 payment-names e w p =
     all-append (Names e) _ _
@@ -102,8 +108,10 @@ supporter-names m e w p =
 
 pub failures-name : (m : Mode) (e : Instance) (w : List Bool) (p : Prices) → AllByRecursion (Names e) (failures_of m e w p)
 failures-name m e w p =
-    all-append (Names e) (failures_of_outcome m e w ++ failures_of_payments e w p) (failures_of_supporters m e w p)
-    (all-append (Names e) (failures_of_outcome m e w) (failures_of_payments e w p) (outcome-names m e w) (payment-names e w p))
+    all-append (Names e) (failures_of_outcome m e w ++ failures_of_budgets m e p ++ failures_of_payments e w p) (failures_of_supporters m e w p)
+    (all-append (Names e) (failures_of_outcome m e w ++ failures_of_budgets m e p) (failures_of_payments e w p)
+    (all-append (Names e) (failures_of_outcome m e w) (failures_of_budgets m e p) (outcome-names m e w) (budget-names m e p))
+    (payment-names e w p))
     (supporter-names m e w p)
 
 first-names : (e : Instance) (o : Option Failure) → IfSome o (Names e) → PricesNameProject e (verdict_of o)

@@ -5,7 +5,7 @@ use Rattle.clap.specs.declared.error.kind.ErrorKind.TheVariants as kind
 use Rattle.clap.proofs.OnLiterals.{clap_on_literals}
 use Rattle.pb_audit.specs.Commands.{pbaudit}
 use Rattle.pb_audit.proofs.Written.{commands_written}
-use Rattle.pb_audit.specs.Tasks.{TaskOf, asked_in, prices, read, tidy, violation}
+use Rattle.pb_audit.specs.Tasks.{TaskOf, asked_in, folder, prices, read, tidy, violation}
 
 bare_task : TaskOf (codes "pbaudit" ∷ []) ≡ Some (read None)
 unfolding clap_on_literals commands_written asked_in
@@ -29,7 +29,7 @@ read_taken = refl
 abbrev stable_words : List Text
 stable_words = codes "pbaudit" ∷ codes "prices" ∷ codes "e.pb" ∷ codes "c.csv" ∷ codes "--stable" ∷ []
 
-stable_task : TaskOf stable_words ≡ Some (prices (codes "e.pb") (codes "c.csv") None (record { stable = true; exhaustive = true }))
+stable_task : TaskOf stable_words ≡ Some (prices (codes "e.pb") (codes "c.csv") None (record { stable = true; exhaustive = true; cover = false }))
 unfolding clap_on_literals commands_written asked_in
 stable_task = refl
 
@@ -40,7 +40,7 @@ stable_taken = refl
 abbrev outcome_words : List Text
 outcome_words = codes "pbaudit" ∷ codes "prices" ∷ codes "e.pb" ∷ codes "c.csv" ∷ codes "--outcome" ∷ codes "o.csv" ∷ codes "--no-exhaustive" ∷ []
 
-outcome_task : TaskOf outcome_words ≡ Some (prices (codes "e.pb") (codes "c.csv") (Some (codes "o.csv")) (record { stable = false; exhaustive = false }))
+outcome_task : TaskOf outcome_words ≡ Some (prices (codes "e.pb") (codes "c.csv") (Some (codes "o.csv")) (record { stable = false; exhaustive = false; cover = false }))
 unfolding clap_on_literals commands_written asked_in
 outcome_task = refl
 
@@ -69,6 +69,17 @@ tidy_task = refl
 tidy_taken : takes pbaudit tidy_words ≡ true
 unfolding clap_on_literals commands_written
 tidy_taken = refl
+
+abbrev folder_words : List Text
+folder_words = codes "pbaudit" ∷ codes "folder" ∷ codes "d" ∷ codes "--no-exhaustive" ∷ []
+
+folder_task : TaskOf folder_words ≡ Some (folder (codes "d") (record { stable = false; exhaustive = false; cover = false }))
+unfolding clap_on_literals commands_written asked_in
+folder_task = refl
+
+folder_taken : takes pbaudit folder_words ≡ true
+unfolding clap_on_literals commands_written
+folder_taken = refl
 
 no_path : fault_of pbaudit (codes "pbaudit" ∷ codes "read" ∷ []) ≡ kind.MissingRequiredArgument ∷ []
 unfolding clap_on_literals commands_written

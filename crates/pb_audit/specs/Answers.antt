@@ -1,19 +1,24 @@
--- What each command answers: a text, and how it ends, from what its inputs state.
-use Rattle.std.specs.Prelude.{◌≡◌, Bool, ℕ, List, [], ◌∷◌, ◌++◌, flat_map, Option, Ok, Err}
+-- What each command answers: lines or a text, and how it ends, from what its inputs state.
+use Rattle.std.specs.Prelude.{◌≡◌, Bool, ℕ, List, [], ◌∷◌, ◌++◌, flat_map, IfOk, Option, Ok, Err}
+use Rattle.std.specs.Option.{option_map}
 use Rattle.pb_election.specs.Instance.{Instance}
-use Rattle.pb_election.specs.Loading.{Delivery}
+use Rattle.pb_records.specs.Loading.{Delivery}
 use Rattle.pb_certificate.specs.Canon.{Canon, line_end}
 use Rattle.pb_certificate.specs.Prices.{Prices}
-use Rattle.pb_cohesion.specs.FirstV.{FirstV, by_count}
+use Rattle.pb_certificate.specs.declared.measure.Measure.{Measure}
+use Rattle.pb_cohesion.specs.FirstV.{FirstV}
 use Rattle.pb_cohesion.specs.FirstV as violations
+use Rattle.pb_cohesion.specs.Satisfactions.{worth_by}
 use Rattle.pb_cohesion.specs.declared.ViolationVerdict.{ViolationVerdict}
 use Rattle.pb_cohesion.specs.declared.ViolationVerdict.TheVariants as violation_verdict
 use Rattle.pb_price.specs.First.{First, verdict_of}
 use Rattle.pb_price.specs.declared.Mode.{Mode}
 use Rattle.pb_price.specs.declared.Verdict.{Verdict}
 use Rattle.pb_price.specs.declared.Verdict.TheVariants as verdict
-use Rattle.pb_audit.specs.Inputs.{FileReading, Gives, GivesFile, InTurn, IsUntouched, Reading, Stated, StatesElection, StatesOutcome, StatesPrices, StatesViolation, audited}
+use Rattle.pb_audit.specs.Inputs.{Stated, StatesElection, StatesFile, StatesOutcome, StatesPrices, StatesViolation, audited, in_memory}
 use Rattle.pb_audit.specs.Lines.{Refusal, Text, notes, price_line, read_line, refusal_line, violation_line}
+use Rattle.pb_audit.specs.Promises.{PricesPromise, ViolationPromises}
+use Rattle.pb_audit.specs.declared.input.InputName.TheVariants as name
 use Rattle.pb_audit.specs.declared.status.Status.{Status}
 use Rattle.pb_audit.specs.declared.status.Status.TheVariants.{Yes, No, Refused}
 
@@ -46,14 +51,11 @@ with_input (Err r) reply = refused r
 abbrev pub read_reply : Stated Instance → Reply
 read_reply election = with_input election (λ e. record { lines = read_line e ∷ notes e; status = Yes })
 
-abbrev pub ReadOut : Stated Instance → Answer
-ReadOut election = answer_of (read_reply election)
-
 -- the canonical text of the prices
-abbrev pub TidyOut : Stated Instance → Stated Prices → Answer
-TidyOut (Ok e) (Ok p) = record { text = Canon e p; status = Yes }
-TidyOut (Ok e) (Err r) = answer_of (refused r)
-TidyOut (Err r) certificate = answer_of (refused r)
+abbrev pub tidy_answer : Stated Instance → Stated Prices → Answer
+tidy_answer (Ok e) (Ok p) = record { text = Canon e p; status = Yes }
+tidy_answer (Ok e) (Err r) = answer_of (refused r)
+tidy_answer (Err r) certificate = answer_of (refused r)
 
 -- yes where nothing fails
 abbrev pub price_status : Verdict → Status
@@ -65,66 +67,74 @@ violation_status violation_verdict.Violation = Yes
 violation_status (violation_verdict.Failed f) = No
 
 -- the verdict on prices
+abbrev pub verdict_reply : Mode → Instance → Verdict → Reply
+verdict_reply m e v = record { lines = price_line m.stable e v ∷ []; status = price_status v }
+
 abbrev pub price_reply : Mode → Instance → List Bool → Prices → Reply
-price_reply m e w p = let v = verdict_of (First m e w p) in record { lines = price_line m.stable e v ∷ []; status = price_status v }
+price_reply m e w p = verdict_reply m e (verdict_of (First m e w p))
 
--- the verdict on a group and its demand, by counting
-abbrev pub violation_reply : Instance → List Bool → List ℕ × List ℕ → Reply
-violation_reply e w v = let found = violations.verdict_of (FirstV by_count e w v.0 v.1) in record { lines = violation_line e found ∷ []; status = violation_status found }
+-- the verdict on a group and its demand, by the measure that the certificate states
+abbrev pub violation_reply : Instance → List Bool → Measure × List ℕ × List ℕ → Reply
+violation_reply e w v = let found = violations.verdict_of (FirstV (worth_by v.0 e) e w v.1 v.2) in record { lines = violation_line e found ∷ []; status = violation_status found }
 
--- the answer on an election, an outcome and a certificate
-abbrev pub AuditOut : {A : Type 0} → (Instance → List Bool → A → Reply) → Stated Instance → Option (Stated (List Bool)) → Stated A → Answer
-AuditOut reply election outcome certificate =
-    answer_of (with_input election (λ e. with_input (audited e outcome) (λ w. with_input certificate (λ c. reply e w c))))
+-- the reply on an election, an outcome and a certificate
+abbrev pub audit_reply : {A : Type 0} → (Instance → List Bool → A → Reply) → Stated Instance → Option (Stated (List Bool)) → Stated A → Reply
+audit_reply reply election outcome certificate =
+    with_input election (λ e. with_input (audited e outcome) (λ w. with_input certificate (λ c. reply e w c)))
 
--- the answer on the election that a reader delivered
-pub record AnswersRead (election : Reading) (answer : Answer) : Type 0 where
-  pub stated : Stated Instance
-  pub given : Gives StatesElection election stated
-  pub out : answer ≡ ReadOut stated
+-- The reply on an election, from what is delivered of it.
+pub record AnswersElection (election : Delivery) (r : Reply) : Type 0 where
+  pub e : Stated Instance
+  pub given : StatesElection election e
+  pub out : r ≡ read_reply e
 
--- what the readers of an election and a price certificate delivered
-pub record TidyInputs (election certificate : Reading) (e : Stated Instance) (p : Stated Prices) : Type 0 where
-  pub election_given : Gives StatesElection election e
-  pub certificate_given : InTurn e (λ instance. Gives (StatesPrices instance) certificate p) (IsUntouched certificate)
+-- The answer on an election and a price certificate that is to be written in its canonical form. The certificate counts
+-- where the election is accepted.
+pub record AnswersTidy (election certificate : Delivery) (answer : Answer) : Type 0 where
+  pub e : Stated Instance
+  pub p : Stated Prices
+  pub election_states : StatesElection election e
+  pub certificate_states : IfOk e (λ instance. StatesPrices name.Certificate instance certificate p)
+  pub out : answer ≡ tidy_answer e p
 
--- the answer on them
-pub record AnswersTidy (election certificate : Reading) (answer : Answer) : Type 0 where
-  pub stated : Stated Instance
-  pub prices : Stated Prices
-  pub given : TidyInputs election certificate stated prices
-  pub out : answer ≡ TidyOut stated prices
-
--- What the readers of an election, of an outcome file where one is given, and of a certificate of a kind delivered. Each
--- is taken where those before it were accepted.
-pub record AuditInputs {A : Type 0} (states : Instance → Delivery → Stated A → Type 0) (election : Reading) (outcome : FileReading) (certificate : Reading)
+-- What an election, an outcome file where one is given, and a certificate of a kind state. Each counts where those before
+-- it are accepted.
+pub record FilesState {A : Type 0} (states : Instance → Delivery → Stated A → Type 0) (election : Delivery) (outcome : Option Delivery) (certificate : Delivery)
     (e : Stated Instance) (o : Option (Stated (List Bool))) (c : Stated A) : Type 0 where
-  pub election_given : Gives StatesElection election e
-  pub outcome_given : InTurn e (λ instance. GivesFile (StatesOutcome instance) outcome.before outcome.after o) (outcome.after ≡ outcome.before)
-  pub certificate_given : InTurn e (λ instance. InTurn (audited instance o) (λ w. Gives (states instance) certificate c) (IsUntouched certificate)) (IsUntouched certificate)
+  pub election_states : StatesElection election e
+  pub outcome_states : IfOk e (λ instance. StatesFile (StatesOutcome instance) outcome o)
+  pub certificate_states : IfOk e (λ instance. IfOk (audited instance o) (λ w. states instance certificate c))
 
--- the answer on them
-pub record AnswersAudit {A : Type 0} (states : Instance → Delivery → Stated A → Type 0) (reply : Instance → List Bool → A → Reply)
-    (election : Reading) (outcome : FileReading) (certificate : Reading) (answer : Answer) : Type 0 where
-  pub stated : Stated Instance
-  pub file : Option (Stated (List Bool))
-  pub stated_certificate : Stated A
-  pub given : AuditInputs states election outcome certificate stated file stated_certificate
-  pub out : answer ≡ AuditOut reply stated file stated_certificate
+-- where all are accepted, this holds of the election, the outcome and the certificate
+abbrev pub OfAccepted : {A : Type 0} → (Instance → List Bool → A → Type 0) → Stated Instance → Option (Stated (List Bool)) → Stated A → Type 0
+OfAccepted holds election outcome certificate =
+    IfOk election (λ e. IfOk (audited e outcome) (λ w. IfOk certificate (λ c. holds e w c)))
 
-abbrev pub AnswersPrices : Mode → Reading → FileReading → Reading → Answer → Type 0
-AnswersPrices m election outcome certificate answer = AnswersAudit StatesPrices (price_reply m) election outcome certificate answer
+-- The reply on them, and what its status promises where all are accepted.
+pub record AnswersAudit {A : Type 0} (states : Instance → Delivery → Stated A → Type 0) (reply : Instance → List Bool → A → Reply) (promise : Status → Instance → List Bool → A → Type 0)
+    (election : Delivery) (outcome : Option Delivery) (certificate : Delivery) (r : Reply) : Type 0 where
+  pub e : Stated Instance
+  pub o : Option (Stated (List Bool))
+  pub c : Stated A
+  pub given : FilesState states election outcome certificate e o c
+  pub out : r ≡ audit_reply reply e o c
+  pub promised : OfAccepted (promise r.status) e o c
 
-abbrev pub AnswersViolation : Reading → FileReading → Reading → Answer → Type 0
-AnswersViolation election outcome certificate answer = AnswersAudit StatesViolation violation_reply election outcome certificate answer
+abbrev pub AnswersPrices : Mode → Delivery → Option Delivery → Delivery → Reply → Type 0
+AnswersPrices m election outcome certificate r = AnswersAudit (StatesPrices name.Certificate) (price_reply m) (PricesPromise m) election outcome certificate r
 
--- all inputs are accepted, and this holds of the election, the outcome and the certificate
-pub record HoldsOfInputs {A : Type 0} (states : Instance → Delivery → Stated A → Type 0) (holds : Instance → List Bool → A → Type 0)
-    (election : Reading) (outcome : FileReading) (certificate : Reading) : Type 0 where
-  pub e : Instance
-  pub file : Option (Stated (List Bool))
-  pub w : List Bool
-  pub c : A
-  pub given : AuditInputs states election outcome certificate (Ok e) file (Ok c)
-  pub outcome_is : audited e file ≡ Ok w
-  pub here : holds e w c
+abbrev pub AnswersViolation : Delivery → Option Delivery → Delivery → Reply → Type 0
+AnswersViolation election outcome certificate r = AnswersAudit (StatesViolation name.Certificate) violation_reply ViolationPromises election outcome certificate r
+
+-- The same over files in memory, by their bytes alone.
+abbrev pub AnswersElectionFile : List ℕ → Reply → Type 0
+AnswersElectionFile election r = AnswersElection (in_memory election) r
+
+abbrev pub AnswersPriceFiles : Mode → List ℕ → Option (List ℕ) → List ℕ → Reply → Type 0
+AnswersPriceFiles m election outcome certificate r = AnswersPrices m (in_memory election) (option_map in_memory outcome) (in_memory certificate) r
+
+abbrev pub AnswersViolationFiles : List ℕ → Option (List ℕ) → List ℕ → Reply → Type 0
+AnswersViolationFiles election outcome certificate r = AnswersViolation (in_memory election) (option_map in_memory outcome) (in_memory certificate) r
+
+abbrev pub AnswersTidyFiles : List ℕ → List ℕ → Answer → Type 0
+AnswersTidyFiles election certificate answer = AnswersTidy (in_memory election) (in_memory certificate) answer

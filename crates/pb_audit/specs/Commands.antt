@@ -33,21 +33,32 @@ with_version a = record a { top = record a.top { has_version = true } }
 unfoldable pub read_app : App
 read_app = command_of (codes "read") (path_rule (codes "election") ∷ [])
 
--- `prices ELECTION CERTIFICATE [--stable] [--no-exhaustive] [--outcome FILE]`
+-- `prices ELECTION CERTIFICATE [--stable] [--no-exhaustive] [--cover] [--outcome FILE]`
 unfoldable pub prices_app : App
 prices_app = command_of (codes "prices") (path_rule (codes "election") ∷ path_rule (codes "certificate")
-    ∷ switch_rule (codes "stable") ∷ switch_rule (codes "no-exhaustive") ∷ outcome_rule ∷ [])
+    ∷ switch_rule (codes "stable") ∷ switch_rule (codes "no-exhaustive") ∷ switch_rule (codes "cover") ∷ outcome_rule ∷ [])
 
 -- `violation ELECTION CERTIFICATE [--outcome FILE]`
 unfoldable pub violation_app : App
 violation_app = command_of (codes "violation")
     (path_rule (codes "election") ∷ path_rule (codes "certificate") ∷ outcome_rule ∷ [])
 
+-- `both ELECTION PRICES VIOLATION [--stable] [--no-exhaustive] [--cover] [--outcome FILE]`
+unfoldable pub both_app : App
+both_app = command_of (codes "both")
+    (path_rule (codes "election") ∷ path_rule (codes "prices") ∷ path_rule (codes "violation")
+    ∷ switch_rule (codes "stable") ∷ switch_rule (codes "no-exhaustive") ∷ switch_rule (codes "cover") ∷ outcome_rule ∷ [])
+
 -- `tidy ELECTION CERTIFICATE`
 unfoldable pub tidy_app : App
 tidy_app = command_of (codes "tidy") (path_rule (codes "election") ∷ path_rule (codes "certificate") ∷ [])
 
+-- `folder FOLDER [--stable] [--no-exhaustive] [--cover]`
+unfoldable pub folder_app : App
+folder_app = command_of (codes "folder")
+    (path_rule (codes "folder") ∷ switch_rule (codes "stable") ∷ switch_rule (codes "no-exhaustive") ∷ switch_rule (codes "cover") ∷ [])
+
 -- `pbaudit`, with its commands
 unfoldable pub pbaudit : App
 pbaudit = fold (λ a (s : App). with_subcommand a s.top) (with_version (new_app (codes "pbaudit")))
-    (read_app ∷ prices_app ∷ violation_app ∷ tidy_app ∷ [])
+    (read_app ∷ prices_app ∷ violation_app ∷ both_app ∷ tidy_app ∷ folder_app ∷ [])

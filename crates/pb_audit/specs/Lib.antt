@@ -3,7 +3,12 @@ pub mod Tasks
 pub mod Lines
 pub mod Named
 pub mod Inputs
-pub mod Answers
 pub mod Promises
+pub mod Answers
+pub mod Readers
+pub mod Both
+pub mod Loaded
+pub mod Reports
+pub mod Folders
 pub mod Taking
 pub mod Writing

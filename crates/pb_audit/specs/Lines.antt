@@ -68,6 +68,7 @@ failed_line e f = codes "failed " ++ f.name ++ voter_words f.voter ++ project_wo
 abbrev pub price_failed : Failure → Failed
 price_failed failure.Feasible = record { name = codes "Feasible"; voter = None; project = None }
 price_failed (failure.Exhaustive j) = record { name = codes "Exhaustive"; voter = None; project = Some j }
+price_failed failure.Cover = record { name = codes "Cover"; voter = None; project = None }
 price_failed (failure.C1 i j) = record { name = codes "C1"; voter = Some i; project = Some j }
 price_failed (failure.C2 i) = record { name = codes "C2"; voter = Some i; project = None }
 price_failed (failure.C3 j) = record { name = codes "C3"; voter = None; project = Some j }

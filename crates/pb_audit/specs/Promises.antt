@@ -2,10 +2,11 @@
 use Rattle.std.specs.Prelude.{◌≡◌, ◌↔◌, ℕ, IsFalse, IsTrue, Bool, List, Some}
 use Rattle.pb_election.specs.Instance.{Instance}
 use Rattle.pb_certificate.specs.Prices.{Prices}
+use Rattle.pb_certificate.specs.declared.measure.Measure.{Measure}
 use Rattle.pb_cohesion.specs.Conditions.{Supports}
-use Rattle.pb_cohesion.specs.EveryGroup.{BudgetsAreWithinReach, NoGroupHasMoreLeft, NothingBlocks, SupportersBlock, SupportersHaveMoreLeft}
-use Rattle.pb_cohesion.specs.FirstV.{by_count}
+use Rattle.pb_cohesion.specs.EveryGroup.{BudgetsAreWithinReach, GroupsGetTheirShare, NoGroupHasMoreLeft, NoViolationByCounting, NothingBlocks, SupportersBlock, SupportersHaveMoreLeft}
 use Rattle.pb_cohesion.specs.Groups.{Violates}
+use Rattle.pb_cohesion.specs.Satisfactions.{worth_by}
 use Rattle.pb_price.specs.First.{First}
 use Rattle.pb_price.specs.declared.Failure.TheVariants as failure
 use Rattle.pb_price.specs.declared.Mode.{Mode}
@@ -15,13 +16,15 @@ use Rattle.pb_audit.specs.declared.status.Status.TheVariants.{Yes}
 -- The status is yes exactly where the prices support the outcome. What is more, a yes speaks of every group of
 -- supporters, and a no by the last condition of the supporters of the project that it names.
 pub record PricesPromise (m : Mode) (status : Status) (e : Instance) (w : List Bool) (p : Prices) : Type 0 where
-  pub exactly : (status ≡ Yes) ↔ Supports m.stable m.exhaustive e w p
+  pub exactly : (status ≡ Yes) ↔ Supports m.stable m.exhaustive m.cover e w p
   pub plain_yes : status ≡ Yes → IsFalse m.stable → NoGroupHasMoreLeft e w p
   pub stable_yes : status ≡ Yes → IsTrue m.stable → NothingBlocks e w p
   pub any_yes : status ≡ Yes → BudgetsAreWithinReach e w p
+  pub fair_yes : status ≡ Yes → IsTrue m.stable → GroupsGetTheirShare e w p
+  pub covered_yes : status ≡ Yes → IsTrue m.stable → IsTrue m.cover → NoViolationByCounting e w
   pub plain_no : (c : ℕ) → First m e w p ≡ Some (failure.C5 c) → SupportersHaveMoreLeft e p c
   pub stable_no : (c : ℕ) → First m e w p ≡ Some (failure.S5 c) → SupportersBlock e w p c
 
--- The status is yes exactly where the group and its demand are a violation.
-abbrev pub ViolationPromises : Status → Instance → List Bool → List ℕ × List ℕ → Type 0
-ViolationPromises status e w claim = (status ≡ Yes) ↔ Violates by_count e w claim.0 claim.1
+-- The status is yes exactly where the group and its demand are a violation, by the measure that the certificate states.
+abbrev pub ViolationPromises : Status → Instance → List Bool → Measure × List ℕ × List ℕ → Type 0
+ViolationPromises status e w claim = (status ≡ Yes) ↔ Violates (worth_by claim.0 e) e w claim.1 claim.2

@@ -1,30 +1,30 @@
 -- What the values stand for that the code takes and hands on between an input and its answer. What a command answers is said
--- without them, in `Inputs`, `Answers` and `Promises`.
+-- without them, in `Inputs`, `Answers`, `Readers` and `Promises`.
 use Rattle.std.specs.Prelude.{◌≡◌, if◌then◌else◌, Bool, true, false, ℕ, List, Option, Some, None, Result, Ok, Err}
+use Rattle.std.specs.Option.{option_map}
 use Rattle.pb_election.specs.Instance.{Instance}
-use Rattle.pb_election.specs.Loading.{Delivery}
-use Rattle.pb_election.specs.Loading as delivery
+use Rattle.pb_records.specs.Loading.{Delivery}
+use Rattle.pb_records.specs.Loading as delivery
 use Rattle.pb_election.specs.Outcome.{Funding}
 use Rattle.pb_election.specs.declared.refusal.ElectionFault.{ElectionFault}
 use Rattle.pb_election.specs.declared.refusal.ElectionFault.TheVariants as election_fault
 use Rattle.pb_certificate.specs.Claim.{Claim}
+use Rattle.pb_certificate.specs.declared.measure.Measure.{Measure}
 use Rattle.pb_certificate.specs.declared.refusal.CertFault.{CertFault}
 use Rattle.pb_certificate.specs.declared.refusal.CertFault.TheVariants as cert_fault
-use Rattle.pb_audit.specs.Answers.{Answer, answer_of, refused}
-use Rattle.pb_audit.specs.Inputs.{FileReading, GivesFile, Stated, StatesOutcome, audited, refusal_of}
+use Rattle.pb_certificate.specs.Prices.{Prices}
+use Rattle.pb_price.specs.First.{First, verdict_of}
+use Rattle.pb_price.specs.declared.Mode.{Mode}
+use Rattle.pb_price.specs.declared.Verdict.{Verdict}
+use Rattle.pb_audit.specs.Answers.{Answer, Reply, answer_of, refused, tidy_answer, with_input}
+use Rattle.pb_audit.specs.Inputs.{Stated, StatesFile, StatesOutcome, StatesPrices, audited, refusal_of}
+use Rattle.pb_audit.specs.Readers.{Delivers, DeliversFile, FileReading, Reading}
 use Rattle.pb_audit.specs.declared.input.InputFault.{InputFault}
 use Rattle.pb_audit.specs.declared.input.InputFault.TheVariants as fault
 use Rattle.pb_audit.specs.declared.input.InputName.{InputName}
-use Rattle.pb_audit.specs.declared.input.Loaded.{Loaded}
-use Rattle.pb_audit.specs.declared.input.Loaded.TheVariants as loaded
+use Rattle.pb_audit.specs.declared.input.InputName.TheVariants as name
 use Rattle.pb_audit.specs.declared.input.Stop.{Stop}
 use Rattle.pb_audit.specs.declared.input.Stop.TheVariants as stop
-
--- what was delivered of an input
-abbrev pub delivery_of : Loaded → Delivery
-delivery_of (loaded.Bytes bytes) = delivery.Bytes bytes.items
-delivery_of loaded.Unread = delivery.Read
-delivery_of loaded.TooLong = delivery.TooLong
 
 -- what an input that was taken states, memory aside
 abbrev pub IfTaken : {A : Type 0} → Result A Stop → (Stated A → Type 0) → Type 0
@@ -57,30 +57,60 @@ wants_memory (fault.Certificate r) = is_certificate_memory r.fault
 abbrev pub stop_at : InputName → InputFault → Stop
 stop_at input why = if wants_memory why then stop.Memory else stop.Refused input why
 
--- an outcome that was taken as its marks, and a claim as its group and its demand
+-- an outcome that was taken as its marks, and a claim as its measure, its group and its demand
 abbrev pub marked : Result Funding Stop → Result (List Bool) Stop
 marked (Ok w) = Ok w.marks
 marked (Err why) = Err why
 
-abbrev pub claimed : Result Claim Stop → Result (List ℕ × List ℕ) Stop
-claimed (Ok v) = Ok (v.group, v.demand)
+abbrev pub claimed : Result Claim Stop → Result (Measure × List ℕ × List ℕ) Stop
+claimed (Ok v) = Ok (v.measure, v.group, v.demand)
 claimed (Err why) = Err why
 
--- the outcome that is audited was taken, with what the outcome file states, where one is given
-pub record AuditsOutcome (e : Instance) (outcome : FileReading) (stated : Stated (List Bool)) : Type 0 where
+-- the outcome that is audited, with what the outcome file states, where one is given
+pub record AuditsOutcome (e : Instance) (outcome : Option Delivery) (stated : Stated (List Bool)) : Type 0 where
   pub file : Option (Stated (List Bool))
-  pub given : GivesFile (StatesOutcome e) outcome.before outcome.after file
+  pub given : StatesFile (StatesOutcome e) outcome file
   pub is : stated ≡ audited e file
 
-abbrev pub TakesOutcome : Instance → FileReading → Result (List Bool) Stop → Type 0
-TakesOutcome e outcome taken = IfTaken taken (AuditsOutcome e outcome)
+-- a reader delivered an input of a kind that states this
+pub record Gives {A : Type 0} (states : Delivery → Stated A → Type 0) (r : Reading) (stated : Stated A) : Type 0 where
+  pub delivery : Delivery
+  pub delivered : Delivers r delivery
+  pub stating : states delivery stated
 
--- the answer that some work came to: its own, or the line of the input that was refused; there is none where memory was
+-- the outcome that is audited, with an outcome file that a reader delivered, where one is given
+pub record ReadsOutcome (e : Instance) (outcome : FileReading) (stated : Stated (List Bool)) : Type 0 where
+  pub delivery : Option Delivery
+  pub delivered : DeliversFile outcome.before outcome.after delivery
+  pub audits : AuditsOutcome e delivery stated
+
+-- the reply on a certificate of a kind, for an election and an outcome that were accepted
+pub record AnswersCertificate {A : Type 0} (states : Instance → Delivery → Stated A → Type 0) (reply : Instance → List Bool → A → Reply) (e : Instance) (w : List Bool) (certificate : Delivery) (r : Reply) : Type 0 where
+  pub c : Stated A
+  pub given : states e certificate c
+  pub out : r ≡ with_input c (λ a. reply e w a)
+
+-- the reply that some work came to: its own, or the line of the input that was refused; there is none where memory was
 -- wanted
-abbrev pub stopped : Stop → Option Answer
-stopped (stop.Refused input why) = Some (answer_of (refused (refusal_of input why)))
+abbrev pub stopped : Stop → Option Reply
+stopped (stop.Refused input why) = Some (refused (refusal_of input why))
 stopped stop.Memory = None
 
-abbrev pub settled : Result Answer Stop → Option Answer
+abbrev pub settled : Result Reply Stop → Option Reply
 settled (Ok own) = Some own
 settled (Err why) = stopped why
+
+-- the same of an answer
+abbrev pub settled_answer : Result Answer Stop → Option Answer
+settled_answer (Ok own) = Some own
+settled_answer (Err why) = option_map answer_of (stopped why)
+
+-- what the prices of a certificate come to: the first condition that fails, if any
+abbrev pub JudgesPrices : InputName → Mode → Instance → List Bool → Delivery → Stated Verdict → Type 0
+JudgesPrices input m e w certificate (Ok v) = (p : Prices) × (StatesPrices input e certificate (Ok p) × (v ≡ verdict_of (First m e w p)))
+JudgesPrices input m e w certificate (Err r) = StatesPrices input e certificate (Err r)
+
+-- the canonical text of the prices of a certificate
+abbrev pub TidiesPrices : Instance → Delivery → Stated Answer → Type 0
+TidiesPrices e certificate (Ok answer) = (p : Prices) × (StatesPrices name.Certificate e certificate (Ok p) × (answer ≡ tidy_answer (Ok e) (Ok p)))
+TidiesPrices e certificate (Err r) = StatesPrices name.Certificate e certificate (Err r)

@@ -1,19 +1,40 @@
--- How an answer is written.
-use Rattle.std.specs.Prelude.{◌≡◌, ℕ, List, Option}
+-- How a call that writes ends.
+use Rattle.std.specs.Prelude.{◌≡◌, ℕ, List, Option, Result, IfOk, IsErrOf}
 use Rattle.std.specs.Io.KnownBytes.{Appends}
-use Rattle.pb_election.specs.Loading.{AppendsFront}
+use Rattle.pb_records.specs.Loading.{AppendsFront, IsFlushed, Rises, WriteCounts}
 use Rattle.pb_audit.specs.Answers.{Answer}
+use Rattle.pb_audit.specs.declared.status.Fault.{Fault}
+use Rattle.pb_audit.specs.declared.status.Fault.TheVariants as fault
 use Rattle.pb_audit.specs.declared.status.Status.{Status}
 
--- one of these answers was written, whole and with nothing else, and has this status
-pub record IsWritten (is_answer : Answer → Type 0) (status : Status) (old new : Option (List ℕ)) : Type 0 where
-  pub answer : Answer
-  pub of_inputs : is_answer answer
-  pub text : Appends old new answer.text
-  pub ends : status ≡ answer.status
+-- a writer: what it holds, where it tells it, and its counts
+pub record Writer : Type 0 where
+  pub holds : Option (List ℕ)
+  pub counts : WriteCounts
 
--- a front of one of these answers was written, with nothing else
-pub record IsCutShort (is_answer : Answer → Type 0) (old new : Option (List ℕ)) : Type 0 where
+-- one of these answers was written, whole and with nothing else, and has this status; nothing failed, and the writer was
+-- flushed after the last write
+pub record IsWritten (is_answer : Answer → Type 0) (status : Status) (old new : Writer) : Type 0 where
   pub answer : Answer
   pub of_inputs : is_answer answer
-  pub front : AppendsFront old new answer.text
+  pub text : Appends old.holds new.holds answer.text
+  pub ends : status ≡ answer.status
+  pub flushed : IsFlushed old.counts new.counts
+  pub calm : new.counts.failures ≡ old.counts.failures
+
+-- a front of one of these answers was written, with nothing else, and the writer failed
+pub record IsCutShort (is_answer : Answer → Type 0) (old new : Writer) : Type 0 where
+  pub answer : Answer
+  pub of_inputs : is_answer answer
+  pub front : AppendsFront old.holds new.holds answer.text
+  pub failed : Rises old.counts.failures new.counts.failures
+
+abbrev pub writer : {W : Type 0} → (W → Option (List ℕ)) → (W → WriteCounts) → W → Writer
+writer holds counts w = record { holds = holds w; counts = counts w }
+
+-- How a call ends that writes one of these answers: it is written, or it is cut short, or memory was wanted and the writer
+-- is as it was.
+pub record Writes {W : Type 0} (holds : W → Option (List ℕ)) (counts : W → WriteCounts) (is_answer : Answer → Type 0) (result : Result Status Fault) (old new : W) : Type 0 where
+  pub written : IfOk result (λ status. IsWritten is_answer status (writer holds counts old) (writer holds counts new))
+  pub cut_short : IsErrOf result fault.Write → IsCutShort is_answer (writer holds counts old) (writer holds counts new)
+  pub untouched : IsErrOf result fault.Memory → new ≡ old

@@ -1,9 +1,8 @@
-//! Answers, and how they are written.
-ghost use Rattle.std.specs.Prelude.{◌≡◌, OnErr, IfErr, IfOk, OnOk, Some};
-ghost use Rattle.std.specs.Io.KnownBytes.{Appends};
+//! Replies, the texts that are made of them, and how a text is written.
+ghost use Rattle.std.specs.Prelude.{◌≡◌, ◌∷◌, ◌++◌, [], IfOk, OnOk, Some, map, string_bytes};
+ghost use Rattle.pb_audit.specs.Answers.{answer_of, text_of};
 ghost use Rattle.pb_audit.specs.Taking as spec;
-ghost use Rattle.pb_election.specs.Loading.{AppendsFront, Rises};
-ghost use Rattle.pb_audit.specs.declared.status.Fault.TheVariants.{Write};
+ghost use Rattle.pb_audit.specs.Writing.{Writes};
 
 use crate::input::Stop;
 use crate::lines::{push_line, refusal_line};
@@ -12,11 +11,55 @@ use pb_election::{Sink, put};
 use std::alloc::{AllocError, Global};
 use std::marker::Model;
 
-/// The whole text of an answer, and how it ends.
+/// What was found: some lines, without their ends, and how it ends.
 #[derive(Drop)]
-pub(crate) struct Answer {
-    pub(crate) text: Vec<u8>,
-    pub(crate) status: Status,
+pub struct Reply {
+    /// The lines, each without its end.
+    pub lines: Vec<String>,
+    /// How it ends.
+    pub status: Status,
+}
+
+impl Model for Reply {
+    ghost use Rattle.std.specs.Prelude.{map, string_bytes};
+    ghost use Rattle.pb_audit.specs.Answers.{Reply};
+
+    ghost Value = { Reply };
+
+    ghost view = { λ r. record { lines = map string_bytes r.lines.items; status = r.status } };
+}
+
+impl Reply {
+    /// The text of the reply: each line with its end, LF.
+    pub fn answer(&self, alloc: Global) -> Result<Answer, AllocError>
+        ensures { IfOk result (λ answer. answer ≡ answer_of self.now) }
+    {
+        let mut text = String::new(alloc);
+        push_lines(&mut text, &self.lines)?;
+        Ok(Answer {
+            text: text.into_bytes(),
+            status: self.status,
+        })
+    }
+}
+
+/// Adds lines to a text, each with its end.
+pub(crate) fn push_lines(text: &mut String, lines: &[String]) -> Result<(), AllocError>
+    ensures { OnOk result (string_bytes text.new ≡ string_bytes text.old ++ text_of (map string_bytes lines.now)) }
+{
+    for line in lines {
+        push_line(text, line)?;
+    }
+    Ok(())
+}
+
+/// A whole text, and how it ends.
+#[derive(Drop)]
+pub struct Answer {
+    /// The text.
+    pub text: Vec<u8>,
+    /// How it ends.
+    pub status: Status,
 }
 
 impl Model for Answer {
@@ -28,40 +71,51 @@ impl Model for Answer {
 }
 
 impl Answer {
-    /// Writes the text, the whole of which is there.
-    pub(crate) fn write<W: Sink>(&self, out: &mut W) -> Result<Status, Fault>
-        ensures whole { OnOk result (Appends (W.holds out.old) (W.holds out.new) (self.now).text) }
-        ensures status { IfOk result (λ status. status ≡ (self.now).status) }
-        ensures fault { IfErr result (λ f. f ≡ Write) }
-        ensures front { OnErr result (AppendsFront (W.holds out.old) (W.holds out.new) (self.now).text) }
-        ensures failed { OnErr result (Rises (W.counts out.old).failures (W.counts out.new).failures) }
+    /// Writes the text, the whole of which is there, and flushes.
+    pub fn write<W: Sink>(&self, out: &mut W) -> Result<Status, Fault>
+        ensures { Writes W.holds W.counts (λ answer. answer ≡ self.now) result out.old out.new }
     {
         put(&self.text, out)?;
         Ok(self.status)
     }
 }
 
-/// The answer that the work on some inputs came to: its own, or the line of the input that was refused.
-pub(crate) fn settled(alloc: Global, work: Result<Answer, Stop>) -> Result<Answer, AllocError>
-    ensures { IfOk result (λ answer. spec.settled work ≡ Some answer) }
+/// Writes the text of a reply.
+pub(crate) fn write_reply<W: Sink>(
+    alloc: Global,
+    reply: &Reply,
+    out: &mut W,
+) -> Result<Status, Fault>
+    ensures { Writes W.holds W.counts (λ answer. answer ≡ answer_of reply.now) result out.old out.new }
+{
+    reply.answer(alloc)?.write(out)
+}
+
+/// The reply that the work on some inputs came to: its own, or the line of the input that was refused.
+pub(crate) fn settled(alloc: Global, work: Result<Reply, Stop>) -> Result<Reply, AllocError>
+    ensures { IfOk result (λ reply. spec.settled work ≡ Some reply) }
 {
     match work {
-        Ok(answer) => Ok(answer),
+        Ok(reply) => Ok(reply),
         Err(stop) => stopped(alloc, &stop),
     }
 }
 
 /// The line of the input that was refused.
-pub(crate) fn stopped(alloc: Global, stop: &Stop) -> Result<Answer, AllocError>
-    ensures { IfOk result (λ answer. spec.stopped stop.now ≡ Some answer) }
+pub(crate) fn stopped(alloc: Global, stop: &Stop) -> Result<Reply, AllocError>
+    ensures { IfOk result (λ reply. spec.stopped stop.now ≡ Some reply) }
 {
     let Stop::Refused { input, fault } = stop else {
         return Err(AllocError {});
     };
-    let mut text = Vec::new(alloc);
-    push_line(&mut text, &refusal_line(alloc, *input, fault)?)?;
-    Ok(Answer {
-        text,
-        status: Status::Refused,
-    })
+    one_line(alloc, refusal_line(alloc, *input, fault)?, Status::Refused)
+}
+
+/// A reply of one line.
+pub(crate) fn one_line(alloc: Global, line: String, status: Status) -> Result<Reply, AllocError>
+    ensures { IfOk result (λ reply. reply ≡ record { lines = string_bytes line ∷ []; status = status }) }
+{
+    let mut lines = Vec::new(alloc);
+    lines.push(line)?;
+    Ok(Reply { lines, status })
 }

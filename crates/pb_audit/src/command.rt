@@ -3,6 +3,8 @@ ghost use Rattle.std.specs.Prelude.{◌≡◌, IfOk, codes, false};
 ghost use Rattle.clap.specs.Words.{rule_of};
 ghost use Rattle.pb_audit.specs.Commands.{
   IsCommand,
+  both_app,
+  folder_app,
   outcome_rule,
   path_rule,
   pbaudit,
@@ -13,7 +15,9 @@ ghost use Rattle.pb_audit.specs.Commands.{
   violation_app,
 };
 
-use crate::help::{PRICES_NOTES, PROGRAM_NOTES, READ_NOTES, TIDY_NOTES, VIOLATION_NOTES};
+use crate::help::{
+    BOTH_NOTES, FOLDER_NOTES, PRICES_NOTES, PROGRAM_NOTES, READ_NOTES, TIDY_NOTES, VIOLATION_NOTES,
+};
 use clap::{Arg, ArgAction, Command};
 use std::alloc::{AllocError, Global};
 
@@ -30,7 +34,9 @@ pub(crate) fn pbaudit_command<'a>(alloc: Global) -> Result<Command<'a>, AllocErr
             .subcommand(read_command(alloc)?)?
             .subcommand(prices_command(alloc)?)?
             .subcommand(violation_command(alloc)?)?
+            .subcommand(both_command(alloc)?)?
             .subcommand(tidy_command(alloc)?)?
+            .subcommand(folder_command(alloc)?)?
             .after_help(PROGRAM_NOTES),
     )
 }
@@ -54,12 +60,9 @@ fn prices_command<'a>(alloc: Global) -> Result<Command<'a>, AllocError>
             .about("Check that the payments of a price certificate support the outcome")
             .arg(election_arg(alloc))?
             .arg(price_certificate_arg(alloc))?
-            .arg(switch_arg(
-                alloc,
-                "stable",
-                "Ask for the stable form: condition S5 in place of C5",
-            ))?
-            .arg(switch_arg(alloc, "no-exhaustive", "Leave out the condition Exhaustive"))?
+            .arg(stable_arg(alloc))?
+            .arg(no_exhaustive_arg(alloc))?
+            .arg(cover_arg(alloc))?
             .arg(outcome_arg(alloc))?
             .after_help(PRICES_NOTES),
     )
@@ -83,6 +86,33 @@ fn violation_command<'a>(alloc: Global) -> Result<Command<'a>, AllocError>
     )
 }
 
+fn both_command<'a>(alloc: Global) -> Result<Command<'a>, AllocError>
+    ensures { IfOk result (IsCommand both_app) }
+{
+    Ok(
+        Command::new(alloc, "both")
+            .about("Check a price certificate and a violation certificate for one outcome")
+            .arg(election_arg(alloc))?
+            .arg(path_arg(
+                alloc,
+                "prices",
+                "PRICES",
+                "The price certificate, a CSV file",
+            ))?
+            .arg(path_arg(
+                alloc,
+                "violation",
+                "VIOLATION",
+                "The violation certificate, a CSV file",
+            ))?
+            .arg(stable_arg(alloc))?
+            .arg(no_exhaustive_arg(alloc))?
+            .arg(cover_arg(alloc))?
+            .arg(outcome_arg(alloc))?
+            .after_help(BOTH_NOTES),
+    )
+}
+
 fn tidy_command<'a>(alloc: Global) -> Result<Command<'a>, AllocError>
     ensures { IfOk result (IsCommand tidy_app) }
 {
@@ -92,6 +122,25 @@ fn tidy_command<'a>(alloc: Global) -> Result<Command<'a>, AllocError>
             .arg(election_arg(alloc))?
             .arg(price_certificate_arg(alloc))?
             .after_help(TIDY_NOTES),
+    )
+}
+
+fn folder_command<'a>(alloc: Global) -> Result<Command<'a>, AllocError>
+    ensures { IfOk result (IsCommand folder_app) }
+{
+    Ok(
+        Command::new(alloc, "folder")
+            .about("Audit the elections of a folder with their certificates")
+            .arg(path_arg(
+                alloc,
+                "folder",
+                "FOLDER",
+                "The folder of elections and certificates",
+            ))?
+            .arg(stable_arg(alloc))?
+            .arg(no_exhaustive_arg(alloc))?
+            .arg(cover_arg(alloc))?
+            .after_help(FOLDER_NOTES),
     )
 }
 
@@ -130,6 +179,34 @@ fn path_arg<'a>(alloc: Global, id: &'a str, name: &'a str, help: &'a str) -> Arg
         .required(true)
         .value_name(name)
         .help(help)
+}
+
+/// The switch that asks for the stable form.
+fn stable_arg<'a>(alloc: Global) -> Arg<'a>
+    ensures rule { rule_of result ≡ switch_rule (codes "stable") }
+    ensures local { result.global ≡ false }
+{
+    switch_arg(
+        alloc,
+        "stable",
+        "Ask for the stable form: condition S5 in place of C5",
+    )
+}
+
+/// The switch that leaves out a condition.
+fn no_exhaustive_arg<'a>(alloc: Global) -> Arg<'a>
+    ensures rule { rule_of result ≡ switch_rule (codes "no-exhaustive") }
+    ensures local { result.global ≡ false }
+{
+    switch_arg(alloc, "no-exhaustive", "Leave out the condition Exhaustive")
+}
+
+/// The switch that adds a condition.
+fn cover_arg<'a>(alloc: Global) -> Arg<'a>
+    ensures rule { rule_of result ≡ switch_rule (codes "cover") }
+    ensures local { result.global ≡ false }
+{
+    switch_arg(alloc, "cover", "Add the condition Cover")
 }
 
 /// A switch, off unless its name is among the words.

@@ -19,7 +19,9 @@ Examples:
   pbaudit < town.pb
   pbaudit prices town.pb prices.csv --stable
   pbaudit violation town.pb violation.csv
-  pbaudit tidy town.pb prices.csv > canonical.csv";
+  pbaudit both town.pb prices.csv violation.csv --stable --cover
+  pbaudit tidy town.pb prices.csv > canonical.csv
+  pbaudit folder elections";
 
 /// What `read` prints.
 pub(crate) const READ_NOTES: &str = "\
@@ -48,10 +50,12 @@ pays for each project, all as whole numbers over one denominator:
   1,park,3
 Here every voter has a budget of 9/2, and voter 1 pays 3/2 for the project
 'park'. Voters are numbered from 1 by their rows in the election, whatever its
-column 'voter_id' says. The certificate supports the outcome where these
-conditions hold, which are tried in this order:
+column 'voter_id' says, and do not fall from row to row. The denominator is at
+most 1000000000. The certificate supports the outcome where these conditions
+hold, which are tried in this order:
   Feasible    the funded projects cost no more than the budget limit in all
   Exhaustive  no unfunded project still fits within the budget limit
+  Cover       the voter budgets of all voters add up to more than the budget limit
   C1          a voter pays only for projects of the voter's own ballot
   C2          a voter pays no more than the voter budget in all
   C3          the payments for a funded project add up to its cost
@@ -60,7 +64,8 @@ conditions hold, which are tried in this order:
               to no more than its cost
   S5          the same sum, where for each supporter the largest single payment
               counts if it is more than what is left over
-C5 is tried without --stable, S5 with it. The supporters of a project are the
+C5 is tried without --stable, S5 with it; Exhaustive without --no-exhaustive,
+and Cover with --cover. The supporters of a project are the
 voters whose ballots hold it.
 
 Prints 'supported priceable' or 'supported stable', or the first condition that
@@ -93,8 +98,13 @@ justified representation (EJR) where each of these tests is passed:
   V2  every voter of the group approves every project of the demand
   V3  the group's share of the budget limit, by its share of all voters, covers
       the costs of the demand
-  V4  every voter of the group approves fewer funded projects than are demanded
-They are tried in this order.
+  V4  the funded projects that a voter of the group approves are worth less than
+      the demand
+They are tried in this order. Each project is worth 1. A certificate that begins
+with these two records measures by cost, and each project is then worth what it
+costs:
+  pb-violation,2
+  satisfaction,cost
 
 Prints 'violation', or the first test that fails, with the lowest voter and then
 its lowest project where it names one:
@@ -109,6 +119,29 @@ Exit statuses: 0 violation, 1 failed, 2 refused, 3 usage, 4 fault.
 Examples:
   pbaudit violation town.pb violation.csv
   pbaudit violation town.pb violation.csv --outcome outcome.csv";
+
+/// What `both` checks.
+pub(crate) const BOTH_NOTES: &str = "\
+Checks a price certificate as 'prices' does, and a violation certificate as
+'violation' does, for the same election and outcome. Prints a line for each, that
+of the prices first:
+  supported stable
+  failed V4 voter 1
+With --stable and --cover, 'supported stable' never stands beside 'violation' for
+a certificate that counts projects: prices of this kind prove that no group and no
+demand are a violation by counting. In other modes, and by cost, both may be a yes.
+
+The inputs are taken in this order: the election, the outcome file, the price
+certificate, the violation certificate. The first that is refused gives the only
+line, and the certificates go by the names 'prices' and 'violation' in it:
+  refused violation 21 BadHead record 1
+
+Exit statuses: 0 supported and a violation, 1 a condition or a test failed,
+2 refused, 3 usage, 4 fault.
+
+Examples:
+  pbaudit both town.pb prices.csv violation.csv --stable --cover
+  pbaudit both town.pb prices.csv violation.csv --outcome outcome.csv";
 
 /// What `tidy` prints.
 pub(crate) const TIDY_NOTES: &str = "\
@@ -136,3 +169,34 @@ Exit statuses: 0 printed, 2 refused, 3 usage, 4 fault.
 
 Example:
   pbaudit tidy town.pb prices.csv > canonical.csv";
+
+/// What `folder` audits.
+pub(crate) const FOLDER_NOTES: &str = "\
+The names of the files say which belong together. In a folder with these files
+  krakow-2023.pb
+  krakow-2023.prices.csv
+  krakow-2023.violation.csv
+  lodz-2022.pb
+  lodz-2022.prices.csv
+  notes.txt
+there are two elections: krakow-2023 has a price certificate and a violation
+certificate, and lodz-2022 has a price certificate. Other files are passed over,
+and so are folders and links.
+
+The elections are taken in the order of their names, byte by byte. Each election
+has a line, as with 'read' but without notes, and each certificate of an
+election that is accepted has one, as with 'prices' and 'violation'. Each line
+begins with the name of the file. The last line has the numbers of elections, of
+certificates that are answered yes and no, and of files that are refused:
+  krakow-2023.pb: read 3 voters 3 projects 2 funded
+  krakow-2023.prices.csv: supported priceable
+  krakow-2023.violation.csv: failed V4 voter 1
+  lodz-2022.pb: refused election 2 NoMeta record 1
+  total 2 elections 1 yes 1 no 1 refused
+The outcomes are the elections' own: outcome files are not looked for.
+
+Exit statuses: 0 nothing refused and no certificate failed, 1 nothing refused
+and a certificate failed, 2 a file is refused, 3 usage, 4 fault.
+
+Example:
+  pbaudit folder elections --stable";

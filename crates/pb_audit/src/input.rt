@@ -1,29 +1,13 @@
-//! Inputs: what a reader delivers of one, and what it states.
-ghost use Rattle.std.specs.Prelude.{◌≡◌, IfOk, IfErr};
-ghost use Rattle.pb_election.specs.Loading.{Delivered};
-ghost use Rattle.pb_election.specs.Loading as delivery;
-ghost use Rattle.pb_audit.specs.Inputs.{most_bytes, name_of, refusal_of};
-ghost use Rattle.pb_audit.specs.Taking.{IsUnloaded, delivery_of, wants_memory};
+//! Inputs: their names, and why the work on them stops.
+ghost use Rattle.std.specs.Prelude.{◌≡◌};
+ghost use Rattle.pb_audit.specs.Inputs.{name_of, refusal_of};
+ghost use Rattle.pb_audit.specs.Taking.{wants_memory};
 ghost use Rattle.pb_audit.specs.Taking as spec;
 ghost use Rattle.pb_audit.specs.declared.input.Stop.TheVariants.{Memory};
 
 use pb_certificate::{CertFault, CertRefusal};
-use pb_election::{ElectionFault, LoadFault, Refusal, Source, load};
-use std::alloc::{AllocError, Global};
-
-/// How many bytes an input has at most: 2^28.
-const MOST_BYTES: usize = 268_435_456;
-
-/// What a reader delivered of an input.
-#[derive(Drop)]
-pub(crate) enum Loaded {
-    /// All of its bytes.
-    Bytes(Vec<u8>),
-    /// The reader failed.
-    Unread,
-    /// It has more than 2^28 bytes.
-    TooLong,
-}
+use pb_election::{ElectionFault, Refusal};
+use std::alloc::AllocError;
 
 /// The inputs, by the names that refusals are printed with.
 #[derive(Clone, Copy)]
@@ -31,6 +15,10 @@ pub(crate) enum InputName {
     Election,
     Outcome,
     Certificate,
+    /// The price certificate, where a violation certificate stands beside it.
+    Prices,
+    /// The violation certificate, where a price certificate stands beside it.
+    Violation,
 }
 
 /// Why an input is refused.
@@ -51,7 +39,7 @@ pub(crate) enum InputFault {
 pub(crate) enum Stop {
     /// This input is refused.
     Refused { input: InputName, fault: InputFault },
-    /// A growth was refused.
+    /// Memory was wanted.
     Memory,
 }
 
@@ -71,6 +59,8 @@ impl InputName {
             InputName::Election => "election",
             InputName::Outcome => "outcome",
             InputName::Certificate => "certificate",
+            InputName::Prices => "prices",
+            InputName::Violation => "violation",
         }
     }
 }
@@ -110,7 +100,7 @@ impl InputFault {
         }
     }
 
-    /// Whether the fault is not one of the input: a growth was refused.
+    /// Whether the fault is not one of the input: memory was wanted.
     fn wants_memory(&self) -> bool
         ensures { result ≡ wants_memory self.now }
     {
@@ -130,34 +120,4 @@ pub(crate) fn stop_at(input: InputName, fault: InputFault) -> Stop
         return Stop::Memory;
     }
     Stop::Refused { input, fault }
-}
-
-/// What a reader delivers.
-pub(crate) fn load_input<R: Source>(alloc: Global, source: &mut R) -> Result<Loaded, AllocError>
-    ensures { IfOk result (λ loaded. Delivered (R.left source.old) (R.counts source.old) (R.counts source.new) most_bytes (delivery_of loaded)) }
-{
-    match load(alloc, source, MOST_BYTES) {
-        Ok(bytes) => Ok(Loaded::Bytes(bytes)),
-        Err(LoadFault::Read) => Ok(Loaded::Unread),
-        Err(LoadFault::TooLong) => Ok(Loaded::TooLong),
-        Err(LoadFault::Memory) => Err(AllocError {}),
-    }
-}
-
-/// The bytes of an input of this name, where they were delivered.
-pub(crate) fn bytes_of(input: InputName, loaded: &Loaded) -> Result<&[u8], Stop>
-    ensures bytes { IfOk result (λ bytes. delivery_of loaded.now ≡ delivery.Bytes bytes.now) }
-    ensures refused { IfErr result (IsUnloaded input (delivery_of loaded.now)) }
-{
-    match loaded {
-        Loaded::Bytes(bytes) => Ok(bytes),
-        Loaded::Unread => Err(Stop::Refused {
-            input,
-            fault: InputFault::Unread,
-        }),
-        Loaded::TooLong => Err(Stop::Refused {
-            input,
-            fault: InputFault::TooLong,
-        }),
-    }
 }

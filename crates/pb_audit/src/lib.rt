@@ -1,26 +1,40 @@
-//! The auditor: what each command asks for, and what it writes by what its inputs deliver.
+//! The auditor: what each command answers, over files in memory and over readers, the report on a folder, and what words ask
+//! for.
 #![tactic(auto)]
 
 mod answer;
+mod both_engine;
 mod command;
+mod folder;
+mod folder_report;
+mod found;
 mod help;
 mod input;
 mod lines;
+mod loaded;
 mod price_engine;
 mod read_engine;
+mod report;
 mod status;
 mod taking;
 mod task;
 mod tidy_engine;
+mod total;
 mod verdict_lines;
 mod violation_engine;
 
-pub use price_engine::run_prices;
-pub use read_engine::run_read;
+pub use answer::{Answer, Reply};
+pub use both_engine::{both_reply, run_both};
+pub use folder::{Entry, folder_text};
+pub use folder_report::FolderReport;
+pub use loaded::Loaded;
+pub use price_engine::{prices_reply, run_prices};
+pub use read_engine::{read_reply, run_read};
+pub use report::Report;
 pub use status::{Fault, Status};
 pub use task::{Task, UsageFault, task_of};
-pub use tidy_engine::run_tidy;
-pub use violation_engine::run_violation;
+pub use tidy_engine::{run_tidy, tidy_answer};
+pub use violation_engine::{run_violation, violation_reply};
 
 #[cfg(test)]
 mod tests;

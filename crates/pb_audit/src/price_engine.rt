@@ -1,25 +1,49 @@
 //! Auditing prices: whether they support an outcome.
-ghost use Rattle.std.specs.Prelude.{◌≡◌, ◌≢◌, IfOk, IfSome, IsErrOf};
-ghost use Rattle.pb_audit.specs.Answers.{AnswersPrices, HoldsOfInputs, answer_of};
+ghost use Rattle.std.specs.Prelude.{◌≡◌, IfOk, IfSome, Ok, option_copied, option_map};
+ghost use Rattle.pb_audit.specs.Answers.{AnswersPriceFiles, AnswersPrices, price_reply};
 ghost use Rattle.pb_audit.specs.Answers as spec;
-ghost use Rattle.pb_audit.specs.Inputs.{StatesPrices, file_reading, reading};
-ghost use Rattle.pb_audit.specs.Promises.{PricesPromise};
-ghost use Rattle.pb_audit.specs.Taking as taken;
-ghost use Rattle.pb_audit.specs.Writing.{IsCutShort, IsWritten};
-ghost use Rattle.pb_certificate.specs.Prices as certificates;
-ghost use Rattle.pb_election.specs.Loading.{Rises};
-ghost use Rattle.pb_election.specs.Outcome as outcomes;
+ghost use Rattle.pb_audit.specs.Inputs.{StatesElection, StatesPrices};
+ghost use Rattle.pb_audit.specs.Loaded.{lent};
+ghost use Rattle.pb_audit.specs.Named.{PricesNameProject};
+ghost use Rattle.pb_audit.specs.Readers.{ReadsPrices, TellsReply, file_reading, reading};
+ghost use Rattle.pb_audit.specs.Taking.{AnswersCertificate, IfTaken, JudgesPrices, settled};
+ghost use Rattle.pb_audit.specs.Writing.{Writes};
+ghost use Rattle.pb_election.specs.Outcome.{Fits};
+ghost use Rattle.pb_records.specs.Loading.{Delivery};
 
-use crate::answer::{Answer, settled};
-use crate::input::Stop;
-use crate::lines::push_line;
-use crate::taking::{take_election, take_outcome, take_prices};
+use crate::answer::{Reply, one_line, settled, write_reply};
+use crate::input::{InputFault, InputName, Stop, stop_at};
+use crate::loaded::{File, Loaded, bytes_of, optional_file};
+use crate::taking::{election_of, outcome_of, take_election, take_outcome};
 use crate::verdict_lines::{price_line, price_status};
 use crate::{Fault, Status};
-use pb_certificate::Prices;
 use pb_election::{Election, Outcome, Sink, Source};
-use pb_price::{Mode, check};
+use pb_price::{Mode, Verdict, check_rows};
 use std::alloc::{AllocError, Global};
+
+/// The reply on an election, an outcome file where one is given, and a price certificate, all in memory: the line of the
+/// verdict on the prices, or why a file is refused. Without an outcome file the outcome is the election's own. The first
+/// file that is refused decides, in this order; more than 2^28 bytes are refused as too long. The error is want of memory.
+pub fn prices_reply(
+    alloc: Global,
+    election: &[u8],
+    outcome: Option<&[u8]>,
+    certificate: &[u8],
+    mode: Mode,
+) -> Result<Reply, AllocError>
+    // The reply is the one on these bytes. Where no file is refused, its status is yes exactly where the prices support the
+    // outcome; a yes speaks of every group, and a no by C5 or S5 of the supporters of the project that it names.
+    ensures { IfOk result (AnswersPriceFiles mode election.now (option_copied outcome.entry) certificate.now) }
+{
+    let work = price_work(
+        alloc,
+        File::in_memory(election),
+        optional_file(outcome),
+        File::in_memory(certificate),
+        mode,
+    );
+    settled(alloc, work)
+}
 
 /// Reads an election, an outcome file where one is given, and a price certificate, of at most 2^28 bytes each, and
 /// writes the line of the verdict on the prices, or why an input is refused. Without an outcome file the outcome is the
@@ -32,63 +56,106 @@ pub fn run_prices<E: Source, O: Source, C: Source, W: Sink>(
     mode: Mode,
     out: &mut W,
 ) -> Result<Status, Fault>
-    // The text and the status are those of the answer on what the readers delivered.
-    ensures written { IfOk result (λ status. IsWritten (AnswersPrices mode (reading E.left E.counts election.old election.new) (file_reading O.left O.counts outcome.old outcome.new) (reading C.left C.counts certificate.old certificate.new)) status (W.holds out.old) (W.holds out.new)) }
-
-    // Where the writer failed, a front of that text was written.
-    ensures cut_short { IsErrOf result Fault.Write → IsCutShort (AnswersPrices mode (reading E.left E.counts election.old election.new) (file_reading O.left O.counts outcome.old outcome.new) (reading C.left C.counts certificate.old certificate.new)) (W.holds out.old) (W.holds out.new) }
-    ensures failed { IsErrOf result Fault.Write → Rises (W.counts out.old).failures (W.counts out.new).failures }
-
-    // Where memory was wanted, nothing was written.
-    ensures memory { IsErrOf result Fault.Memory → out.new ≡ out.old }
-
-    // Where no input is refused, the status is yes exactly where the prices support the outcome; a yes speaks of every group,
-    // and a no by C5 or S5 of the supporters of the project that it names.
-    ensures promises { IfOk result (λ status. status ≢ Status.Refused → HoldsOfInputs StatesPrices (PricesPromise mode status) (reading E.left E.counts election.old election.new) (file_reading O.left O.counts outcome.old outcome.new) (reading C.left C.counts certificate.old certificate.new)) }
+    // The text of the reply on what the readers delivered is written, or a front of it where the writer failed. The reply is
+    // that of `prices_reply`, with what its status promises.
+    ensures { Writes W.holds W.counts (TellsReply (ReadsPrices mode (reading E.left E.counts election.old election.new) (file_reading O.left O.counts outcome.old outcome.new) (reading C.left C.counts certificate.old certificate.new))) result out.old out.new }
 {
-    let work = price_work(alloc, election, outcome, certificate, mode);
-    let answer = settled(alloc, work)?;
-    answer.write(out)
+    let work = take_work(alloc, election, outcome, certificate, mode);
+    let reply = settled(alloc, work)?;
+    write_reply(alloc, &reply, out)
 }
 
-/// The answer on the election, the outcome and the prices.
-#[tactic(auto, using(crate::proofs::Audits::election_refused, crate::proofs::Audits::outcome_refused, crate::proofs::Audits::certificate_refused, crate::proofs::Audits::all_accepted))]
-fn price_work<E: Source, O: Source, C: Source>(
+/// The reply on what files state.
+fn price_work(
+    alloc: Global,
+    election: File<'_>,
+    outcome: Option<File<'_>>,
+    certificate: File<'_>,
+    mode: Mode,
+) -> Result<Reply, Stop>
+    ensures { IfSome (settled result) (AnswersPrices mode (lent election.entry) (option_map lent outcome.entry) (lent certificate.entry)) }
+{
+    let election = election_of(alloc, election)?;
+    prices_for(alloc, &election, outcome, certificate, mode)
+}
+
+/// The reply on prices for an election that was accepted.
+pub(crate) fn prices_for(
+    alloc: Global,
+    election: &Election,
+    outcome: Option<File<'_>>,
+    certificate: File<'_>,
+    mode: Mode,
+) -> Result<Reply, Stop>
+    ensures { (file : Delivery) → StatesElection file (Ok election.now) → IfSome (settled result) (AnswersPrices mode file (option_map lent outcome.entry) (lent certificate.entry)) }
+{
+    let outcome = outcome_of(alloc, outcome, election)?;
+    prices_on(alloc, election, &outcome, certificate, mode)
+}
+
+/// The reply on what readers deliver.
+fn take_work<E: Source, O: Source, C: Source>(
     alloc: Global,
     election: &mut E,
     outcome: &mut Option<O>,
     certificate: &mut C,
     mode: Mode,
-) -> Result<Answer, Stop>
-    ensures { IfSome (taken.settled result) (AnswersPrices mode (reading E.left E.counts election.old election.new) (file_reading O.left O.counts outcome.old outcome.new) (reading C.left C.counts certificate.old certificate.new)) }
+) -> Result<Reply, Stop>
+    ensures { IfSome (settled result) (ReadsPrices mode (reading E.left E.counts election.old election.new) (file_reading O.left O.counts outcome.old outcome.new) (reading C.left C.counts certificate.old certificate.new)) }
 {
     let election = take_election(alloc, election)?;
     let outcome = take_outcome(alloc, outcome, &election)?;
-    let prices = take_prices(alloc, certificate, &election)?;
-    Ok(price_answer(alloc, &election, &outcome, &prices, mode)?)
+    let certificate = Loaded::load(alloc, certificate)?;
+    prices_on(alloc, &election, &outcome, certificate.lend(), mode)
 }
 
-/// The line of the verdict, and how it ends.
-#[tactic(auto, using(crate::proofs::Culprits::prices_name_projects))]
-fn price_answer(
+/// The reply on a certificate for an election and an outcome that were accepted.
+fn prices_on(
     alloc: Global,
     election: &Election,
     outcome: &Outcome,
-    prices: &Prices,
+    certificate: File<'_>,
     mode: Mode,
-) -> Result<Answer, AllocError>
-    requires outcome { outcomes.Fits outcome.now election.now }
-    requires prices { certificates.Fits prices.now election.now }
-    ensures { IfOk result (λ answer. answer ≡ answer_of (spec.price_reply mode election.now (outcome.now).marks prices.now)) }
+) -> Result<Reply, Stop>
+    requires { Fits outcome.now election.now }
+    ensures { IfSome (settled result) (AnswersCertificate (StatesPrices InputName.Certificate) (price_reply mode) election.now (outcome.now).marks (lent certificate.entry)) }
 {
-    let verdict = check(alloc, election, outcome, prices, mode)?;
-    let mut text = Vec::new(alloc);
-    push_line(
-        &mut text,
-        &price_line(alloc, election, verdict, mode.stable)?,
-    )?;
-    Ok(Answer {
-        text,
-        status: price_status(verdict),
-    })
+    let input = InputName::Certificate;
+    let verdict = price_verdict(alloc, election, outcome, input, certificate, mode)?;
+    Ok(verdict_reply(alloc, election, verdict, mode)?)
+}
+
+/// The line of a verdict on prices.
+pub(crate) fn verdict_reply(
+    alloc: Global,
+    election: &Election,
+    verdict: Verdict,
+    mode: Mode,
+) -> Result<Reply, AllocError>
+    requires { PricesNameProject election.now verdict }
+    ensures { IfOk result (λ reply. reply ≡ spec.verdict_reply mode election.now verdict) }
+{
+    let line = price_line(alloc, election, verdict, mode.stable)?;
+    one_line(alloc, line, price_status(verdict))
+}
+
+/// The verdict on the prices that a certificate states, as the input of this name.
+#[tactic(auto, using(crate::proofs::Culprits::prices_name_projects))]
+pub(crate) fn price_verdict(
+    alloc: Global,
+    election: &Election,
+    outcome: &Outcome,
+    input: InputName,
+    certificate: File<'_>,
+    mode: Mode,
+) -> Result<Verdict, Stop>
+    requires { Fits outcome.now election.now }
+    ensures verdict { IfTaken result (JudgesPrices input mode election.now (outcome.now).marks (lent certificate.entry)) }
+    ensures projects { IfOk result (PricesNameProject election.now) }
+{
+    let bytes = bytes_of(input, certificate)?;
+    match check_rows(alloc, election, outcome, bytes, mode) {
+        Ok(checked) => Ok(checked.verdict),
+        Err(refusal) => Err(stop_at(input, InputFault::Certificate(refusal))),
+    }
 }

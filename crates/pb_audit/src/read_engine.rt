@@ -1,19 +1,30 @@
 //! Reading an election and telling what is in it.
-ghost use Rattle.std.specs.Prelude.{◌≡◌, IfOk, IfSome, IsErrOf};
-ghost use Rattle.pb_audit.specs.Answers.{AnswersRead, ReadOut};
-ghost use Rattle.pb_audit.specs.Taking.{settled};
-ghost use Rattle.pb_audit.specs.Inputs.{reading};
+ghost use Rattle.std.specs.Prelude.{◌≡◌, IfOk, IfSome};
+ghost use Rattle.pb_audit.specs.Answers.{AnswersElection, AnswersElectionFile, read_reply};
 ghost use Rattle.pb_audit.specs.Lines as spec;
-ghost use Rattle.pb_audit.specs.Writing.{IsCutShort, IsWritten};
-ghost use Rattle.pb_election.specs.Loading.{Rises};
+ghost use Rattle.pb_audit.specs.Loaded.{lent};
+ghost use Rattle.pb_audit.specs.Readers.{ReadsElection, TellsReply, reading};
+ghost use Rattle.pb_audit.specs.Taking.{settled};
+ghost use Rattle.pb_audit.specs.Writing.{Writes};
 
-use crate::answer::{Answer, settled};
+use crate::answer::{Reply, settled, write_reply};
 use crate::input::Stop;
-use crate::lines::{push_line, push_notes, read_line};
-use crate::taking::take_election;
+use crate::lines::{push_notes, read_line};
+use crate::loaded::File;
+use crate::taking::{election_of, take_election};
 use crate::{Fault, Status};
 use pb_election::{Election, Outcome, Sink, Source};
 use std::alloc::{AllocError, Global};
+
+/// The reply on an election in memory: the line on it with the notes, or why it is refused. More than 2^28 bytes are
+/// refused as too long. The error is want of memory.
+pub fn read_reply(alloc: Global, election: &[u8]) -> Result<Reply, AllocError>
+    // The reply is the one on these bytes.
+    ensures { IfOk result (AnswersElectionFile election.now) }
+{
+    let work = read_work(alloc, File::in_memory(election));
+    settled(alloc, work)
+}
 
 /// Reads an election of at most 2^28 bytes, and writes the line on it with the notes, or why it is refused.
 /// The whole text is made first and then written.
@@ -22,39 +33,40 @@ pub fn run_read<R: Source, W: Sink>(
     election: &mut R,
     out: &mut W,
 ) -> Result<Status, Fault>
-    // The text and the status are those of the answer on what the reader delivered.
-    ensures written { IfOk result (λ status. IsWritten (AnswersRead (reading R.left R.counts election.old election.new)) status (W.holds out.old) (W.holds out.new)) }
-
-    // Where the writer failed, a front of that text was written.
-    ensures cut_short { IsErrOf result Fault.Write → IsCutShort (AnswersRead (reading R.left R.counts election.old election.new)) (W.holds out.old) (W.holds out.new) }
-    ensures failed { IsErrOf result Fault.Write → Rises (W.counts out.old).failures (W.counts out.new).failures }
-
-    // Where memory was wanted, nothing was written.
-    ensures memory { IsErrOf result Fault.Memory → out.new ≡ out.old }
+    // The text of the reply on what the reader delivered is written, or a front of it where the writer failed.
+    ensures { Writes W.holds W.counts (TellsReply (ReadsElection (reading R.left R.counts election.old election.new))) result out.old out.new }
 {
-    let work = read_work(alloc, election);
-    let answer = settled(alloc, work)?;
-    answer.write(out)
+    let work = take_work(alloc, election);
+    let reply = settled(alloc, work)?;
+    write_reply(alloc, &reply, out)
 }
 
-/// The answer on the election that a reader delivers.
-fn read_work<R: Source>(alloc: Global, election: &mut R) -> Result<Answer, Stop>
-    ensures { IfSome (settled result) (AnswersRead (reading R.left R.counts election.old election.new)) }
+/// The reply on an election that a file states.
+fn read_work(alloc: Global, election: File<'_>) -> Result<Reply, Stop>
+    ensures { IfSome (settled result) (AnswersElection (lent election.entry)) }
+{
+    let election = election_of(alloc, election)?;
+    Ok(election_reply(alloc, &election)?)
+}
+
+/// The reply on an election that a reader delivers.
+fn take_work<R: Source>(alloc: Global, election: &mut R) -> Result<Reply, Stop>
+    ensures { IfSome (settled result) (ReadsElection (reading R.left R.counts election.old election.new)) }
 {
     let election = take_election(alloc, election)?;
-    Ok(read_answer(alloc, &election)?)
+    Ok(election_reply(alloc, &election)?)
 }
 
 /// The line on an election that was read, and the notes.
-fn read_answer(alloc: Global, election: &Election) -> Result<Answer, AllocError>
-    ensures { IfOk result (λ answer. answer ≡ ReadOut (Ok election.now)) }
+pub(crate) fn election_reply(alloc: Global, election: &Election) -> Result<Reply, AllocError>
+    ensures { IfOk result (λ reply. reply ≡ read_reply (Ok election.now)) }
 {
     let funded = funded_count(alloc, election)?;
-    let mut text = Vec::new(alloc);
-    push_line(&mut text, &read_line(alloc, election, funded)?)?;
-    push_notes(alloc, &mut text, election)?;
-    Ok(Answer {
-        text,
+    let mut lines = Vec::new(alloc);
+    lines.push(read_line(alloc, election, funded)?)?;
+    push_notes(alloc, &mut lines, election)?;
+    Ok(Reply {
+        lines,
         status: Status::Yes,
     })
 }

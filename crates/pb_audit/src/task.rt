@@ -46,12 +46,32 @@ pub enum Task {
         /// The outcome file.
         outcome: Option<String>,
     },
+    /// Check a price certificate and a violation certificate, with the outcome as for prices.
+    Both {
+        /// The election.
+        election: String,
+        /// The price certificate.
+        prices: String,
+        /// The violation certificate.
+        violation: String,
+        /// The outcome file.
+        outcome: Option<String>,
+        /// Which conditions are asked for.
+        mode: Mode,
+    },
     /// Write a price certificate in its canonical form.
     Tidy {
         /// The election.
         election: String,
         /// The price certificate.
         certificate: String,
+    },
+    /// Audit the elections of a folder with their certificates.
+    Folder {
+        /// The folder.
+        folder: String,
+        /// Which conditions are asked for.
+        mode: Mode,
     },
 }
 
@@ -62,7 +82,7 @@ pub enum UsageFault {
     Help(String),
     /// The words are not understood. The text is for standard error.
     Usage(String),
-    /// Memory ran out.
+    /// Memory was wanted.
     Memory,
 }
 
@@ -78,7 +98,8 @@ impl From<AllocError> for UsageFault {
 ///
 /// # Errors
 /// `Help` where the words ask for help or the version, `Usage` where they are no line of a
-/// command, and `Memory` where memory ran out.
+/// command, and `Memory` where memory was wanted, which comes only where a growth was refused; that is
+/// tested and not proved.
 pub fn task_of(alloc: Global, words: Vec<String>) -> Result<Task, UsageFault>
     ensures task { IfOk result (λ t. Some (asked t) ≡ TaskOf (map string_bytes words.items)) }
     ensures taken { takes pbaudit (map string_bytes words.items) ≡ true
@@ -134,7 +155,9 @@ fn command_task(
         "read" => read_task(alloc, matches),
         "prices" => prices_task(alloc, matches),
         "violation" => violation_task(alloc, matches),
+        "both" => both_task(alloc, matches),
         "tidy" => tidy_task(alloc, matches),
+        "folder" => folder_task(alloc, matches),
         _ => Ok(None),
     }
 }
@@ -181,6 +204,25 @@ fn violation_task(alloc: Global, matches: &ArgMatches<'_>) -> Result<Option<Task
     }
 }
 
+fn both_task(alloc: Global, matches: &ArgMatches<'_>) -> Result<Option<Task>, AllocError>
+    ensures { IfOk result (λ t. option_map asked t ≡ asked_by (codes "both") (rows_of (found_of matches.now))) }
+{
+    let election = path_of(alloc, matches, "election")?;
+    let prices = path_of(alloc, matches, "prices")?;
+    let violation = path_of(alloc, matches, "violation")?;
+    let outcome = path_of(alloc, matches, "outcome")?;
+    match (election, prices, violation) {
+        (Some(election), Some(prices), Some(violation)) => Ok(Some(Task::Both {
+            election,
+            prices,
+            violation,
+            outcome,
+            mode: mode_of(matches),
+        })),
+        _ => Ok(None),
+    }
+}
+
 fn tidy_task(alloc: Global, matches: &ArgMatches<'_>) -> Result<Option<Task>, AllocError>
     ensures { IfOk result (λ t. option_map asked t ≡ asked_by (codes "tidy") (rows_of (found_of matches.now))) }
 {
@@ -195,6 +237,18 @@ fn tidy_task(alloc: Global, matches: &ArgMatches<'_>) -> Result<Option<Task>, Al
     }
 }
 
+fn folder_task(alloc: Global, matches: &ArgMatches<'_>) -> Result<Option<Task>, AllocError>
+    ensures { IfOk result (λ t. option_map asked t ≡ asked_by (codes "folder") (rows_of (found_of matches.now))) }
+{
+    match path_of(alloc, matches, "folder")? {
+        Some(folder) => Ok(Some(Task::Folder {
+            folder,
+            mode: mode_of(matches),
+        })),
+        None => Ok(None),
+    }
+}
+
 /// The path that the words give for the argument.
 fn path_of(alloc: Global, matches: &ArgMatches<'_>, id: &str) -> Result<Option<String>, AllocError>
     ensures { IfOk result (λ o. option_map string_bytes o ≡ first_of id.now (rows_of (found_of matches.now))) }
@@ -205,13 +259,14 @@ fn path_of(alloc: Global, matches: &ArgMatches<'_>, id: &str) -> Result<Option<S
     }
 }
 
-/// The mode that the switches choose: plain and exhaustive without any.
+/// The mode that the switches choose: plain, with Exhaustive and without Cover where there is none.
 fn mode_of(matches: &ArgMatches<'_>) -> Mode
     ensures { result ≡ mode_in (rows_of (found_of matches.now)) }
 {
     Mode {
         stable: is_given(matches, "stable"),
         exhaustive: !is_given(matches, "no-exhaustive"),
+        cover: is_given(matches, "cover"),
     }
 }
 

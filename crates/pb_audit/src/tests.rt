@@ -1,2 +1,5 @@
-//! Tests of what no contract says.
+//! Tests of what no contract says, and one run of each call over files in memory.
 mod command_line;
+mod files_in_memory;
+mod folders;
+mod samples;

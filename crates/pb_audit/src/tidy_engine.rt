@@ -1,20 +1,34 @@
 //! Writing a price certificate in its canonical form.
-ghost use Rattle.std.specs.Prelude.{◌≡◌, IfErr, IfOk, IfSome, IsErrOf, Ok};
-ghost use Rattle.pb_audit.specs.Answers.{AnswersTidy, TidyInputs};
-ghost use Rattle.pb_audit.specs.Answers as spec;
-ghost use Rattle.pb_audit.specs.Inputs.{reading};
-ghost use Rattle.pb_audit.specs.Taking as taken;
-ghost use Rattle.pb_audit.specs.Writing.{IsCutShort, IsWritten};
-ghost use Rattle.pb_certificate.specs.Prices.{Fits};
-ghost use Rattle.pb_election.specs.Loading.{Rises};
+ghost use Rattle.std.specs.Prelude.{◌≡◌, IfOk, IfSome, Some};
+ghost use Rattle.pb_audit.specs.Answers.{AnswersTidy, AnswersTidyFiles};
+ghost use Rattle.pb_audit.specs.Loaded.{lent};
+ghost use Rattle.pb_audit.specs.Readers.{ReadsTidy, reading};
+ghost use Rattle.pb_audit.specs.Taking.{IfTaken, TidiesPrices, settled_answer};
+ghost use Rattle.pb_audit.specs.Taking as spec;
+ghost use Rattle.pb_audit.specs.Writing.{Writes};
 
-use crate::answer::stopped;
-use crate::input::Stop;
-use crate::taking::{take_election, take_prices};
+use crate::answer::{Answer, stopped};
+use crate::input::{InputFault, InputName, Stop, stop_at};
+use crate::loaded::{File, Loaded, bytes_of};
+use crate::taking::{election_of, take_election};
 use crate::{Fault, Status};
-use pb_certificate::{Prices, WriteFault};
+use pb_certificate::canonical_text_of;
 use pb_election::{Election, Sink, Source};
-use std::alloc::Global;
+use std::alloc::{AllocError, Global};
+
+/// The answer on an election and a price certificate for it, both in memory: the certificate's canonical text, or why a
+/// file is refused, the election first; more than 2^28 bytes are refused as too long. The error is want of memory.
+pub fn tidy_answer(alloc: Global, election: &[u8], certificate: &[u8]) -> Result<Answer, AllocError>
+    // The answer is the one on these bytes.
+    ensures { IfOk result (AnswersTidyFiles election.now certificate.now) }
+{
+    let work = tidy_work(
+        alloc,
+        File::in_memory(election),
+        File::in_memory(certificate),
+    );
+    settled_answer(alloc, work)
+}
 
 /// Reads an election and a price certificate for it, of at most 2^28 bytes each, and writes the certificate's canonical
 /// text, or why an input is refused. The certificate of an election that is refused is not touched. The whole text is
@@ -25,54 +39,54 @@ pub fn run_tidy<E: Source, C: Source, W: Sink>(
     certificate: &mut C,
     out: &mut W,
 ) -> Result<Status, Fault>
-    // The text and the status are those of the answer on what the readers delivered.
-    ensures written { IfOk result (λ status. IsWritten (AnswersTidy (reading E.left E.counts election.old election.new) (reading C.left C.counts certificate.old certificate.new)) status (W.holds out.old) (W.holds out.new)) }
-
-    // Where the writer failed, a front of that text was written.
-    ensures cut_short { IsErrOf result Fault.Write → IsCutShort (AnswersTidy (reading E.left E.counts election.old election.new) (reading C.left C.counts certificate.old certificate.new)) (W.holds out.old) (W.holds out.new) }
-    ensures failed { IsErrOf result Fault.Write → Rises (W.counts out.old).failures (W.counts out.new).failures }
-
-    // Where memory was wanted, nothing was written.
-    ensures memory { IsErrOf result Fault.Memory → out.new ≡ out.old }
+    // The text of the answer on what the readers delivered is written, or a front of it where the writer failed.
+    ensures { Writes W.holds W.counts (ReadsTidy (reading E.left E.counts election.old election.new) (reading C.left C.counts certificate.old certificate.new)) result out.old out.new }
 {
-    match take_inputs(alloc, election, certificate) {
-        Ok((election, prices)) => write_prices(alloc, &election, &prices, out),
-        Err(stop) => stopped(alloc, &stop)?.write(out),
-    }
+    let work = take_work(alloc, election, certificate);
+    settled_answer(alloc, work)?.write(out)
 }
 
-/// The election, and the price certificate for it.
-#[tactic(auto, using(crate::proofs::Audits::tidy_refused))]
-fn take_inputs<E: Source, C: Source>(
+/// The answer on what files state.
+fn tidy_work(alloc: Global, election: File<'_>, certificate: File<'_>) -> Result<Answer, Stop>
+    ensures { IfSome (settled_answer result) (AnswersTidy (lent election.entry) (lent certificate.entry)) }
+{
+    let election = election_of(alloc, election)?;
+    tidied(alloc, &election, certificate)
+}
+
+/// The answer on what readers deliver.
+fn take_work<E: Source, C: Source>(
     alloc: Global,
     election: &mut E,
     certificate: &mut C,
-) -> Result<(Election, Prices), Stop>
-    ensures accepted { IfOk result (λ both. TidyInputs (reading E.left E.counts election.old election.new) (reading C.left C.counts certificate.old certificate.new) (Ok both.0) (Ok both.1)) }
-    ensures fits { IfOk result (λ both. Fits both.1 both.0) }
-    ensures refused { IfErr result (λ stop. IfSome (taken.stopped stop) (AnswersTidy (reading E.left E.counts election.old election.new) (reading C.left C.counts certificate.old certificate.new))) }
+) -> Result<Answer, Stop>
+    ensures { IfSome (settled_answer result) (ReadsTidy (reading E.left E.counts election.old election.new) (reading C.left C.counts certificate.old certificate.new)) }
 {
     let election = take_election(alloc, election)?;
-    let prices = take_prices(alloc, certificate, &election)?;
-    Ok((election, prices))
+    let certificate = Loaded::load(alloc, certificate)?;
+    tidied(alloc, &election, certificate.lend())
 }
 
-/// Writes the canonical text of the prices.
-fn write_prices<W: Sink>(
-    alloc: Global,
-    election: &Election,
-    prices: &Prices,
-    out: &mut W,
-) -> Result<Status, Fault>
-    requires { Fits prices.now election.now }
-    ensures written { IfOk result (λ status. IsWritten (λ answer. answer ≡ spec.TidyOut (Ok election.now) (Ok prices.now)) status (W.holds out.old) (W.holds out.new)) }
-    ensures cut_short { IsErrOf result Fault.Write → IsCutShort (λ answer. answer ≡ spec.TidyOut (Ok election.now) (Ok prices.now)) (W.holds out.old) (W.holds out.new) }
-    ensures failed { IsErrOf result Fault.Write → Rises (W.counts out.old).failures (W.counts out.new).failures }
-    ensures memory { IsErrOf result Fault.Memory → out.new ≡ out.old }
+/// The canonical text of the prices that a certificate states, for an election that was accepted.
+fn tidied(alloc: Global, election: &Election, certificate: File<'_>) -> Result<Answer, Stop>
+    ensures { IfTaken result (TidiesPrices election.now (lent certificate.entry)) }
 {
-    match prices.write(alloc, election, out) {
-        Ok(()) => Ok(Status::Yes),
-        Err(WriteFault::Memory) => Err(Fault::Memory),
-        Err(WriteFault::Write) => Err(Fault::Write),
+    let bytes = bytes_of(InputName::Certificate, certificate)?;
+    match canonical_text_of(alloc, bytes, election) {
+        Ok(text) => Ok(Answer {
+            text,
+            status: Status::Yes,
+        }),
+        Err(refusal) => Err(stop_at(InputName::Certificate, InputFault::Certificate(refusal))),
+    }
+}
+
+/// The answer that the work came to: its own, or the line of the input that was refused.
+fn settled_answer(alloc: Global, work: Result<Answer, Stop>) -> Result<Answer, AllocError>
+    ensures { IfOk result (λ answer. spec.settled_answer work ≡ Some answer) }
+{
+    match work {
+        Ok(answer) => Ok(answer),
+        Err(stop) => stopped(alloc, &stop)?.answer(alloc),
     }
 }

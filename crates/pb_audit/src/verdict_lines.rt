@@ -1,5 +1,5 @@
 //! The lines of verdicts.
-ghost use Rattle.std.specs.Prelude.{◌≡◌, ◌++◌, IfOk, IfSome, OnOk};
+ghost use Rattle.std.specs.Prelude.{◌≡◌, ◌++◌, IfOk, IfSome, OnOk, string_bytes};
 ghost use Rattle.pb_audit.specs.Answers as answers;
 ghost use Rattle.pb_audit.specs.Lines as spec;
 ghost use Rattle.pb_audit.specs.Named.{NamesProject, PricesNameProject, ViolationNamesProject};
@@ -45,6 +45,7 @@ fn price_failed(failure: Failure) -> FailedAt
     match failure {
         Failure::Feasible => failed_at("Feasible", None, None),
         Failure::Exhaustive(j) => failed_at("Exhaustive", None, Some(j)),
+        Failure::Cover => failed_at("Cover", None, None),
         Failure::C1(i, j) => failed_at("C1", Some(i), Some(j)),
         Failure::C2(i) => failed_at("C2", Some(i), None),
         Failure::C3(j) => failed_at("C3", None, Some(j)),
@@ -71,13 +72,13 @@ pub(crate) fn price_line(
     election: &Election,
     verdict: Verdict,
     stable: bool,
-) -> Result<Vec<u8>, AllocError>
+) -> Result<String, AllocError>
     requires { PricesNameProject election.now verdict }
-    ensures { IfOk result (λ line. line.items ≡ spec.price_line stable election.now verdict) }
+    ensures { IfOk result (λ line. string_bytes line ≡ spec.price_line stable election.now verdict) }
 {
     match verdict {
-        Verdict::Supported if stable => Vec::from_slice(alloc, b"supported stable"),
-        Verdict::Supported => Vec::from_slice(alloc, b"supported priceable"),
+        Verdict::Supported if stable => String::from_str(alloc, "supported stable"),
+        Verdict::Supported => String::from_str(alloc, "supported priceable"),
         Verdict::Failed(failure) => failed_line(alloc, election, &price_failed(failure)),
     }
 }
@@ -96,12 +97,12 @@ pub(crate) fn violation_line(
     alloc: Global,
     election: &Election,
     verdict: ViolationVerdict,
-) -> Result<Vec<u8>, AllocError>
+) -> Result<String, AllocError>
     requires { ViolationNamesProject election.now verdict }
-    ensures { IfOk result (λ line. line.items ≡ spec.violation_line election.now verdict) }
+    ensures { IfOk result (λ line. string_bytes line ≡ spec.violation_line election.now verdict) }
 {
     match verdict {
-        ViolationVerdict::Violation => Vec::from_slice(alloc, b"violation"),
+        ViolationVerdict::Violation => String::from_str(alloc, "violation"),
         ViolationVerdict::Failed(failure) => failed_line(
             alloc,
             election,
@@ -120,38 +121,38 @@ pub(crate) fn violation_status(verdict: ViolationVerdict) -> Status
 }
 
 /// The line of a condition or a test that fails.
-fn failed_line(alloc: Global, election: &Election, failed: &FailedAt) -> Result<Vec<u8>, AllocError>
+fn failed_line(alloc: Global, election: &Election, failed: &FailedAt) -> Result<String, AllocError>
     requires { NamesProject election.now failed.now }
-    ensures { IfOk result (λ line. line.items ≡ spec.failed_line election.now failed.now) }
+    ensures { IfOk result (λ line. string_bytes line ≡ spec.failed_line election.now failed.now) }
 {
-    let mut line = Vec::from_slice(alloc, b"failed ")?;
-    line.extend_from_slice(failed.name.as_bytes())?;
+    let mut line = String::from_str(alloc, "failed ")?;
+    line.push_str(failed.name)?;
     push_voter(&mut line, failed.voter)?;
     push_project(&mut line, election, failed.project)?;
     Ok(line)
 }
 
-fn push_voter(line: &mut Vec<u8>, voter: Option<u32>) -> Result<(), AllocError>
-    ensures { OnOk result (line.new.items ≡ line.old.items ++ spec.voter_words voter) }
+fn push_voter(line: &mut String, voter: Option<u32>) -> Result<(), AllocError>
+    ensures { OnOk result (string_bytes line.new ≡ string_bytes line.old ++ spec.voter_words voter) }
 {
     let Some(i) = voter else {
         return Ok(());
     };
-    line.extend_from_slice(b" voter ")?;
+    line.push_str(" voter ")?;
     push_number(line, u64::from(i))
 }
 
 fn push_project(
-    line: &mut Vec<u8>,
+    line: &mut String,
     election: &Election,
     project: Option<u32>,
 ) -> Result<(), AllocError>
     requires { IfSome project (IsProject election.now) }
-    ensures { OnOk result (line.new.items ≡ line.old.items ++ spec.project_words election.now project) }
+    ensures { OnOk result (string_bytes line.new ≡ string_bytes line.old ++ spec.project_words election.now project) }
 {
     let Some(j) = project else {
         return Ok(());
     };
-    line.extend_from_slice(b" project ")?;
-    line.extend_from_slice(election.id(j).as_bytes())
+    line.push_str(" project ")?;
+    line.push_str(election.id(j))
 }

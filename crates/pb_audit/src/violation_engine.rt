@@ -1,30 +1,54 @@
 //! Auditing violations: whether a group was treated worse than it deserves.
-ghost use Rattle.std.specs.Prelude.{◌≡◌, ◌≢◌, IfOk, IfSome, IsErrOf};
-ghost use Rattle.pb_audit.specs.Answers.{AnswersViolation, HoldsOfInputs, answer_of};
-ghost use Rattle.pb_audit.specs.Answers as spec;
-ghost use Rattle.pb_audit.specs.Inputs.{StatesViolation, file_reading, reading};
-ghost use Rattle.pb_audit.specs.Promises.{ViolationPromises};
-ghost use Rattle.pb_audit.specs.Taking as taken;
-ghost use Rattle.pb_audit.specs.Writing.{IsCutShort, IsWritten};
+ghost use Rattle.std.specs.Prelude.{◌≡◌, IfOk, IfSome, Ok, option_copied, option_map};
+ghost use Rattle.pb_audit.specs.Answers.{AnswersViolation, AnswersViolationFiles, violation_reply};
+ghost use Rattle.pb_audit.specs.Inputs.{StatesElection, StatesViolation};
+ghost use Rattle.pb_audit.specs.Loaded.{lent};
+ghost use Rattle.pb_audit.specs.Readers.{ReadsViolation, TellsReply, file_reading, reading};
+ghost use Rattle.pb_audit.specs.Taking.{AnswersCertificate, settled};
+ghost use Rattle.pb_audit.specs.Writing.{Writes};
 ghost use Rattle.pb_certificate.specs.Claim as claims;
 ghost use Rattle.pb_election.specs.Instance.{IsSet, projects};
-ghost use Rattle.pb_election.specs.Loading.{Rises};
 ghost use Rattle.pb_election.specs.Outcome as outcomes;
+ghost use Rattle.pb_records.specs.Loading.{Delivery};
 
-use crate::answer::{Answer, settled};
-use crate::input::Stop;
-use crate::lines::push_line;
-use crate::taking::{take_election, take_outcome, take_violation};
+use crate::answer::{Reply, one_line, settled, write_reply};
+use crate::input::{InputName, Stop};
+use crate::loaded::{File, Loaded, optional_file};
+use crate::taking::{election_of, outcome_of, take_election, take_outcome, violation_of};
 use crate::verdict_lines::{violation_line, violation_status};
 use crate::{Fault, Status};
 use pb_certificate::Violation;
-use pb_cohesion::{Count, check_violation};
+use pb_cohesion::check_violation;
 use pb_election::{Election, Outcome, Sink, Source};
 use std::alloc::{AllocError, Global};
 
+/// The reply on an election, an outcome file where one is given, and a violation certificate, all in memory: the line of
+/// the verdict on the group, by the measure that the certificate states, or why a file is refused. Without an outcome file
+/// the outcome is the election's own. The first file that is refused decides, in this order; more than 2^28 bytes are
+/// refused as too long. The error is want of memory.
+pub fn violation_reply(
+    alloc: Global,
+    election: &[u8],
+    outcome: Option<&[u8]>,
+    certificate: &[u8],
+) -> Result<Reply, AllocError>
+    // The reply is the one on these bytes. Where no file is refused, its status is yes exactly where the group and its demand
+    // are a violation by the measure that the certificate states.
+    ensures { IfOk result (AnswersViolationFiles election.now (option_copied outcome.entry) certificate.now) }
+{
+    let work = violation_work(
+        alloc,
+        File::in_memory(election),
+        optional_file(outcome),
+        File::in_memory(certificate),
+    );
+    settled(alloc, work)
+}
+
 /// Reads an election, an outcome file where one is given, and a violation certificate, of at most 2^28 bytes each, and
-/// writes the line of the verdict on the group, or why an input is refused. Without an outcome file the outcome is the
-/// election's own. An input after one that is refused is not touched. The whole text is made first and then written.
+/// writes the line of the verdict on the group, by the measure that the certificate states, or why an input is refused.
+/// Without an outcome file the outcome is the election's own. An input after one that is refused is not touched. The whole
+/// text is made first and then written.
 pub fn run_violation<E: Source, O: Source, C: Source, W: Sink>(
     alloc: Global,
     election: &mut E,
@@ -32,58 +56,84 @@ pub fn run_violation<E: Source, O: Source, C: Source, W: Sink>(
     certificate: &mut C,
     out: &mut W,
 ) -> Result<Status, Fault>
-    // The text and the status are those of the answer on what the readers delivered.
-    ensures written { IfOk result (λ status. IsWritten (AnswersViolation (reading E.left E.counts election.old election.new) (file_reading O.left O.counts outcome.old outcome.new) (reading C.left C.counts certificate.old certificate.new)) status (W.holds out.old) (W.holds out.new)) }
-
-    // Where the writer failed, a front of that text was written.
-    ensures cut_short { IsErrOf result Fault.Write → IsCutShort (AnswersViolation (reading E.left E.counts election.old election.new) (file_reading O.left O.counts outcome.old outcome.new) (reading C.left C.counts certificate.old certificate.new)) (W.holds out.old) (W.holds out.new) }
-    ensures failed { IsErrOf result Fault.Write → Rises (W.counts out.old).failures (W.counts out.new).failures }
-
-    // Where memory was wanted, nothing was written.
-    ensures memory { IsErrOf result Fault.Memory → out.new ≡ out.old }
-
-    // Where no input is refused, the status is yes exactly where the group and its demand are a violation.
-    ensures promises { IfOk result (λ status. status ≢ Status.Refused → HoldsOfInputs StatesViolation (ViolationPromises status) (reading E.left E.counts election.old election.new) (file_reading O.left O.counts outcome.old outcome.new) (reading C.left C.counts certificate.old certificate.new)) }
+    // The text of the reply on what the readers delivered is written, or a front of it where the writer failed. The reply is
+    // that of `violation_reply`, with what its status promises.
+    ensures { Writes W.holds W.counts (TellsReply (ReadsViolation (reading E.left E.counts election.old election.new) (file_reading O.left O.counts outcome.old outcome.new) (reading C.left C.counts certificate.old certificate.new))) result out.old out.new }
 {
-    let work = violation_work(alloc, election, outcome, certificate);
-    let answer = settled(alloc, work)?;
-    answer.write(out)
+    let work = take_work(alloc, election, outcome, certificate);
+    let reply = settled(alloc, work)?;
+    write_reply(alloc, &reply, out)
 }
 
-/// The answer on the election, the outcome and the group with its demand.
-#[tactic(auto, using(crate::proofs::Audits::election_refused, crate::proofs::Audits::outcome_refused, crate::proofs::Audits::certificate_refused, crate::proofs::Audits::all_accepted))]
-fn violation_work<E: Source, O: Source, C: Source>(
+/// The reply on what files state.
+fn violation_work(
+    alloc: Global,
+    election: File<'_>,
+    outcome: Option<File<'_>>,
+    certificate: File<'_>,
+) -> Result<Reply, Stop>
+    ensures { IfSome (settled result) (AnswersViolation (lent election.entry) (option_map lent outcome.entry) (lent certificate.entry)) }
+{
+    let election = election_of(alloc, election)?;
+    violation_for(alloc, &election, outcome, certificate)
+}
+
+/// The reply on a group for an election that was accepted.
+pub(crate) fn violation_for(
+    alloc: Global,
+    election: &Election,
+    outcome: Option<File<'_>>,
+    certificate: File<'_>,
+) -> Result<Reply, Stop>
+    ensures { (file : Delivery) → StatesElection file (Ok election.now) → IfSome (settled result) (AnswersViolation file (option_map lent outcome.entry) (lent certificate.entry)) }
+{
+    let outcome = outcome_of(alloc, outcome, election)?;
+    violation_on(alloc, election, &outcome, certificate)
+}
+
+/// The reply on what readers deliver.
+fn take_work<E: Source, O: Source, C: Source>(
     alloc: Global,
     election: &mut E,
     outcome: &mut Option<O>,
     certificate: &mut C,
-) -> Result<Answer, Stop>
-    ensures { IfSome (taken.settled result) (AnswersViolation (reading E.left E.counts election.old election.new) (file_reading O.left O.counts outcome.old outcome.new) (reading C.left C.counts certificate.old certificate.new)) }
+) -> Result<Reply, Stop>
+    ensures { IfSome (settled result) (ReadsViolation (reading E.left E.counts election.old election.new) (file_reading O.left O.counts outcome.old outcome.new) (reading C.left C.counts certificate.old certificate.new)) }
 {
     let election = take_election(alloc, election)?;
     let outcome = take_outcome(alloc, outcome, &election)?;
-    let violation = take_violation(alloc, certificate, &election)?;
-    Ok(violation_answer(alloc, &election, &outcome, &violation)?)
+    let certificate = Loaded::load(alloc, certificate)?;
+    violation_on(alloc, &election, &outcome, certificate.lend())
 }
 
-/// The line of the verdict, and how it ends.
+/// The reply on a certificate for an election and an outcome that were accepted.
+fn violation_on(
+    alloc: Global,
+    election: &Election,
+    outcome: &Outcome,
+    certificate: File<'_>,
+) -> Result<Reply, Stop>
+    requires { outcomes.Fits outcome.now election.now }
+    ensures { IfSome (settled result) (AnswersCertificate (StatesViolation InputName.Certificate) violation_reply election.now (outcome.now).marks (lent certificate.entry)) }
+{
+    let violation = violation_of(alloc, InputName::Certificate, certificate, election)?;
+    Ok(group_reply(alloc, election, outcome, &violation)?)
+}
+
+/// The line of the verdict on a group and its demand.
 #[tactic(auto, using(crate::proofs::Culprits::violation_names_projects))]
-fn violation_answer(
+pub(crate) fn group_reply(
     alloc: Global,
     election: &Election,
     outcome: &Outcome,
     violation: &Violation,
-) -> Result<Answer, AllocError>
+) -> Result<Reply, AllocError>
     requires outcome { outcomes.Fits outcome.now election.now }
     requires violation { claims.Fits violation.now election.now }
     requires demand { IsSet 1 (projects election.now) (violation.now).demand }
-    ensures { IfOk result (λ answer. answer ≡ answer_of (spec.violation_reply election.now (outcome.now).marks ((violation.now).group, (violation.now).demand))) }
+    ensures { IfOk result (λ reply. reply ≡ violation_reply election.now (outcome.now).marks ((violation.now).measure, (violation.now).group, (violation.now).demand)) }
 {
-    let verdict = check_violation(election, outcome, violation, &Count);
-    let mut text = Vec::new(alloc);
-    push_line(&mut text, &violation_line(alloc, election, verdict)?)?;
-    Ok(Answer {
-        text,
-        status: violation_status(verdict),
-    })
+    let verdict = check_violation(election, outcome, violation, &violation.satisfaction());
+    let line = violation_line(alloc, election, verdict)?;
+    one_line(alloc, line, violation_status(verdict))
 }

@@ -30,19 +30,39 @@ fn gives_each_task(rt: HostRuntime) -> Result<(), Fail> {
         ("pbaudit read -- -e.pb", "Read(Some(\"-e.pb\"))"),
         (
             "pbaudit prices e.pb c.csv --stable",
-            "Prices { election: \"e.pb\", certificate: \"c.csv\", outcome: None, mode: Mode { stable: true, exhaustive: true } }",
+            "Prices { election: \"e.pb\", certificate: \"c.csv\", outcome: None, mode: Mode { stable: true, exhaustive: true, cover: false } }",
+        ),
+        (
+            "pbaudit prices e.pb c.csv --cover",
+            "Prices { election: \"e.pb\", certificate: \"c.csv\", outcome: None, mode: Mode { stable: false, exhaustive: true, cover: true } }",
         ),
         (
             "pbaudit prices --no-exhaustive --outcome o.csv -- -e.pb -c.csv",
-            "Prices { election: \"-e.pb\", certificate: \"-c.csv\", outcome: Some(\"o.csv\"), mode: Mode { stable: false, exhaustive: false } }",
+            "Prices { election: \"-e.pb\", certificate: \"-c.csv\", outcome: Some(\"o.csv\"), mode: Mode { stable: false, exhaustive: false, cover: false } }",
         ),
         (
             "pbaudit violation e.pb v.csv --outcome=o.csv",
             "Violation { election: \"e.pb\", certificate: \"v.csv\", outcome: Some(\"o.csv\") }",
         ),
         (
+            "pbaudit both e.pb p.csv v.csv --stable --cover",
+            "Both { election: \"e.pb\", prices: \"p.csv\", violation: \"v.csv\", outcome: None, mode: Mode { stable: true, exhaustive: true, cover: true } }",
+        ),
+        (
+            "pbaudit both --no-exhaustive --outcome o.csv -- -e.pb -p.csv -v.csv",
+            "Both { election: \"-e.pb\", prices: \"-p.csv\", violation: \"-v.csv\", outcome: Some(\"o.csv\"), mode: Mode { stable: false, exhaustive: false, cover: false } }",
+        ),
+        (
             "pbaudit tidy e.pb c.csv",
             "Tidy { election: \"e.pb\", certificate: \"c.csv\" }",
+        ),
+        (
+            "pbaudit folder town",
+            "Folder { folder: \"town\", mode: Mode { stable: false, exhaustive: true, cover: false } }",
+        ),
+        (
+            "pbaudit folder --stable --no-exhaustive --cover -- -town",
+            "Folder { folder: \"-town\", mode: Mode { stable: true, exhaustive: false, cover: true } }",
         ),
     ] {
         let got = shown(alloc, line)?;
@@ -62,10 +82,15 @@ fn tells_help_from_usage(rt: HostRuntime) -> Result<(), Fail> {
         ("pbaudit read", "usage\n"),
         ("pbaudit read e.pb f.pb", "usage\n"),
         ("pbaudit prices e.pb", "usage\n"),
-        ("pbaudit prices e.pb c.csv --cover", "usage\n"),
+        ("pbaudit violation e.pb v.csv --cover", "usage\n"),
         ("pbaudit prices e.pb c.csv --outcome", "usage\n"),
         ("pbaudit violation e.pb v.csv --stable", "usage\n"),
+        ("pbaudit both e.pb p.csv", "usage\n"),
+        ("pbaudit both e.pb p.csv v.csv w.csv", "usage\n"),
         ("pbaudit tidy e.pb", "usage\n"),
+        ("pbaudit folder", "usage\n"),
+        ("pbaudit folder one two", "usage\n"),
+        ("pbaudit folder town --outcome o.csv", "usage\n"),
         ("pbaudit read -e.pb", "usage\n"),
         ("pbaudit e.pb", "usage\n"),
     ] {

@@ -1,8 +1,17 @@
+use Rattle.std.proofs.Common.{◌≡◌, rules}
+use Rattle.std.specs.Prelude.{Err, option_map}
+use Rattle.pb_audit.specs.Loaded.{lent}
 use Rattle.pb_audit.specs.Answers.{price_reply}
 use Rattle.pb_audit.specs.Inputs.{StatesPrices}
-use Rattle.pb_audit.proofs.Audits.{all_accepted}
+use Rattle.pb_audit.specs.declared.input.InputName.TheVariants.{Certificate}
+use Rattle.pb_audit.specs.Promises.{PricesPromise}
+use Rattle.pb_audit.proofs.Audits.{stopped_at_election}
 use Rattle.pb_audit.proofs.price_engine.price_work.Goals as goal
 
-pub returns : goal.returns
-returns g c =
-    all_accepted StatesPrices (price_reply c.args.mode) _ _ _ _ _ _ _ c.in_ok-election.ensures c.in_ok-outcome.ensures.taken c.in_ok-prices.ensures.taken c.in_ok-price_answer.ensures
+pub returns-in_err-election : goal.returns-in_err-election
+returns-in_err-election c =
+    let is : c.from_residual.result ≡ Err c.in_err-election.field-0.0 = search rules in
+    rw is (
+    stopped_at_election (StatesPrices Certificate) (price_reply c.args.mode) (PricesPromise c.args.mode) (lent c.args.election) (option_map lent c.args.outcome) (lent c.args.certificate)
+    c.in_err-election.field-0.0 c.in_err-election.ensures
+    )

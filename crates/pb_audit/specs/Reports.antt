@@ -1,0 +1,142 @@
+-- The report on a folder of elections.
+use Rattle.std.specs.Prelude.{◌≡◌, ◌&&◌, not, nat_lt, if◌then◌else◌, Bool, true, false, List, [], ◌∷◌, ◌++◌, count_by, flat_map, map, take, Option, Some, None, codes, decimal}
+use Rattle.pb_records.specs.Loading.{Delivery}
+use Rattle.pb_price.specs.declared.Mode.{Mode}
+use Rattle.pb_audit.specs.Answers.{Answer, AnswersElection, AnswersPrices, AnswersViolation, Reply, text_of}
+use Rattle.pb_audit.specs.Lines.{Text}
+use Rattle.pb_audit.specs.declared.total.Ending.{Ending}
+use Rattle.pb_audit.specs.declared.total.Total.{Total}
+use Rattle.pb_audit.specs.declared.status.Status.{Status}
+use Rattle.pb_audit.specs.declared.status.Status.TheVariants.{Yes, No, Refused}
+
+-- the files of one name, as they are delivered: an election, and its certificates where they are there
+pub record Files : Type 0 where
+  pub name : Text
+  pub election : Delivery
+  pub prices : Option Delivery
+  pub violation : Option Delivery
+
+-- what is found of them: the reply on the election, and on each certificate that is audited
+pub record Found : Type 0 where
+  pub name : Text
+  pub read : Reply
+  pub prices : Option Reply
+  pub violation : Option Reply
+
+-- the certificates that are audited: those of an election that is accepted
+abbrev pub where_accepted : Status → Option Delivery → Option Delivery
+where_accepted Refused certificate = None
+where_accepted Yes certificate = certificate
+where_accepted No certificate = certificate
+
+-- what is found of a certificate, where one is audited: a reply that answers it
+abbrev pub FindsCertificate : (Delivery → Reply → Type 0) → Option Delivery → Option Reply → Type 0
+FindsCertificate answers None None = Unit {0}
+FindsCertificate answers (Some certificate) (Some r) = answers certificate r
+FindsCertificate answers _ _ = ⊥
+
+-- The outcome of a folder's election is its own: no outcome file is given.
+pub record Finds (m : Mode) (files : Files) (found : Found) : Type 0 where
+  pub name : found.name ≡ files.name
+  pub read : AnswersElection files.election found.read
+  pub prices : FindsCertificate (AnswersPrices m files.election None) (where_accepted found.read.status files.prices) found.prices
+  pub violation : FindsCertificate (AnswersViolation files.election None) (where_accepted found.read.status files.violation) found.violation
+
+-- the same of each entry of a folder
+abbrev pub FindsEach : Mode → List Files → List Found → Type 0
+FindsEach m [] [] = Unit {0}
+FindsEach m (files ∷ rest) (found ∷ more) = Finds m files found × FindsEach m rest more
+FindsEach m _ _ = ⊥
+
+-- the first line of the reply on a file, behind the file's name
+abbrev pub file_lines : Text → Reply → List Text
+file_lines file r = map (λ l. file ++ codes ": " ++ l) (take 1 r.lines)
+
+abbrev pub certificate_lines : Text → Option Reply → List Text
+certificate_lines file None = []
+certificate_lines file (Some r) = file_lines file r
+
+abbrev pub lines_of : Found → List Text
+lines_of found =
+    file_lines (found.name ++ codes ".pb") found.read
+    ++ certificate_lines (found.name ++ codes ".prices.csv") found.prices
+    ++ certificate_lines (found.name ++ codes ".violation.csv") found.violation
+
+-- how each line ends, and whether it is on a certificate
+abbrev pub certificate_endings : Option Reply → List Ending
+certificate_endings None = []
+certificate_endings (Some r) = record { of_certificate = true; status = r.status } ∷ []
+
+abbrev pub endings_on : Reply → Option Reply → Option Reply → List Ending
+endings_on read prices violation =
+    (record { of_certificate = false; status = read.status } ∷ [])
+    ++ certificate_endings prices
+    ++ certificate_endings violation
+
+abbrev pub endings_of : Found → List Ending
+endings_of found = endings_on found.read found.prices found.violation
+
+-- whether two statuses are the same
+abbrev pub has_status : Status → Status → Bool
+has_status Yes Yes = true
+has_status No No = true
+has_status Refused Refused = true
+has_status _ _ = false
+
+-- a line on an election; on a certificate that is answered yes, or no; on a file that is refused
+abbrev pub is_election : Ending → Bool
+is_election line = not line.of_certificate
+
+abbrev pub is_yes : Ending → Bool
+is_yes line = line.of_certificate && has_status Yes line.status
+
+abbrev pub is_no : Ending → Bool
+is_no line = line.of_certificate && has_status No line.status
+
+abbrev pub is_refused : Ending → Bool
+is_refused line = has_status Refused line.status
+
+-- how many elections there are, how many certificates are answered yes and no, and how many files are refused
+abbrev pub total_of : List Ending → Total
+total_of lines = record {
+  elections = count_by is_election lines;
+  yes = count_by is_yes lines;
+  no = count_by is_no lines;
+  refused = count_by is_refused lines;
+}
+
+abbrev pub total_line : Total → Text
+total_line t =
+    codes "total " ++ decimal t.elections ++ codes " elections "
+    ++ decimal t.yes ++ codes " yes "
+    ++ decimal t.no ++ codes " no "
+    ++ decimal t.refused ++ codes " refused"
+
+abbrev pub status_of : Total → Status
+status_of t = if nat_lt 0 t.refused then Refused else (if nat_lt 0 t.no then No else Yes)
+
+-- the report on what is found of each entry: the lines of each, and the line of the total
+abbrev pub report_on : List Found → Answer
+report_on found = record {
+  text = text_of (flat_map lines_of found ++ (total_line (total_of (flat_map endings_of found)) ∷ []));
+  status = status_of (total_of (flat_map endings_of found));
+}
+
+-- the report on the entries of a folder
+pub record ReportOf (m : Mode) (entries : List Files) (report : Answer) : Type 0 where
+  pub found : List Found
+  pub each : FindsEach m entries found
+  pub out : report ≡ report_on found
+
+-- a report that is not finished: its mode, its text so far, and how the lines of that text end
+pub record Progress : Type 0 where
+  pub mode : Mode
+  pub text : Text
+  pub endings : List Ending
+
+-- its text so far is that of these entries
+pub record HasTaken (p : Progress) (entries : List Files) : Type 0 where
+  pub found : List Found
+  pub each : FindsEach p.mode entries found
+  pub text : p.text ≡ text_of (flat_map lines_of found)
+  pub endings : p.endings ≡ flat_map endings_of found

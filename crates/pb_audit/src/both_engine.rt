@@ -1,0 +1,175 @@
+//! Auditing prices and a violation for one outcome.
+ghost use Rattle.std.specs.Prelude.{◌≡◌, IfOk, IfSome, option_copied, option_map};
+ghost use Rattle.pb_audit.specs.Answers.{violation_reply};
+ghost use Rattle.pb_audit.specs.Answers as answers;
+ghost use Rattle.pb_audit.specs.Both.{AnswersBoth, AnswersBothFiles, ReadsBoth};
+ghost use Rattle.pb_audit.specs.Both as spec;
+ghost use Rattle.pb_audit.specs.Inputs.{StatesViolation};
+ghost use Rattle.pb_audit.specs.Loaded.{lent};
+ghost use Rattle.pb_audit.specs.Named.{PricesNameProject};
+ghost use Rattle.pb_audit.specs.Readers.{TellsReply, file_reading, reading};
+ghost use Rattle.pb_audit.specs.Taking.{AnswersCertificate, Gives, IfTaken, JudgesPrices, settled};
+ghost use Rattle.pb_audit.specs.Writing.{Writes};
+ghost use Rattle.pb_election.specs.Outcome.{Fits};
+
+use crate::answer::{Reply, settled, write_reply};
+use crate::input::{InputName, Stop};
+use crate::loaded::{File, Loaded, optional_file};
+use crate::price_engine::{price_verdict, verdict_reply};
+use crate::taking::{election_of, outcome_of, take_election, take_outcome, violation_of};
+use crate::violation_engine::group_reply;
+use crate::{Fault, Status};
+use pb_election::{Election, Outcome, Sink, Source};
+use pb_price::{Mode, Verdict};
+use std::alloc::{AllocError, Global};
+
+/// The reply on an election, an outcome file where one is given, a price certificate and a violation certificate, all in
+/// memory: the line of the verdict on the prices and then that of the verdict on the group, or why a file is refused.
+/// The status is yes where both are a yes. Without an outcome file the outcome is the election's own. The first file that is
+/// refused decides, in this order; more than 2^28 bytes are refused as too long. The error is want of memory.
+pub fn both_reply(
+    alloc: Global,
+    election: &[u8],
+    outcome: Option<&[u8]>,
+    prices: &[u8],
+    violation: &[u8],
+    mode: Mode,
+) -> Result<Reply, AllocError>
+    // The reply is the one on these bytes. Where no file is refused, its status is yes exactly where the prices support the
+    // outcome and the group and its demand are a violation. In the stable form with Cover, prices that support the outcome
+    // never stand beside a violation by counting.
+    ensures { IfOk result (AnswersBothFiles mode election.now (option_copied outcome.entry) prices.now violation.now) }
+{
+    let work = both_work(
+        alloc,
+        File::in_memory(election),
+        optional_file(outcome),
+        File::in_memory(prices),
+        File::in_memory(violation),
+        mode,
+    );
+    settled(alloc, work)
+}
+
+/// Reads an election, an outcome file where one is given, a price certificate and a violation certificate, of at most 2^28
+/// bytes each, and writes the line of the verdict on the prices and then that of the verdict on the group, or why an input
+/// is refused. Without an outcome file the outcome is the election's own. An input after one that is refused is not
+/// touched. The whole text is made first and then written.
+pub fn run_both<E: Source, O: Source, P: Source, V: Source, W: Sink>(
+    alloc: Global,
+    election: &mut E,
+    outcome: &mut Option<O>,
+    prices: &mut P,
+    violation: &mut V,
+    mode: Mode,
+    out: &mut W,
+) -> Result<Status, Fault>
+    // The text of the reply on what the readers delivered is written, or a front of it where the writer failed. The reply is
+    // that of `both_reply`, with what its status promises.
+    ensures { Writes W.holds W.counts (TellsReply (ReadsBoth mode (reading E.left E.counts election.old election.new) (file_reading O.left O.counts outcome.old outcome.new) (reading P.left P.counts prices.old prices.new) (reading V.left V.counts violation.old violation.new))) result out.old out.new }
+{
+    let work = take_work(alloc, election, outcome, prices, violation, mode);
+    let reply = settled(alloc, work)?;
+    write_reply(alloc, &reply, out)
+}
+
+/// The reply on what files state.
+fn both_work(
+    alloc: Global,
+    election: File<'_>,
+    outcome: Option<File<'_>>,
+    prices: File<'_>,
+    violation: File<'_>,
+    mode: Mode,
+) -> Result<Reply, Stop>
+    ensures { IfSome (settled result) (AnswersBoth mode (lent election.entry) (option_map lent outcome.entry) (lent prices.entry) (lent violation.entry)) }
+{
+    let election = election_of(alloc, election)?;
+    let outcome = outcome_of(alloc, outcome, &election)?;
+    let verdict = price_verdict(alloc, &election, &outcome, InputName::Prices, prices, mode)?;
+    beside(alloc, &election, &outcome, verdict, violation, mode)
+}
+
+/// The reply on what readers deliver.
+fn take_work<E: Source, O: Source, P: Source, V: Source>(
+    alloc: Global,
+    election: &mut E,
+    outcome: &mut Option<O>,
+    prices: &mut P,
+    violation: &mut V,
+    mode: Mode,
+) -> Result<Reply, Stop>
+    ensures { IfSome (settled result) (ReadsBoth mode (reading E.left E.counts election.old election.new) (file_reading O.left O.counts outcome.old outcome.new) (reading P.left P.counts prices.old prices.new) (reading V.left V.counts violation.old violation.new)) }
+{
+    let election = take_election(alloc, election)?;
+    let outcome = take_outcome(alloc, outcome, &election)?;
+    let verdict = take_verdict(alloc, &election, &outcome, prices, mode)?;
+    let violation = Loaded::load(alloc, violation)?;
+    beside(alloc, &election, &outcome, verdict, violation.lend(), mode)
+}
+
+/// The verdict on the prices that a reader delivers. Their bytes are let go.
+fn take_verdict<P: Source>(
+    alloc: Global,
+    election: &Election,
+    outcome: &Outcome,
+    prices: &mut P,
+    mode: Mode,
+) -> Result<Verdict, Stop>
+    requires { Fits outcome.now election.now }
+    ensures verdict { IfTaken result (Gives (JudgesPrices InputName.Prices mode election.now (outcome.now).marks) (reading P.left P.counts prices.old prices.new)) }
+    ensures projects { IfOk result (PricesNameProject election.now) }
+{
+    let loaded = Loaded::load(alloc, prices)?;
+    price_verdict(
+        alloc,
+        election,
+        outcome,
+        InputName::Prices,
+        loaded.lend(),
+        mode,
+    )
+}
+
+/// The reply on a violation certificate beside a verdict on prices, for an election and an outcome that were accepted.
+fn beside(
+    alloc: Global,
+    election: &Election,
+    outcome: &Outcome,
+    verdict: Verdict,
+    violation: File<'_>,
+    mode: Mode,
+) -> Result<Reply, Stop>
+    requires outcome { Fits outcome.now election.now }
+    requires projects { PricesNameProject election.now verdict }
+    ensures { IfSome (settled result) (AnswersCertificate (StatesViolation InputName.Violation) (λ e w claim. spec.joined (answers.verdict_reply mode e verdict) (violation_reply e w claim)) election.now (outcome.now).marks (lent violation.entry)) }
+{
+    let violation = violation_of(alloc, InputName::Violation, violation, election)?;
+    let first = verdict_reply(alloc, election, verdict, mode)?;
+    let second = group_reply(alloc, election, outcome, &violation)?;
+    Ok(joined(first, second)?)
+}
+
+/// The lines of both, and yes where both are a yes.
+fn joined(first: Reply, second: Reply) -> Result<Reply, AllocError>
+    ensures { IfOk result (λ reply. reply ≡ spec.joined first second) }
+{
+    let mut lines = first.lines;
+    for line in second.lines {
+        lines.push(line)?;
+    }
+    Ok(Reply {
+        lines,
+        status: yes_where_both(first.status, second.status),
+    })
+}
+
+/// Yes where both are a yes, and else the first that is not.
+fn yes_where_both(first: Status, second: Status) -> Status
+    ensures { result ≡ spec.yes_where_both first second }
+{
+    match first {
+        Status::Yes => second,
+        other => other,
+    }
+}

@@ -1,0 +1,91 @@
+//! What is found of the files of one name.
+ghost use Rattle.std.specs.Prelude.{◌≡◌, IfOk, Ok, None, option_map};
+ghost use Rattle.pb_audit.specs.Answers.{AnswersPrices, AnswersViolation};
+ghost use Rattle.pb_audit.specs.Folders.{files_of, found_as};
+ghost use Rattle.pb_audit.specs.Inputs.{StatesElection};
+ghost use Rattle.pb_audit.specs.Loaded.{delivery_of};
+ghost use Rattle.pb_audit.specs.Reports.{Finds, FindsCertificate};
+ghost use Rattle.pb_records.specs.Loading.{Delivery};
+
+use crate::answer::{Reply, settled, stopped};
+use crate::folder::Entry;
+use crate::loaded::Loaded;
+use crate::price_engine::prices_for;
+use crate::read_engine::election_reply;
+use crate::taking::election_of;
+use crate::violation_engine::violation_for;
+use pb_election::Election;
+use pb_price::Mode;
+use std::alloc::{AllocError, Global};
+
+/// The reply on an election, and on each of its certificates that is audited.
+#[derive(Drop)]
+pub(crate) struct Found {
+    pub(crate) read: Reply,
+    pub(crate) prices: Option<Reply>,
+    pub(crate) violation: Option<Reply>,
+}
+
+/// What is found of an entry. The certificates of an election that is refused are not audited.
+pub(crate) fn found_of(alloc: Global, entry: &Entry, mode: Mode) -> Result<Found, AllocError>
+    ensures { IfOk result (λ found. Finds mode (files_of entry.now) (found_as entry.now found)) }
+{
+    match election_of(alloc, entry.election.lend()) {
+        Ok(election) => found_on(alloc, &election, entry, mode),
+        Err(stop) => Ok(Found {
+            read: stopped(alloc, &stop)?,
+            prices: None,
+            violation: None,
+        }),
+    }
+}
+
+/// What is found of an entry whose election is accepted.
+fn found_on(
+    alloc: Global,
+    election: &Election,
+    entry: &Entry,
+    mode: Mode,
+) -> Result<Found, AllocError>
+    ensures { StatesElection (delivery_of (entry.now).election) (Ok election.now) → IfOk result (λ found. Finds mode (files_of entry.now) (found_as entry.now found)) }
+{
+    let read = election_reply(alloc, election)?;
+    let prices = prices_found(alloc, election, &entry.prices, mode)?;
+    let violation = violation_found(alloc, election, &entry.violation)?;
+    Ok(Found {
+        read,
+        prices,
+        violation,
+    })
+}
+
+/// The reply on the price certificate of an election, where it is there.
+fn prices_found(
+    alloc: Global,
+    election: &Election,
+    certificate: &Option<Loaded>,
+    mode: Mode,
+) -> Result<Option<Reply>, AllocError>
+    ensures { (file : Delivery) → StatesElection file (Ok election.now) → IfOk result (FindsCertificate (AnswersPrices mode file None) (option_map delivery_of certificate.now)) }
+{
+    let Some(certificate) = certificate else {
+        return Ok(None);
+    };
+    let work = prices_for(alloc, election, None, certificate.lend(), mode);
+    Ok(Some(settled(alloc, work)?))
+}
+
+/// The reply on the violation certificate of an election, where it is there.
+fn violation_found(
+    alloc: Global,
+    election: &Election,
+    certificate: &Option<Loaded>,
+) -> Result<Option<Reply>, AllocError>
+    ensures { (file : Delivery) → StatesElection file (Ok election.now) → IfOk result (FindsCertificate (AnswersViolation file None) (option_map delivery_of certificate.now)) }
+{
+    let Some(certificate) = certificate else {
+        return Ok(None);
+    };
+    let work = violation_for(alloc, election, None, certificate.lend());
+    Ok(Some(settled(alloc, work)?))
+}

@@ -1,0 +1,228 @@
+//! The replies on files in memory.
+use super::samples::{ELECTION, PLAIN, PRICES, UNTIDY_PRICES, VIOLATION, without_outcome};
+use crate::{Reply, Status, both_reply, prices_reply, read_reply, tidy_answer, violation_reply};
+use pb_price::Mode;
+use std::process::Abort;
+use std::test::Fail;
+
+/// A reply has these lines and this status.
+fn expect(rt: &impl Abort, reply: &Reply, lines: &[&str], status: Status) {
+    assert!(rt; reply.lines.len() == lines.len());
+    for (line, want) in reply.lines.iter().zip(lines) {
+        assert!(rt; line.as_str() == *want, "{line}");
+    }
+    assert!(rt; reply.status == status);
+}
+
+/// The bytes of a text, where one is given.
+fn bytes_of(text: Option<&str>) -> Option<&[u8]> {
+    match text {
+        Some(text) => Some(text.as_bytes()),
+        None => None,
+    }
+}
+
+#[test]
+fn elections(rt: HostRuntime) -> Result<(), Fail> {
+    let alloc = rt.alloc();
+    let reply = read_reply(alloc, ELECTION.as_bytes())?;
+    expect(
+        &rt,
+        &reply,
+        &["read 3 voters 3 projects 2 funded"],
+        Status::Yes,
+    );
+    let reply = read_reply(alloc, b"")?;
+    expect(
+        &rt,
+        &reply,
+        &["refused election 2 NoMeta record 1"],
+        Status::Refused,
+    );
+    let more_votes = ELECTION.replace(alloc, "num_votes;3", "num_votes;4")?;
+    let reply = read_reply(alloc, more_votes.as_bytes())?;
+    expect(
+        &rt,
+        &reply,
+        &[
+            "read 3 voters 3 projects 2 funded",
+            "note: num_votes says 4, counted 3",
+        ],
+        Status::Yes,
+    );
+    let answer = reply.answer(alloc)?;
+    assert!(rt;
+        answer.text.as_slice()
+            == b"read 3 voters 3 projects 2 funded\nnote: num_votes says 4, counted 3\n".as_slice()
+    );
+    assert!(rt; answer.status == Status::Yes);
+    Ok(())
+}
+
+#[test]
+fn prices(rt: HostRuntime) -> Result<(), Fail> {
+    let alloc = rt.alloc();
+    let no_outcome = without_outcome(alloc)?;
+    let stable = Mode::STABLE;
+    for (election, outcome, certificate, mode, want, status) in [
+        (
+            ELECTION,
+            None,
+            PRICES,
+            PLAIN,
+            "supported priceable",
+            Status::Yes,
+        ),
+        (
+            ELECTION,
+            None,
+            PRICES,
+            stable,
+            "supported stable",
+            Status::Yes,
+        ),
+        (
+            ELECTION,
+            Some("pb-outcome,1\nproject,c\n"),
+            "pb-prices,1\ndenominator,1\nvoter_budget,9\nvoter,project,payment\n3,c,9\n",
+            PLAIN,
+            "failed C5 project a",
+            Status::No,
+        ),
+        (
+            no_outcome.as_str(),
+            None,
+            PRICES,
+            PLAIN,
+            "refused election 17 NoOutcome record 0",
+            Status::Refused,
+        ),
+        (
+            no_outcome.as_str(),
+            Some("pb-outcome,1\nproject,a\nproject,b\n"),
+            PRICES,
+            PLAIN,
+            "supported priceable",
+            Status::Yes,
+        ),
+        (
+            ELECTION,
+            Some("pb-outcome,2\n"),
+            "",
+            PLAIN,
+            "refused outcome 21 BadHead record 1",
+            Status::Refused,
+        ),
+        (
+            ELECTION,
+            None,
+            "",
+            PLAIN,
+            "refused certificate 21 BadHead record 1",
+            Status::Refused,
+        ),
+    ] {
+        let reply = prices_reply(
+            alloc,
+            election.as_bytes(),
+            bytes_of(outcome),
+            certificate.as_bytes(),
+            mode,
+        )?;
+        expect(&rt, &reply, &[want], status);
+    }
+    Ok(())
+}
+
+#[test]
+fn violations(rt: HostRuntime) -> Result<(), Fail> {
+    let alloc = rt.alloc();
+    for (outcome, want, status) in [
+        (None, "failed V4 voter 1", Status::No),
+        (
+            Some("pb-outcome,1\nproject,c\n"),
+            "failed V4 voter 3",
+            Status::No,
+        ),
+        (Some("pb-outcome,1\n"), "violation", Status::Yes),
+    ] {
+        let reply = violation_reply(
+            alloc,
+            ELECTION.as_bytes(),
+            bytes_of(outcome),
+            VIOLATION.as_bytes(),
+        )?;
+        expect(&rt, &reply, &[want], status);
+    }
+    Ok(())
+}
+
+#[test]
+fn both_certificates(rt: HostRuntime) -> Result<(), Fail> {
+    let alloc = rt.alloc();
+    let covered = Mode {
+        cover: true,
+        ..Mode::STABLE
+    };
+    let supported = ["supported stable", "failed V4 voter 1"];
+    for (outcome, prices, violation, lines, status) in [
+        (None, PRICES, VIOLATION, supported.as_slice(), Status::No),
+        (
+            Some("pb-outcome,2\n"),
+            "",
+            "",
+            &["refused outcome 21 BadHead record 1"],
+            Status::Refused,
+        ),
+        (
+            None,
+            "",
+            "",
+            &["refused prices 21 BadHead record 1"],
+            Status::Refused,
+        ),
+        (
+            None,
+            PRICES,
+            PRICES,
+            &["refused violation 21 BadHead record 1"],
+            Status::Refused,
+        ),
+    ] {
+        let reply = both_reply(
+            alloc,
+            ELECTION.as_bytes(),
+            bytes_of(outcome),
+            prices.as_bytes(),
+            violation.as_bytes(),
+            covered,
+        )?;
+        expect(&rt, &reply, lines, status);
+    }
+    Ok(())
+}
+
+#[test]
+fn canonical_texts(rt: HostRuntime) -> Result<(), Fail> {
+    let alloc = rt.alloc();
+    for (election, certificate, want, status) in [
+        (ELECTION, UNTIDY_PRICES, PRICES, Status::Yes),
+        (
+            "",
+            PRICES,
+            "refused election 2 NoMeta record 1\n",
+            Status::Refused,
+        ),
+        (
+            ELECTION,
+            "",
+            "refused certificate 21 BadHead record 1\n",
+            Status::Refused,
+        ),
+    ] {
+        let answer = tidy_answer(alloc, election.as_bytes(), certificate.as_bytes())?;
+        assert!(rt; answer.text.as_slice() == want.as_bytes());
+        assert!(rt; answer.status == status);
+    }
+    Ok(())
+}

@@ -1,0 +1,116 @@
+//! The total of a report.
+ghost use Rattle.std.specs.Prelude.{◌≡◌, ◌∷◌, ◌++◌, [], OnOk, count_by, string_bytes};
+ghost use Rattle.pb_audit.specs.Answers.{text_of};
+ghost use Rattle.pb_audit.specs.Reports as spec;
+
+use crate::Status;
+use crate::lines::{push_line, push_number};
+use std::alloc::AllocError;
+
+/// How the line on a file ends, and whether the file is a certificate.
+#[derive(Clone, Copy)]
+pub(crate) struct Ending {
+    pub(crate) of_certificate: bool,
+    pub(crate) status: Status,
+}
+
+/// How many elections there are, how many certificates are answered yes and no, and how many files are refused.
+#[derive(Clone, Copy)]
+pub(crate) struct Total {
+    elections: usize,
+    yes: usize,
+    no: usize,
+    refused: usize,
+}
+
+impl Ending {
+    fn is_election(&self) -> bool
+        ensures { result ≡ spec.is_election self.now }
+    {
+        !self.of_certificate
+    }
+
+    fn is_yes(&self) -> bool
+        ensures { result ≡ spec.is_yes self.now }
+    {
+        self.of_certificate && matches!(self.status, Status::Yes)
+    }
+
+    fn is_no(&self) -> bool
+        ensures { result ≡ spec.is_no self.now }
+    {
+        self.of_certificate && matches!(self.status, Status::No)
+    }
+
+    fn is_refused(&self) -> bool
+        ensures { result ≡ spec.is_refused self.now }
+    {
+        matches!(self.status, Status::Refused)
+    }
+}
+
+impl Total {
+    /// The total of some files.
+    pub(crate) fn of(endings: &[Ending]) -> Total
+        ensures { result ≡ spec.total_of endings.now }
+    {
+        Total {
+            elections: elections_in(endings),
+            yes: yes_in(endings),
+            no: no_in(endings),
+            refused: refused_in(endings),
+        }
+    }
+
+    /// Refused where a file is, and else no where a certificate is answered so.
+    pub(crate) fn status(self) -> Status
+        ensures { result ≡ spec.status_of self }
+    {
+        if self.refused > 0 {
+            Status::Refused
+        } else if self.no > 0 {
+            Status::No
+        } else {
+            Status::Yes
+        }
+    }
+
+    /// Adds the line of the total to a text.
+    pub(crate) fn push_line(self, text: &mut String) -> Result<(), AllocError>
+        ensures { OnOk result (string_bytes text.new ≡ string_bytes text.old ++ text_of (spec.total_line self ∷ [])) }
+    {
+        text.push_str("total ")?;
+        push_number(text, self.elections as u64)?;
+        text.push_str(" elections ")?;
+        push_number(text, self.yes as u64)?;
+        text.push_str(" yes ")?;
+        push_number(text, self.no as u64)?;
+        text.push_str(" no ")?;
+        push_number(text, self.refused as u64)?;
+        push_line(text, " refused")
+    }
+}
+
+fn elections_in(endings: &[Ending]) -> usize
+    ensures { result ≡ count_by spec.is_election endings.now }
+{
+    endings.iter().filter(|e| e.is_election()).count()
+}
+
+fn yes_in(endings: &[Ending]) -> usize
+    ensures { result ≡ count_by spec.is_yes endings.now }
+{
+    endings.iter().filter(|e| e.is_yes()).count()
+}
+
+fn no_in(endings: &[Ending]) -> usize
+    ensures { result ≡ count_by spec.is_no endings.now }
+{
+    endings.iter().filter(|e| e.is_no()).count()
+}
+
+fn refused_in(endings: &[Ending]) -> usize
+    ensures { result ≡ count_by spec.is_refused endings.now }
+{
+    endings.iter().filter(|e| e.is_refused()).count()
+}
