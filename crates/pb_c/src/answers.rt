@@ -1,0 +1,69 @@
+//! The answers on files in memory, as texts. An outcome file comes as its bytes and whether it is given, as C has it.
+ghost use Rattle.std.specs.Prelude.{◌≡◌, IfOk, option_copied};
+ghost use Rattle.pb_audit.specs.Answers.{AnswersElectionFile, AnswersPriceFiles, AnswersViolationFiles};
+ghost use Rattle.pb_audit.specs.Both.{AnswersBothFiles};
+ghost use Rattle.pb_audit.specs.Readers.{TellsReply};
+ghost use Rattle.pb_c.specs.Files.{given_file};
+
+use pb_audit::{Answer, both_reply, prices_reply, read_reply, violation_reply};
+use pb_price::Mode;
+use std::alloc::{AllocError, Global};
+
+/// The answer on an election.
+pub(crate) fn read_answer(alloc: Global, election: &[u8]) -> Result<Answer, AllocError>
+    ensures { IfOk result (TellsReply (AnswersElectionFile election.now)) }
+{
+    read_reply(alloc, election)?.answer(alloc)
+}
+
+/// The answer on prices.
+pub(crate) fn prices_answer(
+    alloc: Global,
+    election: &[u8],
+    outcome: &[u8],
+    has_outcome: bool,
+    certificate: &[u8],
+    mode: Mode,
+) -> Result<Answer, AllocError>
+    ensures { IfOk result (TellsReply (AnswersPriceFiles mode election.now (given_file has_outcome outcome.now) certificate.now)) }
+{
+    let outcome = optional_file(outcome, has_outcome);
+    prices_reply(alloc, election, outcome, certificate, mode)?.answer(alloc)
+}
+
+/// The answer on a group and its demand.
+pub(crate) fn violation_answer(
+    alloc: Global,
+    election: &[u8],
+    outcome: &[u8],
+    has_outcome: bool,
+    certificate: &[u8],
+) -> Result<Answer, AllocError>
+    ensures { IfOk result (TellsReply (AnswersViolationFiles election.now (given_file has_outcome outcome.now) certificate.now)) }
+{
+    let outcome = optional_file(outcome, has_outcome);
+    violation_reply(alloc, election, outcome, certificate)?.answer(alloc)
+}
+
+/// The answer on prices, and on a group and its demand.
+pub(crate) fn both_answer(
+    alloc: Global,
+    election: &[u8],
+    outcome: &[u8],
+    has_outcome: bool,
+    prices: &[u8],
+    violation: &[u8],
+    mode: Mode,
+) -> Result<Answer, AllocError>
+    ensures { IfOk result (TellsReply (AnswersBothFiles mode election.now (given_file has_outcome outcome.now) prices.now violation.now)) }
+{
+    let outcome = optional_file(outcome, has_outcome);
+    both_reply(alloc, election, outcome, prices, violation, mode)?.answer(alloc)
+}
+
+/// The file, where it is given.
+fn optional_file(bytes: &[u8], is_given: bool) -> Option<&[u8]>
+    ensures { option_copied result ≡ given_file is_given bytes.now }
+{
+    if is_given { Some(bytes) } else { None }
+}

@@ -1,0 +1,158 @@
+//! The auditor for C: whole files in memory in, and the answer's text in memory out. `include/pbaudit.h` says the same
+//! in the words of C.
+#![tactic(auto)]
+
+ghost use Rattle.std.specs.Prelude.{◌≡◌, ◌≢◌};
+ghost use Rattle.pb_audit.specs.Answers.{AnswersElectionFile, AnswersPriceFiles, AnswersTidyFiles, AnswersViolationFiles};
+ghost use Rattle.pb_audit.specs.Both.{AnswersBothFiles};
+ghost use Rattle.pb_audit.specs.Readers.{TellsReply};
+ghost use Rattle.pb_c.specs.Files.{given_file};
+ghost use Rattle.pb_c.specs.Reports.{IsReported, memory_code};
+
+mod answers;
+mod report;
+
+use answers::{both_answer, prices_answer, read_answer, violation_answer};
+use pb_audit::tidy_answer;
+use pb_price::Mode;
+use report::report;
+use std::alloc::Global;
+
+/// Tells what an election has: 0 where it is read, 2 where it is refused, and 4 where memory ran out. The text goes to
+/// the front of `out` if it fits, and its length in bytes to `needed`; where memory ran out, that is 0.
+#[unsafe(no_mangle)]
+pub extern "C" fn pbaudit_read(
+    alloc: Global,
+    election: &[u8],
+    out: &mut [u8],
+    needed: &mut usize,
+) -> u8
+    // The number, the text and its length are those of the reply on these bytes.
+    ensures reported { result ≢ memory_code → IsReported (TellsReply (AnswersElectionFile election.now)) result out.old out.new needed.new }
+
+    // Where memory ran out, nothing was written.
+    ensures memory_out { result ≡ memory_code → out.new ≡ out.old }
+    ensures memory_needed { result ≡ memory_code → needed.new ≡ 0 }
+{
+    report(&read_answer(alloc, election), out, needed)
+}
+
+/// Audits prices: 0 where those of a certificate support the outcome of an election, 1 where they don't, 2 where a file
+/// is refused, and 4 where memory ran out. The outcome is that of the outcome file where `has_outcome`, and else the
+/// election's own. The text and its length are given as by `pbaudit_read`.
+#[unsafe(no_mangle)]
+pub extern "C" fn pbaudit_prices(
+    alloc: Global,
+    election: &[u8],
+    outcome: &[u8],
+    has_outcome: bool,
+    certificate: &[u8],
+    stable: bool,
+    exhaustive: bool,
+    cover: bool,
+    out: &mut [u8],
+    needed: &mut usize,
+) -> u8
+    // The number, the text and its length are those of the reply on these bytes. Where no file is refused, the number
+    // is 0 exactly where the prices support the outcome.
+    ensures reported { result ≢ memory_code → IsReported (TellsReply (AnswersPriceFiles (record { stable = stable; exhaustive = exhaustive; cover = cover }) election.now (given_file has_outcome outcome.now) certificate.now)) result out.old out.new needed.new }
+
+    // Where memory ran out, nothing was written.
+    ensures memory_out { result ≡ memory_code → out.new ≡ out.old }
+    ensures memory_needed { result ≡ memory_code → needed.new ≡ 0 }
+{
+    let mode = Mode {
+        stable,
+        exhaustive,
+        cover,
+    };
+    let answer = prices_answer(alloc, election, outcome, has_outcome, certificate, mode);
+    report(&answer, out, needed)
+}
+
+/// Audits a group and its demand: 0 where they are a violation by the measure that the certificate states, 1 where they
+/// aren't, 2 where a file is refused, and 4 where memory ran out. The outcome is as for `pbaudit_prices`, and the text
+/// and its length are given as by `pbaudit_read`.
+#[unsafe(no_mangle)]
+pub extern "C" fn pbaudit_violation(
+    alloc: Global,
+    election: &[u8],
+    outcome: &[u8],
+    has_outcome: bool,
+    certificate: &[u8],
+    out: &mut [u8],
+    needed: &mut usize,
+) -> u8
+    // The number, the text and its length are those of the reply on these bytes. Where no file is refused, the number
+    // is 0 exactly where the group and its demand are a violation.
+    ensures reported { result ≢ memory_code → IsReported (TellsReply (AnswersViolationFiles election.now (given_file has_outcome outcome.now) certificate.now)) result out.old out.new needed.new }
+
+    // Where memory ran out, nothing was written.
+    ensures memory_out { result ≡ memory_code → out.new ≡ out.old }
+    ensures memory_needed { result ≡ memory_code → needed.new ≡ 0 }
+{
+    let answer = violation_answer(alloc, election, outcome, has_outcome, certificate);
+    report(&answer, out, needed)
+}
+
+/// Audits prices and a group with its demand for one outcome: 0 where the prices support it and the group and its demand are
+/// a violation, 1 where one of the two isn't so, 2 where a file is refused, and 4 where memory ran out. The outcome is as for
+/// `pbaudit_prices`, and the text and its length are given as by `pbaudit_read`.
+#[unsafe(no_mangle)]
+pub extern "C" fn pbaudit_both(
+    alloc: Global,
+    election: &[u8],
+    outcome: &[u8],
+    has_outcome: bool,
+    prices: &[u8],
+    violation: &[u8],
+    stable: bool,
+    exhaustive: bool,
+    cover: bool,
+    out: &mut [u8],
+    needed: &mut usize,
+) -> u8
+    // The number, the text and its length are those of the reply on these bytes. Where no file is refused, the number is 0
+    // exactly where the prices support the outcome and the group and its demand are a violation.
+    ensures reported { result ≢ memory_code → IsReported (TellsReply (AnswersBothFiles (record { stable = stable; exhaustive = exhaustive; cover = cover }) election.now (given_file has_outcome outcome.now) prices.now violation.now)) result out.old out.new needed.new }
+
+    // Where memory ran out, nothing was written.
+    ensures memory_out { result ≡ memory_code → out.new ≡ out.old }
+    ensures memory_needed { result ≡ memory_code → needed.new ≡ 0 }
+{
+    let mode = Mode {
+        stable,
+        exhaustive,
+        cover,
+    };
+    let answer = both_answer(
+        alloc,
+        election,
+        outcome,
+        has_outcome,
+        prices,
+        violation,
+        mode,
+    );
+    report(&answer, out, needed)
+}
+
+/// Gives the canonical text of a price certificate: 0 where it is given, 2 where a file is refused, and 4 where memory
+/// ran out. The text and its length are given as by `pbaudit_read`.
+#[unsafe(no_mangle)]
+pub extern "C" fn pbaudit_tidy(
+    alloc: Global,
+    election: &[u8],
+    certificate: &[u8],
+    out: &mut [u8],
+    needed: &mut usize,
+) -> u8
+    // The number, the text and its length are those of the answer on these bytes.
+    ensures reported { result ≢ memory_code → IsReported (AnswersTidyFiles election.now certificate.now) result out.old out.new needed.new }
+
+    // Where memory ran out, nothing was written.
+    ensures memory_out { result ≡ memory_code → out.new ≡ out.old }
+    ensures memory_needed { result ≡ memory_code → needed.new ≡ 0 }
+{
+    report(&tidy_answer(alloc, election, certificate), out, needed)
+}

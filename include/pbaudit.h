@@ -1,0 +1,74 @@
+/* pbaudit: an auditor for participatory budgeting outcomes, over files in memory.
+ *
+ * Each function reads whole files, given as a pointer and a length in bytes, and answers what the command of the same
+ * name prints. The result is that command's exit status:
+ *   0  yes: the answer is yes, or what was asked for is given
+ *   1  no: a condition or a test failed, which the text names
+ *   2  refused: a file is not what it has to be; the text says which, and the first thing wrong
+ *   4  memory ran out: *needed is 0 and out is as it was
+ * Else *needed is the length of the text in bytes, which ends in LF and has no NUL after it. If it is at most room,
+ * the text stands at the front of out, and the rest of out is as it was. If it is more, out is as it was: call again
+ * with as much room.
+ *
+ * A file of more than 2^28 bytes is refused. The files' formats, the texts and the numbers of refusals are those of the
+ * program (docs/FORMATS.md).
+ *
+ * What the caller owes, and nothing tests:
+ * - No pointer is null, also where its length or room is 0.
+ * - out and *needed overlap neither each other nor a file, and nothing else touches them during the call. The files
+ *   do not change during the call.
+ * - A bool is 0 or 1.
+ * - malloc, realloc and free are one allocator's. No call from a signal handler, nor from the forked child of a
+ *   process with threads.
+ * - The stack has room: 128 KiB is enough where it was measured.
+ * The functions keep nothing between calls, so threads may call them side by side.
+ */
+#ifndef PBAUDIT_H
+#define PBAUDIT_H
+
+#include <stdbool.h>
+#include <stddef.h>
+#include <stdint.h>
+
+#ifdef __cplusplus
+extern "C" {
+#endif
+
+/* What an election has: the line of `pbaudit read`, with its notes. 0, 2 or 4. */
+uint8_t pbaudit_read(const uint8_t *election, size_t election_length,
+                     uint8_t *out, size_t room, size_t *needed);
+
+/* Whether the payments of a price certificate support the outcome: that of an outcome file where has_outcome, and else
+ * the election's own, the column `selected`. stable asks for S5 in place of C5, exhaustive for the condition Exhaustive
+ * (which the program asks for unless it is left out), and cover for the condition Cover. 0, 1, 2 or 4. */
+uint8_t pbaudit_prices(const uint8_t *election, size_t election_length,
+                       const uint8_t *outcome, size_t outcome_length, bool has_outcome,
+                       const uint8_t *certificate, size_t certificate_length,
+                       bool stable, bool exhaustive, bool cover,
+                       uint8_t *out, size_t room, size_t *needed);
+
+/* Whether a group and its demand are a violation of EJR, by the measure that the certificate states. The outcome is as
+ * for prices. 0, 1, 2 or 4. */
+uint8_t pbaudit_violation(const uint8_t *election, size_t election_length,
+                          const uint8_t *outcome, size_t outcome_length, bool has_outcome,
+                          const uint8_t *certificate, size_t certificate_length,
+                          uint8_t *out, size_t room, size_t *needed);
+
+/* Prices, and a group with its demand, for one outcome: a line for each, that of the prices first. 0 where both are a yes,
+ * else 1; or 2 or 4. */
+uint8_t pbaudit_both(const uint8_t *election, size_t election_length,
+                     const uint8_t *outcome, size_t outcome_length, bool has_outcome,
+                     const uint8_t *prices, size_t prices_length,
+                     const uint8_t *violation, size_t violation_length,
+                     bool stable, bool exhaustive, bool cover,
+                     uint8_t *out, size_t room, size_t *needed);
+
+/* A price certificate in its canonical form. 0, 2 or 4. */
+uint8_t pbaudit_tidy(const uint8_t *election, size_t election_length,
+                     const uint8_t *certificate, size_t certificate_length,
+                     uint8_t *out, size_t room, size_t *needed);
+
+#ifdef __cplusplus
+}
+#endif
+#endif

@@ -1,0 +1,145 @@
+"""Audits of files: those of docs/FORMATS.md, as bytes or by their paths.
+
+A `str` or `os.PathLike` is the path of a file, and `bytes` are a file's bytes. What a file can't be read for is an
+OSError, and a file that isn't what it has to be is a Refusal. Both are exceptions, since neither is an answer to what
+was asked. That a condition fails is an answer, and so a value.
+"""
+import os
+import re
+from dataclasses import dataclass
+from typing import Optional, Tuple, Union
+
+from ._auditor import Mode, Question, ask
+
+File = Union[bytes, bytearray, memoryview, str, "os.PathLike[str]"]
+# A file of more bytes than this is refused, so no more than one byte more is ever read.
+MOST_BYTES = 2**28
+
+
+class Refusal(ValueError):
+    """A file isn't what it has to be. `str` is the line that the program prints.
+
+    `input` is "election", "outcome" or "certificate" (of `audit_both` "prices" or "violation"); `number` and `name` are those of docs/FORMATS.md; `record` is the
+    record at which the first fault stands, numbered from 1, or 0 where it stands at none.
+    """
+
+    def __init__(self, line: str):
+        super().__init__(line)
+        _, self.input, number, self.name, _, record = line.split(" ")
+        self.number, self.record = int(number), int(record)
+
+    def __reduce__(self):
+        return Refusal, (str(self),)
+
+
+@dataclass(frozen=True)
+class Verdict:
+    """The answer to an audit: true where all that was asked holds. `str` is the line that the program prints.
+
+    Where something fails, `condition` names the first that does, as "C3" or "V4", and `voter` (numbered from 1, by the
+    ballots) and `project` (the id) say where, each None where the condition names none.
+    """
+
+    holds: bool
+    line: str
+    condition: Optional[str] = None
+    voter: Optional[int] = None
+    project: Optional[str] = None
+
+    def __bool__(self) -> bool:
+        return self.holds
+
+    def __str__(self) -> str:
+        return self.line
+
+
+@dataclass(frozen=True)
+class Summary:
+    """What an election has. `funded` is None where it states no outcome; `notes` are without their `note: `."""
+
+    voters: int
+    projects: int
+    funded: Optional[int]
+    notes: Tuple[str, ...]
+    line: str
+
+    def __str__(self) -> str:
+        return self.line
+
+
+def read(election: File) -> Summary:
+    """Reads an election. Raises Refusal, OSError and MemoryError."""
+    line, *notes = _lines(Question("read", bytes_of(election)))
+    form = r"read (\d+) voters (\d+) projects (?:(\d+) funded|no outcome)"
+    voters, projects, funded = re.fullmatch(form, line).groups()
+    notes = tuple(note[len("note: "):] for note in notes)
+    return Summary(int(voters), int(projects), None if funded is None else int(funded), notes, line)
+
+
+def audit_prices(election: File, certificate: File, outcome: Optional[File] = None, *, stable: bool = False,
+                 exhaustive: bool = True, cover: bool = False) -> Verdict:
+    """Whether the payments of a price certificate support the outcome: that of the outcome file, and where that is None
+    the election's own, the column `selected`. `stable` asks for S5 in place of C5; without `exhaustive` the condition
+    Exhaustive is left out; `cover` adds Cover. Raises Refusal, OSError and MemoryError."""
+    mode = Mode(bool(stable), bool(exhaustive), bool(cover))
+    return verdict(Question("prices", bytes_of(election), bytes_of(certificate), outcome=_given(outcome), mode=mode))
+
+
+def audit_violation(election: File, certificate: File, outcome: Optional[File] = None) -> Verdict:
+    """Whether the group and its demand are a violation of EJR, by the measure that the certificate states. The outcome
+    is as for `audit_prices`. Raises Refusal, OSError and MemoryError."""
+    return verdict(Question("violation", bytes_of(election), bytes_of(certificate), outcome=_given(outcome)))
+
+
+def audit_both(election: File, prices: File, violation: File, outcome: Optional[File] = None, *, stable: bool = False,
+               exhaustive: bool = True, cover: bool = False) -> Tuple[Verdict, Verdict]:
+    """The verdict on a price certificate and then that on a violation certificate, for one outcome. The switches are those of
+    `audit_prices`. In the stable form with Cover, prices that support the outcome never stand beside a violation by counting.
+    Raises Refusal, OSError and MemoryError."""
+    mode = Mode(bool(stable), bool(exhaustive), bool(cover))
+    files = bytes_of(election), bytes_of(prices), bytes_of(violation)
+    first, second = _lines(Question("both", *files, outcome=_given(outcome), mode=mode))
+    return _verdict(first), _verdict(second)
+
+
+def tidy(election: File, certificate: File) -> bytes:
+    """The canonical form of a price certificate. Raises Refusal, OSError and MemoryError."""
+    return _text(Question("tidy", bytes_of(election), bytes_of(certificate)))
+
+
+def verdict(question: Question) -> Verdict:
+    """The verdict that answers a question on prices or on a violation."""
+    (line,) = _lines(question)
+    return _verdict(line)
+
+
+def _verdict(line):
+    failed = re.fullmatch(r"failed (\w+)(?: voter (\d+))?(?: project (.*))?", line)
+    if not failed:
+        return Verdict(True, line)
+    condition, voter, project = failed.groups()
+    return Verdict(False, line, condition, None if voter is None else int(voter), project)
+
+
+def bytes_of(file: File) -> bytes:
+    """The bytes of a file that is given as such or by its path."""
+    if isinstance(file, (bytes, bytearray, memoryview)):
+        return bytes(file)
+    with open(os.fspath(file), "rb") as opened:
+        return opened.read(MOST_BYTES + 1)
+
+
+def _given(file):
+    return None if file is None else bytes_of(file)
+
+
+def _lines(question):
+    return _text(question).decode("utf-8").rstrip("\n").split("\n")
+
+
+def _text(question):
+    """The text of an answer that isn't a refusal."""
+    status, text = ask(question)
+    if status == 2:
+        raise Refusal(text.decode("utf-8").rstrip("\n"))
+    return text

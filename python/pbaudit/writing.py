@@ -1,0 +1,175 @@
+"""Writes the files of docs/FORMATS.md from Python values.
+
+Each function answers the file's bytes, and writes them to `path` as well where one is given. What no file can say is
+refused by a ValueError with the reason, or a TypeError for an amount that is a float.
+
+Values are taken by their shape, which is that of pabutools: an instance is an iterable of projects with `name` and
+`cost`, and has a `budget_limit`; a profile is an iterable of approval ballots, one for each voter, and each is an
+iterable of projects; a project may also be named by its id, a `str`.
+"""
+import os
+from collections.abc import Mapping, Set
+from fractions import Fraction
+from functools import lru_cache
+from typing import Dict, Iterable, List, Optional
+
+from .amounts import MOST_DENOMINATOR, MOST_NUMERATOR, common_denominator, exact, money
+
+BLANKS = " \t\n\v\f\r"
+
+
+def write_election(instance, profile, budget_allocation: Optional[Iterable] = None,
+                   path: Optional["os.PathLike[str]"] = None) -> bytes:
+    """An election; its outcome is the budget allocation, and without one it states none."""
+    costs = {name: money(cost, f"the cost of {name}") for name, cost in costs_of(instance).items()}
+    ids = list(costs)
+    limit = money(exact(instance.budget_limit, "the budget limit"), "the budget limit")
+    ballots = ballots_of(profile, costs)
+    for ballot in ballots:
+        for project in ballot:
+            if "," in project:
+                raise ValueError(f"a ballot can't name the project {project!r}, whose id has a comma")
+    head = [["META"], ["key", "value"], ["num_projects", str(len(ids))], ["num_votes", str(len(ballots))],
+            ["budget", limit], ["vote_type", "approval"], ["PROJECTS"]]
+    if budget_allocation is None:
+        projects = [["project_id", "cost"]] + [[project, costs[project]] for project in ids]
+    else:
+        funded = set(funded_of(budget_allocation, costs))
+        projects = [["project_id", "cost", "selected"]]
+        projects += [[project, costs[project], str(int(project in funded))] for project in ids]
+    votes = [["VOTES"], ["voter_id", "vote"]]
+    votes += [[str(voter), ",".join(ballot)] for voter, ballot in enumerate(ballots, 1)]
+    return _written(head + projects + votes, ";", path)
+
+
+def write_outcome(budget_allocation: Iterable, path: Optional["os.PathLike[str]"] = None) -> bytes:
+    """An outcome file of the funded projects."""
+    ids = _once([id_of(project) for project in budget_allocation], "the outcome names")
+    return _written([["pb-outcome", "1"]] + [["project", project] for project in ids], ",", path)
+
+
+def write_prices(voter_budget, payment_functions: Iterable[Mapping],
+                 path: Optional["os.PathLike[str]"] = None) -> bytes:
+    """A price certificate: the budget of each voter, and for each voter, in the order of the profile, a mapping from
+    projects to what the voter pays, in the currency of the costs."""
+    budget = exact(voter_budget, "the voter budget")
+    payments = [_payments_of(voter, function) for voter, function in enumerate(payment_functions, 1)]
+    denominator = common_denominator([budget, *(amount for mine in payments for amount in mine.values())])
+    rows = [(voter, project, amount * denominator) for voter, mine in enumerate(payments, 1)
+            for project, amount in mine.items()]
+    return price_file(denominator, budget * denominator, rows, path)
+
+
+def write_violation(voters: Iterable[int], projects: Iterable, satisfaction: Optional[str] = None,
+                    path: Optional["os.PathLike[str]"] = None) -> bytes:
+    """A violation certificate: the group, by the numbers of its voters (from 1, in the order of the profile), and the
+    projects that it demands. `satisfaction` is "count" or "cost"; None is "count" in the older version of the file."""
+    if satisfaction not in (None, "count", "cost"):
+        raise ValueError(f"the satisfaction is {satisfaction!r}, and not 'count' or 'cost'")
+    head = [["pb-violation", "1"]] if satisfaction is None else [["pb-violation", "2"], ["satisfaction", satisfaction]]
+    ids = _once([id_of(project) for project in projects], "the demand names")
+    group = _once([int(voter) for voter in voters], "the group names voter")
+    if any(voter < 1 for voter in group):
+        raise ValueError("voters are numbered from 1")
+    rows = [["project", project] for project in ids] + [["voter", str(voter)] for voter in group]
+    return _written(head + rows, ",", path)
+
+
+def price_file(denominator: int, voter_budget: int, rows, path=None) -> bytes:
+    """A price certificate of numerators over a denominator; rows are a voter (from 1), an id and a numerator."""
+    if denominator > MOST_DENOMINATOR:
+        raise ValueError(f"the amounts' common denominator is {denominator}, and a certificate's is at most 10^9: "
+                         "price_certificate rounds to a smaller one where the conditions still hold")
+    if max([voter_budget, *(numerator for _, _, numerator in rows)]) > MOST_NUMERATOR:
+        raise ValueError("a numerator is over 10^21, the most that a certificate has")
+    if voter_budget < 0:
+        raise ValueError("the voter budget is below 0")
+    head = [["pb-prices", "1"], ["denominator", str(denominator)], ["voter_budget", str(voter_budget)],
+            ["voter", "project", "payment"]]
+    return _written(head + [[str(voter), project, str(numerator)] for voter, project, numerator in rows], ",", path)
+
+
+def costs_of(instance) -> Dict[str, Fraction]:
+    """What each project costs, by id and in the instance's order. An instance that is a set, as in pabutools, is put in
+    order by the ids."""
+    costs = {}
+    for project in sorted(instance, key=id_of) if isinstance(instance, Set) else instance:
+        name = id_of(project)
+        if name in costs:
+            raise ValueError(f"two projects have the id {name!r}")
+        costs[name] = exact(project.cost, f"the cost of {name}")
+    return costs
+
+
+def ballots_of(profile, projects) -> List[List[str]]:
+    """The ids on each ballot, in the order of the projects."""
+    if isinstance(profile, Mapping):
+        raise ValueError("the profile has merged ballots with counts, so its voters have no order that payments could "
+                         "be in: give one ballot for each voter")
+    order = {project: at for at, project in enumerate(projects)}
+    ballots = []
+    for voter, ballot in enumerate(profile, 1):
+        named = {id_of(project) for project in ballot}
+        _known(named, order, f"voter {voter} approves")
+        ballots.append(sorted(named, key=order.__getitem__))
+    return ballots
+
+
+def funded_of(budget_allocation, projects) -> List[str]:
+    """The ids of the funded projects."""
+    funded = _once([id_of(project) for project in budget_allocation], "the outcome names")
+    _known(funded, projects, "the outcome names")
+    return funded
+
+
+def id_of(project) -> str:
+    """The id of a project, which is its name or itself."""
+    return _checked_id(project if isinstance(project, str) else str(project.name))
+
+
+@lru_cache(maxsize=None)
+def _checked_id(name):
+    if not name or name != name.strip(BLANKS) or any(letter < " " or letter == "\x7f" for letter in name):
+        raise ValueError(f"the id {name!r} can't be written: it is empty, has a blank at an end, or a control byte")
+    return name
+
+
+def _payments_of(voter, function):
+    payments = {}
+    for project, amount in function.items():
+        name = id_of(project)
+        if name in payments:
+            raise ValueError(f"voter {voter} pays for {name} twice")
+        payments[name] = exact(amount, f"what voter {voter} pays for {name}")
+        if payments[name] < 0:
+            raise ValueError(f"voter {voter} pays {amount} for {name}, and a certificate has no payments below 0")
+    return {name: amount for name, amount in payments.items() if amount}
+
+
+def _once(names, what):
+    seen = set()
+    for name in names:
+        if name in seen:
+            raise ValueError(f"{what} {name} twice")
+        seen.add(name)
+    return names
+
+
+def _known(names, projects, what):
+    for name in names:
+        if name not in projects:
+            raise ValueError(f"{what} {name}, which is no project of the instance")
+
+
+def _written(records, separator, path):
+    lines = [separator.join(_field(text, separator) for text in record) for record in records]
+    data = ("\n".join(lines) + "\n").encode("utf-8")
+    if path is not None:
+        with open(path, "wb") as file:
+            file.write(data)
+    return data
+
+
+def _field(text, separator):
+    quoted = text.startswith('"') or separator in text
+    return '"' + text.replace('"', '""') + '"' if quoted else text

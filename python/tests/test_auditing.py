@@ -1,0 +1,144 @@
+"""The audits of files, by the library and by the program."""
+import os
+import pathlib
+import pickle
+import subprocess
+import sys
+import tempfile
+import unittest
+
+import pbaudit
+from pbaudit import Refusal, _auditor
+
+REPOSITORY = pathlib.Path(__file__).resolve().parents[2]
+EXAMPLES = REPOSITORY / "examples"
+PROGRAM = REPOSITORY / "crates" / "pbaudit" / "out" / "pbaudit"
+AUDITS = ("read", "prices", "violation", "both", "tidy")
+
+
+def wanted_answers():
+    """The commands of answers.txt that this package has: words, the text, and the status."""
+    command, lines = None, []
+    for line in (EXAMPLES / "answers.txt").read_text(encoding="utf-8").splitlines()[1:]:
+        if line.startswith("pbaudit "):
+            command, lines = line.split(" ")[1:], []
+        elif line.startswith("status ") and command[0] in AUDITS and "18 Read" not in lines[0]:
+            yield command, "".join(each + "\n" for each in lines), int(line.split(" ")[1])
+        else:
+            lines.append(line)
+
+
+def question_of(words):
+    """The question that some words of the command line ask."""
+    command, election, *rest = words
+    outcome = None
+    if "--outcome" in rest:
+        at = rest.index("--outcome")
+        outcome = (EXAMPLES / rest[at + 1]).read_bytes()
+        del rest[at:at + 2]
+    mode = _auditor.Mode("--stable" in rest, "--no-exhaustive" not in rest, "--cover" in rest)
+    certificates = [(EXAMPLES / word).read_bytes() for word in rest if not word.startswith("--")]
+    return _auditor.Question(command, (EXAMPLES / election).read_bytes(), *certificates, outcome=outcome, mode=mode)
+
+
+class Answers(unittest.TestCase):
+    def test_library_answers_as_the_examples_say(self):
+        self.assertIsInstance(_auditor._find(), _auditor._Library)
+        count = 0
+        for words, text, status in wanted_answers():
+            with self.subTest(words=words):
+                self.assertEqual(_auditor.ask(question_of(words)), (status, text.encode()))
+                count += 1
+        self.assertGreater(count, 15)
+
+    def test_program_answers_as_the_examples_say(self):
+        program = _auditor._Program(str(PROGRAM))
+        for words, text, status in wanted_answers():
+            with self.subTest(words=words):
+                self.assertEqual(program.ask(question_of(words)), (status, text.encode()))
+
+    def test_program_that_ends_otherwise_is_an_error(self):
+        with self.assertRaises(RuntimeError):
+            _auditor._Program(str(PROGRAM)).ask(_auditor.Question("unknown", b"", b""))
+
+    def test_without_either_it_says_how_to_build(self):
+        with tempfile.TemporaryDirectory() as room:
+            package = pathlib.Path(room, "pbaudit")
+            package.mkdir()
+            for file in pathlib.Path(pbaudit.__file__).parent.glob("*.py"):
+                (package / file.name).write_bytes(file.read_bytes())
+            words = [sys.executable, "-c", "import pbaudit; pbaudit.read(b'')"]
+            given = {"PATH": room, "PYTHONPATH": room}
+            done = subprocess.run(words, cwd=room, capture_output=True, env=given, check=False)
+        self.assertIn(b"./pbaudit-library", done.stderr)
+
+
+class Audits(unittest.TestCase):
+    def test_read(self):
+        summary = pbaudit.read(EXAMPLES / "district.pb")
+        self.assertEqual((summary.voters, summary.projects, summary.funded, summary.notes), (60, 12, 6, ()))
+        self.assertEqual(str(summary), "read 60 voters 12 projects 6 funded")
+        sample = (EXAMPLES / "sample.pb").read_bytes().replace(b"selected", b"chosen")
+        summary = pbaudit.read(sample.replace(b"num_votes;3", b"num_votes;4"))
+        self.assertEqual((summary.funded, summary.notes), (None, ("num_votes says 4, counted 3",)))
+
+    def test_paths_and_bytes(self):
+        for file in (str(EXAMPLES / "sample.pb"), EXAMPLES / "sample.pb", (EXAMPLES / "sample.pb").read_bytes(),
+                     bytearray((EXAMPLES / "sample.pb").read_bytes())):
+            self.assertEqual(pbaudit.read(file).voters, 3)
+        with self.assertRaises(FileNotFoundError):
+            pbaudit.read(EXAMPLES / "missing.pb")
+
+    def test_prices(self):
+        files = EXAMPLES / "district.pb", EXAMPLES / "district.prices.csv"
+        verdict = pbaudit.audit_prices(*files)
+        self.assertTrue(verdict)
+        self.assertEqual((str(verdict), verdict.condition), ("supported priceable", None))
+        verdict = pbaudit.audit_prices(*files, stable=True)
+        self.assertFalse(verdict)
+        self.assertEqual((verdict.condition, verdict.voter, verdict.project), ("S5", None, "102"))
+        other = pbaudit.audit_prices(*files, EXAMPLES / "district.other.outcome.csv", exhaustive=False)
+        self.assertEqual((other.condition, other.project), ("C3", "102"))
+        stable = EXAMPLES / "district.stable.prices.csv", EXAMPLES / "district.stable.outcome.csv"
+        self.assertTrue(pbaudit.audit_prices(EXAMPLES / "district.pb", *stable, stable=True, cover=True))
+
+    def test_violation(self):
+        files = EXAMPLES / "district.pb", EXAMPLES / "district.violation.csv"
+        verdict = pbaudit.audit_violation(*files)
+        self.assertEqual((bool(verdict), verdict.condition, verdict.voter, verdict.project), (False, "V4", 9, None))
+        self.assertTrue(pbaudit.audit_violation(*files, EXAMPLES / "district.other.outcome.csv"))
+
+    def test_both(self):
+        files = EXAMPLES / "district.pb", EXAMPLES / "district.stable.prices.csv", EXAMPLES / "district.violation.csv"
+        outcome = EXAMPLES / "district.stable.outcome.csv"
+        prices, violation = pbaudit.audit_both(*files, outcome, stable=True, cover=True)
+        self.assertTrue(prices)
+        self.assertEqual((bool(violation), violation.condition, violation.voter), (False, "V4", 9))
+        with self.assertRaises(Refusal) as caught:
+            pbaudit.audit_both(EXAMPLES / "sample.pb", EXAMPLES / "sample.prices.csv", EXAMPLES / "sample.prices.csv")
+        self.assertEqual((caught.exception.input, caught.exception.number), ("violation", 21))
+
+    def test_tidy(self):
+        untidy = EXAMPLES / "sample.untidy.prices.csv"
+        self.assertEqual(pbaudit.tidy(EXAMPLES / "sample.pb", untidy), (EXAMPLES / "sample.prices.csv").read_bytes())
+
+    def test_refusals(self):
+        with self.assertRaises(Refusal) as caught:
+            pbaudit.audit_violation(EXAMPLES / "district.pb", EXAMPLES / "district.voter-id.violation.csv")
+        for refusal in (caught.exception, pickle.loads(pickle.dumps(caught.exception))):
+            self.assertEqual((refusal.number, refusal.name), (24, "UnknownVoter"))
+            self.assertEqual((refusal.input, refusal.record), ("certificate", 4))
+            self.assertEqual(str(refusal), "refused certificate 24 UnknownVoter record 4")
+
+    def test_too_long(self):
+        with tempfile.TemporaryDirectory() as room:
+            path = os.path.join(room, "long.pb")
+            with open(path, "wb") as file:
+                file.truncate(2**28 + 1)
+            with self.assertRaises(Refusal) as caught:
+                pbaudit.read(path)
+        self.assertEqual(caught.exception.name, "TooLong")
+
+
+if __name__ == "__main__":
+    unittest.main()

@@ -1,0 +1,121 @@
+"""Certificates from floats, from fractions, and of the Method of Equal Shares."""
+import pathlib
+import pickle
+import random
+import sys
+import tempfile
+import unittest
+from fractions import Fraction
+
+import pbaudit
+from pbaudit import CannotKeep, Instance, Project, price_certificate
+
+sys.path.append(str(pathlib.Path(__file__).resolve().parents[2] / "examples"))
+from equal_shares import election_of, equal_shares  # noqa: E402
+
+EXAMPLES = pathlib.Path(__file__).resolve().parents[2] / "examples"
+A, B, C = Project("a", 6), Project("b", 4), Project("c", 9)
+SAMPLE = Instance([A, B, C], 10)
+PROFILE = [{A, B}, {A}, {B, C}]
+
+
+def an_election(seed):
+    """An invented election, with a measure for Equal Shares."""
+    chance = random.Random(f"certificates/{seed}")
+    voters, projects = chance.choice([(5, 4), (12, 8), (40, 10), (60, 12), (100, 15)])
+    unit = chance.choice([Fraction(1), Fraction(1, 100)])
+    projects = [Project(f"p{number}", chance.randint(1, 5000) * unit) for number in range(projects)]
+    limit = sum(project.cost for project in projects) * chance.randint(20, 70) // 100
+    popular = [chance.random() ** 2 for _ in projects]
+    profile = [{project for project, share in zip(projects, popular) if chance.random() < 0.1 + 0.7 * share}
+               for _ in range(voters)]
+    return Instance(projects, limit), profile, chance.choice(["count", "cost"])
+
+
+class Roundings(unittest.TestCase):
+    def test_equal_shares(self):
+        """Each is audited before it is answered, so it's enough that each is answered."""
+        left_room = 0
+        for seed in range(60):
+            instance, profile, measure = an_election(seed)
+            funded, budget, payments = equal_shares(instance, profile, measure)
+            floats = [{project: float(amount) for project, amount in mine.items()} for mine in payments]
+            with self.subTest(seed=seed):
+                price_certificate(instance, profile, funded, budget, payments, exhaustive=False)
+                made = price_certificate(instance, profile, funded, float(budget), floats, exhaustive=False)
+                self.assertLess(made.moved, 1)
+            try:
+                price_certificate(instance, profile, funded, budget, payments)
+            except CannotKeep as why:
+                self.assertEqual(why.condition, "Exhaustive")
+                left_room += 1
+        self.assertGreater(left_room, 30)
+
+    def test_thirds(self):
+        instance = Instance([Project("a", 1)], 1)
+        made = price_certificate(instance, [["a"]] * 3, ["a"], 0.3333333333, [{"a": 0.3333333333}] * 3)
+        self.assertTrue(pbaudit.audit_prices(pbaudit.write_election(instance, [["a"]] * 3, ["a"]), made.file))
+        self.assertEqual(sum(numerator for _, _, numerator in made.rows), made.denominator)
+        self.assertLess(made.moved, Fraction(1, 50))
+        made = price_certificate(instance, [["a"]] * 3, ["a"], None, [{"a": 0.3333333333}] * 3, denominator=7)
+        self.assertEqual((made.denominator, made.voter_budget), (7, 3))
+
+    def test_exact_payments_stay(self):
+        payments = [{A: Fraction(5, 2), B: Fraction(3, 2)}, {A: Fraction(7, 2)}, {B: Fraction(5, 2)}]
+        made = price_certificate(SAMPLE, PROFILE, [A, B], 4, payments, True)
+        self.assertEqual((made.denominator, made.voter_budget, made.moved, made.raised), (2, 8, 0, 0))
+        self.assertEqual(made.file, pbaudit.write_prices(4, payments))
+        with tempfile.TemporaryDirectory() as room:
+            made.write(f"{room}/p.csv")
+            self.assertEqual(pathlib.Path(room, "p.csv").read_bytes(), made.file)
+
+    def test_a_chain_pays_what_is_missing(self):
+        """Rounded down, a lacks a unit that only a voter without budget could pay; b's other supporter has it."""
+        instance = Instance([Project("a", 1), Project("b", 1)], 2)
+        profile, half = [["a"], ["a", "b"], ["b"]], Fraction(2, 3)
+        payments = [{"a": half}, {"a": 1 - half, "b": 1 - half}, {"b": half}]
+        made = price_certificate(instance, profile, ["a", "b"], half, payments, denominator=100)
+        self.assertLessEqual(made.voter_budget, 67)
+
+    def test_what_cannot_be_kept(self):
+        good = [{A: 2.0, B: 2.0}, {A: 4.0}, {B: 2.0}]
+        for condition, voter, project, words in (
+            ("Feasible", None, None, (SAMPLE, PROFILE, [A, B, C], 4, good)),
+            ("Exhaustive", None, "b", (SAMPLE, PROFILE, [A], 4, good)),
+            ("C1", 2, "b", (SAMPLE, PROFILE, [A, B], 4, [{A: 2.0, B: 2.0}, {A: 4.0, B: 1.0}, {B: 2.0}])),
+            ("C2", 1, None, (SAMPLE, PROFILE, [A, B], 3, good)),
+            ("C2", 3, "b", (SAMPLE, PROFILE, [A, B], 4, [{A: 2.0, B: 2.0}, {A: 4.0}, {B: -2.0}])),
+            ("C3", None, "b", (SAMPLE, PROFILE, [A, B], 4, [{A: 2.0, B: 2.0}, {A: 4.0}, {B: 1.5}])),
+            ("C4", 3, "c", (SAMPLE, PROFILE, [A, B], 4, [{A: 2.0, B: 2.0}, {A: 4.0}, {B: 2.0, C: 1.0}])),
+            ("C5", None, "b", (SAMPLE, PROFILE, [A], 9, [{A: 0.0}, {A: 6.0}, {}], False, False)),
+            ("S5", None, "b", (SAMPLE, PROFILE, [A], 6, [{A: 0.0}, {A: 6.0}, {}], True, False)),
+        ):
+            with self.subTest(condition=condition), self.assertRaises(CannotKeep) as caught:
+                price_certificate(*words)
+            for why in (caught.exception, pickle.loads(pickle.dumps(caught.exception))):
+                self.assertEqual((why.condition, why.voter, why.project), (condition, voter, project))
+                self.assertTrue(str(why).startswith(f"{condition}: "))
+
+    def test_amounts_that_are_none(self):
+        for amount in (float("nan"), float("inf")):
+            with self.assertRaises(ValueError):
+                price_certificate(SAMPLE, PROFILE, [A, B], 4, [{A: amount}, {}, {}])
+        with self.assertRaises(TypeError):
+            price_certificate(SAMPLE, PROFILE, [A, B], 4, [{A: "2"}, {}, {}])
+        with self.assertRaises(ValueError):
+            price_certificate(SAMPLE, PROFILE, [A, B], 4, [{}, {}, {}], denominator=10**9 + 1)
+
+
+class District(unittest.TestCase):
+    def test_the_files_are_those_of_the_rule(self):
+        instance, profile = election_of(EXAMPLES / "district.pb")
+        self.assertEqual((len(instance.projects), len(profile), instance.budget_limit), (12, 60, 111000))
+        funded, budget, payments = equal_shares(instance, profile, "cost")
+        outcome, certificate = EXAMPLES / "district.shares.outcome.csv", EXAMPLES / "district.shares.prices.csv"
+        self.assertEqual(outcome.read_bytes(), pbaudit.write_outcome(funded))
+        made = price_certificate(instance, profile, funded, budget, payments, exhaustive=False)
+        self.assertEqual(certificate.read_bytes(), made.file)
+
+
+if __name__ == "__main__":
+    unittest.main()

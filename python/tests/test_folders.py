@@ -1,0 +1,126 @@
+"""Folders over executors, with workers that are killed."""
+import multiprocessing
+import os
+import pathlib
+import shutil
+import signal
+import subprocess
+import tempfile
+import unittest
+from concurrent.futures import Future, ProcessPoolExecutor, ThreadPoolExecutor
+from unittest import mock
+
+import pbaudit
+from pbaudit import folders
+
+REPOSITORY = pathlib.Path(__file__).resolve().parents[2]
+EXAMPLES = REPOSITORY / "examples"
+PROGRAM = REPOSITORY / "crates" / "pbaudit" / "out" / "pbaudit"
+audit_entry = folders.audit_entry
+
+
+def killed_at_b(entry):
+    """What a worker does whose process is killed at the election b."""
+    if entry.name == "b":
+        os.kill(os.getpid(), signal.SIGKILL)
+    return audit_entry(entry)
+
+
+class LosingExecutor(ThreadPoolExecutor):
+    """Loses the election b so often, as a cluster does: the executor goes on."""
+
+    losses = 0
+
+    def submit(self, work, entry):
+        if entry.name != "b" or self.losses == 0:
+            return super().submit(work, entry)
+        self.losses -= 1
+        lost = Future()
+        lost.set_exception(RuntimeError("the worker died"))
+        return lost
+
+
+class Folders(unittest.TestCase):
+    def setUp(self):
+        self.room = tempfile.mkdtemp()
+        self.addCleanup(shutil.rmtree, self.room)
+        sample, prices = (EXAMPLES / "sample.pb").read_bytes(), (EXAMPLES / "sample.prices.csv").read_bytes()
+        for name in ("a", "b", "c d", "\u00fcber", "-x", "B"):
+            self.write(f"{name}.pb", sample)
+            self.write(f"{name}.prices.csv", prices)
+        self.write("no.pb", sample.replace(b"selected", b"chosen"))
+        self.write("no.prices.csv", prices)
+        self.write("no.violation.csv", b"pb-violation,1\nproject,a\nvoter,1\n")
+        self.write("torn.pb", sample[:40])
+        self.write("torn.prices.csv", prices)
+        self.write("worse.pb", sample)
+        self.write("worse.prices.csv", prices.replace(b"1,a,2", b"1,a,1"))
+        self.write("worse.violation.csv", b"")
+        self.write("lone.prices.csv", prices)
+        self.write(".pb", sample)
+        self.write("ctrl\x01.pb", sample)
+        os.mkdir(os.path.join(self.room, "folder.pb"))
+        os.symlink(os.path.join(self.room, "a.pb"), os.path.join(self.room, "link.pb"))
+
+    def write(self, name, data):
+        pathlib.Path(self.room, name).write_bytes(data)
+
+    def wanted(self, *switches):
+        done = subprocess.run([PROGRAM, "folder", self.room, *switches], stdout=subprocess.PIPE, check=False)
+        return pbaudit.FolderReport(done.stdout.decode(), done.returncode)
+
+    def test_here(self):
+        self.assertEqual(pbaudit.audit_folder(self.room), self.wanted())
+        self.assertEqual(pbaudit.audit_folder(self.room).status, 2)
+        modes = {"stable": ("--stable", True), "exhaustive": ("--no-exhaustive", False), "cover": ("--cover", True)}
+        for name, (switch, value) in modes.items():
+            self.assertEqual(pbaudit.audit_folder(self.room, **{name: value}), self.wanted(switch))
+        self.assertEqual(pbaudit.audit_folder(EXAMPLES).status, 1)
+        with self.assertRaises(FileNotFoundError):
+            pbaudit.audit_folder(os.path.join(self.room, "missing"))
+
+    def test_by_executors(self):
+        for executor in (ThreadPoolExecutor(3), ProcessPoolExecutor(3)):
+            with executor:
+                self.assertEqual(pbaudit.audit_folder(self.room, executor), self.wanted())
+
+    def test_a_worker_that_is_killed(self):
+        forks = multiprocessing.get_context("fork")
+        with mock.patch.object(folders, "audit_entry", killed_at_b), ProcessPoolExecutor(2, forks) as executor:
+            self.assertEqual(pbaudit.audit_folder(self.room, executor), self.wanted())
+
+    def test_an_election_that_is_lost(self):
+        alone = folders._in_a_process
+
+        def lost(entry):
+            return None if entry.name == "b" else alone(entry)
+        forks = multiprocessing.get_context("fork")
+        with mock.patch.multiple(folders, audit_entry=killed_at_b, _in_a_process=lost):
+            with ProcessPoolExecutor(2, forks) as executor:
+                report = pbaudit.audit_folder(self.room, executor)
+        self.assertEqual((report.status, report.lost), (4, ("b",)))
+        lines = self.wanted().text.splitlines(keepends=True)
+        kept = [line for line in lines if not line.startswith(("b.pb", "b.prices", "total"))]
+        self.assertEqual([line for line in report.text.splitlines(keepends=True) if line in kept], kept)
+        self.assertIn("b.pb: fault worker\n", report.text)
+        self.assertIn("total 9 elections 5 yes 1 no 4 refused\n", report.text)
+
+    def test_an_executor_that_goes_on(self):
+        for losses, is_lost in ((1, False), (2, False), (3, True)):
+            with LosingExecutor(2) as executor, self.assertLogs("pbaudit", "WARNING"):
+                executor.losses = losses
+                report = pbaudit.audit_folder(self.room, executor)
+            self.assertEqual(report.lost, ("b",) if is_lost else ())
+            self.assertEqual(report == self.wanted(), not is_lost)
+
+    def test_by_a_dask_cluster(self):
+        try:
+            from dask.distributed import Client
+        except ImportError:
+            self.skipTest("Dask isn't installed")
+        with Client(n_workers=2, threads_per_worker=1, dashboard_address=None) as client:
+            self.assertEqual(pbaudit.audit_folder(self.room, client.get_executor()), self.wanted())
+
+
+if __name__ == "__main__":
+    unittest.main()

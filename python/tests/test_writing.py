@@ -1,0 +1,144 @@
+"""Files and verdicts from Python values."""
+import tempfile
+import unittest
+from collections import Counter
+from decimal import Decimal
+from fractions import Fraction
+
+import pbaudit
+from pbaudit import Instance, Project, validate_price_system
+
+A, B, C = Project("a", 6), Project("b", 4), Project("c", 9)
+SAMPLE = Instance([A, B, C], 10)
+PROFILE = [{A, B}, {A}, {B, C}]
+PAYMENTS = [{A: 2, B: 2}, {A: 4}, {B: 2}]
+
+
+class PriceSystems(unittest.TestCase):
+    def test_supported_and_failed(self):
+        verdict = validate_price_system(SAMPLE, PROFILE, [A, B], 4, PAYMENTS)
+        self.assertIs(bool(verdict), True)
+        self.assertEqual(str(verdict), "supported priceable")
+        self.assertEqual(str(validate_price_system(SAMPLE, PROFILE, [A, B], 4, PAYMENTS, True)), "supported stable")
+        verdict = validate_price_system(SAMPLE, PROFILE, [A, B], 3, PAYMENTS)
+        self.assertEqual((bool(verdict), verdict.condition, verdict.voter), (False, "C2", 1))
+        verdict = validate_price_system(SAMPLE, PROFILE, [A, B], 4, [{A: 2, B: 2}, {A: 4}, {C: 2}])
+        self.assertEqual((verdict.condition, verdict.voter, verdict.project), ("C3", None, "b"))
+        verdict = validate_price_system(SAMPLE, PROFILE, [A], 6, [{A: 2}, {A: 4}, {}])
+        self.assertEqual((verdict.condition, verdict.project), ("Exhaustive", "b"))
+        verdict = validate_price_system(SAMPLE, PROFILE, [A], 6, [{A: 2}, {A: 4}, {}], exhaustive=False)
+        self.assertEqual((verdict.condition, verdict.project), ("C5", "b"))
+
+    def test_an_instance_that_is_a_set(self):
+        """As in pabutools, whose instances are sets: the lowest project is the one with the lowest id."""
+        class SetOfProjects(set):
+            budget_limit = 10
+
+        projects = [Project(f"{number:02}", 1) for number in range(40)]
+        verdict = validate_price_system(SetOfProjects(projects), [projects], [], 0, [{}])
+        self.assertEqual((verdict.condition, verdict.project), ("Exhaustive", "00"))
+        made = pbaudit.price_certificate(SetOfProjects([A, B, C]), PROFILE, [A, B], 4, PAYMENTS)
+        self.assertEqual(made.file, pbaudit.write_prices(4, PAYMENTS))
+
+    def test_names_stand_for_projects(self):
+        payments = [{"a": 2, "b": 2}, {"a": 4}, {"b": 2}]
+        self.assertTrue(validate_price_system(SAMPLE, [["a", "b"], ["a"], ["b", "c"]], ["a", "b"], 4, payments))
+
+    def test_amounts_are_exact(self):
+        third = Fraction(1, 3)
+        instance = Instance([Project("a", 1), Project("b", Fraction(1, 7))], Decimal("1.142857") + Decimal("0.000001"))
+        payments = [{"a": third, "b": Fraction(1, 7)}, {"a": third}, {"a": third}]
+        ballots = [["a", "b"], ["a"], ["a"]]
+        self.assertTrue(validate_price_system(instance, ballots, ["a", "b"], third + Fraction(1, 7), payments))
+        less = [{"a": third - Fraction(1, 10**15), "b": Fraction(1, 7)}, {"a": third}, {"a": third}]
+        verdict = validate_price_system(instance, ballots, ["a", "b"], third + Fraction(1, 7), less)
+        self.assertEqual((verdict.condition, verdict.project), ("C3", "a"))
+
+    def test_floats_are_refused(self):
+        for budget, payments in ((4.0, PAYMENTS), (4, [{A: 2, B: 2.0}, {A: 4}, {B: 2}])):
+            with self.assertRaisesRegex(TypeError, "price_certificate"):
+                validate_price_system(SAMPLE, PROFILE, [A, B], budget, payments)
+        with self.assertRaises(TypeError):
+            validate_price_system(Instance([Project("a", 6.0)], 10), [{"a"}], ["a"], 6, [{"a": 6}])
+
+    def test_what_no_certificate_can_say(self):
+        for profile, funded, payments in (
+            (PROFILE, [A, B], [{A: 2, B: 2}, {A: 4}]),
+            (PROFILE, [A, B], [{A: 2, B: 2}, {A: 4}, {"d": 2}]),
+            (PROFILE, [A, "d"], PAYMENTS),
+            (PROFILE, [A, A], PAYMENTS),
+            ([{A, B}, {A}, {"d"}], [A, B], PAYMENTS),
+            (PROFILE, [A, B], [{A: 2, B: 2}, {A: 4}, {B: -2}]),
+            (Counter({frozenset([A]): 3}), [A], [{A: 2}] * 3),
+            (PROFILE, [A, B], [{A: Fraction(2, 10**40 + 1)}, {A: 4}, {B: 2}]),
+        ):
+            with self.subTest(funded=funded, payments=payments), self.assertRaises(ValueError):
+                validate_price_system(SAMPLE, profile, funded, 4, payments)
+        with self.assertRaises(ValueError):
+            validate_price_system(Instance([A, A, B], 10), PROFILE[:2], [A, B], 4, PAYMENTS[:2])
+
+
+class Files(unittest.TestCase):
+    def test_an_election_is_read_back(self):
+        odd = ['q"', '"q', "x;y", "\u00fcber", "a b", "META", "'", "\u00a0x"]
+        instance = Instance([Project(name, Decimal("0.000001") * at) for at, name in enumerate(odd)], 10**12)
+        data = pbaudit.write_election(instance, [odd, [], odd[:2]], odd[3:])
+        self.assertEqual(str(pbaudit.read(data)), "read 3 voters 8 projects 5 funded")
+        prices = pbaudit.write_prices(Fraction(5, 3), [{name: Fraction(at, 7) for at, name in enumerate(odd)}, {}, {}])
+        self.assertEqual(pbaudit.tidy(data, prices), prices)
+        self.assertIn(b"denominator,21\nvoter_budget,35\n", prices)
+        self.assertIsNone(pbaudit.read(pbaudit.write_election(SAMPLE, PROFILE)).funded)
+
+    def test_the_sample(self):
+        self.assertEqual(
+            pbaudit.write_election(Instance([A, Project("b", Decimal("4.50"))], Fraction(21, 2)), [[A], []], [A]),
+            b"META\nkey;value\nnum_projects;2\nnum_votes;2\nbudget;10.5\nvote_type;approval\n"
+            b"PROJECTS\nproject_id;cost;selected\na;6;1\nb;4.5;0\nVOTES\nvoter_id;vote\n1;a\n2;\n")
+        self.assertEqual(pbaudit.write_outcome([A, "x,y"]), b'pb-outcome,1\nproject,a\nproject,"x,y"\n')
+        self.assertEqual(pbaudit.write_violation([4, 1], [B]), b"pb-violation,1\nproject,b\nvoter,4\nvoter,1\n")
+        self.assertEqual(pbaudit.write_violation([1], [B], "cost"),
+                         b"pb-violation,2\nsatisfaction,cost\nproject,b\nvoter,1\n")
+        prices = b"pb-prices,1\ndenominator,1\nvoter_budget,4\nvoter,project,payment\n1,a,2\n1,b,2\n2,a,4\n3,b,2\n"
+        self.assertEqual(pbaudit.write_prices(4, PAYMENTS), prices)
+
+    def test_files_are_audited(self):
+        with tempfile.TemporaryDirectory() as room:
+            election, prices, claim, outcome = (f"{room}/{name}" for name in ("t.pb", "t.prices.csv", "v.csv", "o.csv"))
+            pbaudit.write_election(SAMPLE, PROFILE, [A, B], election)
+            pbaudit.write_prices(4, PAYMENTS, prices)
+            pbaudit.write_violation([1, 2], ["a"], path=claim)
+            pbaudit.write_outcome([], outcome)
+            self.assertTrue(pbaudit.audit_prices(election, prices))
+            self.assertEqual(pbaudit.audit_violation(election, claim).condition, "V4")
+            self.assertTrue(pbaudit.audit_violation(election, claim, outcome))
+
+    def test_what_cannot_be_written(self):
+        def projects(name, cost=1):
+            return Instance([Project(name, cost)], 10)
+        for make in (
+            lambda: pbaudit.write_election(projects("a", Decimal("0.0000001")), []),
+            lambda: pbaudit.write_election(projects("a", Fraction(1, 3)), []),
+            lambda: pbaudit.write_election(projects("a", -1), []),
+            lambda: pbaudit.write_election(projects("a", 10**12 + 1), []),
+            lambda: pbaudit.write_election(projects("a", Decimal("nan")), []),
+            lambda: pbaudit.write_election(projects("a\n"), []),
+            lambda: pbaudit.write_election(projects("a\x01b"), []),
+            lambda: pbaudit.write_election(projects(""), []),
+            lambda: pbaudit.write_election(projects(" a"), []),
+            lambda: pbaudit.write_election(projects("x,y"), [["x,y"]]),
+            lambda: pbaudit.write_election(Instance([A, A], 10), []),
+            lambda: pbaudit.write_election(projects("\ud800"), []),
+            lambda: pbaudit.write_prices(1, [{"a": Fraction(1, 10**9 + 1)}]),
+            lambda: pbaudit.write_prices(-1, []),
+            lambda: pbaudit.write_prices(10**21 + 1, []),
+            lambda: pbaudit.write_violation([0], ["a"]),
+            lambda: pbaudit.write_violation([1, 1], ["a"]),
+            lambda: pbaudit.write_violation([1], ["a"], "share"),
+            lambda: pbaudit.write_outcome(["a", "a"]),
+        ):
+            with self.assertRaises(ValueError):
+                make()
+
+
+if __name__ == "__main__":
+    unittest.main()
