@@ -1,0 +1,79 @@
+//! What stands in a file, as it is shown to a person.
+use std::alloc::{AllocError, Global};
+
+/// How many characters are shown.
+const MOST_SHOWN: usize = 60;
+
+/// No more bytes than these are looked at: a character has at most four.
+const MOST_BYTES: usize = 4 * (MOST_SHOWN + 1);
+
+/// Words, and behind them an excerpt of some bytes between quotes.
+pub(crate) fn quoted(alloc: Global, words: &str, bytes: &[u8]) -> Result<String, AllocError> {
+    let mut text = String::from_str(alloc, words)?;
+    push_quoted(&mut text, bytes)?;
+    Ok(text)
+}
+
+/// Adds an excerpt between quotes: at most 60 characters, and dots where there are more. Control characters are shown by
+/// their numbers, and so are bytes that aren't UTF-8.
+pub(crate) fn push_quoted(text: &mut String, bytes: &[u8]) -> Result<(), AllocError> {
+    text.push('\'')?;
+    push_excerpt(text, bytes)?;
+    text.push('\'')?;
+    Ok(())
+}
+
+fn push_excerpt(text: &mut String, bytes: &[u8]) -> Result<(), AllocError> {
+    let front = bytes.get(..MOST_BYTES).unwrap_or(bytes);
+    let mut room = MOST_SHOWN;
+    for chunk in front.utf8_chunks() {
+        for letter in chunk.valid().chars() {
+            if room == 0 {
+                return text.push_str("...");
+            }
+            room -= 1;
+            push_letter(text, letter)?;
+        }
+        for byte in chunk.invalid() {
+            if room == 0 {
+                return text.push_str("...");
+            }
+            room -= 1;
+            write!(text, "\\x{byte:02x}")?;
+        }
+    }
+    Ok(())
+}
+
+/// Adds all of a text, with its control characters shown by their numbers.
+pub(crate) fn push_shown(text: &mut String, shown: &str) -> Result<(), AllocError> {
+    for letter in shown.chars() {
+        push_letter(text, letter)?;
+    }
+    Ok(())
+}
+
+fn push_letter(text: &mut String, letter: char) -> Result<(), AllocError> {
+    match letter {
+        '\t' => text.push_str("\\t"),
+        '\n' => text.push_str("\\n"),
+        '\r' => text.push_str("\\r"),
+        _ if is_unseen(letter) => push_number(text, letter),
+        _ => text.push(letter),
+    }
+}
+
+fn push_number(text: &mut String, letter: char) -> Result<(), AllocError> {
+    let number = letter as u32;
+    write!(text, "\\u{{{number:x}}}")
+}
+
+/// Whether a letter isn't seen as itself: a control character, a space that looks like another, a mark without width, or one
+/// that turns the direction in which a line is shown.
+fn is_unseen(letter: char) -> bool {
+    letter.is_control()
+        || matches!(
+            letter,
+            '\u{A0}' | '\u{200B}'..='\u{200F}' | '\u{202A}'..='\u{202F}' | '\u{2066}'..='\u{2069}' | '\u{FEFF}'
+        )
+}
