@@ -2,7 +2,6 @@
 use pb_audit::{Fault, Status, UsageFault};
 use pb_election::{Output, put};
 use std::io::Write;
-use std::process::ExitCode;
 
 /// How a run of the program ends.
 #[derive(Drop)]
@@ -30,13 +29,8 @@ impl From<UsageFault> for End {
 }
 
 impl End {
-    /// Says what is left to say, and gives the exit status.
-    pub fn tell(&self, rt: &HostRuntime) -> ExitCode {
-        ExitCode::from(self.tell_on(&mut rt.stdout(), &mut rt.stderr()))
-    }
-
     /// The exit status, once help is written on `out`, or what went wrong on `err`. What `err` does not take is lost.
-    pub fn tell_on<O: Write, E: Write>(&self, out: &mut O, err: &mut E) -> u8 {
+    pub fn tell<O: Write, E: Write>(&self, out: &mut O, err: &mut E) -> u8 {
         match self {
             End::Answered(Status::Yes) => 0,
             End::Answered(Status::No) => 1,

@@ -1,29 +1,35 @@
 //! Files that are read.
 use std::fs::File;
 use std::io;
-use std::io::{ErrorKind, Read};
+use std::io::Read;
 
-/// A file that is read. One that could not be opened fails at its first read.
+/// The file at a path. It is opened at the first read, so that a file whose turn never comes is not opened at all. One
+/// that can't be opened fails at that read.
 #[derive(Drop)]
-pub enum FileReader {
-    Open(File),
-    Closed,
+pub struct FileReader<'a> {
+    rt: &'a HostRuntime,
+    path: &'a str,
+    file: Option<File>,
 }
 
-impl FileReader {
-    pub fn open(rt: &HostRuntime, path: &str) -> FileReader {
-        match File::open(rt, path) {
-            Ok(file) => FileReader::Open(file),
-            Err(_) => FileReader::Closed,
+impl<'a> FileReader<'a> {
+    pub fn new(rt: &'a HostRuntime, path: &'a str) -> FileReader<'a> {
+        FileReader {
+            rt,
+            path,
+            file: None,
         }
     }
 }
 
-impl Read for FileReader {
+impl Read for FileReader<'_> {
     fn read(&mut self, buf: &mut [u8]) -> io::Result<usize> {
-        match self {
-            FileReader::Open(file) => file.read(buf),
-            FileReader::Closed => Err(io::Error::from(ErrorKind::NotFound)),
+        if let Some(file) = &mut self.file {
+            return file.read(buf);
         }
+        let mut file = File::open(self.rt, self.path)?;
+        let count = file.read(buf);
+        self.file = Some(file);
+        count
     }
 }

@@ -3,99 +3,58 @@
 
 mod end;
 mod file;
+mod folder;
+mod listing;
+mod noted;
+mod progress;
+mod refusals;
+mod task;
+mod words;
 
 use end::End;
-use file::FileReader;
-use pb_audit::{Fault, Status, Task, run_prices, run_read, run_tidy, run_violation, task_of};
-use pb_election::{Input, Output};
-use std::env;
-use std::io::ErrorKind;
+use pb_audit::task_of;
+use std::io::{IsTerminal, Read, Write};
 use std::process::ExitCode;
+use task::run_task;
+use words::words_of;
 
 fn main(rt: HostRuntime) -> ExitCode {
-    let end = match words_of(&rt) {
-        Ok(words) => end_of(&rt, words),
-        Err(end) => end,
-    };
-    end.tell(&rt)
+    let (mut input, mut out, mut err) = (rt.stdin(), rt.stdout(), rt.stderr());
+    let words = words_of(&rt);
+    ExitCode::from(run(&rt, words, &mut input, &mut out, &mut err))
 }
 
-/// The words of the command line, the first of which is the program's name.
-fn words_of(rt: &HostRuntime) -> Result<Vec<String>, End> {
-    let words = env::args(rt).map_err(|error| match error.kind() {
-        ErrorKind::OutOfMemory => End::Faulted(Fault::Memory),
-        _ => End::NotText,
-    })?;
-    words
-        .collect(rt.alloc())
-        .map_err(|_| End::Faulted(Fault::Memory))
+/// Does what the words ask for, and gives the exit status. Standard input, output and error are `input`, `out` and
+/// `err`. Where the words could not be had, it says so.
+pub fn run<I: Read, O: Write, E: Write + IsTerminal>(
+    rt: &HostRuntime,
+    words: Result<Vec<String>, End>,
+    input: &mut I,
+    out: &mut O,
+    err: &mut E,
+) -> u8 {
+    let end = match words {
+        Ok(words) => end_of(rt, words, input, out, err),
+        Err(end) => end,
+    };
+    end.tell(out, err)
 }
 
 /// Does what the words ask for.
-fn end_of(rt: &HostRuntime, words: Vec<String>) -> End {
+fn end_of<I: Read, O: Write, E: Write + IsTerminal>(
+    rt: &HostRuntime,
+    words: Vec<String>,
+    input: &mut I,
+    out: &mut O,
+    err: &mut E,
+) -> End {
     let task = match task_of(rt.alloc(), words) {
         Ok(task) => task,
         Err(fault) => return End::from(fault),
     };
-    match run(rt, &task) {
+    match run_task(rt, &task, input, out, err) {
         Ok(status) => End::Answered(status),
         Err(fault) => End::Faulted(fault),
-    }
-}
-
-/// Writes the answer of a task on standard output.
-fn run(rt: &HostRuntime, task: &Task) -> Result<Status, Fault> {
-    let alloc = rt.alloc();
-    let mut out = Output::new(rt.stdout());
-    match task {
-        Task::Read(None) => run_read(alloc, &mut Input::new(rt.stdin()), &mut out),
-        Task::Read(Some(election)) => run_read(alloc, &mut input(rt, election), &mut out),
-        Task::Prices {
-            election,
-            certificate,
-            outcome,
-            mode,
-        } => run_prices(
-            alloc,
-            &mut input(rt, election),
-            &mut optional_input(rt, outcome),
-            &mut input(rt, certificate),
-            *mode,
-            &mut out,
-        ),
-        Task::Violation {
-            election,
-            certificate,
-            outcome,
-        } => run_violation(
-            alloc,
-            &mut input(rt, election),
-            &mut optional_input(rt, outcome),
-            &mut input(rt, certificate),
-            &mut out,
-        ),
-        Task::Tidy {
-            election,
-            certificate,
-        } => run_tidy(
-            alloc,
-            &mut input(rt, election),
-            &mut input(rt, certificate),
-            &mut out,
-        ),
-    }
-}
-
-/// The file at a path.
-fn input(rt: &HostRuntime, path: &str) -> Input<FileReader> {
-    Input::new(FileReader::open(rt, path))
-}
-
-/// The file at a path, where one is given.
-fn optional_input(rt: &HostRuntime, path: &Option<String>) -> Option<Input<FileReader>> {
-    match path {
-        Some(path) => Some(input(rt, path)),
-        None => None,
     }
 }
 

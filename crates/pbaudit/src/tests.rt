@@ -1,12 +1,22 @@
 //! Tests of what no contract says: whole answers to whole files, readers and writers that fail, and exit statuses.
+mod both_answers;
 mod certificates;
+mod cuts;
 mod ends;
+mod engines;
 mod failing;
 mod fakes;
-mod files;
+mod folders;
+mod hints;
+mod in_turn;
 mod library;
+mod limits;
 mod price_answers;
 mod read_answers;
+mod records;
+mod room;
+mod runs;
 mod samples;
 mod tidy_answers;
 mod violation_answers;
+mod words;

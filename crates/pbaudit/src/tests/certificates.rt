@@ -5,7 +5,7 @@ use super::samples::{
 use pb_certificate::{Prices, Violation, read_outcome};
 use pb_cohesion::{Count, ViolationVerdict, check_violation};
 use pb_election::{Election, Outcome, Output};
-use pb_price::{Verdict, check};
+use pb_price::{Verdict, check, check_rows};
 use std::test::Fail;
 
 #[test]
@@ -62,5 +62,30 @@ fn sample_violation_is_one(rt: HostRuntime) -> Result<(), Fail> {
     assert!(rt; violation.demand() == [1, 2].as_slice());
     let verdict = check_violation(&election, &outcome, &violation, &Count);
     assert_eq!(rt; verdict, ViolationVerdict::Violation);
+    Ok(())
+}
+
+/// A step for each voter, and at most four for each project.
+#[test]
+fn empty_ballots_cost_a_step_each(rt: HostRuntime) -> Result<(), Fail> {
+    let alloc = rt.alloc();
+    let mut text = String::from_str(
+        alloc,
+        "META\nkey;value\nbudget;0\nvote_type;approval\nPROJECTS\nproject_id;cost;selected\n",
+    )?;
+    for project in 0..20_000u32 {
+        writeln!(text, "p{project};1;0")?;
+    }
+    text.push_str("VOTES\nvoter_id;vote\n")?;
+    for _ in 0..1_000_000u32 {
+        text.push_str("v;\n")?;
+    }
+    let prices = b"pb-prices,1\ndenominator,1\nvoter_budget,0\nvoter,project,payment\n";
+    let election = Election::read(alloc, text.as_bytes())?;
+    let outcome = Outcome::selected(alloc, &election)?;
+    assert!(rt; outcome.fits(&election));
+    let checked = check_rows(alloc, &election, &outcome, prices, PLAIN)?;
+    assert_eq!(rt; checked.verdict, Verdict::Supported);
+    assert!(rt; checked.steps >= 1_000_000 && checked.steps <= 1_080_000);
     Ok(())
 }

@@ -19,7 +19,7 @@ fn answers_leave_nothing_to_say(rt: HostRuntime) -> Result<(), Fail> {
     for (status, want) in [(Status::Yes, 0), (Status::No, 1), (Status::Refused, 2)] {
         let mut out = FakeWriter::new(rt.alloc());
         let mut err = FakeWriter::new(rt.alloc());
-        let got = End::Answered(status).tell_on(&mut out, &mut err);
+        let got = End::Answered(status).tell(&mut out, &mut err);
         assert_eq!(rt; got, want);
         assert!(rt; out.written.is_empty() && err.written.is_empty());
     }
@@ -32,7 +32,7 @@ fn help_is_on_standard_output(rt: HostRuntime) -> Result<(), Fail> {
     let end = end_of(alloc, &["pbaudit", "--help"])?.ok_or("a task")?;
     let mut out = FakeWriter::new(alloc);
     let mut err = FakeWriter::new(alloc);
-    assert_eq!(rt; end.tell_on(&mut out, &mut err), 0);
+    assert_eq!(rt; end.tell(&mut out, &mut err), 0);
     assert!(rt; !out.written.is_empty());
     assert!(rt; err.written.is_empty());
     Ok(())
@@ -45,7 +45,7 @@ fn usage_is_on_standard_error(rt: HostRuntime) -> Result<(), Fail> {
     for end in [usage, End::NotText] {
         let mut out = FakeWriter::new(alloc);
         let mut err = FakeWriter::new(alloc);
-        assert_eq!(rt; end.tell_on(&mut out, &mut err), 3);
+        assert_eq!(rt; end.tell(&mut out, &mut err), 3);
         assert!(rt; out.written.is_empty());
         assert!(rt; !err.written.is_empty());
     }
@@ -61,7 +61,7 @@ fn faults_are_on_standard_error(rt: HostRuntime) -> Result<(), Fail> {
     ] {
         let mut out = FakeWriter::new(alloc);
         let mut err = FakeWriter::new(alloc);
-        assert_eq!(rt; End::Faulted(fault).tell_on(&mut out, &mut err), 4);
+        assert_eq!(rt; End::Faulted(fault).tell(&mut out, &mut err), 4);
         assert!(rt; out.written.is_empty());
         assert!(rt; err.written.as_slice() == want.as_bytes());
     }
@@ -80,7 +80,7 @@ fn help_that_is_not_taken_is_a_fault(rt: HostRuntime) -> Result<(), Fail> {
         flush_fails: false,
     };
     let mut err = FakeWriter::new(alloc);
-    assert_eq!(rt; end.tell_on(&mut out, &mut err), 4);
+    assert_eq!(rt; end.tell(&mut out, &mut err), 4);
     assert!(rt; err.written.as_slice() == b"fault write\n".as_slice());
     Ok(())
 }

@@ -1,8 +1,10 @@
 //! Readers and writers that fail.
-use super::fakes::{EndlessReader, FakeReader, FakeWriter, WhenFull};
+use super::fakes::{
+    EndlessReader, FakeReader, FakeWriter, InterruptedReader, Lapse, LapsingWriter, WhenFull,
+};
 use super::samples::ELECTION;
 use pb_audit::{Fault, Status, run_read};
-use pb_election::{Input, LoadFault, Output, load};
+use pb_election::{Input, LoadFault, Output, PutFault, load, put};
 use std::test::Fail;
 
 #[test]
@@ -94,6 +96,55 @@ fn faults_as_text(rt: HostRuntime) -> Result<(), Fail> {
     ] {
         let text = fault.to_string(alloc)?;
         assert!(rt; text.as_str() == want);
+    }
+    Ok(())
+}
+
+#[test]
+fn interrupted_read_is_a_failure(rt: HostRuntime) -> Result<(), Fail> {
+    for at in 1..=2 {
+        let mut reader = InterruptedReader::new(ELECTION, 1000, at);
+        let loaded = load(rt.alloc(), &mut Input::new(&mut reader), 1000);
+        assert!(rt; matches!(loaded, Err(LoadFault::Read)), "{at}");
+        assert!(rt; reader.reads == at, "{at}");
+    }
+    Ok(())
+}
+
+#[test]
+fn writer_that_fails_once_has_failed(rt: HostRuntime) -> Result<(), Fail> {
+    let alloc = rt.alloc();
+    for (lapse, written, writes, flushes) in [
+        (Lapse::TakesNone(1), "", 1, 0),
+        (Lapse::TakesNone(3), "read 3 v", 3, 0),
+        (Lapse::Interrupted(1), "", 1, 0),
+        (Lapse::Interrupted(2), "read", 2, 0),
+        (
+            Lapse::Unflushed,
+            "read 3 voters 3 projects 2 funded\n",
+            9,
+            1,
+        ),
+    ] {
+        let mut writer = LapsingWriter::new(alloc, 4, lapse);
+        let mut election = ELECTION.as_bytes();
+        let mut input = Input::new(&mut election);
+        let got = run_read(alloc, &mut input, &mut Output::new(&mut writer));
+        assert!(rt; got == Err(Fault::Write), "{written}");
+        assert!(rt;
+            writer.written.as_slice() == written.as_bytes(),
+            "{written}"
+        );
+        assert!(rt; writer.writes == writes, "{written}");
+        assert!(rt; writer.flushes == flushes, "{written}");
+        let mut writer = LapsingWriter::new(alloc, 4, lapse);
+        let line = b"read 3 voters 3 projects 2 funded\n";
+        let got = put(line, &mut Output::new(&mut writer));
+        assert!(rt; got == Err(PutFault::Write), "{written}");
+        assert!(rt;
+            writer.writes == writes && writer.flushes == flushes,
+            "{written}"
+        );
     }
     Ok(())
 }

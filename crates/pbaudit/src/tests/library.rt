@@ -1,10 +1,6 @@
 //! The calls of the library on elections.
 use super::samples::{ELECTION, with_lines};
-use csv::StringRecord;
-use pb_election::{
-    Election, ElectionFault, Input, LoadFault, Outcome, Output, Refusal, cell, clean, is_blank,
-    load, put,
-};
+use pb_election::{Election, ElectionFault, Outcome, Refusal};
 use std::test::Fail;
 
 #[test]
@@ -78,41 +74,5 @@ fn ballots_are_sets(rt: HostRuntime) -> Result<(), Fail> {
     assert!(rt; election.ballot(1) == [1, 2].as_slice());
     assert!(rt; election.ballot(2).is_empty());
     assert!(rt; election.ballot(3) == [2, 3].as_slice());
-    Ok(())
-}
-
-#[test]
-fn loads_up_to_the_limit(rt: HostRuntime) -> Result<(), Fail> {
-    let alloc = rt.alloc();
-    let loaded = load(alloc, &mut Input::new(b"abc".as_slice()), 3)?;
-    assert!(rt; loaded.as_slice() == b"abc".as_slice());
-    let longer = load(alloc, &mut Input::new(b"abcd".as_slice()), 3);
-    assert!(rt; matches!(longer, Err(LoadFault::TooLong)));
-    Ok(())
-}
-
-#[test]
-fn puts_all_bytes(rt: HostRuntime) -> Result<(), Fail> {
-    let mut bytes = Vec::new(rt.alloc());
-    put(b"abc", &mut Output::new(&mut bytes))?;
-    assert!(rt; bytes.as_slice() == b"abc".as_slice());
-    Ok(())
-}
-
-#[test]
-fn cleaned_texts(rt: HostRuntime) -> Result<(), Fail> {
-    for (text, want) in [
-        ("\t\n\u{b}\u{c}\r a b \t\n\u{b}\u{c}\r ", "a b"),
-        ("\u{a0}a\u{a0}", "\u{a0}a\u{a0}"),
-        ("\u{8}a\u{1f}", "\u{8}a\u{1f}"),
-        (" \t ", ""),
-        ("", ""),
-    ] {
-        assert!(rt; clean(text) == want);
-    }
-    let row = StringRecord::from_fields(rt.alloc(), &[" a ", "", " "])?;
-    assert!(rt; cell(&row, 0) == "a");
-    assert!(rt; cell(&row, 3) == "");
-    assert!(rt; !is_blank(&row));
     Ok(())
 }

@@ -1,7 +1,8 @@
 //! What is printed on price certificates.
+use super::engines;
 use super::fakes::{EndlessReader, FakeWriter, WhenFull};
 use super::samples::{
-    ELECTION, LARGEST_ELECTION, NO_VOTERS, NOT_EXHAUSTIVE, PLAIN, PRICES, SHARED_ELECTION,
+    COVER, ELECTION, LARGEST_ELECTION, NO_VOTERS, NOT_EXHAUSTIVE, PLAIN, PRICES, SHARED_ELECTION,
     SPLIT_ELECTION, STABLE, with_lines,
 };
 use pb_audit::{Fault, Status, run_prices};
@@ -19,20 +20,14 @@ fn audit(
     mut certificate: &[u8],
     mode: Mode,
 ) -> Result<(String, Status), Fail> {
-    let mut outcome = match outcome {
-        Some(text) => Some(Input::new(text.as_bytes())),
-        None => None,
-    };
-    let mut writer = FakeWriter::new(alloc);
-    let status = run_prices(
+    let mut outcome = outcome.map(|text| text.as_bytes());
+    engines::prices(
         alloc,
-        &mut Input::new(&mut election),
-        &mut outcome,
-        &mut Input::new(&mut certificate),
+        &mut election,
+        outcome.as_mut(),
+        &mut certificate,
         mode,
-        &mut Output::new(&mut writer),
-    )?;
-    Ok((String::from_utf8(writer.written)?, status))
+    )
 }
 
 /// The text of a price certificate.
@@ -149,6 +144,42 @@ fn outcome_is_within_the_limit_and_uses_it_up(rt: HostRuntime) -> Result<(), Fai
     expect(&rt, rt.alloc(), split, &prices, PLAIN, want)?;
     let want = "supported priceable\n";
     expect(&rt, rt.alloc(), split, &prices, NOT_EXHAUSTIVE, want)
+}
+
+/// Three voters with 10/3 each have just the limit of 10, and not more.
+#[test]
+fn budgets_cover_the_limit(rt: HostRuntime) -> Result<(), Fail> {
+    let alloc = rt.alloc();
+    let sample = ELECTION.as_bytes();
+    let split = SPLIT_ELECTION.as_bytes();
+    let even = certificate(alloc, "3", "10", "")?;
+    let room = certificate(alloc, "1", "5", "1,a,5\n")?;
+    let nothing = certificate(alloc, "1", "0", "")?;
+    let stable = Mode {
+        stable: true,
+        ..COVER
+    };
+    let not_exhaustive = Mode {
+        exhaustive: false,
+        ..COVER
+    };
+    for (election, prices, mode, want) in [
+        (sample, PRICES, COVER, "supported priceable\n"),
+        (sample, PRICES, stable, "supported stable\n"),
+        (sample, even.as_str(), COVER, "failed Cover\n"),
+        (sample, even.as_str(), PLAIN, "failed C3 project a\n"),
+        (split, room.as_str(), COVER, "failed Exhaustive project c\n"),
+        (split, room.as_str(), not_exhaustive, "failed Cover\n"),
+        (
+            NO_VOTERS.as_bytes(),
+            nothing.as_str(),
+            COVER,
+            "failed Cover\n",
+        ),
+    ] {
+        expect(&rt, alloc, election, prices, mode, want)?;
+    }
+    Ok(())
 }
 
 #[test]
@@ -271,6 +302,18 @@ fn rows_that_are_refused(rt: HostRuntime) -> Result<(), Fail> {
     Ok(())
 }
 
+/// What would follow the field is a part of it, and so are the rows after it.
+#[test]
+fn open_quotes_hold_the_rest_of_a_file(rt: HostRuntime) -> Result<(), Fail> {
+    let alloc = rt.alloc();
+    let election = with_lines(alloc, ELECTION, 14, 1, b"1;\"a,b\n")?;
+    let line = "refused election 14 UnknownProject record 15\n";
+    expect(&rt, alloc, &election, PRICES, PLAIN, line)?;
+    let prices = String::from_utf8(with_lines(alloc, PRICES, 4, 1, b"1,\"a,2\n")?)?;
+    let line = "refused certificate 22 BadRow record 5\n";
+    expect(&rt, alloc, ELECTION.as_bytes(), &prices, PLAIN, line)
+}
+
 #[test]
 fn election_without_an_outcome(rt: HostRuntime) -> Result<(), Fail> {
     let election = with_lines(rt.alloc(), ELECTION, 8, 1, b"project_id;cost;name\n")?;
@@ -334,19 +377,17 @@ fn writer_fails(rt: HostRuntime) -> Result<(), Fail> {
 fn certificate_of_a_refused_outcome_is_not_read(rt: HostRuntime) -> Result<(), Fail> {
     let alloc = rt.alloc();
     let mut election = ELECTION.as_bytes();
-    let mut outcome = Some(Input::new(b"".as_slice()));
+    let mut outcome = b"".as_slice();
     let mut certificate = EndlessReader { reads: 0 };
-    let mut writer = FakeWriter::new(alloc);
-    let status = run_prices(
+    let (printed, status) = engines::prices(
         alloc,
-        &mut Input::new(&mut election),
-        &mut outcome,
-        &mut Input::new(&mut certificate),
+        &mut election,
+        Some(&mut outcome),
+        &mut certificate,
         PLAIN,
-        &mut Output::new(&mut writer),
     )?;
     assert!(rt; status == Status::Refused);
-    assert!(rt; writer.written.as_slice() == b"refused outcome 21 BadHead record 1\n".as_slice());
+    assert!(rt; printed.as_str() == "refused outcome 21 BadHead record 1\n");
     assert!(rt; certificate.reads == 0);
     Ok(())
 }

@@ -1,20 +1,13 @@
 //! What is printed on election files.
-use super::fakes::FakeWriter;
+use super::engines;
 use super::samples::{ELECTION, FILLED_ELECTION, NO_VOTERS, with_lines};
-use pb_audit::{Status, run_read};
-use pb_election::{Input, Output};
+use pb_audit::Status;
 use std::alloc::Global;
 use std::test::Fail;
 
 /// What is printed on an election's file, and how it ends.
 fn read(alloc: Global, mut file: &[u8]) -> Result<(String, Status), Fail> {
-    let mut writer = FakeWriter::new(alloc);
-    let status = run_read(
-        alloc,
-        &mut Input::new(&mut file),
-        &mut Output::new(&mut writer),
-    )?;
-    Ok((String::from_utf8(writer.written)?, status))
+    engines::read(alloc, &mut file)
 }
 
 #[test]

@@ -2,19 +2,23 @@
 use pb_price::Mode;
 use std::alloc::{AllocError, Global};
 
-pub const PLAIN: Mode = Mode {
-    stable: false,
-    exhaustive: true,
-};
+pub const PLAIN: Mode = Mode::PLAIN;
 
-pub const STABLE: Mode = Mode {
-    stable: true,
-    exhaustive: true,
-};
+pub const STABLE: Mode = Mode::STABLE;
 
 pub const NOT_EXHAUSTIVE: Mode = Mode {
-    stable: false,
     exhaustive: false,
+    ..Mode::PLAIN
+};
+
+pub const COVER: Mode = Mode {
+    cover: true,
+    ..Mode::PLAIN
+};
+
+pub const STABLE_AND_COVERED: Mode = Mode {
+    cover: true,
+    ..Mode::STABLE
 };
 
 /// The sample election: 17 lines, which are its records.
@@ -189,6 +193,61 @@ project,x1
 project,x2
 voter,1
 voter,2
+";
+
+/// A violation certificate for the sample election that shows none.
+pub const FAIR_VIOLATION: &str = "\
+pb-violation,1
+project,b
+voter,3
+voter,1
+";
+
+/// The election in which half of the voters get less than they deserve, and a price certificate for it by which all
+/// four voters pay for the one project that is funded.
+pub const SMALL_SHARE_ELECTION: &str = "\
+META
+key;value
+budget;8
+vote_type;approval
+PROJECTS
+project_id;cost;selected
+x1;2;0
+x2;2;0
+y;8;1
+VOTES
+voter_id;vote
+1;x1,x2,y
+2;x1,x2,y
+3;y
+4;y
+";
+
+pub const EVEN_PRICES: &str = "\
+pb-prices,1
+denominator,1
+voter_budget,2
+voter,project,payment
+1,y,2
+2,y,2
+3,y,2
+4,y,2
+";
+
+/// An election in which a cheap project is funded and a dear one isn't.
+pub const DEAR_ELECTION: &str = "\
+META
+key;value
+budget;12
+vote_type;approval
+PROJECTS
+project_id;cost;selected
+s;1;1
+t;6;0
+VOTES
+voter_id;vote
+1;s,t
+2;s
 ";
 
 /// An election with the largest amounts.

@@ -1,8 +1,8 @@
 //! What is printed on a price certificate that is to be written in its canonical form.
-use super::fakes::{EndlessReader, FakeWriter};
+use super::engines;
+use super::fakes::EndlessReader;
 use super::samples::{ELECTION, PRICES, QUOTED_ELECTION, QUOTED_PRICES, UNTIDY_PRICES, with_lines};
-use pb_audit::{Status, run_tidy};
-use pb_election::{Input, Output};
+use pb_audit::Status;
 use std::alloc::Global;
 use std::test::Fail;
 
@@ -12,14 +12,7 @@ fn tidy(
     mut election: &[u8],
     mut certificate: &[u8],
 ) -> Result<(String, Status), Fail> {
-    let mut writer = FakeWriter::new(alloc);
-    let status = run_tidy(
-        alloc,
-        &mut Input::new(&mut election),
-        &mut Input::new(&mut certificate),
-        &mut Output::new(&mut writer),
-    )?;
-    Ok((String::from_utf8(writer.written)?, status))
+    engines::tidy(alloc, &mut election, &mut certificate)
 }
 
 #[test]
@@ -88,15 +81,9 @@ fn certificate_of_a_refused_election_is_not_read(rt: HostRuntime) -> Result<(), 
     let alloc = rt.alloc();
     let mut election = b"".as_slice();
     let mut certificate = EndlessReader { reads: 0 };
-    let mut writer = FakeWriter::new(alloc);
-    let status = run_tidy(
-        alloc,
-        &mut Input::new(&mut election),
-        &mut Input::new(&mut certificate),
-        &mut Output::new(&mut writer),
-    )?;
+    let (printed, status) = engines::tidy(alloc, &mut election, &mut certificate)?;
     assert!(rt; status == Status::Refused);
-    assert!(rt; writer.written.as_slice() == b"refused election 2 NoMeta record 1\n".as_slice());
+    assert!(rt; printed.as_str() == "refused election 2 NoMeta record 1\n");
     assert!(rt; certificate.reads == 0);
     Ok(())
 }

@@ -1,8 +1,7 @@
 //! What is printed on violation certificates.
-use super::fakes::FakeWriter;
-use super::samples::{UNFAIR_ELECTION, VIOLATION, with_lines};
-use pb_audit::{Status, run_violation};
-use pb_election::{Input, Output};
+use super::engines;
+use super::samples::{DEAR_ELECTION, UNFAIR_ELECTION, VIOLATION, with_lines};
+use pb_audit::Status;
 use std::alloc::Global;
 use std::test::Fail;
 
@@ -12,16 +11,8 @@ fn audit(
     mut election: &[u8],
     mut certificate: &[u8],
 ) -> Result<(String, Status), Fail> {
-    let mut outcome: Option<Input<&[u8]>> = None;
-    let mut writer = FakeWriter::new(alloc);
-    let status = run_violation(
-        alloc,
-        &mut Input::new(&mut election),
-        &mut outcome,
-        &mut Input::new(&mut certificate),
-        &mut Output::new(&mut writer),
-    )?;
-    Ok((String::from_utf8(writer.written)?, status))
+    let outcome: Option<&mut &[u8]> = None;
+    engines::violation(alloc, &mut election, outcome, &mut certificate)
 }
 
 #[test]
@@ -63,12 +54,75 @@ fn member_that_gets_enough(rt: HostRuntime) -> Result<(), Fail> {
     Ok(())
 }
 
+// Voters 1 and 2 approve two cheap projects, which they demand, and a dear one, which is funded.
+#[test]
+fn fewer_but_dearer_projects(rt: HostRuntime) -> Result<(), Fail> {
+    let alloc = rt.alloc();
+    let election = with_lines(alloc, UNFAIR_ELECTION, 11, 2, b"1;x1,x2,y\n2;x1,x2,y\n")?;
+    for (head, want, wanted) in [
+        ("pb-violation,1\n", "violation\n", Status::Yes),
+        (
+            "pb-violation,2\nsatisfaction,count\n",
+            "violation\n",
+            Status::Yes,
+        ),
+        (
+            "pb-violation,2\nsatisfaction,cost\n",
+            "failed V4 voter 1\n",
+            Status::No,
+        ),
+    ] {
+        let certificate = with_lines(alloc, VIOLATION, 0, 1, head.as_bytes())?;
+        let (printed, status) = audit(alloc, &election, &certificate)?;
+        assert!(rt; printed.as_str() == want, "{head}: {printed}");
+        assert!(rt; status == wanted, "{head}: {printed}");
+    }
+    Ok(())
+}
+
+#[test]
+fn as_many_but_cheaper_projects(rt: HostRuntime) -> Result<(), Fail> {
+    let alloc = rt.alloc();
+    for (certificate, want, wanted) in [
+        (
+            "pb-violation,2\nsatisfaction,count\nproject,t\nvoter,1\n",
+            "failed V4 voter 1\n",
+            Status::No,
+        ),
+        (
+            "pb-violation,2\nsatisfaction,cost\nproject,t\nvoter,1\n",
+            "violation\n",
+            Status::Yes,
+        ),
+    ] {
+        let (printed, status) = audit(alloc, DEAR_ELECTION.as_bytes(), certificate.as_bytes())?;
+        assert!(rt; printed.as_str() == want, "{certificate}: {printed}");
+        assert!(rt; status == wanted, "{certificate}: {printed}");
+    }
+    Ok(())
+}
+
 #[test]
 fn one_change_one_refusal(rt: HostRuntime) -> Result<(), Fail> {
     let alloc = rt.alloc();
     for (kept, removed, new, want) in [
         (5, 0, "voter,1\n", "27 Repeated record 6"),
-        (0, 1, "pb-violation,2\n", "21 BadHead record 1"),
+        (0, 1, "pb-violation,3\n", "21 BadHead record 1"),
+        (0, 1, "pb-violation,2\n", "21 BadHead record 2"),
+        (0, 5, "pb-violation,2\n", "21 BadHead record 2"),
+        (
+            0,
+            1,
+            "pb-violation,2\nsatisfaction,Cost\n",
+            "21 BadHead record 2",
+        ),
+        (
+            0,
+            1,
+            "pb-violation,2\nsatisfaction,count,cost\n",
+            "21 BadHead record 2",
+        ),
+        (1, 0, "satisfaction,count\n", "22 BadRow record 2"),
         (3, 1, "voter,5\n", "24 UnknownVoter record 4"),
         (3, 1, "voter,0\n", "24 UnknownVoter record 4"),
         (3, 1, "voter,x\n", "23 BadNumber record 4"),

@@ -1,0 +1,38 @@
+//! Telling people who wait how far the work is.
+use std::io::{IsTerminal, Write};
+
+// So many letters of a name are shown that the line fits a terminal, since a line that is broken can't be cleared.
+const MOST_SHOWN: usize = 50;
+
+/// A line on a terminal that is written again and again. Elsewhere nothing is told.
+#[derive(Drop)]
+pub struct Progress<'a, E: Write + IsTerminal> {
+    err: &'a mut E,
+    is_terminal: bool,
+}
+
+impl<'a, E: Write + IsTerminal> Progress<'a, E> {
+    pub fn new(err: &'a mut E) -> Progress<'a, E> {
+        let is_terminal = err.is_terminal();
+        Progress { err, is_terminal }
+    }
+
+    /// Tells that the election of this name is next, after `done` of `total`. What the terminal doesn't take is lost.
+    pub fn tell(&mut self, done: usize, total: usize, name: &str) {
+        if self.is_terminal {
+            let shown = match name.char_indices().nth(MOST_SHOWN) {
+                Some((end, _)) => &name[..end],
+                None => name,
+            };
+            let number = done.saturating_add(1);
+            let _ = write!(self.err, "\r\x1b[K{number} of {total}: {shown}.pb");
+        }
+    }
+
+    /// Clears the line.
+    pub fn clear(&mut self) {
+        if self.is_terminal {
+            let _ = write!(self.err, "\r\x1b[K");
+        }
+    }
+}

@@ -1,0 +1,105 @@
+//! What people are told of a refusal beside its line.
+use crate::file::FileReader;
+use pb_audit::{Loaded, Task};
+use pb_election::Input;
+use pb_hints::{Kind, Refusal, RefusedFile, hint};
+use std::alloc::AllocError;
+use std::io::Write;
+use std::{fs, io};
+
+/// Tells on `err` why an input of a task was refused, whose line, without its end, is this. Where the input couldn't be
+/// read, the operating system's number for that is `failure`. What `err` does not take is lost, and nothing is told where
+/// memory is wanted, where there is no such line, or of a folder, whose lines name their files.
+pub fn tell_hint<E: Write>(
+    rt: &HostRuntime,
+    task: &Task,
+    line: &[u8],
+    failure: Option<i32>,
+    err: &mut E,
+) {
+    let Ok(line) = str::from_utf8(line) else {
+        return;
+    };
+    let Some(refusal) = Refusal::parse(line) else {
+        return;
+    };
+    if let Ok(hint) = hint_on(rt, task, &refusal, failure) {
+        let _ = err.write_all(hint.as_bytes());
+    }
+}
+
+/// The hint on a refusal, which is empty where the task has no such input.
+fn hint_on(
+    rt: &HostRuntime,
+    task: &Task,
+    refusal: &Refusal<'_>,
+    failure: Option<i32>,
+) -> Result<String, AllocError> {
+    let alloc = rt.alloc();
+    let Some((kind, path)) = input_of(task, refusal.input) else {
+        return Ok(String::new(alloc));
+    };
+    let bytes = match path {
+        Some(path) if refusal.place > 0 => bytes_at(rt, path)?,
+        _ => None,
+    };
+    let election = match input_of(task, "election") {
+        Some((_, Some(path))) if refusal.asks_for_election() => bytes_at(rt, path)?,
+        _ => None,
+    };
+    let reason = match failure {
+        Some(number) => Some(reason_of(rt, number)?),
+        None => None,
+    };
+    let file = RefusedFile {
+        name: path.unwrap_or("standard input"),
+        kind,
+        bytes,
+        election,
+        reason,
+    };
+    hint(alloc, refusal, &file)
+}
+
+/// What an input of a task is to be, by its name in refusals, and its path; none for standard input.
+fn input_of<'a>(task: &'a Task, input: &str) -> Option<(Kind, Option<&'a str>)> {
+    let (kind, path) = match (task, input) {
+        (Task::Read(None), "election") => return Some((Kind::Election, None)),
+        (Task::Read(Some(election)), "election") => (Kind::Election, election),
+        (Task::Prices { election, .. }, "election") => (Kind::Election, election),
+        (Task::Violation { election, .. }, "election") => (Kind::Election, election),
+        (Task::Both { election, .. }, "election") => (Kind::Election, election),
+        (Task::Tidy { election, .. }, "election") => (Kind::Election, election),
+        (Task::Prices { outcome, .. }, "outcome") => (Kind::Outcome, outcome.as_ref()?),
+        (Task::Violation { outcome, .. }, "outcome") => (Kind::Outcome, outcome.as_ref()?),
+        (Task::Both { outcome, .. }, "outcome") => (Kind::Outcome, outcome.as_ref()?),
+        (Task::Both { prices, .. }, "prices") => (Kind::Prices, prices),
+        (Task::Both { violation, .. }, "violation") => (Kind::Violation, violation),
+        (Task::Prices { certificate, .. }, "certificate") => (Kind::Prices, certificate),
+        (Task::Violation { certificate, .. }, "certificate") => (Kind::Violation, certificate),
+        (Task::Tidy { certificate, .. }, "certificate") => (Kind::Prices, certificate),
+        _ => return None,
+    };
+    Some((kind, Some(path.as_str())))
+}
+
+/// The bytes of a file that can be read again: a regular one of at most 2^28 bytes. A pipe can't, and could wait for ever.
+fn bytes_at(rt: &HostRuntime, path: &str) -> Result<Option<Vec<u8>>, AllocError> {
+    match fs::metadata(rt, path) {
+        Ok(metadata) if metadata.is_file() => {}
+        _ => return Ok(None),
+    }
+    match Loaded::load(rt.alloc(), &mut Input::new(FileReader::new(rt, path)))? {
+        Loaded::Bytes(bytes) => Ok(Some(bytes)),
+        Loaded::Unread | Loaded::TooLong => Ok(None),
+    }
+}
+
+/// What the operating system says of a failure of this number.
+fn reason_of(rt: &HostRuntime, number: i32) -> Result<String, AllocError> {
+    let text = io::Error::from_raw_os_error(number).to_string(rt.alloc())?;
+    match text.split_once(" (os error") {
+        Some((reason, _)) => String::from_str(rt.alloc(), reason),
+        None => Ok(text),
+    }
+}

@@ -1,0 +1,286 @@
+//! Audits of real folders.
+use super::fakes::{FakeTerminal, FakeWriter};
+use super::room::Room;
+use super::runs::{command, expect, expect_line, told};
+use super::samples::{ELECTION, PLAIN, PRICES, SPLIT_ELECTION, with_lines};
+use crate::folder::report;
+use crate::listing::{ListFault, Listing};
+use crate::progress::Progress;
+use crate::run;
+use pb_audit::Status;
+use std::io::ErrorKind;
+use std::os::unix::fs::symlink;
+use std::test::Fail;
+use std::{fs, io};
+
+const READ: &str = "read 3 voters 3 projects 2 funded";
+
+const REFUSED: &str = "refused election 2 NoMeta record 1";
+
+/// A violation certificate that isn't one of the sample election.
+const GROUP: &[u8] = b"pb-violation,1\nproject,b\nvoter,3\nvoter,1\n";
+
+#[test]
+fn folder_of_two_elections(rt: HostRuntime) -> Result<(), Fail> {
+    let room = Room::new(&rt, "two")?;
+    room.write("two.pb", b"")?;
+    room.write("one.pb", ELECTION.as_bytes())?;
+    room.write("one.violation.csv", GROUP)?;
+    room.write("one.prices.csv", PRICES.as_bytes())?;
+    let folder = room.path()?;
+    let line = format!(in rt.alloc(); "folder {folder}")?;
+    expect_line(
+        &rt,
+        &line,
+        2,
+        "one.pb: read 3 voters 3 projects 2 funded\n\
+         one.prices.csv: supported priceable\n\
+         one.violation.csv: failed V4 voter 1\n\
+         two.pb: refused election 2 NoMeta record 1\n\
+         total 2 elections 1 yes 1 no 1 refused\n",
+    )
+}
+
+#[test]
+fn mode_of_a_folder_is_that_of_the_words(rt: HostRuntime) -> Result<(), Fail> {
+    let alloc = rt.alloc();
+    let room = Room::new(&rt, "folder-mode")?;
+    let cheap = with_lines(alloc, ELECTION, 11, 1, b"c;2;Pool;0\n")?;
+    let dear = with_lines(alloc, PRICES, 4, 4, b"1,a,2\n2,a,4\n3,b,4\n")?;
+    room.write("a.pb", &cheap)?;
+    room.write("a.prices.csv", &dear)?;
+    room.write("b.pb", SPLIT_ELECTION.as_bytes())?;
+    let half = b"pb-prices,1\ndenominator,1\nvoter_budget,5\nvoter,project,payment\n1,a,5\n";
+    room.write("b.prices.csv", half)?;
+    for (switch, first, second, total, status) in [
+        (
+            "",
+            "supported priceable",
+            "failed Exhaustive project c",
+            "1 yes 1 no",
+            1,
+        ),
+        (
+            " --stable",
+            "failed S5 project c",
+            "failed Exhaustive project c",
+            "0 yes 2 no",
+            1,
+        ),
+        (
+            " --no-exhaustive",
+            "supported priceable",
+            "supported priceable",
+            "2 yes 0 no",
+            0,
+        ),
+    ] {
+        let text = format!(in alloc;
+            "a.pb: read 3 voters 3 projects 2 funded\na.prices.csv: {first}\n\
+             b.pb: read 2 voters 2 projects 1 funded\nb.prices.csv: {second}\n\
+             total 2 elections {total} 0 refused\n"
+        )?;
+        let folder = room.path()?;
+        let line = format!(in alloc; "folder {folder}{switch}")?;
+        expect_line(&rt, &line, status, &text)?;
+    }
+    Ok(())
+}
+
+#[test]
+fn names_are_in_byte_order_and_come_out_as_they_are(rt: HostRuntime) -> Result<(), Fail> {
+    let alloc = rt.alloc();
+    let room = Room::new(&rt, "names")?;
+    let mut long = String::new(alloc);
+    for _ in 0..252 {
+        long.push('z')?;
+    }
+    // In byte order. A name goes before those that it begins, though `.` comes after `-`.
+    let names = [
+        " ",
+        "\"",
+        "%s",
+        "'",
+        "-rf",
+        ".",
+        "..",
+        "A",
+        "B",
+        "a",
+        "a b",
+        "a-b",
+        "a.b",
+        "a.prices.csv",
+        "b",
+        long.as_str(),
+        "\u{e9}",
+        "\u{4f60}",
+    ];
+    let mut wanted = String::new(alloc);
+    for name in names {
+        room.write(&format!(in alloc; "{name}.pb")?, ELECTION.as_bytes())?;
+        writeln!(wanted, "{name}.pb: {READ}")?;
+    }
+    wanted.push_str("total 18 elections 0 yes 0 no 0 refused\n")?;
+    let folder = room.path()?;
+    let line = format!(in alloc; "folder {folder}")?;
+    expect_line(&rt, &line, 0, &wanted)
+}
+
+#[test]
+fn only_regular_files_with_clean_names_are_entries(rt: HostRuntime) -> Result<(), Fail> {
+    let room = Room::new(&rt, "entries")?;
+    let election = room.write("a.pb", ELECTION.as_bytes())?;
+    for name in [
+        ".pb",
+        "b.PB",
+        "b.pb.old",
+        "tab\t.pb",
+        "line\n.pb",
+        "del\u{7f}.pb",
+        "c.prices.csv",
+    ] {
+        room.write(name, ELECTION.as_bytes())?;
+    }
+    fs::create_dir(&rt, room.path_of("folder.pb")?.as_str())?;
+    fs::create_dir(&rt, room.path_of("a.prices.csv")?.as_str())?;
+    symlink(&rt, election.as_str(), room.path_of("link.pb")?.as_str())?;
+    symlink(
+        &rt,
+        election.as_str(),
+        room.path_of("a.violation.csv")?.as_str(),
+    )?;
+    let folder = room.path()?;
+    let line = format!(in rt.alloc(); "folder {folder}")?;
+    expect_line(
+        &rt,
+        &line,
+        0,
+        "a.pb: read 3 voters 3 projects 2 funded\ntotal 1 elections 0 yes 0 no 0 refused\n",
+    )
+}
+
+#[test]
+fn folder_without_elections_says_so(rt: HostRuntime) -> Result<(), Fail> {
+    let room = Room::new(&rt, "none")?;
+    let folder = room.path()?;
+    let line = format!(in rt.alloc(); "folder {folder}")?;
+    let words: Vec<&str> = line.split(' ').collect(rt.alloc())?;
+    let told = told(&rt, &words)?;
+    assert!(rt; told.status == 0);
+    assert!(rt;
+        told.printed.as_str() == "total 0 elections 0 yes 0 no 0 refused\n",
+        "{}",
+        told.printed
+    );
+    assert!(rt;
+        told.complaint.as_str().lines().count() == 1,
+        "{}",
+        told.complaint
+    );
+    Ok(())
+}
+
+#[test]
+fn folder_that_is_not_listed_is_refused(rt: HostRuntime) -> Result<(), Fail> {
+    let room = Room::new(&rt, "unlisted")?;
+    let file = room.write("a.pb", ELECTION.as_bytes())?;
+    let missing = room.path_of("missing")?;
+    for folder in [file.as_str(), missing.as_str(), ""] {
+        expect(
+            &rt,
+            &["folder", folder],
+            2,
+            "refused folder 18 Read record 0\n",
+        )?;
+    }
+    Ok(())
+}
+
+/// What is reported of a listing, and how it ends.
+fn reported(
+    rt: &HostRuntime,
+    room: &Room<'_>,
+    listing: &Listing,
+) -> Result<(String, Status), Fail> {
+    let mut err = FakeWriter::new(rt.alloc());
+    let folder = room.path()?;
+    let report = report(rt, &folder, listing, PLAIN, &mut Progress::new(&mut err))?;
+    Ok((report.text, report.status))
+}
+
+#[test]
+fn files_that_vanish_after_the_listing_are_refused(rt: HostRuntime) -> Result<(), Fail> {
+    let room = Room::new(&rt, "vanish")?;
+    let gone = room.write("gone.pb", ELECTION.as_bytes())?;
+    room.write("here.pb", ELECTION.as_bytes())?;
+    let prices = room.write("here.prices.csv", PRICES.as_bytes())?;
+    let folder = room.path()?;
+    let Ok(listing) = Listing::read(&rt, &folder) else {
+        return Err(Fail::new("not listed"));
+    };
+    fs::remove_file(&rt, gone.as_str())?;
+    fs::remove_file(&rt, prices.as_str())?;
+    room.write("late.pb", ELECTION.as_bytes())?;
+    let (text, status) = reported(&rt, &room, &listing)?;
+    let wanted = "gone.pb: refused election 18 Read record 0\n\
+        here.pb: read 3 voters 3 projects 2 funded\n\
+        here.prices.csv: refused certificate 18 Read record 0\n\
+        total 2 elections 0 yes 0 no 2 refused\n";
+    assert!(rt; text.as_str() == wanted, "{text}");
+    assert!(rt; status == Status::Refused);
+    Ok(())
+}
+
+#[test]
+fn terminal_is_told_how_far_it_is(rt: HostRuntime) -> Result<(), Fail> {
+    let alloc = rt.alloc();
+    let room = Room::new(&rt, "terminal")?;
+    room.write("one.pb", ELECTION.as_bytes())?;
+    room.write("two.pb", b"")?;
+    let mut out = FakeWriter::new(alloc);
+    let mut err = FakeTerminal {
+        written: Vec::new(alloc),
+    };
+    let folder = room.path()?;
+    let line = format!(in alloc; "folder {folder}")?;
+    let words: Vec<&str> = line.split(' ').collect(alloc)?;
+    let words = command(alloc, &words)?;
+    let status = run(&rt, Ok(words), &mut b"".as_slice(), &mut out, &mut err);
+    assert!(rt; status == 2);
+    let shown = String::from_utf8(err.written)?;
+    let wanted = "\r\u{1b}[K1 of 2: one.pb\r\u{1b}[K2 of 2: two.pb\r\u{1b}[K";
+    assert!(rt; shown.as_str() == wanted, "{shown:?}");
+    let text = format!(in alloc;
+        "one.pb: {READ}\ntwo.pb: {REFUSED}\ntotal 2 elections 0 yes 0 no 1 refused\n"
+    )?;
+    let printed = String::from_utf8(out.written)?;
+    assert!(rt; printed.as_str() == text.as_str(), "{printed}");
+    Ok(())
+}
+
+#[test]
+fn long_names_are_cut_on_a_terminal(rt: HostRuntime) -> Result<(), Fail> {
+    let mut err = FakeTerminal {
+        written: Vec::new(rt.alloc()),
+    };
+    let name = "\u{e9}123456789\u{e9}123456789\u{e9}123456789\u{e9}123456789\u{e9}123456789x";
+    Progress::new(&mut err).tell(0, 1, name);
+    let shown = String::from_utf8(err.written)?;
+    let wanted =
+        "\r\u{1b}[K1 of 1: \u{e9}123456789\u{e9}123456789\u{e9}123456789\u{e9}123456789\u{e9}123456789.pb";
+    assert!(rt; shown.as_str() == wanted, "{shown:?}");
+    Ok(())
+}
+
+#[test]
+fn want_of_memory_in_a_listing_is_told_apart(rt: HostRuntime) -> Result<(), Fail> {
+    for (kind, fault) in [
+        (ErrorKind::OutOfMemory, ListFault::Memory),
+        (ErrorKind::NotFound, ListFault::Unlisted),
+        (ErrorKind::InvalidFilename, ListFault::Unlisted),
+    ] {
+        assert_eq!(rt; ListFault::from(io::Error::from(kind)), fault);
+    }
+    Ok(())
+}

@@ -1,0 +1,70 @@
+//! The calls of the library on files as records.
+use csv::StringRecord;
+use pb_records::{Cursor, Input, LoadFault, Next, Output, cell, clean, is_blank, load, put};
+use std::test::Fail;
+
+#[test]
+fn loads_up_to_the_limit(rt: HostRuntime) -> Result<(), Fail> {
+    let alloc = rt.alloc();
+    let loaded = load(alloc, &mut Input::new(b"abc".as_slice()), 3)?;
+    assert!(rt; loaded.as_slice() == b"abc".as_slice());
+    let longer = load(alloc, &mut Input::new(b"abcd".as_slice()), 3);
+    assert!(rt; matches!(longer, Err(LoadFault::TooLong)));
+    Ok(())
+}
+
+#[test]
+fn puts_all_bytes(rt: HostRuntime) -> Result<(), Fail> {
+    let mut bytes = Vec::new(rt.alloc());
+    put(b"abc", &mut Output::new(&mut bytes))?;
+    assert!(rt; bytes.as_slice() == b"abc".as_slice());
+    Ok(())
+}
+
+#[test]
+fn cleaned_texts(rt: HostRuntime) -> Result<(), Fail> {
+    for (text, want) in [
+        ("\t\n\u{b}\u{c}\r a b \t\n\u{b}\u{c}\r ", "a b"),
+        ("\u{a0}a\u{a0}", "\u{a0}a\u{a0}"),
+        ("\u{8}a\u{1f}", "\u{8}a\u{1f}"),
+        (" \t ", ""),
+        ("", ""),
+    ] {
+        assert!(rt; clean(text) == want);
+    }
+    let row = StringRecord::from_fields(rt.alloc(), &[" a ", "", " "])?;
+    assert!(rt; cell(&row, 0) == "a");
+    assert!(rt; cell(&row, 3) == "");
+    assert!(rt; !is_blank(&row));
+    Ok(())
+}
+
+#[test]
+fn records_that_are_not_blank(rt: HostRuntime) -> Result<(), Fail> {
+    let file = b"\xEF\xBB\xBFa,1\r\n\n ,\n\"b\nc\",\"\"\"2\"\"\"\n,,\n".as_slice();
+    let mut cursor = Cursor::open(rt.alloc(), file, b',');
+    assert!(rt; cursor.place() == 0);
+    assert!(rt; cursor.advance()? == Next::Record);
+    assert!(rt; cursor.place() == 1);
+    assert!(rt; cursor.row().get(0) == Some("a"));
+    assert!(rt; cursor.row().get(1) == Some("1"));
+    assert!(rt; cursor.row().get(2) == None);
+    assert!(rt; cursor.advance()? == Next::Record);
+    assert!(rt; cursor.place() == 3);
+    assert!(rt; cursor.row().get(0) == Some("b\nc"));
+    assert!(rt; cursor.row().get(1) == Some("\"2\""));
+    assert!(rt; cursor.advance()? == Next::End);
+    assert!(rt; cursor.place() == 4);
+    assert!(rt; cursor.advance()? == Next::End);
+    assert!(rt; cursor.place() == 4);
+    Ok(())
+}
+
+#[test]
+fn record_that_is_not_utf8(rt: HostRuntime) -> Result<(), Fail> {
+    let mut cursor = Cursor::open(rt.alloc(), b";\na;\xFF\nb\n".as_slice(), b';');
+    assert!(rt; cursor.advance()? == Next::NotText);
+    assert!(rt; cursor.place() == 2);
+    assert!(rt; cursor.advance()? == Next::End);
+    Ok(())
+}

@@ -1,0 +1,50 @@
+//! The words of the command line.
+use super::fakes::{FakeWords, FakeWriter};
+use crate::run;
+use crate::words::{without_words, words_of};
+use std::io;
+use std::io::ErrorKind;
+use std::test::Fail;
+
+#[test]
+fn words_are_taken_in_order(rt: HostRuntime) -> Result<(), Fail> {
+    let list = [b"pbaudit".as_slice(), b"read", b"", b"\xc3\xa9 \"-%.pb"];
+    let words = match words_of(&(FakeWords(&list), rt.alloc())) {
+        Ok(words) => words,
+        Err(_) => return Err(Fail::new("no words")),
+    };
+    assert!(rt; words.len() == 4);
+    for (word, want) in words
+        .iter()
+        .zip(["pbaudit", "read", "", "\u{e9} \"-%.pb"].iter())
+    {
+        assert!(rt; word.as_str() == *want, "{want}");
+    }
+    Ok(())
+}
+
+#[test]
+fn word_that_is_not_text_is_a_usage_fault(rt: HostRuntime) -> Result<(), Fail> {
+    let alloc = rt.alloc();
+    let list = [b"pbaudit".as_slice(), b"read", b"\xff.pb"];
+    let words = words_of(&(FakeWords(&list), alloc));
+    let (mut out, mut err) = (FakeWriter::new(alloc), FakeWriter::new(alloc));
+    let mut input = b"".as_slice();
+    assert_eq!(rt; run(&rt, words, &mut input, &mut out, &mut err), 3);
+    assert!(rt; out.written.is_empty());
+    let told = b"error: a word of the command line is not UTF-8\n".as_slice();
+    assert!(rt; err.written.as_slice() == told);
+    Ok(())
+}
+
+#[test]
+fn words_that_find_no_memory_are_a_memory_fault(rt: HostRuntime) -> Result<(), Fail> {
+    let alloc = rt.alloc();
+    let words = Err(without_words(&io::Error::from(ErrorKind::OutOfMemory)));
+    let (mut out, mut err) = (FakeWriter::new(alloc), FakeWriter::new(alloc));
+    let mut input = b"".as_slice();
+    assert_eq!(rt; run(&rt, words, &mut input, &mut out, &mut err), 4);
+    assert!(rt; out.written.is_empty());
+    assert!(rt; err.written.as_slice() == b"fault memory\n".as_slice());
+    Ok(())
+}
