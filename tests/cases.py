@@ -1,0 +1,260 @@
+"""The cases: files, and the words that the program is called with on them."""
+import os
+import random
+from dataclasses import dataclass, field
+
+import making
+from damage import damage
+
+
+@dataclass
+class Case:
+    """Words, in which the names of files stand for their paths, and the files by these names.
+
+    'known' is the answer and the status where these follow from how the files were made, since they are too large for
+    the reference.
+    """
+
+    words: list
+    files: dict = field(default_factory=dict)
+    stdin: bytes = None
+    name: str = ""
+    known: tuple = None
+
+
+def some_mode(chance, later):
+    mode = [option for option in ("--stable", "--no-exhaustive") if chance.random() < 0.4]
+    return mode + (["--cover"] if "cover" in later and chance.random() < 0.4 else [])
+
+
+def some_outcome(chance, town, plain):
+    """The words and the file of an outcome, in three of ten cases."""
+    if chance.random() < 0.7:
+        return [], {}
+    funded = town.funded
+    if chance.random() < 0.4:
+        funded = {place for place in range(len(town.ids)) if chance.random() < 0.5}
+    return ["--outcome", "outcome.csv"], {"outcome.csv": making.outcome_file(chance, town, funded, plain)}
+
+
+def a_read(chance, later):
+    town, _ = making.supported(chance, False)
+    files = {"town.pb": making.election_file(chance, town, chance.random() < 0.3)}
+    if chance.random() < 0.15:
+        return Case([], {}, files["town.pb"])
+    return Case(["read", "town.pb"], files)
+
+
+def a_price_check(chance, later):
+    """Prices that mostly support the outcome but for one small change, as a case of 'prices'."""
+    mode = some_mode(chance, later)
+    town, claim = making.supported(chance, "--stable" in mode and chance.random() < 0.6)
+    for _ in range(chance.choice([0, 0, 1, 1, 1, 2, 3])):
+        making.nudge(chance, town, claim)
+    if "--cover" in mode and chance.random() < 0.4:
+        # All voter budgets together, or one less.
+        budgets = len(town.ballots) * claim.budget * making.MILLION // claim.denominator
+        town.limit = min(making.MOST_COST, max(0, budgets - chance.choice([0, 0, 1])))
+    plain = chance.random() < 0.4
+    words, files = some_outcome(chance, town, plain)
+    files["town.pb"] = making.election_file(chance, town, plain)
+    files["claim.csv"] = making.prices_file(chance, town, claim, plain)
+    return Case(["prices", "town.pb", "claim.csv", *mode, *words], files)
+
+
+def a_violation_check(chance, later):
+    town, group, demand = making.a_violation(chance)
+    plain = chance.random() < 0.4
+    words, files = some_outcome(chance, town, plain)
+    version = b"2" if "cost" in later and chance.random() < 0.6 else b"1"
+    files["town.pb"] = making.election_file(chance, town, plain)
+    files["claim.csv"] = making.violation_file(chance, town, group, demand, plain, (b"pb-violation", version))
+    return Case(["violation", "town.pb", "claim.csv", *words], files)
+
+
+def a_tidying(chance, later):
+    town, claim = making.supported(chance, False)
+    making.nudge(chance, town, claim)
+    files = {"town.pb": making.election_file(chance, town, chance.random() < 0.4)}
+    files["claim.csv"] = making.prices_file(chance, town, claim, False)
+    return Case(["tidy", "town.pb", "claim.csv"], files)
+
+
+def margins(chance, later):
+    case = a_price_check(chance, later)
+    mode = ("--stable", "--no-exhaustive", "--cover")
+    case.words = ["margins", *[word for word in case.words[1:] if word not in mode]]
+    return case
+
+
+def both(chance, later):
+    """Prices and a violation of one town."""
+    if chance.random() < 0.5:
+        town, group, demand = making.a_violation(chance)
+        claim = making.Claim(1, 2 * town.limit // making.MILLION, {})
+    else:
+        town, claim = making.supported(chance, True)
+        group = {place for place in range(len(town.ballots)) if chance.random() < 0.5}
+        demand = {place for place in range(len(town.ids)) if chance.random() < 0.4}
+    plain = chance.random() < 0.7
+    words, files = some_outcome(chance, town, plain)
+    files["town.pb"] = making.election_file(chance, town, plain)
+    files["claim.csv"] = making.prices_file(chance, town, claim, plain)
+    head = (b"pb-violation", b"2" if "cost" in later and chance.random() < 0.3 else b"1")
+    files["violation.csv"] = making.violation_file(chance, town, group, demand, plain, head)
+    return Case(["both", "town.pb", "claim.csv", "violation.csv", *some_mode(chance, later), *words], files)
+
+
+def explain(chance, later):
+    case = chance.choice([a_price_check, a_violation_check])(chance, later)
+    case.words[0] = "explain"
+    return case
+
+
+def folder(chance, later):
+    """A folder of a few elections, with or without certificates, and of files that aren't elections."""
+    files = {}
+    names = ["one", "Two", "a b", "\u00fcber", "-x", "10", "9", "x.pb", ".pb"]
+    for name in chance.sample(names, chance.randint(0, 4)):
+        maker = chance.choice([a_price_check, a_violation_check])
+        case = maker(chance, later)
+        files[f"room/{name}.pb"] = case.files["town.pb"]
+        if maker is a_price_check:
+            files[f"room/{name}.prices.csv"] = case.files["claim.csv"]
+        if maker is a_violation_check or chance.random() < 0.2:
+            files[f"room/{name}.violation.csv"] = case.files["claim.csv"]
+        if chance.random() < 0.2:
+            chosen = chance.choice(sorted(files))
+            files[chosen] = damage(chance, files[chosen])
+    for name in ("room/.pb", "room/lone.prices.csv", "room/notes.txt", "room/folder.pb/x", "room/ctrl\x01.pb"):
+        if chance.random() < 0.2:
+            files[name] = b"META\n"
+    files.setdefault("room/readme", b"")
+    return Case(["folder", "room", *some_mode(chance, later)], files)
+
+
+# How often each kind is made; the damaged ones are made of these.
+KINDS = [(a_read, 12), (a_price_check, 38), (a_violation_check, 14), (a_tidying, 6)]
+LATER_KINDS = {"both": (both, 10), "folder": (folder, 8), "margins": (margins, 10), "explain": (explain, 10)}
+DAMAGED = 0.5
+
+
+def random_case(chance, later=()):
+    kinds = KINDS + [LATER_KINDS[name] for name in sorted(LATER_KINDS) if name in later]
+    case = chance.choices([kind for kind, _ in kinds], [often for _, often in kinds])[0](chance, later)
+    if case.words[:1] != ["folder"] and chance.random() < DAMAGED:
+        if case.stdin is not None:
+            case.stdin = damage(chance, case.stdin)
+        else:
+            # Certificates more often than elections, since those behind a refused election aren't read.
+            name = chance.choice(sorted(case.files) + [name for name in case.files if name != "town.pb"])
+            case.files[name] = damage(chance, case.files[name])
+    return case
+
+
+def random_cases(count, seed, later=()):
+    """Each case from a seed of its own, so that one can be made again alone."""
+    for number in range(count):
+        case = random_case(random.Random(f"{seed}/{number}"), later)
+        case.name = f"{seed}/{number}"
+        yield case
+
+
+META = b"META\nkey;value\nbudget;10\nvote_type;approval\n"
+ELECTION = META + b"PROJECTS\nproject_id;cost;selected\na;6;1\nb;4;1\nVOTES\nvoter_id;vote\n1;a,b\n"
+PRICES = b"pb-prices,1\ndenominator,1\nvoter_budget,10\nvoter,project,payment\n1,a,6\n1,b,4\n"
+VIOLATION = b"pb-violation,1\nproject,a\nvoter,1\n"
+OUTCOME = b"pb-outcome,1\nproject,a\n"
+
+
+# What stands at its limit, and one more: the file, what stands there, and what is put in its place.
+LIMITS = [
+    ("town.pb", b"budget;10", [b"budget;1000000000000", b"budget;1000000000000.000001", b"budget;" + b"0" * 1000 + b"10"]),
+    ("town.pb", b"a;6;1", [b"a;1000000000000;1", b"a;1000000000000,000001;1", b"a;6.0000000;1", b"a;6.0000001;1"]),
+    ("claim.csv", b"denominator,1", [b"denominator,0", b"denominator,1000000000", b"denominator,1000000001"]),
+    ("claim.csv", b"budget,10", [b"budget,%d" % 10**21, b"budget,%d" % (10**21 + 1), b"budget," + b"0" * 1000 + b"10"]),
+    ("claim.csv", b"1,a,6", [b"1,a,%d" % 10**21, b"1,a,%d" % (10**21 + 1), b"1,a," + b"0" * 1000 + b"6"]),
+    ("claim.csv", b"1,a,6", [b"0,a,6", b"2,a,6", b"4294967297,a,6", b"18446744073709551617,a,6"]),
+]
+
+
+def later_fixed_cases(later):
+    """Folders that can't be listed, as far as folders are compared."""
+    if "folder" in later:
+        yield Case(["folder", "missing.csv"], {"town.pb": ELECTION}, name="no folder")
+        yield Case(["folder", "town.pb"], {"town.pb": ELECTION}, name="a file for a folder")
+        files = {"room/town.pb": ELECTION, b"room/\xff.pb": ELECTION}
+        yield Case(["folder", "room"], files, name="a name that isn't text")
+        files = {"room/town.pb": ELECTION, "room/town.prices.csv": Sparse(2**28 + 1)}
+        yield Case(["folder", "room"], files, name="too long in a folder")
+
+
+def fixed_cases():
+    """What chance doesn't meet: files that aren't there, folders for files, and what is at its limit or past it."""
+    good = {"town.pb": ELECTION, "claim.csv": PRICES, "outcome.csv": OUTCOME, "folder/file": b""}
+    asks = [
+        ["read", "{town}"], ["prices", "{town}", "{claim}"], ["prices", "{town}", "{claim}", "--outcome", "{outcome}"],
+        ["tidy", "{town}", "{claim}"], ["violation", "{town}", "{claim}", "--outcome", "{outcome}"],
+    ]  # fmt: skip
+    for ask in asks:
+        for bad in ("{town}", "{claim}", "{outcome}"):
+            for put in ("missing.csv", "folder", "folder/file/x", "huge"):
+                if bad in ask and (put != "huge" or ask in asks[:3]):
+                    names = {"town": "town.pb", "claim": "claim.csv", "outcome": "outcome.csv", bad[1:-1]: put}
+                    files = dict(good, huge=Sparse(2**28 + 1)) if put == "huge" else good
+                    yield Case([word.format(**names) for word in ask], files, name=f"{put} as {bad[1:-1]} of {ask[0]}")
+    for name, old, news in LIMITS:
+        for new in news:
+            files = dict(good, **{name: good[name].replace(old, new)})
+            yield Case(["prices", "town.pb", "claim.csv"], files, name=f"{new[:40]} for {old}")
+    yield known(["read", "full.pb"], {"full.pb": Sparse(2**28)}, "refused election 2 NoMeta record 1")
+    for count in (20_000, 20_001):
+        data = many_projects(count) + b"VOTES\nvote\n"
+        yield Case(["read", "town.pb"], {"town.pb": data}, name=f"{count} projects")
+    data = many_projects(0) + b"VOTES\nvoter_id;vote\n" + b"v;\n" * 1_000_000
+    yield known(["read", "town.pb"], {"town.pb": data}, "read 1000000 voters 0 projects no outcome")
+    yield known(["read", "town.pb"], {"town.pb": data + b"v;\n"}, "refused election 15 TooMany record 1000009")
+    # 100,000 ballots of 200 projects; 8 records beside them and the projects.
+    data = many_projects(200) + b"VOTES\nvote\n"
+    ballots = (b",".join(b"%d" % number for number in range(1, 201)) + b"\n") * 100_000
+    for vote, fault in ((b"0", "14 UnknownProject"), (b"1", "15 TooMany")):
+        files = {"town.pb": data + ballots + vote + b"\n"}
+        yield known(["read", "town.pb"], files, f"refused election {fault} record 100209")
+    # 20,000 rows for each of 500 voters.
+    data = many_projects(20_000) + b"VOTES\nvoter_id;vote\n" + b"v;\n" * 501
+    head = b"pb-prices,1\ndenominator,1\nvoter_budget,0\nvoter,project,payment\n"
+    ends = [b",%d,0\n" % project for project in range(1, 20_001)]
+    payments = b"".join(b"%d" % voter + (b"%d" % voter).join(ends) for voter in range(1, 501))
+    tidy = ["tidy", "town.pb", "claim.csv"]
+    yield known(tidy, {"town.pb": data, "claim.csv": head + payments}, head.decode().strip())
+    last = head + payments + b"501,1,0\n"
+    yield known(tidy, {"town.pb": data, "claim.csv": last}, "refused certificate 28 TooMany record 10000005")
+
+
+def many_projects(count):
+    head = b"META\nkey;value\nbudget;1\nvote_type;approval\nPROJECTS\nproject_id;cost\n"
+    return head + b"".join(b"%d;0\n" % number for number in range(1, count + 1))
+
+
+def known(words, files, text):
+    """A case whose answer follows from how its files were made."""
+    return Case(words, files, name=text, known=(text.encode() + b"\n", 2 if text.startswith("refused") else 0))
+
+
+@dataclass
+class Sparse:
+    """A file of so many zero bytes."""
+
+    size: int
+
+
+def write_files(room, files):
+    """Writes the files into a folder."""
+    for name, data in files.items():
+        path = os.path.join(os.fsencode(room), os.fsencode(name))
+        os.makedirs(os.path.dirname(path), exist_ok=True)
+        with open(path, "wb") as file:
+            if isinstance(data, Sparse):
+                file.truncate(data.size)
+            else:
+                file.write(data)

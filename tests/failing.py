@@ -1,0 +1,301 @@
+#!/usr/bin/env python3
+"""Makes every allocation, open, read, write and listing of the program fail, one run after the other.
+
+    python3 tests/failing.py PROGRAM
+
+failing.c is built into a temporary folder and preloaded, so that the Nth call of a kind fails; N goes from 1 until a
+run meets no failure. Each command runs on the examples and on a few files more. What has to come:
+
+- memory: 'fault memory' on standard error, status 4, and nothing on standard output; or the answer of an ordinary run;
+- open, read: 'refused INPUT 18 Read record 0' for the input of that file, with the reason as a hint, and none behind it is
+  opened; or the refusal of an ordinary run with another hint, where the file was opened again for it. A read that gives
+  one byte changes nothing. In a folder the line of that file becomes a refusal, and the total changes;
+- list: 'refused folder 18 Read record 0', and 'fault memory' where the system wants memory; what can't be looked at
+  counts as a file, so that nothing changes;
+- write: 'fault write', status 4, and a front of the text; a write that takes one byte changes nothing. Where standard
+  error isn't taken, nothing else changes.
+
+Then standard output is a full disk, and a pipe that nobody reads. Last, each allocation in the tests of the library's
+calls (built by 'rt test' or 'rt ci') fails: a test has to pass, or to end with want of memory.
+
+Prints how many failures were made; a kind of which none was made has failed, since then the library wasn't loaded. The
+last line is 'N passed, M failed'.
+"""
+import collections
+import errno
+import glob
+import mmap
+import os
+import re
+import shutil
+import struct
+import subprocess
+import sys
+import tempfile
+
+from limits import UNFAIR, UNFAIR_VIOLATION
+
+HERE = os.path.dirname(os.path.abspath(__file__))
+EXAMPLES = os.path.join(os.path.dirname(HERE), "examples")
+SAMPLE, DISTRICT = "sample.pb", "district.pb"
+COMMANDS = [
+    ["read", SAMPLE], [], ["read", DISTRICT], ["read", "sample.prices.csv"], ["prices", SAMPLE, "sample.prices.csv"],
+    ["prices", SAMPLE, "sample.prices.csv", "--stable"],
+    ["prices", SAMPLE, "sample.prices.csv", "--stable", "--outcome", "sample.outcome.csv"],
+    ["prices", DISTRICT, "district.prices.csv"], ["prices", DISTRICT, "district.short.prices.csv"],
+    ["prices", DISTRICT, "district.prices.csv", "--stable", "--no-exhaustive", "--outcome", "district.other.outcome.csv"],
+    ["violation", "unfair.pb", "unfair.violation.csv"], ["violation", DISTRICT, "district.violation.csv"],
+    ["violation", DISTRICT, "district.wide.violation.csv", "--outcome", "district.other.outcome.csv"],
+    ["violation", DISTRICT, "district.voter-id.violation.csv"], ["violation", SAMPLE, "sample.outcome.csv"],
+    ["tidy", SAMPLE, "sample.untidy.prices.csv"], ["tidy", DISTRICT, "district.prices.csv"],
+    ["tidy", SAMPLE, "sample.outcome.csv"], ["--help"], ["prices", "--help"], ["--version"], ["prices", SAMPLE],
+    ["prices", SAMPLE, "sample.prices.csv", "--stabel"], ["folder", "."], ["folder", "two"], ["folder", "none"],
+    ["prices", DISTRICT, "district.stable.prices.csv", "--stable", "--cover", "--outcome", "district.stable.outcome.csv"],
+    ["both", SAMPLE, "sample.prices.csv", "district.violation.csv"],
+    ["both", DISTRICT, "district.stable.prices.csv", "district.violation.csv", "--stable", "--cover", "--outcome", "district.stable.outcome.csv"],
+]  # fmt: skip
+WAYS = [
+    ("memory", str(errno.ENOMEM)), ("open", str(errno.EACCES)), ("read", str(errno.EIO)), ("read", str(errno.EINTR)),
+    ("read", "one"), ("list", str(errno.EIO)), ("list", str(errno.ENOMEM)), ("look", str(errno.EACCES)),
+    ("write", str(errno.ENOSPC)), ("write", str(errno.EINTR)), ("write", "none"), ("write", "one"),
+]  # fmt: skip
+# The tests of the library's calls, by crate: what their names begin with, and one that would take hours.
+TESTS = [("pb_audit", ""), ("pbaudit", "tests::certificates::"), ("pbaudit", "tests::library::")]
+TOO_LARGE = "tests::certificates::empty_ballots_cost_a_step_each"
+# How such a test ends where memory is wanted: by the call, or by the writer into memory that the test gives it.
+WANTS = (
+    rb"error: (AllocError|AllocFailed \{ \.\. \}|Memory|Write|(Cert)?Refusal \{ fault: Memory, place: 0 \})\n",
+    rb"assertion `left == right` failed\n  left: Err\((Memory|Write)\)\n right: Ok\(\(\)\)\n",
+)
+Said = collections.namedtuple("Said", "text errors status")
+# How many calls of the kind came, whether one was made to fail, how many files were to be opened, and the number and the
+# path of the file that the failure was about.
+Told = collections.namedtuple("Told", "calls failed opens file path")
+FAULT_MEMORY = Said(b"", b"fault memory\n", 4)
+
+
+def refused(name):
+    return f"refused {name} 18 Read record 0"
+
+
+def fill(room):
+    """Fills a folder with the examples, with an unfair outcome, with a folder of two elections, and with an empty one."""
+    for pattern in ("*.pb", "*.csv"):
+        for path in glob.glob(os.path.join(EXAMPLES, pattern)):
+            shutil.copy(path, room)
+    two, none = os.path.join(room, "two"), os.path.join(room, "none")
+    os.mkdir(two)
+    os.mkdir(none)
+    shutil.copy(os.path.join(EXAMPLES, SAMPLE), os.path.join(two, "one.pb"))
+    shutil.copy(os.path.join(EXAMPLES, "sample.prices.csv"), os.path.join(two, "one.prices.csv"))
+    for path, text in (
+        ("unfair.pb", UNFAIR), ("unfair.violation.csv", UNFAIR_VIOLATION), ("two/two.pb", ""),
+        ("two/one.violation.csv", "pb-violation,1\nproject,b\nvoter,3\nvoter,1\n"),
+    ):  # fmt: skip
+        with open(os.path.join(room, path), "w") as file:
+            file.write(text)
+
+
+class Shim:
+    """The library, what it tells, and the folder in which programs run."""
+
+    def __init__(self, room, folder):
+        self.library, self.file, self.folder = os.path.join(room, "failing.so"), os.path.join(room, "told"), folder
+        source = os.path.join(HERE, "failing.c")
+        subprocess.run(["cc", "-shared", "-fPIC", "-O1", "-o", self.library, source, "-ldl"], check=True)
+        with open(self.file, "wb") as file:
+            file.truncate(4096)
+        with open(self.file, "r+b") as file:
+            self.told = mmap.mmap(file.fileno(), 4096)
+
+    def run(self, program, words, given=None, stdout=subprocess.PIPE):
+        """What the program says. Its standard input is the sample election."""
+        with open(os.path.join(self.folder, SAMPLE), "rb") as stdin:
+            files = {"stdin": stdin, "stdout": stdout, "stderr": subprocess.PIPE}
+            environment = {**os.environ, **(given or {})}
+            done = subprocess.run([program, *words], **files, cwd=self.folder, env=environment, timeout=60)
+        return Said(done.stdout or b"", done.stderr, done.returncode)
+
+    def fail(self, program, words, kind, how, at):
+        """What the program says with one failure, and what the library tells."""
+        self.told[:] = bytes(4096)
+        given = {"FAILING_FILE": self.file, "FAILING_KIND": kind, "FAILING_HOW": how, "FAILING_AT": str(at)}
+        said = self.run(program, words, {"LD_PRELOAD": self.library, **given})
+        calls, failed, opens, file = struct.unpack_from("LLLl", self.told)
+        return said, Told(calls, failed == 1, opens, file, os.fsdecode(self.told[32:].split(b"\0")[0]))
+
+    def fail_each(self, program, words, kind, how):
+        """The same for each call of the kind, and then without a failure."""
+        at, failed = 0, True
+        while failed:
+            at += 1
+            said, told = self.fail(program, words, kind, how, at)
+            failed = told.failed
+            yield at, said, told
+
+
+class Counts:
+    """How many runs were right, how many wrong, and how many failures were made of each kind."""
+
+    def __init__(self):
+        self.passed, self.wrong, self.made = 0, 0, collections.Counter()
+
+    def count(self, right, *lines):
+        self.passed, self.wrong = self.passed + right, self.wrong + (not right)
+        if not right:
+            print(*lines, sep="\n")
+
+
+def inputs_of(words):
+    """The inputs of a command in the order in which they are opened: their names, and their files."""
+    if not words:
+        return []
+    inputs = [("election", words[1])]
+    if "--outcome" in words:
+        inputs.append(("outcome", words[words.index("--outcome") + 1]))
+    names = ["prices", "violation"] if words[0] == "both" else ["certificate"]
+    return inputs + list(zip(names, words[2:]))
+
+
+def is_refused(words, how, told, said):
+    """Whether the input of the file that failed was refused for this reason, and none was opened behind it."""
+    inputs = inputs_of(words)
+    paths = [path for _, path in inputs]
+    if inputs:
+        index = paths.index(os.path.basename(told.path))
+        (name, path), opens = inputs[index], index + 1
+    else:
+        name, path, opens = "election", "standard input", 0
+    hint = f"{path}: {os.strerror(int(how))}\n"
+    return said == Said(refused(name).encode() + b"\n", hint.encode(), 2) and told.opens == opens
+
+
+def report_without(report, name):
+    """The report on a folder, and its status, where the file of this name can't be read."""
+    lines = []
+    for line in report.splitlines()[:-1]:
+        file, answer = line.split(": ", 1)
+        if file == name and name.endswith(".pb"):
+            answer = refused("election")
+        elif file == name and answer != "refused election 17 NoOutcome record 0":
+            answer = refused("certificate")
+        elif name.endswith(".pb") and file in (name[:-3] + ".prices.csv", name[:-3] + ".violation.csv"):
+            continue
+        lines.append((file, answer))
+    yes = sum(answer.startswith(("supported", "violation")) for _, answer in lines)
+    no = sum(answer.startswith("failed") for _, answer in lines)
+    refusals = sum(answer.startswith("refused") for _, answer in lines)
+    elections = sum(file.endswith(".pb") for file, _ in lines)
+    total = f"total {elections} elections {yes} yes {no} no {refusals} refused\n"
+    return "".join(f"{file}: {answer}\n" for file, answer in lines) + total, 2 if refusals else 1 if no else 0
+
+
+def is_right_in_a_folder(kind, how, told, said, ordinary):
+    """Whether 'folder' said what it has to, where an open, a read or a listing failed."""
+    if kind == "list" and how == str(errno.ENOMEM):
+        return said == FAULT_MEMORY
+    if kind == "list" or kind == "open" and told.path.endswith("/"):
+        return said == Said(refused("folder").encode() + b"\n", b"", 2)
+    text, status = report_without(ordinary.text.decode(), os.path.basename(told.path))
+    return said == Said(text.encode(), ordinary.errors, status)
+
+
+def is_right(kind, how, words, told, said, ordinary):
+    """Whether the program said what it has to, where one call failed."""
+    same_answer = (said.text, said.status) == (ordinary.text, ordinary.status)
+    if kind == "memory":
+        # Without memory for it, a hint isn't there.
+        return said in (FAULT_MEMORY, ordinary) or (ordinary.status == 2 and same_answer and not said.errors)
+    if kind == "look":
+        # What can't be looked at counts as a file, and isn't opened again for a hint.
+        return said == ordinary or (ordinary.status == 2 and same_answer)
+    if how == "one":
+        return said == ordinary
+    if kind == "write" and told.file == 2:
+        return same_answer and ordinary.errors.startswith(said.errors)
+    if kind == "write":
+        return said.errors == b"fault write\n" and said.status == 4 and ordinary.text.startswith(said.text)
+    if words[:1] == ["folder"]:
+        return is_right_in_a_folder(kind, how, told, said, ordinary)
+    if ordinary.status == 2 and same_answer and said.errors != ordinary.errors:
+        # A file was opened again for the hint, which then tells less.
+        return True
+    return is_refused(words, how, told, said)
+
+
+def try_commands(shim, program, counts):
+    """Makes each call of each kind fail in each command."""
+    for words in COMMANDS:
+        ordinary = shim.run(program, words)
+        for kind, how in WAYS:
+            for at, said, told in shim.fail_each(program, words, kind, how):
+                if told.failed:
+                    counts.made[kind, how] += 1
+                    right = is_right(kind, how, words, told, said, ordinary)
+                else:
+                    right = said == ordinary and told.calls == at - 1
+                name = f"pbaudit {' '.join(words)}: {kind} {at} as {how}, {told}"
+                counts.count(right, name, f"  ordinary: {ordinary}", f"  said:     {said}")
+    for kind, how in WAYS:
+        name = errno.errorcode[int(how)] if how.isdigit() else {"one": "one byte", "none": "no byte"}[how]
+        print(f"{counts.made[kind, how]:6} times {kind} failed ({name}), in {len(COMMANDS)} commands")
+        if not counts.made[kind, how]:
+            counts.count(False, "none was made: the library isn't loaded, or the program calls another function")
+
+
+def try_outputs(shim, program, counts):
+    """Standard output that takes nothing: a full disk, and a pipe that nobody reads."""
+    for words in COMMANDS:
+        ordinary = shim.run(program, words)
+        reader, writer = os.pipe()
+        os.close(reader)
+        for output in (os.open("/dev/full", os.O_WRONLY), writer):
+            said = shim.run(program, words, stdout=output)
+            os.close(output)
+            right = said == (Said(b"", b"fault write\n", 4) if ordinary.text else ordinary)
+            counts.count(right, f"pbaudit {' '.join(words)} with output that isn't taken", f"  said: {said}")
+    print(f"{2 * len(COMMANDS):6} times standard output took nothing")
+
+
+def try_library(shim, program, counts):
+    """Makes each allocation fail in the tests of the library's calls."""
+    crates, made, wants, names = os.path.dirname(os.path.dirname(os.path.dirname(program))), 0, 0, 0
+    for crate, start in TESTS:
+        tests = os.path.join(crates, crate, "out", f"{crate}_tests")
+        if not os.path.exists(tests):
+            counts.count(False, f"{tests} isn't there: rt test or rt ci builds it")
+            continue
+        listed = shim.run(tests, ["--list"]).text.decode().splitlines()
+        for name in [line.removesuffix(": test") for line in listed if line.endswith(": test")]:
+            if not name.startswith(start) or name == TOO_LARGE:
+                continue
+            names += 1
+            for at, said, told in shim.fail_each(tests, [name], "memory", str(errno.ENOMEM)):
+                passes = said.status == 0 and said.text.endswith(b"test result: ok\n")
+                wanted = told.failed and said.status != 0 and any(re.match(want, said.errors) for want in WANTS)
+                made, wants = made + told.failed, wants + wanted
+                counts.count(passes or wanted, f"{crate} {name}: memory {at}, {told}", f"  said: {said}")
+    print(f"{made:6} times memory failed in {names} tests of the library's calls, {wants} of which ended with want of it")
+    if not wants:
+        counts.count(False, "none was made: the library isn't loaded, or no test was found")
+
+
+def main(program):
+    program, counts = os.path.abspath(program), Counts()
+    # A blank in the folder's name would cut the library's path in two.
+    with tempfile.TemporaryDirectory(prefix="pbaudit-") as room:
+        folder = os.path.join(room, "files")
+        os.mkdir(folder)
+        fill(folder)
+        shim = Shim(room, folder)
+        try_commands(shim, program, counts)
+        try_outputs(shim, program, counts)
+        try_library(shim, program, counts)
+    print(f"{counts.passed} passed, {counts.wrong} failed")
+    return 1 if counts.wrong else 0
+
+
+if __name__ == "__main__":
+    if len(sys.argv) != 2:
+        sys.exit(__doc__)
+    sys.exit(main(sys.argv[1]))

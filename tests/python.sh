@@ -1,0 +1,18 @@
+#!/usr/bin/env bash
+# Installs the Python package into a folder of its own, as a user does, and runs its tests there. The library lies in
+# lib (./pbaudit-library), and the program is built.
+# usage: tests/python.sh
+set -euo pipefail
+top=$(dirname "$(dirname "$(readlink -f "${BASH_SOURCE[0]}")")")
+work=$(mktemp -d)
+trap 'rm -rf "$work"' EXIT
+if python3 -m pip --version > /dev/null 2>&1; then
+    export PIP_ROOT_USER_ACTION=ignore PIP_DISABLE_PIP_VERSION_CHECK=1
+    python3 -m pip install --quiet --no-index --target "$work/site" "$top/python"
+else
+    printf 'pip is not installed: the package is copied\n'
+    mkdir "$work/site"
+    cp -r "$top/python/pbaudit" "$work/site"
+    cp "$top/lib/libpbaudit.so" "$work/site/pbaudit"
+fi
+PYTHONPATH=$work/site PYTHONDONTWRITEBYTECODE=1 python3 "$top/python/tests"

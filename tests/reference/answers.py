@@ -1,0 +1,235 @@
+"""What each command answers: the text that it prints, and its exit status."""
+import os
+import stat
+
+from . import conditions, violations
+from .certificates import canonical, quoted, read_outcome, read_prices, read_violation, rows_of
+from .election import read_election
+from .records import MOST_BYTES, Refused
+
+YES, NO, REFUSED = 0, 1, 2
+ELECTION_FAULTS = [
+    "NotUtf8", "NoMeta", "NoHeader", "MissingSection", "UnexpectedSection", "MissingKey", "RepeatedKey", "NotApproval",
+    "BadMoney", "MissingColumn", "RepeatedColumn", "BadId", "RepeatedProject", "UnknownProject", "TooMany",
+]  # fmt: skip
+CERTIFICATE_FAULTS = [
+    "NotUtf8", "BadHead", "BadRow", "BadNumber", "UnknownVoter", "UnknownProject", "OutOfOrder", "Repeated", "TooMany",
+]  # fmt: skip
+NO_OUTCOME, READ, TOO_LONG = 17, 18, 19
+NAMES = {
+    **dict(enumerate(ELECTION_FAULTS, 1)),
+    **{NO_OUTCOME: "NoOutcome", READ: "Read", TOO_LONG: "TooLong"},
+    **dict(enumerate(CERTIFICATE_FAULTS, 20)),
+}
+MODE = ["--stable", "--no-exhaustive", "--cover"]
+WITH_MODE = ["prices", "folder", "both", "explain"]
+
+
+class RefusedInput(Exception):
+    """One of the inputs is refused."""
+
+    def __init__(self, name, refusal):
+        super().__init__(name, refusal)
+        self.line = line(f"refused {name} {refusal.number} {NAMES[refusal.number]} record {refusal.record}")
+
+
+def line(text):
+    return text.encode() + b"\n"
+
+
+def load(path):
+    """The bytes of a file; b"" is a file without bytes, and None stands for standard input."""
+    try:
+        with open(0 if path is None else path, "rb", closefd=path is not None) as file:
+            data = file.read(MOST_BYTES + 1)
+    except OSError:
+        raise Refused(READ, 0) from None
+    if len(data) > MOST_BYTES:
+        raise Refused(TOO_LONG, 0)
+    return data
+
+
+def take(name, reads, path, *others):
+    """Loads an input and reads it."""
+    try:
+        return reads(load(path), *others)
+    except Refused as refusal:
+        raise RefusedInput(name, refusal) from None
+
+
+def take_outcome(election, path):
+    """The funded projects: those of the outcome file where one is given, else those of the column 'selected'."""
+    if path is not None:
+        return take("outcome", read_outcome, path, election)
+    if not election.has_selected:
+        raise RefusedInput("election", Refused(NO_OUTCOME, 0))
+    return election.funded()
+
+
+def failed(election, name, culprit):
+    """The line of a condition or test with its culprit: nothing, a project, a voter, or a voter and a project."""
+    words = [b"failed", name.encode()]
+    if name in ("C1", "V2"):
+        words += [b"voter %d" % culprit[0], b"project " + election.id(culprit[1])]
+    elif name in ("C2", "V4"):
+        words.append(b"voter %d" % culprit[0])
+    elif culprit:
+        words.append(b"project " + election.id(culprit[0]))
+    return b" ".join(words) + b"\n"
+
+
+def read_line(election):
+    end = f"{len(election.funded())} funded" if election.has_selected else "no outcome"
+    return line(f"read {len(election.ballots)} voters {len(election.ids)} projects {end}")
+
+
+def notes(election):
+    text = b""
+    for key, counted in ((b"num_projects", len(election.ids)), (b"num_votes", len(election.ballots))):
+        declared = election.declared.get(key)
+        if declared is not None and declared != counted:
+            text += line(f"note: {key.decode()} says {declared}, counted {counted}")
+    if election.other_selected():
+        text += line(f"note: selected is neither 0 nor 1 in {election.other_selected()} projects")
+    return text
+
+
+def verdict_on_prices(election, funded, prices, mode):
+    failure = conditions.first_failure(conditions.Claim(election, funded, prices), mode)
+    if failure:
+        return failed(election, *failure), NO
+    return line("supported stable" if "--stable" in mode else "supported priceable"), YES
+
+
+def verdict_on_violation(election, funded, violation):
+    failure = violations.first_failure(election, funded, violation)
+    return (failed(election, *failure), NO) if failure else (line("violation"), YES)
+
+
+class Commands:
+    """Each command, by its name. 'versions' are those of violation certificates that are known."""
+
+    def __init__(self, versions):
+        self.versions = versions
+
+    def read(self, paths, mode, outcome):
+        election = take("election", read_election, paths[0] if paths else None)
+        return read_line(election) + notes(election), YES
+
+    def prices(self, paths, mode, outcome):
+        election = take("election", read_election, paths[0])
+        funded = take_outcome(election, outcome)
+        return verdict_on_prices(election, funded, take("certificate", read_prices, paths[1], election), mode)
+
+    def violation(self, paths, mode, outcome):
+        election = take("election", read_election, paths[0])
+        funded = take_outcome(election, outcome)
+        violation = take("certificate", read_violation, paths[1], election, self.versions)
+        return verdict_on_violation(election, funded, violation)
+
+    def tidy(self, paths, mode, outcome):
+        election = take("election", read_election, paths[0])
+        return canonical(take("certificate", read_prices, paths[1], election), election), YES
+
+    def both(self, paths, mode, outcome):
+        election = take("election", read_election, paths[0])
+        funded = take_outcome(election, outcome)
+        prices = take("prices", read_prices, paths[1], election)
+        violation = take("violation", read_violation, paths[2], election, self.versions)
+        first, first_status = verdict_on_prices(election, funded, prices, mode)
+        second, second_status = verdict_on_violation(election, funded, violation)
+        return first + second, max(first_status, second_status)
+
+    def margins(self, paths, mode, outcome):
+        election = take("election", read_election, paths[0])
+        funded = take_outcome(election, outcome)
+        prices = take("certificate", read_prices, paths[1], election)
+        return margins(conditions.Claim(election, funded, prices)), YES
+
+    def explain(self, paths, mode, outcome):
+        """The line of 'prices' or 'violation', and whether each condition holds; of the words beside that nothing."""
+        election = take("election", read_election, paths[0])
+        funded = take_outcome(election, outcome)
+        if is_violation(take("certificate", bytes, paths[1])):
+            violation = take("certificate", read_violation, paths[1], election, self.versions)
+            text, status = verdict_on_violation(election, funded, violation)
+            answers = violations.answers(election, funded, violation)
+        else:
+            prices = take("certificate", read_prices, paths[1], election)
+            text, status = verdict_on_prices(election, funded, prices, mode)
+            answers = conditions.answers(conditions.Claim(election, funded, prices), mode)
+        return text + b"".join(line(f"{name} {'holds' if holds else 'fails'}") for name, holds in answers), status
+
+    def folder(self, paths, mode, outcome):
+        try:
+            with os.scandir(os.fsencode(paths[0])) as listing:
+                files = {entry.name for entry in listing if stat.S_ISREG(entry.stat(follow_symlinks=False).st_mode)}
+            for name in files:
+                name.decode("utf-8")
+        except (OSError, UnicodeDecodeError):
+            return line("refused folder 18 Read record 0"), REFUSED
+        names = [name[:-3] for name in files if name.endswith(b".pb") and is_entry(name)]
+        text, counts = b"", {YES: 0, NO: 0, REFUSED: 0}
+        for name in sorted(names):
+            text += self.entry(os.path.join(os.fsencode(paths[0]), name), name, files, mode, counts)
+        text += line(f"total {len(names)} elections {counts[YES]} yes {counts[NO]} no {counts[REFUSED]} refused")
+        return text, REFUSED if counts[REFUSED] else NO if counts[NO] else YES
+
+    def entry(self, path, name, files, mode, counts):
+        """The lines of one election of a folder; counts those of its certificates, and all that are refused."""
+        text, status = answer_or_refusal(self.read, [path + b".pb"], mode, None)
+        text = name + b".pb: " + text.split(b"\n")[0] + b"\n"
+        if status == REFUSED:
+            counts[REFUSED] += 1
+            return text
+        for end, work in ((b".prices.csv", self.prices), (b".violation.csv", self.violation)):
+            if name + end in files:
+                said, status = answer_or_refusal(work, [path + b".pb", path + end], mode, None)
+                counts[status] += 1
+                text += name + end + b": " + said
+        return text
+
+
+def is_violation(data):
+    """Whether the first record is that of a violation certificate."""
+    try:
+        return next(rows_of(data))[1] in [[b"pb-violation", b"1"], [b"pb-violation", b"2"]]
+    except Refused:
+        return False
+
+
+def is_entry(name):
+    return len(name) > 3 and not any(byte < 32 or byte == 127 for byte in name)
+
+
+def margins(claim):
+    """The sums for each project, in grains."""
+    grains = 10**6 * claim.prices.denominator
+    lines = [b"pb-margins,1", b"grains_per_unit,%d" % grains, b"project,funded,supporters,cost,paid,left,offer"]
+    for project in claim.election.projects:
+        left, offer = claim.left_of_supporters(project), claim.offer_of_supporters(project)
+        sums = [amount * grains for amount in (claim.cost(project), claim.paid(project), left, offer)]
+        cells = [project in claim.funded_set, len(claim.election.supporters(project)), *sums]
+        lines.append(b",".join([quoted(claim.election.id(project)), *(b"%d" % int(cell) for cell in cells)]))
+    return b"".join(each + b"\n" for each in lines)
+
+
+def answer_or_refusal(work, paths, mode, outcome):
+    try:
+        return work(paths, mode, outcome)
+    except RefusedInput as refusal:
+        return refusal.line, REFUSED
+
+
+def answer(words, versions=(1,)):
+    """The text and the status for the words of a command line that is understood."""
+    command, paths, mode, outcome = (words[0] if words else "read"), [], set(), None
+    words = iter(words[1:])
+    for word in words:
+        if word == "--outcome":
+            outcome = next(words)
+        elif word in MODE and command in WITH_MODE:
+            mode.add(word)
+        else:
+            paths.append(word)
+    return answer_or_refusal(getattr(Commands(versions), command), paths, mode, outcome)
