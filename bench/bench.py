@@ -1,7 +1,7 @@
 #!/usr/bin/env python3
 """Measures the commands of pbaudit on elections that it makes up: the time, best of three, and the greatest memory.
 
-    python3 bench/bench.py PROGRAM [VOTERS PROJECTS]
+    python3 bench/bench.py PROGRAM [VOTERS PROJECTS] [--peer]
 
 PROGRAM is the built program, crates/pbaudit/out/pbaudit. Without VOTERS and PROJECTS it goes through a few sizes.
 
@@ -9,7 +9,7 @@ Every voter approves 8 projects and pays one amount for each of those that are f
 what is paid for it. An unfunded project costs as much as its supporters' budgets together. So the prices support the
 outcome in both forms, and every condition is gone through to its end. The group of the violation certificate is all
 supporters of the first project, who demand it, and by the outcome file nothing is funded. Less memory than that of Python
-itself, about 10 MB, is not told apart.
+itself, about 10 MB, is not told apart. With --peer the script bench/prices.py answers the same question beside 'prices'.
 """
 import os
 import random
@@ -74,7 +74,7 @@ def run(program, words, out):
         return seconds, used.ru_maxrss, text.readline().strip()
 
 
-def measure(program, voters, projects):
+def measure(program, voters, projects, peer):
     with tempfile.TemporaryDirectory() as room:
         names = ("e.pb", "prices.csv", "violation.csv", "outcome.csv", "out")
         election, prices, violation, outcome, out = (f"{room}/{name}" for name in names)
@@ -82,19 +82,27 @@ def measure(program, voters, projects):
         print(f"{voters} voters, {projects} projects, {os.path.getsize(election) / 1e6:.1f} MB, certificate {os.path.getsize(prices) / 1e6:.1f} MB")
         for words in (["read"], ["prices", prices], ["prices", prices, "--stable"], ["violation", violation, "--outcome", outcome], ["tidy", prices]):
             command = [words[0], election, *words[1:]]
-            runs = [run(program, command, out) for _ in range(3)]
-            shown = " ".join(os.path.basename(word) for word in command)
-            print(f"  {min(it[0] for it in runs):7.2f} s {max(it[1] for it in runs) / 1000:7.1f} MB  {shown:54} {runs[0][2]}", flush=True)
+            tell(program, command, out)
+        if peer:
+            tell(sys.executable, [os.path.join(os.path.dirname(os.path.abspath(__file__)), "prices.py"), election, prices], out)
+
+
+def tell(program, command, out):
+    runs = [run(program, command, out) for _ in range(3)]
+    shown = " ".join(os.path.basename(word) for word in command)
+    print(f"  {min(it[0] for it in runs):7.2f} s {max(it[1] for it in runs) / 1000:7.1f} MB  {shown:54} {runs[0][2]}", flush=True)
 
 
 def main(words):
+    peer = "--peer" in words
+    words = [word for word in words if word != "--peer"]
+    if len(words) not in (1, 3):
+        sys.exit(__doc__)
     program = os.path.abspath(words[0])
     sizes = [tuple(int(word) for word in words[1:3])] if len(words) == 3 else SIZES
     for voters, projects in sizes:
-        measure(program, voters, projects)
+        measure(program, voters, projects, peer)
 
 
 if __name__ == "__main__":
-    if len(sys.argv) not in (2, 4):
-        sys.exit(__doc__)
     main(sys.argv[1:])
