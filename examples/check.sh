@@ -1,27 +1,28 @@
 #!/usr/bin/env bash
 # Runs the program on the examples and compares what it writes, and its exit status, with answers.txt. Then tries how it
-# ends without an answer: by help, by words that are not understood, and by output that is not taken.
+# ends without an answer (by help, by words that are not understood, by output that is not taken), which files it opens, and
+# folders of elections, whose reports many.sh has to write as well.
 # usage: examples/check.sh PROGRAM
 set -euo pipefail
 program=$(realpath "$1")
 cd "$(dirname "$0")"
 work=$(mktemp -d)
-trap 'rm -r "$work"' EXIT
+trap 'rm -rf "$work"' EXIT
 passed=0 failed=0 command="" wanted=""
 
-# An answer is on standard output, and nothing is on standard error.
+# An answer is on standard output, and nothing is on standard error but what stands behind the status.
 compare() {
   [ -n "$command" ] || return 0
   local words written status=0
   read -ra words <<< "$command"
   written=$("$program" "${words[@]:1}" < /dev/null 2> "$work/errors") || status=$?
   written+="${written:+$'\n'}status $status"
-  if [ "$written" = "${wanted%$'\n'}" ] && ! [ -s "$work/errors" ]; then
+  [ -s "$work/errors" ] && written+=$'\n'$(< "$work/errors")
+  if [ "$written" = "${wanted%$'\n'}" ]; then
     passed=$((passed + 1))
   else
     failed=$((failed + 1))
     printf '%s\nwanted:\n%s\nwritten:\n%s\n' "$command" "$wanted" "$written"
-    cat "$work/errors"
   fi
 }
 
@@ -43,7 +44,7 @@ ends() {
     to=/dev/full output=nothing
     : > "$work/output"
   fi
-  "$program" "$@" < /dev/null > "$to" 2> "$work/errors" || status=$?
+  timeout 10 "$program" "$@" < /dev/null > "$to" 2> "$work/errors" || status=$?
   if [ "$status" = "$wanted" ] && holds "$output" "$work/output" && holds "$errors" "$work/errors"; then
     passed=$((passed + 1))
   else
@@ -66,5 +67,121 @@ ends 0 some nothing --help
 ends 3 nothing some prices sample.pb
 ends 3 nothing some read $'\xff.pb'
 ends 4 full 'fault write' read sample.pb
+ends 4 full 'fault write' folder .
+
+# Files that never end, and that give an error once they are open.
+long='the file has more than 268,435,456 bytes (2^28)'
+ends 2 'refused election 19 TooLong record 0' "/dev/zero: $long" read /dev/zero
+ends 2 'refused certificate 19 TooLong record 0' "/dev/zero: $long" tidy sample.pb /dev/zero
+ends 2 'refused election 18 Read record 0' '.: Is a directory' read .
+ends 2 'refused outcome 18 Read record 0' '.: Is a directory' violation sample.pb district.violation.csv --outcome .
+
+# A file behind one that is refused isn't opened. To open this pipe would be to wait for ever.
+mkfifo "$work/pipe"
+for refused in missing.pb . sample.prices.csv; do
+  line='refused election 18 Read record 0'
+  [ -f "$refused" ] && line='refused election 2 NoMeta record 1'
+  for command in prices violation; do
+    ends 2 "$line" some "$command" "$refused" "$work/pipe"
+    ends 2 "$line" some "$command" "$refused" "$work/pipe" --outcome "$work/pipe"
+  done
+  ends 2 "$line" some tidy "$refused" "$work/pipe"
+  ends 2 "$line" some both "$refused" "$work/pipe" "$work/pipe" --outcome "$work/pipe"
+done
+for command in prices violation; do
+  ends 2 'refused outcome 18 Read record 0' some "$command" sample.pb "$work/pipe" --outcome missing.csv
+  ends 2 'refused outcome 21 BadHead record 1' some "$command" sample.pb "$work/pipe" --outcome sample.pb
+done
+
+ends 2 'refused outcome 18 Read record 0' some both sample.pb "$work/pipe" "$work/pipe" --outcome missing.csv
+ends 2 'refused prices 18 Read record 0' some both sample.pb missing.csv "$work/pipe"
+ends 2 'refused prices 21 BadHead record 1' some both sample.pb sample.pb "$work/pipe"
+
+# A file that can't be read again is told of without what stands in it. To open this pipe again would be to wait for ever.
+printf 'META\n' > "$work/pipe" &
+ends 2 'refused election 3 NoHeader record 2' "$work/pipe: record 2: a section has no header" read "$work/pipe"
+ends 2 'refused election 2 NoMeta record 1' "standard input: record 1: the file doesn't begin with META"
+
+# many FOLDER WORD..: many.sh has to write what `pbaudit folder` writes by these words, and to end as it does.
+many() {
+  local status=0 other=0
+  timeout 60 "$program" folder "$@" < /dev/null > "$work/one" 2> "$work/one.errors" || status=$?
+  PBAUDIT=$program timeout 60 ./many.sh "$@" < /dev/null > "$work/other" 2> "$work/other.errors" || other=$?
+  if [ "$status" = "$other" ] && cmp -s "$work/one" "$work/other" && cmp -s "$work/one.errors" "$work/other.errors"; then
+    passed=$((passed + 1))
+  else
+    failed=$((failed + 1))
+    printf 'many.sh %s\nwanted: status %s\n' "$*" "$status"
+    cat "$work/one" "$work/one.errors"
+    printf 'ended with status %s, and wrote:\n' "$other"
+    cat "$work/other" "$work/other.errors"
+  fi
+}
+
+# 30 elections with answers of every kind, and with names of every kind.
+room=$work/elections
+mkdir "$room"
+number=0
+for name in '' ' b' "it's" '"q"' '%s%n' '-rf' '--stable' 'é' '你' 'A' 'a.b' '*' '$HOME' 'a\b' "$(printf 'z%.0s' {1..240})"; do
+  number=$((number + 1))
+  cp sample.pb "$room/$name$number.pb"
+  cp district.pb "$room/$number$name.pb"
+  case $((number % 5)) in
+    0) cp sample.prices.csv "$room/$name$number.prices.csv" ;;
+    1) cp sample.outcome.csv "$room/$name$number.prices.csv" ;;
+    2) sed '5d' sample.prices.csv > "$room/$name$number.prices.csv" ;;
+    3) sed '/^c;/d' sample.pb > "$room/$name$number.pb" ;;
+    4) sed 's/;selected/;funded/' sample.pb > "$room/$name$number.pb"
+       cp sample.prices.csv "$room/$name$number.prices.csv" ;;
+  esac
+  case $((number % 4)) in
+    0) cp district.prices.csv "$room/$number$name.prices.csv" ;;
+    1) cp district.violation.csv "$room/$number$name.violation.csv" ;;
+    2) cp district.short.prices.csv "$room/$number$name.prices.csv"
+       printf 'pb-violation,1\nproject,105\n' > "$room/$number$name.violation.csv" ;;
+  esac
+done
+cp sample.pb "$room/$(printf 'z%.0s' {1..252}).pb"
+cp sample.pb "$room/unread.pb"
+chmod 000 "$room/unread.pb"
+truncate -s $(((1 << 28) + 1)) "$room/11.prices.csv"
+# None of these is an entry: links, folders, pipes, names with control bytes, other endings.
+cp sample.pb "$room/alone.pb"
+ln -s alone.pb "$room/link.pb"
+ln -s "$PWD/sample.prices.csv" "$room/alone.prices.csv"
+mkdir "$room/folder.pb" "$room/alone.violation.csv"
+mkfifo "$room/pipe.pb" "$room/unread.prices.csv"
+cp sample.pb "$room/.pb"
+cp sample.pb "$room/"$'tab\t.pb'
+cp sample.pb "$room/"$'delete\177.pb'
+cp sample.pb "$room/UPPER.PB"
+many "$room"
+many "$room" --stable
+many "$room" --no-exhaustive --stable
+many .
+many "$room" --unknown
+many "$work/missing"
+many sample.pb
+mkdir "$work/none" "$work/latin"
+many "$work/none"
+cp sample.pb "$work/latin/"$'\xe9.pb'
+many "$work/latin"
+ends 2 'refused folder 18 Read record 0' nothing folder "$work/latin"
+ends 0 'total 0 elections 0 yes 0 no 0 refused' some folder "$work/none"
+
+# Nothing is told on standard error but on a terminal, where the line is cleared at the end.
+if command -v script > /dev/null; then
+  mkdir "$work/two"
+  cp district.pb sample.pb "$work/two"
+  script -qec "$(printf '%q ' "$program" folder "$work/two") > $work/output" /dev/null < /dev/null > "$work/terminal" || true
+  printf '\r\033[K1 of 2: district.pb\r\033[K2 of 2: sample.pb\r\033[K' > "$work/wanted"
+  if cmp -s "$work/wanted" "$work/terminal"; then
+    passed=$((passed + 1))
+  else
+    failed=$((failed + 1))
+    printf 'on a terminal was written:\n'
+    cat -v "$work/terminal"
+  fi
+fi
 echo "$passed passed, $failed failed"
 [ "$failed" = 0 ]
