@@ -1,5 +1,6 @@
 -- Digits, one more at a time.
-use Rattle.std.proofs.Common.{◌≡◌, ◌≤◌, ◌<◌, ◌∙◌, ◌+◌, ◌*◌, ◌-◌, ℕ, suc, zero, List, [], ◌∷◌, refl, sym, ap, arith, Bool, true, false, cond, length, take, drop, get_or, take-append-drop}
+use Rattle.std.proofs.Common.{◌≡◌, ◌≤◌, ◌<◌, ◌∙◌, ◌+◌, ◌*◌, ◌-◌, ◌^◌, ℕ, suc, zero, List, [], ◌∷◌, refl, sym, ap, arith, Bool, true, false, cond, length, take, drop, get_or, take-append-drop}
+use Rattle.std.proofs.Math.Nat.{pow-le-pow_right, pow-suc}
 use Rattle.std.proofs.lemmas.Bool.{and_parts}
 use Rattle.std.proofs.lemmas.Bool.Decides.{nat_tests}
 use Rattle.std.proofs.lemmas.List.Sums.{fold-append, fold_more}
@@ -61,7 +62,7 @@ all-digits (b ∷ bs) = rw (all-digits bs) refl
 -- the tests of the code and those of the definitions
 pub ruleset digit_tests = (is-empty, all-digits)
 
-digit-range : (d : ℕ) → is_ascii_digit d ≡ true → (byte "0" ≤ d) × (d ≤ byte "9")
+pub digit-range : (d : ℕ) → is_ascii_digit d ≡ true → (byte "0" ≤ d) × (d ≤ byte "9")
 digit-range d h = grind (arith, nat_tests)
 
 -- each byte of a text of digits is one
@@ -69,3 +70,18 @@ pub digit-at : (digits : List ℕ) (i : ℕ) → all_ascii_digits digits ≡ tru
 digit-at [] i e h = absurd (omega arith)
 digit-at (d ∷ ds) zero e h = digit-range d (and_parts (is_ascii_digit d) (all_ascii_digits ds) e).0
 digit-at (d ∷ ds) (suc i) e h = digit-at ds i (and_parts (is_ascii_digit d) (all_ascii_digits ds) e).1 (omega arith)
+
+-- one more digit
+pub all-more : (text : List ℕ) (i : ℕ) → i < length text → all_ascii_digits (take i text) ≡ true → is_ascii_digit (get_or text i 0) ≡ true → all_ascii_digits (take (suc i) text) ≡ true
+all-more [] i h a d = absurd (omega arith)
+all-more (b ∷ bs) zero h a d = rw d refl
+all-more (b ∷ bs) (suc i) h a d =
+    let parts = and_parts (is_ascii_digit b) (all_ascii_digits (take i bs)) a in
+    rw (parts.0, all-more bs i (omega arith) parts.1 d) refl
+
+-- a number of some digits, and one more digit behind it
+pub one-longer : (n i d : ℕ) → n < 10 ^ i → d ≤ 9 → n * 10 + d < 10 ^ suc i
+one-longer n i d h k = rw (pow-suc 10 i) (omega (arith, h, k))
+
+pub eighteen-at-most : (n i : ℕ) → n < 10 ^ i → i ≤ 18 → n < 10 ^ 18
+eighteen-at-most n i h k = omega (arith, pow-le-pow_right {n = 10} (omega arith) {i = i} {j = 18} k)

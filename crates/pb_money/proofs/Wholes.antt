@@ -2,6 +2,7 @@
 use Rattle.std.proofs.Common.{◌≡◌, ◌∙◌, ℕ, List, [], ◌∷◌, refl, arith, Bool, true, false, cond, length, Some, None}
 use Rattle.std.proofs.lemmas.Bool.Decides.{nat_tests}
 use Rattle.std.specs.Prelude.{◌==◌, nat_le, nat_lt, not, ok_or, Ok, Err}
+use Rattle.std.specs.Bool.{then_some}
 use Rattle.pb_money.specs.Digits.{are_digits, number_of, up_to}
 use Rattle.pb_money.proofs.Numbers.{is-empty}
 use Rattle.pb_money.specs.Whole.{whole_of}
@@ -19,6 +20,10 @@ whole-other most (b ∷ bs) h k = rw k refl
 
 less : (m n : ℕ) → nat_lt m n ≡ not (nat_le n m)
 less m n = grind (arith, nat_tests)
+
+pub some-if : (b : Bool) (n : ℕ) → then_some b n ≡ cond b (Some n) None
+some-if true n = refl
+some-if false n = refl
 
 limited : (b : Bool) (n : ℕ) → ok_or (cond b (Some n) None) fault.TooLarge ≡ cond (not b) (Err fault.TooLarge) (Ok n)
 limited true n = refl

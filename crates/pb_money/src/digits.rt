@@ -1,12 +1,13 @@
 //! Numbers that are written in digits.
-ghost use Rattle.std.specs.Prelude.{◌≡◌, ◌≤◌, ◌^◌, IsTrue};
+ghost use Rattle.std.specs.Prelude.{◌≡◌, ◌≤◌, ◌^◌, IfSome, IsTrue};
 ghost use Rattle.std.specs.Char.{is_ascii_digit};
 ghost use Rattle.std.specs.List.{list_all};
 ghost use Rattle.std.specs.Str.{all_ascii_digits};
 ghost use Rattle.pb_money.specs.Digits as spec;
+ghost use Rattle.pb_money.specs.Whole.{WholeText};
 
-/// The greatest number of eighteen digits: up to here a number is computed in 64 bits.
-const MOST_SHORT: u64 = 999_999_999_999_999_999;
+/// As many digits always state a number of 64 bits.
+const MOST_SHORT: usize = 18;
 
 fn all_digits(text: &[u8]) -> bool
     ensures { result ≡ list_all is_ascii_digit text.now }
@@ -39,7 +40,7 @@ pub(crate) fn number_up_to(digits: &[u8], most: u64) -> Option<u64>
 }
 
 /// The number that digits state, if it is at most `most`, in 128 bits.
-fn long_number_up_to(digits: &[u8], most: u128) -> Option<u128>
+pub(crate) fn long_number_up_to(digits: &[u8], most: u128) -> Option<u128>
     requires digits { IsTrue (all_ascii_digits digits.now) }
     requires most { most ≤ 10 ^ 21 }
     ensures { result ≡ spec.up_to most (spec.number_of digits.now) }
@@ -54,14 +55,20 @@ fn long_number_up_to(digits: &[u8], most: u128) -> Option<u128>
     (number <= most).then_some(number)
 }
 
-/// The number that digits state, if it is at most `most`, for numbers that may pass 64 bits.
-pub(crate) fn whole_up_to(digits: &[u8], most: u128) -> Option<u128>
-    requires digits { IsTrue (all_ascii_digits digits.now) }
-    requires most { most ≤ 10 ^ 21 }
-    ensures { result ≡ spec.up_to most (spec.number_of digits.now) }
+/// The number that a text of one to eighteen digits states, and none for any other text.
+#[tactic(auto, using(crate::proofs::Numbers::digit_tests))]
+pub(crate) fn short_number(text: &[u8]) -> Option<u128>
+    ensures { IfSome result (λ n. WholeText text.now n) }
 {
-    match number_up_to(digits, MOST_SHORT) {
-        Some(short) => Some(u128::from(short)).filter(|number| *number <= most),
-        None => long_number_up_to(digits, most),
+    if text.is_empty() || text.len() > MOST_SHORT {
+        return None;
     }
+    let mut number = 0u64;
+    for byte in text {
+        if !byte.is_ascii_digit() {
+            return None;
+        }
+        number = number * 10 + u64::from(*byte - b'0');
+    }
+    Some(u128::from(number))
 }

@@ -2,7 +2,7 @@
 ghost use Rattle.std.specs.Prelude.{◌≡◌, ◌≤◌, ◌^◌, ℕ, IfOk, Ok};
 ghost use Rattle.pb_money.specs.Whole.{WholeText, whole_of};
 
-use crate::digits::{are_digits, whole_up_to};
+use crate::digits::{are_digits, long_number_up_to, short_number};
 
 /// Why a text is no whole number up to the greatest that is wanted.
 #[derive(Clone, Copy, Debug, PartialEq, Eq)]
@@ -29,8 +29,10 @@ pub fn read_whole(text: &[u8], most: u128) -> Result<u128, WholeFault>
     if text.is_empty() {
         return Err(WholeFault::Empty);
     }
-    if !are_digits(text) {
-        return Err(WholeFault::NotDigits);
-    }
-    whole_up_to(text, most).ok_or(WholeFault::TooLarge)
+    let number = match short_number(text) {
+        Some(short) => (short <= most).then_some(short),
+        None if !are_digits(text) => return Err(WholeFault::NotDigits),
+        None => long_number_up_to(text, most),
+    };
+    number.ok_or(WholeFault::TooLarge)
 }
