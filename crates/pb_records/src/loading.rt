@@ -180,6 +180,10 @@ impl<W: Write> Sink for Output<W> {
 // How many bytes are asked for at a time.
 const CHUNK: usize = 65536;
 
+// How much room there is at first. The C library's allocator gives so much room pages of its own, which cost nothing until
+// they are written, and gives them back to the system when the bytes are let go. With less it would keep them.
+const ROOM: usize = 33 * 1024 * 1024;
+
 /// All bytes up to the end, if they are at most `most`, by at most `most + 1` reads. `Read` comes at the first error of
 /// the reader, and `TooLong` where it gave more bytes. `Memory` comes only where a growth was refused, which is tested
 /// and not proved.
@@ -190,7 +194,9 @@ pub fn load<R: Source>(alloc: Global, source: &mut R, most: usize) -> Result<Vec
     ensures memory { IsErrOf result LoadFault.Memory → (R.counts source.new).failures ≡ (R.counts source.old).failures }
     ensures reads { (R.counts source.new).reads ≤ (R.counts source.old).reads + most + 1 }
 {
-    let mut bytes = Vec::new(alloc);
+    let Ok(mut bytes) = Vec::with_capacity(alloc, ROOM) else {
+        return Err(LoadFault::Memory);
+    };
     let mut chunk = [0u8; CHUNK];
     loop {
         let Ok(count) = source.read(&mut chunk) else {
