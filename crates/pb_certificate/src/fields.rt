@@ -7,7 +7,7 @@ use crate::CertFault;
 use csv::StringRecord;
 use pb_election::Election;
 use pb_money::{WholeFault, read_whole};
-use pb_records::{cell, clean};
+use pb_records::cell;
 
 /// The most that the numerator of a voter's budget or of a payment can be.
 pub const MOST_NUMERATOR: u128 = 1_000_000_000_000_000_000_000;
@@ -16,13 +16,9 @@ pub const MOST_NUMERATOR: u128 = 1_000_000_000_000_000_000_000;
 pub fn width(row: &StringRecord) -> usize
     ensures { result ≡ length (spec.fields (fields_of row.now)) }
 {
-    let mut width = 0;
-    let mut i = 0;
-    while let Some(field) = row.get(i) {
-        i += 1;
-        if !clean(field).is_empty() {
-            width = i;
-        }
+    let mut width = row.len();
+    while width > 0 && cell(row, width - 1).is_empty() {
+        width -= 1;
     }
     width
 }

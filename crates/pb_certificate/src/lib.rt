@@ -18,7 +18,7 @@ mod price_head;
 mod price_row;
 mod prices;
 mod prior_rows;
-mod record_writer;
+pub mod record_writer;
 mod refusal;
 mod row_reader;
 mod rows;

@@ -1,4 +1,5 @@
-//! Records written into memory, as comma-separated values.
+//! Records written into memory, as comma-separated values: a field is in quotes where it has to be, and a record ends in LF.
+//! An error is want of memory.
 ghost use Rattle.std.specs.Prelude.{◌≡◌, ◌++◌, ◌∷◌, [], IfOk, OnOk, map};
 ghost use Rattle.csv.specs.Writing.{default_writer, row_text};
 ghost use Rattle.pb_certificate.specs.RecordWriter.{IsOpen, held};
@@ -16,8 +17,8 @@ pub fn open(alloc: Global) -> Writer<Vec<u8>>
         .from_writer(Vec::new(alloc))
 }
 
-// Adds a record.
-fn add(writer: &mut Writer<Vec<u8>>, fields: &[&[u8]]) -> Result<(), AllocError>
+/// Adds a record.
+pub fn add_record(writer: &mut Writer<Vec<u8>>, fields: &[&[u8]]) -> Result<(), AllocError>
     requires { IsOpen writer.old }
     ensures open { OnOk result (IsOpen writer.new) }
     ensures text { OnOk result (held writer.new ≡ held writer.old ++ row_text default_writer (map (λ f. f.now) fields.now)) }
@@ -38,7 +39,7 @@ pub fn add_pair<'a>(
     ensures open { OnOk result (IsOpen writer.new) }
     ensures text { OnOk result (held writer.new ≡ held writer.old ++ row_text default_writer (first.now ∷ second.now ∷ [])) }
 {
-    add(writer, &[first.as_bytes(), second.as_bytes()])
+    add_record(writer, &[first.as_bytes(), second.as_bytes()])
 }
 
 /// Adds a record of three fields.
@@ -52,7 +53,7 @@ pub fn add_triple<'a>(
     ensures open { OnOk result (IsOpen writer.new) }
     ensures text { OnOk result (held writer.new ≡ held writer.old ++ row_text default_writer (first.now ∷ second.now ∷ third.now ∷ [])) }
 {
-    add(
+    add_record(
         writer,
         &[first.as_bytes(), second.as_bytes(), third.as_bytes()],
     )

@@ -2,7 +2,7 @@ use Rattle.std.proofs.Common.{◌≢◌, map}
 use Rattle.csv.specs.Writing.{writer_setup}
 use Rattle.csv.specs.declared.writer.QuoteStyle.TheVariants as style
 use Rattle.pb_certificate.proofs.Lines.{same-row_text}
-use Rattle.pb_certificate.proofs.record_writer.add.Goals as goal
+use Rattle.pb_certificate.proofs.record_writer.add_record.Goals as goal
 
 pub returns-clause-text : goal.returns-clause-text
 returns-clause-text c =
