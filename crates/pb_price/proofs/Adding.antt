@@ -1,6 +1,6 @@
 -- A tally with one more row.
 use Rattle.std.proofs.Common.{◌≡◌, ℕ, ◌+◌, ◌-◌, ◌^◌, ◌<◌, ◌≤◌, max, Bool, true, false, cond, List, length, get_or, set, sym, ◌∙◌, ap, subst, inl, inr, arith}
-use Rattle.std.specs.Prelude.{Option, ◌&&◌, ◌==◌, filter, nat_lt, not, slice_get}
+use Rattle.std.specs.Prelude.{pos, Option, ◌&&◌, ◌==◌, filter, nat_lt, not}
 use Rattle.std.specs.List.{range_with_len}
 use Rattle.std.proofs.lemmas.Bool.{cases_eq}
 use Rattle.std.proofs.lemmas.List.{get_or_default, length-set}
@@ -14,7 +14,11 @@ use Rattle.pb_price.specs.declared.tally.ProjectSums.{ProjectSums}
 use Rattle.pb_price.specs.declared.tally.Tally.{Tally}
 use Rattle.pb_price.proofs.Amounts.{lefts-same, offers-same, paid-here, paid-other, spent-here, spent-same, top-here}
 use Rattle.pb_price.proofs.Ballots.{written}
+use Rattle.pb_price.specs.Noted.{IsFindingTo, among}
+use Rattle.pb_price.specs.declared.Finding.{Finding}
+use Rattle.pb_price.proofs.Counting.{count-added, count-few}
 use Rattle.pb_price.proofs.Firsts.{pair-next, pair-same}
+use Rattle.pb_price.proofs.SameSums.{finding-as}
 
 -- what the closed voters have left and can offer is the same
 lefts-then : (e : Instance) (a b : Taken) (q : PriceRow) (closed c : ℕ) → TakesRow a b q → closed < q.voter
@@ -93,6 +97,14 @@ over-added e a b q closed r low =
     filter-same (λ i. nat_lt a.budget (spent_by e a.pays i)) (λ i. nat_lt b.budget (spent_by e b.pays i)) closed 1
     (λ i from to. (ap (λ n. nat_lt n (spent_by e a.pays i)) (sym r.budget) ∙ ap (nat_lt b.budget) (sym (spent-same e a.pays b.pays i (λ c. r.voters i c (λ is. omega arith))))))
 
+over-kept : (e : Instance) (a b : Taken) (q : PriceRow) (closed : ℕ) (f : Finding) → TakesRow a b q → closed < q.voter
+    → IsFindingTo closed (λ i. nat_lt a.budget (spent_by e a.pays i)) (λ i. true) (λ i. a.budget) (λ i. pos (spent_by e a.pays i)) f
+    → IsFindingTo closed (λ i. nat_lt b.budget (spent_by e b.pays i)) (λ i. true) (λ i. b.budget) (λ i. pos (spent_by e b.pays i)) f
+over-kept e a b q closed f r low h =
+    finding-as closed (λ i. nat_lt a.budget (spent_by e a.pays i)) (λ i. true) _ (among closed (λ i. true)) (λ i. a.budget) (λ i. b.budget) (λ i. pos (spent_by e a.pays i)) (λ i. pos (spent_by e b.pays i)) f h (over-added e a b q closed r low)
+    (record { bounds = λ i from to. sym r.budget; amounts = λ i from to. ap pos (sym (spent-same e a.pays b.pays i (λ c. r.voters i c (λ is. omega arith)))) })
+    (λ x. (λ k. k, λ k. k))
+
 -- the first payment for a project that is not approved
 wrong-other : (e : Instance) (f g : ℕ → ℕ → ℕ) (i c : ℕ) → g i c ≡ f i c → pays_wrongly e g i c ≡ pays_wrongly e f i c
 wrong-other e f g i c h = ap (λ n. nat_lt 0 n && not (approves e i c)) h
@@ -142,10 +154,11 @@ pub added : (e : Instance) (a b : Taken) (t u : Tally) (q : PriceRow) (v : Proje
     → t.closed + 1 ≡ q.voter → t.opened ≡ q.voter → v ≡ get_or t.projects.items (q.project - 1) v
     → u.budget ≡ t.budget → u.closed ≡ t.closed → u.opened ≡ t.opened
     → u.projects.items ≡ set t.projects.items (q.project - 1) (with_payment (payment_grains q.payment) v)
-    → u.unapproved ≡ cond (nat_lt 0 q.payment && not (v.last_approver == q.voter)) (first_pair t.unapproved q.voter q.project) t.unapproved
+    → u.unapproved.first ≡ cond (nat_lt 0 q.payment && not (v.last_approver == q.voter)) (first_pair t.unapproved.first q.voter q.project) t.unapproved.first
+    → u.unapproved.count ≡ cond (nat_lt 0 q.payment && not (v.last_approver == q.voter)) (t.unapproved.count + 1) t.unapproved.count
     → u.over_budget ≡ t.over_budget → u.steps ≡ t.steps + 1 → u.spent ≡ t.spent + payment_grains q.payment → u.largest ≡ max t.largest (payment_grains q.payment)
     → Tallied e b u
-added e a b t u q v h r iv ip small at_hand open_is is budget closed opened sums unapproved over steps spent largest =
+added e a b t u q v h r iv ip small at_hand open_is is budget closed opened sums unapproved count over steps spent largest =
     let low : t.closed < q.voter = omega arith in
     let from : 1 ≤ q.project = ip.0 in
     let to : q.project ≤ projects e = ip.1 in
@@ -161,7 +174,9 @@ added e a b t u q v h r iv ip small at_hand open_is is budget closed opened sums
       sums = rw (closed, opened, sums) (sums-added e a b t.closed t.opened t.projects.items q v h.sums r iv ip low is);
       spent = spent ∙ ap (λ n. n + payment_grains q.payment) (h.spent ∙ ap (spent_by e a.pays) at_hand) ∙ sym (spent-here e a b q r ip) ∙ ap (spent_by e b.pays) (sym at_hand ∙ ap (λ n. n + 1) (sym closed));
       largest = largest ∙ ap (λ n. max n (payment_grains q.payment)) (h.largest ∙ ap (top_by e a.pays) at_hand) ∙ sym (top-here e a b q r ip) ∙ ap (top_by e b.pays) (sym at_hand ∙ ap (λ n. n + 1) (sym closed));
-      unapproved = rw unapproved (wrong-added e a b q (v.last_approver == q.voter) t.unapproved r iv ip (λ i c late. h.taken.not_later i c (omega arith)) marked h.unapproved);
-      over_budget = over ∙ h.over_budget ∙ ap (λ xs. slice_get xs 0) (over-added e a b q t.closed r low) ∙ ap (λ n. slice_get (filter (λ i. nat_lt b.budget (spent_by e b.pays i)) (range_with_len 1 n)) 0) (sym closed);
+      unapproved = rw unapproved (wrong-added e a b q (v.last_approver == q.voter) t.unapproved.first r iv ip (λ i c late. h.taken.not_later i c (omega arith)) marked h.unapproved);
+      count_unapproved = count-added e a b q (v.last_approver == q.voter) t.unapproved.count u.unapproved.count r iv ip marked h.count_unapproved count;
+      few_unapproved = omega (arith, r.rows, count-few (nat_lt 0 q.payment && not (v.last_approver == q.voter)) t.unapproved.count u.unapproved.count a.rows h.few_unapproved count);
+      over_budget = rw (closed, over) (over-kept e a b q t.closed t.over_budget r low h.over_budget);
       steps = rw (closed, opened, steps) (steps-added e a.rows b.rows t.closed t.opened t.steps r.rows h.steps);
     }

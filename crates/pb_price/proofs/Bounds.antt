@@ -1,16 +1,21 @@
 -- How large the sums of a tally can be.
-use Rattle.std.proofs.Common.{◌≡◌, ℕ, ◌+◌, ◌-◌, ◌*◌, ◌^◌, ◌<◌, ◌≤◌, List, [], length, get_or, ◌∙◌, ap, subst, inl, inr, arith}
-use Rattle.std.specs.Prelude.{ℤ, pos, neg_ℤ, ◌≤ℤ◌}
+use Rattle.std.proofs.Common.{◌≡◌, ℕ, ◌+◌, ◌-◌, ◌*◌, ◌^◌, ◌<◌, ◌≤◌, List, [], length, get_or, sym, ◌∙◌, ap, subst, inl, inr, arith}
+use Rattle.std.specs.Prelude.{IfSome, Option, Some, None, nat_lt, true, ℤ, pos, neg_ℤ, ◌≤ℤ◌}
 use Rattle.std.proofs.lemmas.Bool.{cases_lt}
 use Rattle.std.proofs.lemmas.Int.{ints}
 use Rattle.std.proofs.lemmas.List.{get_or_past}
 use Rattle.std.proofs.lemmas.List.Sums.{get_or-le-sum_by, sum_by-take-le}
-use Rattle.pb_election.specs.Instance.{Instance, approvals, approves, ballot_of, projects, voters}
+use Rattle.pb_election.specs.Instance.{Instance, IsProject, approvals, approves, ballot_of, projects, voters}
 use Rattle.pb_cohesion.specs.Conditions.{sum_ℤ}
-use Rattle.pb_price.specs.Tallies.{AreChanged, AreSmall, IsWithin, Taken, Tallied, first_supporters, left_by, most_by, paid_by}
+use Rattle.pb_price.specs.Findings.{IsShown, comparison}
+use Rattle.pb_price.specs.Noted.{among}
+use Rattle.pb_price.specs.Looked.{IsSmallComparison}
+use Rattle.pb_price.specs.declared.Comparison.{Comparison}
+use Rattle.pb_price.specs.Tallies.{AreChanged, AreInRange, AreSmall, IsWithin, Taken, Tallied, first_supporters, left_by, most_by, paid_by, spent_by, sums_of}
 use Rattle.pb_price.specs.declared.tally.ProjectSums.{ProjectSums}
 use Rattle.pb_price.specs.declared.tally.Tally.{Tally}
 use Rattle.pb_price.proofs.Amounts.{left-small, most-small, paid-most, spent-most, top-most}
+use Rattle.pb_price.proofs.Ballots.{nothing}
 use Rattle.pb_price.proofs.Signed.{count-most, signed-most}
 
 pub spent-bound : (e : Instance) (a : Taken) (t : Tally) → Tallied e a t → t.spent ≤ 20000 * 10 ^ 27
@@ -47,6 +52,19 @@ sums-bound e a t k d h more within =
       supporters = omega (arith, h.sums.count k d within);
     }
 
+-- the sums of all closed voters, of project c
+pub sums-of-bound : (e : Instance) (a : Taken) (t : Tally) (c : ℕ) → Tallied e a t → IsProject e c → AreInRange (sums_of t.projects.items c)
+sums-of-bound e a t c h ip =
+    let low : 1 ≤ c = ip.0 in
+    let within : c - 1 < projects e = omega (arith, ip.1) in
+    let few : length (first_supporters e t.closed (c - 1 + 1)) ≤ t.closed = count-most (λ i. approves e i (c - 1 + 1)) 1 t.closed in
+    let closed : t.closed ≤ 1000000 = omega (arith, h.sound.few_voters, h.taken.within) in
+    record {
+      paid = omega (arith, h.sums.paid (c - 1) nothing within, paid-most e a.pays (c - 1 + 1) h.taken.small, h.sound.few_voters);
+      left = rw (h.sums.left (c - 1) nothing within) (few-times t.closed (length (first_supporters e t.closed (c - 1 + 1))) (sum_ℤ (left_by a.budget e a.pays) (first_supporters e t.closed (c - 1 + 1))) few closed (signed-most (left_by a.budget e a.pays) (first_supporters e t.closed (c - 1 + 1)) (λ i. left-bound e a t i h)));
+      offer = rw (h.sums.offer (c - 1) nothing within) (few-times t.closed (length (first_supporters e t.closed (c - 1 + 1))) (sum_ℤ (most_by a.budget e a.pays) (first_supporters e t.closed (c - 1 + 1))) few closed (signed-most (most_by a.budget e a.pays) (first_supporters e t.closed (c - 1 + 1)) (λ i. most-bound e a t i h)));
+    }
+
 long : (bs : List (List ℕ)) (k : ℕ) → length (get_or bs k []) ≤ approvals bs
 long bs k = elim (cases_lt k (length bs)) [
   | inl within ↦ get_or-le-sum_by (λ (xs : List ℕ). length xs) bs k [] within
@@ -63,3 +81,20 @@ steps-bound e a t h few =
 -- the same lists
 pub changed-as : (change : ProjectSums → ProjectSums) (xs xs' ys ys' : List ProjectSums) (b b' : List ℕ) → xs' ≡ xs → ys' ≡ ys → b' ≡ b → AreChanged change xs' ys' b' → AreChanged change xs ys b
 changed-as change xs xs' ys ys' b b' p q r h = subst (λ z. AreChanged change xs ys z) r (subst (λ z. AreChanged change xs z b') q (subst (λ z. AreChanged change z ys' b') p h))
+
+-- what is kept of C2
+pub over-few : (e : Instance) (a : Taken) (t : Tally) → Tallied e a t → t.over_budget.count ≤ 10 ^ 6
+over-few e a t h = omega (arith, h.over_budget.count, count-most (λ i. nat_lt a.budget (spent_by e a.pays i)) 1 t.closed, h.taken.within, h.sound.few_voters)
+
+pub over-small : (e : Instance) (a : Taken) (t : Tally) → Tallied e a t → IfSome t.over_budget.shown IsSmallComparison
+over-small e a t h = go t.over_budget.first t.over_budget.shown h.over_budget.shown
+  where
+    small : (i : ℕ) → IsSmallComparison (comparison (λ j. a.budget) (λ j. pos (spent_by e a.pays j)) i)
+    small i =
+        let most : spent_by e a.pays i ≤ 20000 * 10 ^ 27 = omega (arith, spent-most e a.pays i h.taken.small, h.sound.few_projects) in
+        record { bound = omega (arith, h.taken.small_budget); amount = (omega (arith, ints), omega (arith, ints)) }
+
+    go : (o : Option ℕ) (s : Option Comparison) → IsShown o (among t.closed (λ i. true)) (λ j. a.budget) (λ j. pos (spent_by e a.pays j)) s → IfSome s IsSmallComparison
+    go (Some x) s k = subst (λ y. IfSome y IsSmallComparison) (sym k) (small x)
+    go None None k = tt
+    go None (Some m) k = subst IsSmallComparison (sym k.0) (small m.at)

@@ -2,18 +2,19 @@
 use mir.Syntax.{w128}
 use mir.Val.{of_z, to_z}
 use Rattle.std.proofs.Common.{◌≡◌, ℕ, ◌+◌, ◌-◌, ◌^◌, ◌<◌, ◌≤◌, Bool, true, false, cond, List, [], length, get_or, take, refl, sym, ◌∙◌, ap, subst, arith}
-use Rattle.std.specs.Prelude.{ℤ, pos, ◌+ℤ◌, ◌-ℤ◌, ◌==◌, filter, nat_lt, slice_get}
+use Rattle.std.specs.Prelude.{ℤ, pos, ◌+ℤ◌, ◌-ℤ◌, ◌==◌, nat_lt}
 use Rattle.std.specs.Int.{int_max}
-use Rattle.std.specs.List.{range_with_len}
 use Rattle.std.proofs.lemmas.Bool.{eq-eqb, ne_eqb}
 use Rattle.std.proofs.lemmas.List.Sums.{sum_by_more}
 use Rattle.pb_election.specs.Instance.{Instance, approvals, approves, ballot_of, voters}
-use Rattle.pb_price.specs.Tallies.{AreChanged, AreSumsOf, IsWithin, Taken, Tallied, first_number, left_by, marked, most_by, spent_by, top_by, with_supporter}
+use Rattle.pb_price.specs.Tallies.{AreChanged, AreSumsOf, IsWithin, Taken, Tallied, left_by, marked, most_by, spent_by, top_by, with_supporter}
 use Rattle.pb_price.specs.declared.tally.ProjectSums.{ProjectSums}
 use Rattle.pb_price.specs.declared.tally.Tally.{Tally}
 use Rattle.pb_price.proofs.Amounts.{spent-none, top-none}
 use Rattle.pb_price.proofs.Bounds.{left-bound, most-bound}
-use Rattle.pb_price.proofs.Firsts.{number-next}
+use Rattle.pb_price.specs.Noted.{IsFindingTo, noted}
+use Rattle.pb_price.specs.Looked.{compared}
+use Rattle.pb_price.proofs.OneMore.{tried}
 use Rattle.pb_price.proofs.Signed.{count-next, signed-next, small-kept}
 
 -- a mark changes no sum
@@ -71,7 +72,9 @@ opened e a t u h early m budget closed opened_is unapproved over steps spent lar
   spent = spent ∙ h.spent ∙ ap (λ n. spent_by e a.pays (n + 1)) (sym closed);
   largest = largest ∙ h.largest ∙ ap (λ n. top_by e a.pays (n + 1)) (sym closed);
   unapproved = rw unapproved h.unapproved;
-  over_budget = over ∙ h.over_budget ∙ ap (λ n. slice_get (filter (λ i. nat_lt a.budget (spent_by e a.pays i)) (range_with_len 1 n)) 0) (sym closed);
+  count_unapproved = rw unapproved h.count_unapproved;
+  few_unapproved = rw unapproved h.few_unapproved;
+  over_budget = rw (closed, over) h.over_budget;
   steps = rw (closed, opened_is, steps) (record {
     low = omega (arith, h.steps.low);
     high = omega (arith, h.steps.unopened early);
@@ -148,7 +151,7 @@ most-kept e a t l o h l_is o_is =
 
 pub closed : (e : Instance) (a : Taken) (t u : Tally) (l o : ℤ) → Tallied e a t → t.closed < voters e → l ≡ left_by a.budget e a.pays (t.closed + 1) → o ≡ most_by a.budget e a.pays (t.closed + 1)
     → AreChanged (with_supporter l o) t.projects.items u.projects.items (ballot_of e (t.closed + 1))
-    → u.budget ≡ t.budget → u.closed ≡ t.closed + 1 → u.opened ≡ t.opened → u.unapproved ≡ t.unapproved → u.over_budget ≡ first_number t.over_budget (nat_lt t.budget t.spent) (t.closed + 1)
+    → u.budget ≡ t.budget → u.closed ≡ t.closed + 1 → u.opened ≡ t.opened → u.unapproved ≡ t.unapproved → u.over_budget ≡ noted (nat_lt t.budget t.spent) (compared (t.closed + 1) t.budget (pos t.spent)) t.over_budget
     → u.steps ≡ t.steps + (length (ballot_of e (t.closed + 1)) + 1) → u.spent ≡ 0 → u.largest ≡ 0 → Tallied e a u
 closed e a t u l o h more l_is o_is m budget closed_is opened_is unapproved over steps spent largest =
     let nothing_later : (c : ℕ) → a.pays (t.closed + 1 + 1) c ≡ 0 = λ c. h.taken.not_later (t.closed + 1 + 1) c (omega arith) in
@@ -167,10 +170,13 @@ closed e a t u l o h more l_is o_is m budget closed_is opened_is unapproved over
       spent = spent ∙ sym (spent-none e a.pays (t.closed + 1 + 1) nothing_later) ∙ ap (λ n. spent_by e a.pays (n + 1)) (sym closed_is);
       largest = largest ∙ sym (top-none e a.pays (t.closed + 1 + 1) nothing_later) ∙ ap (λ n. top_by e a.pays (n + 1)) (sym closed_is);
       unapproved = rw unapproved h.unapproved;
+      count_unapproved = rw unapproved h.count_unapproved;
+      few_unapproved = rw unapproved h.few_unapproved;
       over_budget =
-          over ∙ ap (λ x. first_number t.over_budget (nat_lt x t.spent) (t.closed + 1)) h.budget ∙ ap (λ x. first_number t.over_budget (nat_lt a.budget x) (t.closed + 1)) h.spent
-          ∙ number-next (λ i. nat_lt a.budget (spent_by e a.pays i)) t.closed t.over_budget h.over_budget
-          ∙ ap (λ n. slice_get (filter (λ i. nat_lt a.budget (spent_by e a.pays i)) (range_with_len 1 n)) 0) (sym closed_is);
+          rw closed_is
+          (subst (λ f. IsFindingTo (t.closed + 1) (λ i. nat_lt a.budget (spent_by e a.pays i)) (λ i. true) (λ i. a.budget) (λ i. pos (spent_by e a.pays i)) f)
+          (sym (over ∙ ap (λ x. noted (nat_lt x t.spent) (compared (t.closed + 1) x (pos t.spent)) t.over_budget) h.budget ∙ ap (λ x. noted (nat_lt a.budget x) (compared (t.closed + 1) a.budget (pos x)) t.over_budget) h.spent))
+          (tried (λ i. nat_lt a.budget (spent_by e a.pays i)) (λ i. true) (λ i. a.budget) (λ i. pos (spent_by e a.pays i)) t.closed t.over_budget _ h.over_budget refl refl));
       steps = rw (closed_is, opened_is, steps) (record {
         low = omega (arith, h.steps.low);
         high = omega (arith, h.steps.high, approvals-next e t.closed more);

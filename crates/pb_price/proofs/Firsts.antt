@@ -6,7 +6,8 @@ use Rattle.std.proofs.lemmas.Bool.{cases_lt, false≢true, le-ltb, lt-ltb}
 use Rattle.std.proofs.lemmas.List.Elements.{filter-append}
 use Rattle.pb_election.specs.Instance.{Instance, IsProject, IsVoter}
 use Rattle.pb_cohesion.proofs.Firsts.{first-left, none-first, range-next}
-use Rattle.pb_price.specs.Tallies.{IsFirstPair, first_number, first_pair}
+use Rattle.pb_price.specs.Noted.{first_number}
+use Rattle.pb_price.specs.Tallies.{IsFirstPair, first_pair}
 
 -- one more number of a range
 number-append : (q : ℕ → Bool) (xs : List ℕ) (j : ℕ) (o : Option ℕ) → o ≡ slice_get (filter q xs) 0 → first_number o (q j) j ≡ slice_get (filter q xs ++ filter q (j ∷ [])) 0

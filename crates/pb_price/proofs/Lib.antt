@@ -17,3 +17,9 @@ pub mod Whole
 pub mod Reading
 pub mod Certificates
 pub mod Ranges
+pub mod OneMore
+pub mod SameSums
+pub mod Counting
+pub mod Looking
+pub mod Explained
+pub mod Told

@@ -125,7 +125,7 @@ top-small e p i a v =
     (λ c. omega (arith, payment-small (payments_of p i) c (each-of (λ q. q.1 ≤ 10 ^ 21) (payments_of p i) (voter-map e p i a v.0 v.1).none_large)))
 
 -- costs
-grains-most : (m d : ℕ) → m ≤ 10 ^ 18 → d ≤ 10 ^ 9 → cost_grains m d ≤ 10 ^ 27
+pub grains-most : (m d : ℕ) → m ≤ 10 ^ 18 → d ≤ 10 ^ 9 → cost_grains m d ≤ 10 ^ 27
 grains-most m d h k = let most : m * d ≤ 10 ^ 18 * 10 ^ 9 = mul-le m d (10 ^ 18) (10 ^ 9) h k in omega arith
 
 cost-at : (cs : List ℕ) (k : ℕ) → AllByRecursion (λ c. c ≤ most_money) cs → k < length cs → slice_index cs k ≤ 10 ^ 18
@@ -133,7 +133,7 @@ cost-at [] k h w = absurd (omega arith)
 cost-at (c ∷ cs) zero h w = h.0
 cost-at (c ∷ cs) (suc k) h w = cost-at cs k h.1 (omega arith)
 
-cost_of-most : (e : Instance) (c : ℕ) → IsElection e → IsProject e c → cost_of e c ≤ 10 ^ 18
+pub cost_of-most : (e : Instance) (c : ℕ) → IsElection e → IsProject e c → cost_of e c ≤ 10 ^ 18
 cost_of-most e c h ip =
     let high : c ≤ projects e = ip.1 in
     let low : 1 ≤ c = ip.0 in
@@ -142,7 +142,7 @@ cost_of-most e c h ip =
 cost-most : (e : Instance) (p : Prices) (c : ℕ) → IsElection e → ArePrices e p → IsProject e c → cost e p c ≤ 10 ^ 27
 cost-most e p c h a ip = grains-most (cost_of e c) p.denominator (cost_of-most e c h ip) a.system.denominator.1
 
-total-most : (e : Instance) (w : List Bool) → IsElection e → total e w ≤ 20000 * 10 ^ 18
+pub total-most : (e : Instance) (w : List Bool) → IsElection e → total e w ≤ 20000 * 10 ^ 18
 total-most e w h =
     let part : total e w ≤ sum_by (cost_of e) (all_projects e) = part-le (cost_of e) (has w) (all_projects e) in
     let each : sum_by (cost_of e) (all_projects e) ≤ sum_by (λ c. 10 ^ 18) (all_projects e) = range-le (cost_of e) (λ c. 10 ^ 18) 1 (projects e) (λ c low high. cost_of-most e c h (low, omega arith)) in

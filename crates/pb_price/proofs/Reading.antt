@@ -25,33 +25,33 @@ use Rattle.pb_price.proofs.Culprits.{more_left, more_left-is, more_offered, more
 use Rattle.pb_price.proofs.Parts.{payments-rest, supporters-plain, supporters-plain-none, supporters-stable, supporters-stable-none}
 
 -- what the sums have for a project
-paid-at : (e : Instance) (p : Prices) (sums : List ProjectSums) (c : ℕ) → AreSums e p sums → 1 ≤ c → c ≤ projects e → (sums_of sums c).paid ≡ paid e p c
+pub paid-at : (e : Instance) (p : Prices) (sums : List ProjectSums) (c : ℕ) → AreSums e p sums → 1 ≤ c → c ≤ projects e → (sums_of sums c).paid ≡ paid e p c
 paid-at e p sums c h low high = let back : c - 1 + 1 ≡ c = omega arith in h.paid (c - 1) nothing (omega arith) ∙ ap (paid e p) back
 
-left-at : (e : Instance) (p : Prices) (sums : List ProjectSums) (c : ℕ) → AreSums e p sums → 1 ≤ c → c ≤ projects e → (sums_of sums c).left ≡ sum_ℤ (left e p) (supporters e c)
+pub left-at : (e : Instance) (p : Prices) (sums : List ProjectSums) (c : ℕ) → AreSums e p sums → 1 ≤ c → c ≤ projects e → (sums_of sums c).left ≡ sum_ℤ (left e p) (supporters e c)
 left-at e p sums c h low high = let back : c - 1 + 1 ≡ c = omega arith in h.left (c - 1) nothing (omega arith) ∙ ap (λ k. sum_ℤ (left e p) (supporters e k)) back
 
-offer-at : (e : Instance) (p : Prices) (sums : List ProjectSums) (c : ℕ) → AreSums e p sums → 1 ≤ c → c ≤ projects e → (sums_of sums c).offer ≡ sum_ℤ (most_of e p) (supporters e c)
+pub offer-at : (e : Instance) (p : Prices) (sums : List ProjectSums) (c : ℕ) → AreSums e p sums → 1 ≤ c → c ≤ projects e → (sums_of sums c).offer ≡ sum_ℤ (most_of e p) (supporters e c)
 offer-at e p sums c h low high = let back : c - 1 + 1 ≡ c = omega arith in h.offer (c - 1) nothing (omega arith) ∙ ap (λ k. sum_ℤ (most_of e p) (supporters e k)) back
 
 count-at : (e : Instance) (p : Prices) (sums : List ProjectSums) (c : ℕ) → AreSums e p sums → 1 ≤ c → c ≤ projects e → (sums_of sums c).supporters ≡ length (supporters e c)
 count-at e p sums c h low high = let back : c - 1 + 1 ≡ c = omega arith in h.count (c - 1) nothing (omega arith) ∙ ap (λ k. length (supporters e k)) back
 
-cost-at : (e : Instance) (p : Prices) (d c : ℕ) → p.denominator ≡ d → cost_grains (cost_of e c) d ≡ cost e p c
+pub cost-at : (e : Instance) (p : Prices) (d c : ℕ) → p.denominator ≡ d → cost_grains (cost_of e c) d ≡ cost e p c
 cost-at e p d c is = ap (cost_grains (cost_of e c)) (sym is)
 
-exactly-is : (e : Instance) (w : List Bool) (p : Prices) (d : ℕ) (sums : List ProjectSums) → p.denominator ≡ d → AreSums e p sums → filter (not_exactly e w d sums) (all_projects e) ≡ culprits_of_C3 e w p
+pub exactly-is : (e : Instance) (w : List Bool) (p : Prices) (d : ℕ) (sums : List ProjectSums) → p.denominator ≡ d → AreSums e p sums → filter (not_exactly e w d sums) (all_projects e) ≡ culprits_of_C3 e w p
 exactly-is e w p d sums is h =
     filter-same (not_exactly e w d sums) (not_paid_exactly e w p) (projects e) 1
     (λ c low high. (ap (λ n. has w c && not (n == cost_grains (cost_of e c) d)) (paid-at e p sums c h low (omega arith)) ∙ ap (λ n. has w c && not (paid e p c == n)) (cost-at e p d c is)))
     ∙ sym (not_paid_exactly-is e w p)
 
-vain-is : (e : Instance) (w : List Bool) (p : Prices) (sums : List ProjectSums) → AreSums e p sums → filter (in_vain w sums) (all_projects e) ≡ culprits_of_C4 e w p
+pub vain-is : (e : Instance) (w : List Bool) (p : Prices) (sums : List ProjectSums) → AreSums e p sums → filter (in_vain w sums) (all_projects e) ≡ culprits_of_C4 e w p
 vain-is e w p sums h =
     filter-same (in_vain w sums) (paid_in_vain e w p) (projects e) 1 (λ c low high. ap (λ n. not (has w c) && not (n == 0)) (paid-at e p sums c h low (omega arith)))
     ∙ sym (paid_in_vain-is e w p)
 
-plain-is : (e : Instance) (w : List Bool) (p : Prices) (d : ℕ) (sums : List ProjectSums) → p.denominator ≡ d → AreSums e p sums → filter (has_more e w d false sums) (all_projects e) ≡ culprits_of_C5 e w p
+pub plain-is : (e : Instance) (w : List Bool) (p : Prices) (d : ℕ) (sums : List ProjectSums) → p.denominator ≡ d → AreSums e p sums → filter (has_more e w d false sums) (all_projects e) ≡ culprits_of_C5 e w p
 plain-is e w p d sums is h =
     filter-same (has_more e w d false sums) (more_left e w p) (projects e) 1
     (λ c low high. (
@@ -59,7 +59,7 @@ plain-is e w p d sums is h =
     ∙ ap (λ n. not (has w c) && int_lt (pos n) (sum_ℤ (left e p) (supporters e c))) (cost-at e p d c is)))
     ∙ sym (more_left-is e w p)
 
-stable-is : (e : Instance) (w : List Bool) (p : Prices) (d : ℕ) (sums : List ProjectSums) → p.denominator ≡ d → AreSums e p sums → filter (has_more e w d true sums) (all_projects e) ≡ culprits_of_S5 e w p
+pub stable-is : (e : Instance) (w : List Bool) (p : Prices) (d : ℕ) (sums : List ProjectSums) → p.denominator ≡ d → AreSums e p sums → filter (has_more e w d true sums) (all_projects e) ≡ culprits_of_S5 e w p
 stable-is e w p d sums is h =
     filter-same (has_more e w d true sums) (more_offered e w p) (projects e) 1
     (λ c low high. (

@@ -1,5 +1,5 @@
 -- A tally of all payments of a price system.
-use Rattle.std.proofs.Common.{◌≡◌, ℕ, ◌+◌, ◌-◌, ◌*◌, ◌≤◌, Bool, false, List, [], length, take, sym, ◌∙◌, ap, arith}
+use Rattle.std.proofs.Common.{◌≡◌, ℕ, ◌+◌, ◌-◌, ◌*◌, ◌≤◌, Bool, true, false, List, [], length, take, refl, sym, ◌∙◌, ap, subst, arith}
 use Rattle.std.specs.Prelude.{Option, Some, None, pos, ◌-ℤ◌, ◌&&◌, filter, flat_map, map, nat_lt, not, slice_get}
 use Rattle.std.specs.Int.{int_max}
 use Rattle.std.specs.List.{range_with_len}
@@ -8,7 +8,7 @@ use Rattle.pb_money.specs.Grains.{payment_grains}
 use Rattle.pb_election.specs.Instance.{Instance, IsProject, IsVoter, all_projects, all_voters, approvals, approves, ballot_of, projects, supporters, voters}
 use Rattle.pb_certificate.specs.Prices.{Prices, payment}
 use Rattle.pb_cohesion.specs.Amounts.{beta, left, spent}
-use Rattle.pb_cohesion.specs.Conditions.{culprits_of_C1, most_of, sum_ℤ}
+use Rattle.pb_cohesion.specs.Conditions.{culprits_of_C1, culprits_of_C2, most_of, sum_ℤ}
 use Rattle.pb_cohesion.proofs.Ballots.{filter-same}
 use Rattle.pb_cohesion.proofs.Culprits.{nil-filter, nil-flat_map, nil-map}
 use Rattle.pb_cohesion.proofs.Firsts.{first-mapped}
@@ -17,6 +17,9 @@ use Rattle.pb_cohesion.proofs.Sums.{range-same}
 use Rattle.pb_price.specs.Answers.{AreStepsOf}
 use Rattle.pb_price.specs.Tallies.{IsFirstPair, IsTallyOf, Taken, Tallied, first_supporters, left_by, most_by, paid_by, pays_wrongly, spent_by, top_by}
 use Rattle.pb_price.specs.declared.tally.Tally.{Tally}
+use Rattle.pb_price.specs.Noted.{IsFindingTo}
+use Rattle.pb_price.proofs.Counting.{count-culprits}
+use Rattle.pb_price.proofs.SameSums.{finding-as}
 use Rattle.pb_price.proofs.Signed.{signed-same}
 use Rattle.pb_price.proofs.Sums.{largest-same}
 
@@ -83,11 +86,17 @@ whole e a t p h all budget agree = record {
         ∙ signed-same (most_by (beta p) e a.pays) (most_of e p) (λ i. approves e i (k + 1)) 1 (voters e) (λ i low high. most-agree (beta p) e a.pays (payment p) i agree (low, omega arith)));
     count = λ k d w. (h.sums.count k d w ∙ ap (λ n. length (first_supporters e n (k + 1))) all);
   };
-  unapproved = first-wrong e a.pays p t.unapproved agree h.unapproved;
+  unapproved = record {
+    first = first-wrong e a.pays p t.unapproved.first agree h.unapproved;
+    count = h.count_unapproved ∙ count-culprits e a.pays p agree.pays;
+  };
   over_budget =
-      h.over_budget ∙ ap (λ n. slice_get (filter (λ i. nat_lt a.budget (spent_by e a.pays i)) (range_with_len 1 n)) 0) all
-      ∙ ap (λ b. slice_get (filter (λ i. nat_lt b (spent_by e a.pays i)) (all_voters e)) 0) budget
-      ∙ ap (λ xs. slice_get xs 0) (filter-same (λ i. nat_lt (beta p) (spent_by e a.pays i)) (λ i. nat_lt (beta p) (spent e p i)) (voters e) 1 (λ i low high. ap (nat_lt (beta p)) (spent-agree e a.pays (payment p) i agree (low, omega arith))));
+      finding-as (voters e) (λ i. nat_lt a.budget (spent_by e a.pays i)) (λ i. true) (culprits_of_C2 e p) (IsVoter e) (λ i. a.budget) (λ i. beta p) (λ i. pos (spent_by e a.pays i)) (λ i. pos (spent e p i)) t.over_budget
+      (subst (λ n. IsFindingTo n (λ i. nat_lt a.budget (spent_by e a.pays i)) (λ i. true) (λ i. a.budget) (λ i. pos (spent_by e a.pays i)) t.over_budget) all h.over_budget)
+      (ap (λ b. filter (λ i. nat_lt b (spent_by e a.pays i)) (all_voters e)) budget
+      ∙ filter-same (λ i. nat_lt (beta p) (spent_by e a.pays i)) (λ i. nat_lt (beta p) (spent e p i)) (voters e) 1 (λ i low high. ap (nat_lt (beta p)) (spent-agree e a.pays (payment p) i agree (low, omega arith))))
+      (record { bounds = λ i low high. budget; amounts = λ i low high. ap pos (spent-agree e a.pays (payment p) i agree (low, high)) })
+      (λ i. (λ k. (k.0, k.1), λ v. (v.0, v.1, refl)));
 }
 
 -- the steps of a whole tally, and those of the passes over the projects

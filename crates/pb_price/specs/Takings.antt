@@ -1,7 +1,7 @@
 -- What the code's own tally is while the rows of a certificate or the payments of prices are taken. No claim on a certificate
 -- rests on this.
 use Rattle.std.specs.Prelude.{◌≡◌, ◌<◌, ◌≤◌, ◌+◌, ◌-◌, ◌*◌, ◌^◌, ◌==◌, ◌&&◌, if◌then◌else◌, nat_lt, [], ℕ, List, length, drop, take}
-use Rattle.pb_election.specs.Instance.{Instance, projects}
+use Rattle.pb_election.specs.Instance.{Instance, IsProject, projects}
 use Rattle.pb_records.specs.Cells.{nonblank}
 use Rattle.pb_money.specs.Grains.{payment_grains}
 use Rattle.pb_certificate.specs.Faults.{certificate_records}
@@ -9,7 +9,7 @@ use Rattle.pb_certificate.specs.PriceText.{IsPriceText, stated}
 use Rattle.pb_certificate.specs.Prices.{Prices, numerator_in, payment, payments_of}
 use Rattle.pb_certificate.specs.Rows.{Rows, given, prices_given}
 use Rattle.pb_cohesion.specs.Amounts.{beta}
-use Rattle.pb_price.specs.Tallies.{IsTallyOf, Taken, Tallied}
+use Rattle.pb_price.specs.Tallies.{AreInRange, IsTallyOf, Taken, Tallied, sums_of}
 use Rattle.pb_price.specs.Answers.{AreStepsOf, payment_rows}
 use Rattle.pb_price.specs.declared.takings.CertificateTally.{CertificateTally}
 use Rattle.pb_price.specs.declared.tally.Tally.{Tally}
@@ -37,6 +37,7 @@ pub record IsTallied (e : Instance) (bytes : List ℕ) (t : CertificateTally) : 
   pub tally : IsTallyOf e prices t.tally
   pub small_budget : t.tally.budget ≤ 10 ^ 27
   pub few_steps : t.tally.steps ≤ 2 ^ 61
+  pub in_range : (c : ℕ) → IsProject e c → AreInRange (sums_of t.tally.projects.items c)
   -- with the passes over the projects, the steps are those that are promised
   pub steps : (steps : ℕ) → t.tally.steps ≤ steps → steps ≤ t.tally.steps + 4 * projects e → AreStepsOf e (payment_rows bytes) steps
 

@@ -1,5 +1,5 @@
 -- What the code's own sums of payments stand for, as far as the payments were taken. No claim on a certificate rests on this.
-use Rattle.std.specs.Prelude.{◌≡◌, ◌<◌, ◌≤◌, ◌+◌, ◌-◌, ◌*◌, ◌^◌, ◌==◌, ◌&&◌, ◌||◌, not, nat_lt, if◌then◌else◌, ℕ, ℤ, pos, neg_ℤ, ◌+ℤ◌, ◌-ℤ◌, ◌≤ℤ◌, int_lt, Bool, false, true, List, length, take, filter, sum_by, slice_get, slice_index_or, Option, Some, None}
+use Rattle.std.specs.Prelude.{◌≡◌, ◌<◌, ◌≤◌, ◌+◌, ◌-◌, ◌*◌, ◌^◌, ◌==◌, ◌&&◌, ◌||◌, not, nat_lt, if◌then◌else◌, ℕ, ℤ, pos, neg_ℤ, ◌+ℤ◌, ◌-ℤ◌, ◌≤ℤ◌, int_lt, Bool, false, true, List, length, take, filter, sum_by, slice_index_or, Option, Some, None}
 use Rattle.std.specs.Int.{int_max}
 use Rattle.std.specs.List.{list_any, range_with_len}
 use Rattle.pb_money.specs.Grains.{cost_grains, payment_grains}
@@ -8,8 +8,10 @@ use Rattle.pb_election.specs.Outcome.{has}
 use Rattle.pb_election.specs.Text.{IsElection}
 use Rattle.pb_certificate.specs.Prices.{Prices}
 use Rattle.pb_certificate.specs.declared.price_row.PriceRow.{PriceRow}
-use Rattle.pb_cohesion.specs.Amounts.{beta, largest_by, left, paid}
+use Rattle.pb_cohesion.specs.Amounts.{beta, largest_by, left, paid, spent}
 use Rattle.pb_cohesion.specs.Conditions.{culprits_of_C1, culprits_of_C2, most_of, sum_ℤ}
+use Rattle.pb_price.specs.Findings.{IsFinding, IsPaymentFinding}
+use Rattle.pb_price.specs.Noted.{IsFindingTo}
 use Rattle.pb_price.specs.declared.ProjectMargins.{ProjectMargins}
 use Rattle.pb_price.specs.declared.tally.ProjectSums.{ProjectSums}
 use Rattle.pb_price.specs.declared.tally.Tally.{Tally}
@@ -40,6 +42,10 @@ first_supporters e n c = filter (λ i. approves e i c) (range_with_len 1 n)
 abbrev pub pays_wrongly : Instance → (ℕ → ℕ → ℕ) → ℕ → ℕ → Bool
 pays_wrongly e f i c = nat_lt 0 (f i c) && not (approves e i c)
 
+-- how many payments are for projects that their voters do not approve
+abbrev pub wrong_count : Instance → (ℕ → ℕ → ℕ) → ℕ
+wrong_count e f = sum_by (λ i. length (filter (pays_wrongly e f i) (all_projects e))) (all_voters e)
+
 -- the first pair that passes a test: that of the lowest number, and then of the lowest other number
 abbrev pub IsFirstPair : Instance → (ℕ → ℕ → Bool) → Option (ℕ × ℕ) → Type 0
 IsFirstPair e q None = (i c : ℕ) → q i c ≡ false
@@ -49,11 +55,6 @@ IsFirstPair e q (Some p) = IsVoter e p.0 × IsProject e p.1 × (q p.0 p.1 ≡ tr
 abbrev pub first_pair : Option (ℕ × ℕ) → ℕ → ℕ → Option (ℕ × ℕ)
 first_pair None i c = Some (i, c)
 first_pair (Some p) i c = if nat_lt p.0 i || nat_lt p.1 c then Some p else Some (i, c)
-
--- the first number that passes a test, where one before is known or not
-abbrev pub first_number : Option ℕ → Bool → ℕ → Option ℕ
-first_number (Some i) b j = Some i
-first_number None b j = if b then Some j else None
 
 -- what was taken so far, and by what terms
 pub record Taken : Type 0 where
@@ -97,8 +98,10 @@ pub record Tallied (e : Instance) (a : Taken) (t : Tally) : Type 0 where
   pub sums : AreSumsOf e a t.closed t.opened t.projects.items
   pub spent : t.spent ≡ spent_by e a.pays (t.closed + 1)
   pub largest : t.largest ≡ top_by e a.pays (t.closed + 1)
-  pub unapproved : IsFirstPair e (pays_wrongly e a.pays) t.unapproved
-  pub over_budget : t.over_budget ≡ slice_get (filter (λ i. nat_lt a.budget (spent_by e a.pays i)) (range_with_len 1 t.closed)) 0
+  pub unapproved : IsFirstPair e (pays_wrongly e a.pays) t.unapproved.first
+  pub count_unapproved : t.unapproved.count ≡ wrong_count e a.pays
+  pub few_unapproved : t.unapproved.count ≤ a.rows
+  pub over_budget : IsFindingTo t.closed (λ i. nat_lt a.budget (spent_by e a.pays i)) (λ i. true) (λ i. a.budget) (λ i. pos (spent_by e a.pays i)) t.over_budget
   pub steps : AreSteps e a.rows t.closed t.opened t.steps
 
 -- one more row: the payment of a pair that had none
@@ -158,8 +161,8 @@ pub record AreSums (e : Instance) (p : Prices) (sums : List ProjectSums) : Type 
 pub record IsTallyOf (e : Instance) (p : Prices) (t : Tally) : Type 0 where
   pub budget : t.budget ≡ beta p
   pub sums : AreSums e p t.projects.items
-  pub unapproved : t.unapproved ≡ slice_get (culprits_of_C1 e p) 0
-  pub over_budget : t.over_budget ≡ slice_get (culprits_of_C2 e p) 0
+  pub unapproved : IsPaymentFinding (culprits_of_C1 e p) t.unapproved
+  pub over_budget : IsFinding (culprits_of_C2 e p) (IsVoter e) (λ i. beta p) (λ i. pos (spent e p i)) t.over_budget
 
 -- The conditions as the sums tell them, where w marks the funded projects and d is the denominator.
 
@@ -189,3 +192,9 @@ figures_of e w d sums c = record {
   left = (sums_of sums c).left;
   offer = (sums_of sums c).offer;
 }
+
+-- sums that fit, and whose differences from a cost do
+pub record AreInRange (s : ProjectSums) : Type 0 where
+  pub paid : s.paid ≤ 10 ^ 34
+  pub left : IsWithin (10 ^ 38) s.left
+  pub offer : IsWithin (10 ^ 38) s.offer

@@ -73,8 +73,8 @@ fn failure_of_outcome(
     Some(Failure::Exhaustive(j))
 }
 
-// What the funded projects cost together, in millionths.
-fn cost_of_funded(election: &Election, outcome: &Outcome, steps: &mut u64) -> u128
+/// What the funded projects cost together, in millionths.
+pub(crate) fn cost_of_funded(election: &Election, outcome: &Outcome, steps: &mut u64) -> u128
     requires outcome { outcomes.Fits outcome.now election.now }
     requires steps { steps.old ≤ 2 ^ 62 }
     ensures value { result ≡ total election.now (outcome.now).marks }
@@ -164,10 +164,10 @@ fn failure_of_payments(
     ensures fewest { steps.old ≤ steps.new }
     ensures most { steps.new ≤ steps.old + projects election.now }
 {
-    if let Some((i, j)) = tally.unapproved {
+    if let Some((i, j)) = tally.unapproved.first {
         return Some(Failure::C1(i, j));
     }
-    if let Some(i) = tally.over_budget {
+    if let Some(i) = tally.over_budget.first {
         return Some(Failure::C2(i));
     }
     first_paid_wrongly(election, outcome, denominator, &tally.projects, steps)

@@ -1,12 +1,15 @@
 //! Laws of the verdict and of the sums that it compares, over the definitions alone.
 
-ghost use Rattle.std.specs.Prelude.{◌≡◌, ◌↔◌, Bool, List, None};
+ghost use Rattle.std.specs.Prelude.{◌≡◌, ◌≤◌, ◌↔◌, Bool, List, None};
 ghost use Rattle.pb_election.specs.Instance.{Instance};
 ghost use Rattle.pb_election.specs.Text.{IsElection};
 ghost use Rattle.pb_certificate.specs.Prices.{ArePrices, Prices};
 ghost use Rattle.pb_cohesion.specs.Conditions.{Supports};
+ghost use Rattle.pb_price.specs.Findings.{AreFindings};
 ghost use Rattle.pb_price.specs.First.{First};
 ghost use Rattle.pb_price.specs.Ranges.{AllSumsFit};
+ghost use Rattle.pb_price.specs.Told.{TellWhatHolds, first_told};
+ghost use Rattle.pb_price.specs.declared.Findings.{Findings};
 ghost use Rattle.pb_price.specs.declared.Mode.{Mode};
 
 /// The prices support the outcome exactly where no condition fails, whatever the mode asks for.
@@ -19,4 +22,15 @@ pub fn supported_where_no_condition_fails()
 /// reach the lower end.
 pub fn sums_fit()
     ensures { (e : Instance) (w : List Bool) (p : Prices) → IsElection e → ArePrices e p → AllSumsFit e w p }
+{}
+
+/// The findings on prices tell which conditions hold: Feasible where the total is at most the limit, Cover where the budgets
+/// are more than the limit, and each other condition where it has no culprit.
+pub fn findings_tell_what_holds()
+    ensures { (e : Instance) (w : List Bool) (p : Prices) (f : Findings) → 1 ≤ p.denominator → AreFindings e w p f → TellWhatHolds e w p f }
+{}
+
+/// The first condition that the findings tell to be false is the first failure.
+pub fn findings_tell_the_first_failure()
+    ensures { (m : Mode) (e : Instance) (w : List Bool) (p : Prices) (f : Findings) → 1 ≤ p.denominator → AreFindings e w p f → first_told m f ≡ First m e w p }
 {}

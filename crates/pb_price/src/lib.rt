@@ -5,8 +5,10 @@
 
 mod checking;
 mod conditions;
+mod explaining;
 mod figures;
 pub mod laws;
+mod noting;
 mod samples;
 mod takings;
 mod tally;
@@ -14,6 +16,7 @@ mod tally;
 mod tests;
 
 pub use checking::{check, check_rows};
+pub use explaining::findings_of;
 pub use figures::margins_of;
 
 /// What is asked of a price system.
@@ -113,4 +116,67 @@ pub struct ProjectMargins {
     /// What its supporters can offer together in the stable form, each the larger of its largest payment and what it has left.
     /// From 0 to 10^33.
     pub offer: i128,
+}
+
+/// What each condition on a price system comes to by a price certificate, also those behind the first that is false. Amounts
+/// are in grains: a grain is 1/(10^6 D) of the currency, where D is the denominator of the certificate.
+#[derive(Clone, Copy, Debug, PartialEq, Eq)]
+pub struct Findings {
+    /// How many grains one unit of the currency has: 10^6 D, from 10^6 to 10^15.
+    pub grains_per_unit: u64,
+    /// What the funded projects cost together, at most 10^32. Feasible holds where this is at most the limit.
+    pub total: u128,
+    /// The budget limit, at most 10^27.
+    pub limit: u128,
+    /// The voter budgets of all voters together, at most 10^33. Cover holds where this is more than the limit.
+    pub budgets: u128,
+    /// Exhaustive: the cost of an unfunded project, and what remains of the limit, which is to be less.
+    pub exhaustive: Finding,
+    /// C1: the payments for projects that their voters do not approve.
+    pub c1: PaymentFinding,
+    /// C2: the voter budget, and what a voter spends, which is to be no more.
+    pub c2: Finding,
+    /// C3: the cost of a funded project, and what is paid for it, which is to be the same.
+    pub c3: Finding,
+    /// C4: for an unfunded project 0, and what is paid for it, which is to be the same.
+    pub c4: Finding,
+    /// C5: the cost of an unfunded project, and what its supporters have left together, which is to be no more.
+    pub c5: Finding,
+    /// S5: the cost of an unfunded project, and what its supporters can offer together, which is to be no more.
+    pub s5: Finding,
+}
+
+/// Where C1 is false.
+#[derive(Clone, Copy, Debug, PartialEq, Eq)]
+pub struct PaymentFinding {
+    /// The first culprit: the lowest voter that pays for a project that it does not approve, and the lowest such project.
+    /// `None` where C1 holds.
+    pub first: Option<(u32, u32)>,
+    /// How many such payments there are, and 0 where C1 holds.
+    pub count: u64,
+}
+
+/// Where another condition is false, and the sums that it compares at one place: at a voter for C2, and at a project for the
+/// others.
+#[derive(Clone, Copy, Debug, PartialEq, Eq)]
+pub struct Finding {
+    /// The first culprit: the lowest number of a place at which the condition is false. `None` where it holds.
+    pub first: Option<u32>,
+    /// How many culprits there are, and 0 where the condition holds.
+    pub count: u32,
+    /// The sums at the first culprit. Where there is none, they are those at the place where the amount comes closest to the
+    /// bound, the lowest of several: at a voter for C2, and at an unfunded project for the others. `None` where there is no
+    /// such place, and where C3 or C4 holds.
+    pub shown: Option<Comparison>,
+}
+
+/// The two sums that a condition compares at one place.
+#[derive(Clone, Copy, Debug, PartialEq, Eq)]
+pub struct Comparison {
+    /// The voter at C2, and the project at the others. They are numbered from 1.
+    pub at: u32,
+    /// The voter budget at C2, 0 at C4, and what the project costs at the others. At most 10^27.
+    pub bound: u128,
+    /// What is compared with that, from -10^34 to 10^33: what is spent, remains, is paid, is left or is offered.
+    pub amount: i128,
 }

@@ -4,8 +4,11 @@
 ghost use Rattle.std.specs.Prelude.{◌≡◌, ◌<◌, ◌≤◌, ◌+◌, ◌-◌, ◌*◌, ◌^◌, ◌&&◌, not, nat_lt, if◌then◌else◌, ℕ, pos, ◌-ℤ◌, IfOk, length, slice_index_or};
 ghost use Rattle.std.specs.Int.{int_max};
 ghost use Rattle.pb_election.specs.Instance.{IsSet, IsProject, IsVoter, voters};
-ghost use Rattle.pb_price.specs.Tallies.{AreChanged, AreSmall, CanTake, IsWithin, Taken, Tallied, TakesRow, first_number, first_pair, marked, with_supporter};
+ghost use Rattle.pb_price.specs.Noted.{first_number};
+ghost use Rattle.pb_price.specs.Tallies.{AreChanged, AreSmall, CanTake, IsWithin, Taken, Tallied, TakesRow, first_pair, marked, with_supporter};
 
+use crate::noting::NOTHING_FOUND;
+use crate::{Comparison, Finding, PaymentFinding};
 use pb_certificate::PriceRow;
 use pb_election::Election;
 use pb_money::payment_grains;
@@ -34,10 +37,10 @@ pub(crate) struct Tally {
     pub budget: u128,
     /// Of each project what it has.
     pub projects: Vec<ProjectSums>,
-    /// The first voter that pays for a project that it does not approve, with the first such project.
-    pub unapproved: Option<(u32, u32)>,
-    /// The first voter that pays more than its budget.
-    pub over_budget: Option<u32>,
+    /// The payments for projects that their voters do not approve.
+    pub unapproved: PaymentFinding,
+    /// What the closed voters spend, against their budget.
+    pub over_budget: Finding,
     /// One for each row taken, entry of a ballot looked at, and voter closed.
     pub steps: u64,
     closed: u32,
@@ -64,8 +67,11 @@ impl Tally {
         Ok(Tally {
             budget,
             projects: vec![in alloc; none; election.projects() as usize]?,
-            unapproved: None,
-            over_budget: None,
+            unapproved: PaymentFinding {
+                first: None,
+                count: 0,
+            },
+            over_budget: NOTHING_FOUND,
             steps: 0,
             closed: 0,
             opened: 0,
@@ -119,7 +125,12 @@ impl Tally {
         let offer = offer_of(left, self.largest);
         let ballot = election.ballot(voter);
         give(&mut self.projects, ballot, left, offer);
-        self.over_budget = first_where(self.over_budget, self.budget < self.spent, voter);
+        let compared = Comparison {
+            at: voter,
+            bound: self.budget,
+            amount: self.spent as i128,
+        };
+        self.over_budget.note(self.budget < self.spent, compared);
         self.steps += ballot.len() as u64 + 1;
         self.closed = voter;
         self.spent = 0;
@@ -156,7 +167,7 @@ impl Tally {
         let sums = &mut self.projects[row.project as usize - 1];
         sums.paid += grains;
         let approved = sums.last_approver == row.voter;
-        self.unapproved = first_unapproved(self.unapproved, approved, row);
+        self.unapproved = unapproved_with(self.unapproved, approved, row);
         self.spent += grains;
         self.largest = self.largest.max(grains);
         self.steps += 1;
@@ -190,14 +201,19 @@ pub(crate) fn first_where(known: Option<u32>, holds: bool, number: u32) -> Optio
     known
 }
 
-// The first voter with the first project that it pays for and does not approve, where one of an earlier row is known or not.
-fn first_unapproved(known: Option<(u32, u32)>, approved: bool, row: PriceRow) -> Option<(u32, u32)>
-    ensures { result ≡ (if nat_lt 0 row.payment && not approved then first_pair known row.voter row.project else known) }
+// The payments for projects that are not approved, with the row.
+fn unapproved_with(known: PaymentFinding, approved: bool, row: PriceRow) -> PaymentFinding
+    requires { known.count ≤ 10 ^ 12 }
+    ensures first { result.first ≡ (if nat_lt 0 row.payment && not approved then first_pair known.first row.voter row.project else known.first) }
+    ensures count { result.count ≡ (if nat_lt 0 row.payment && not approved then known.count + 1 else known.count) }
 {
     if row.payment == 0 || approved {
         return known;
     }
-    first_of(known, row.voter, row.project)
+    PaymentFinding {
+        first: first_of(known.first, row.voter, row.project),
+        count: known.count + 1,
+    }
 }
 
 // The first of a voter with a project that is known, if there is one, and another voter with a project that is not lower.

@@ -1,7 +1,7 @@
 use Rattle.std.proofs.Common.{sym, ◌∙◌, arith}
 use Rattle.pb_certificate.specs.Faults.{certificate_records}
 use Rattle.pb_certificate.specs.Rows.{prices_given}
-use Rattle.pb_price.proofs.Bounds.{steps-bound}
+use Rattle.pb_price.proofs.Bounds.{steps-bound, sums-of-bound}
 use Rattle.pb_price.proofs.Certificates.{before-rows, certified, tallied-by}
 use Rattle.pb_price.proofs.Whole.{whole-steps}
 use Rattle.pb_price.proofs.takings.take_certificate.Goals as goal
@@ -33,5 +33,6 @@ returns-clause-taken c =
       tally = done.tally;
       small_budget = omega (arith, whole.budget, whole.taken.small_budget);
       few_steps = steps-bound _ _ _ whole (omega (arith, taken.few));
+      in_range = λ k ip. sums-of-bound c.args.election.now _ c.finish.new.self k whole ip;
       steps = λ steps fewest most. whole-steps c.args.election.now _ c.finish.new.self _ steps whole c.finish.ensures.closed done.rows fewest most;
     }

@@ -26,6 +26,9 @@ overflow_add-self-2 c =
     let can = c.requires.can in
     omega (arith, steps-bound c.args.election.now can.taken c.args.self.now can.tallied can.few)
 
+pub unapproved_with-self-requires : goal.unapproved_with-self-requires
+unapproved_with-self-requires c = omega (arith, c.requires.can.tallied.few_unapproved, c.requires.can.few)
+
 pub returns-clause-taken : goal.returns-clause-taken
 returns-clause-taken c = λ a b h r. (
     let t = c.args.self.now in
@@ -35,7 +38,7 @@ returns-clause-taken c = λ a b h r. (
     added c.args.election.now a b c.args.self.now _ c.args.row c.index_mut-sums.result.now h r c.requires.can.voter c.requires.can.project c.requires.can.small c.requires.at_hand c.requires.opened c.index_mut-sums.ensures.value
     refl refl refl
     (ap (λ n. set c.args.self.now.projects.items (c.args.row.project - 1) (with_payment n c.index_mut-sums.result.now)) c.payment_grains-grains.ensures)
-    c.first_unapproved-self.ensures refl refl
+    c.unapproved_with-self.ensures.first c.unapproved_with-self.ensures.count refl refl
     (ap (λ n. c.args.self.now.spent + n) c.payment_grains-grains.ensures)
     (c.max-self.ensures ∙ ap (max c.args.self.now.largest) c.payment_grains-grains.ensures)
     )

@@ -1,8 +1,11 @@
-use Rattle.std.proofs.Common.{◌≡◌, ◌+◌, ◌^◌, get_or, length, refl, sym, ap, subst, ◌∙◌, arith}
+use Rattle.std.proofs.Common.{rules, nat_lt, ◌≡◌, ◌+◌, ◌^◌, get_or, length, refl, sym, ap, subst, ◌∙◌, arith}
+use Rattle.std.proofs.lemmas.Int.{ints}
 use Rattle.std.proofs.lemmas.List.{with_items_is}
 use Rattle.pb_election.specs.Instance.{IsSet, projects}
 use Rattle.pb_price.specs.Tallies.{AreSmall, IsWithin}
-use Rattle.pb_price.proofs.Bounds.{ballot-bound, changed-as, largest-bound, left-bound, most-bound, spent-bound, steps-bound, sums-bound}
+use Rattle.pb_price.specs.Noted.{noted}
+use Rattle.pb_price.specs.Looked.{compared}
+use Rattle.pb_price.proofs.Bounds.{ballot-bound, changed-as, largest-bound, left-bound, most-bound, over-few, over-small, spent-bound, steps-bound, sums-bound}
 use Rattle.pb_price.proofs.Closing.{closed, left-kept, most-kept}
 use Rattle.pb_price.proofs.tally.Tally.close.Goals as goal
 
@@ -28,6 +31,23 @@ give-requires c =
       fits = λ k d w. subst (λ xs. AreSmall (get_or xs k d)) (sym c.deref_mut.ensures.value) (sums-bound c.args.election.now c.requires.tallied.0 c.args.self.now k d c.requires.tallied.1 c.requires.more (omega arith));
     }
 
+pub overflow_cast-compared : goal.overflow_cast-compared
+overflow_cast-compared c = search (rules, arith, ints, spent-bound c.args.election.now c.requires.tallied.0 c.args.self.now c.requires.tallied.1)
+
+pub note-requires : goal.note-requires
+note-requires c =
+    let a = c.requires.tallied.0 in
+    let h = c.requires.tallied.1 in
+    let most = spent-bound c.args.election.now c.requires.tallied.0 c.args.self.now c.requires.tallied.1 in
+    record {
+      few = over-few c.args.election.now c.requires.tallied.0 c.args.self.now c.requires.tallied.1;
+      here = record {
+        bound = omega (arith, c.requires.tallied.1.budget, c.requires.tallied.1.taken.small_budget);
+        amount = (omega (arith, ints, most), omega (arith, ints, most));
+      };
+      shown = over-small c.args.election.now c.requires.tallied.0 c.args.self.now c.requires.tallied.1;
+    }
+
 pub overflow_add-self : goal.overflow_add-self
 overflow_add-self c =
     omega (arith, ap length c.ballot-ballot.ensures.value, ballot-bound c.args.election.now (c.args.self.now.closed + 1), c.requires.tallied.1.sound.few_approvals)
@@ -43,6 +63,7 @@ returns-clause-taken c = λ a h. (
     (left-kept c.args.election.now a c.args.self.now c.left_of-left.result h c.left_of-left.ensures)
     (most-kept c.args.election.now a c.args.self.now c.left_of-left.result c.offer_of-offer.result h c.left_of-left.ensures c.offer_of-offer.ensures)
     (changed-as _ _ _ _ _ _ _ c.deref_mut.ensures.value (sym items_are) c.ballot-ballot.ensures.value c.give.ensures)
-    refl refl refl refl c.first_where-self.ensures
+    refl refl refl refl
+    (c.note.ensures ∙ ap (λ z. noted (nat_lt c.args.self.now.budget c.args.self.now.spent) (compared (c.args.self.now.closed + 1) c.args.self.now.budget z) c.args.self.now.over_budget) (omega (arith, ints, spent-bound c.args.election.now a c.args.self.now h)))
     (ap (λ xs. c.args.self.now.steps + (length xs + 1)) c.ballot-ballot.ensures.value) refl refl
     )

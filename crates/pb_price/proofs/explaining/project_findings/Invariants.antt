@@ -1,0 +1,8 @@
+use Rattle.pb_price.specs.Looked.{AreFoundTo, AreSmallFindings}
+use Rattle.pb_price.proofs.explaining.project_findings.Given as goal
+
+abbrev pub invariant-loop-k : goal.invariant-loop-k
+invariant-loop-k l = record {
+  found : AreFoundTo l.k l.election l.outcome.marks l.denominator l.remaining l.sums l.findings;
+  small : AreSmallFindings l.k l.findings;
+}

@@ -1,0 +1,47 @@
+-- What the findings on prices tell: which conditions hold, and the first that doesn't.
+use Rattle.std.specs.Prelude.{◌≡◌, ◌<◌, ◌≤◌, ◌↔◌, if◌then◌else◌, nat_le, nat_lt, Bool, List, Option, Some, None, option_map}
+use Rattle.std.specs.Option.{option_or}
+use Rattle.pb_election.specs.Instance.{Instance}
+use Rattle.pb_certificate.specs.Prices.{Prices}
+use Rattle.pb_cohesion.specs.Conditions.{C1, C2, C3, C4, C5, Cover, Exhaustive, Feasible, S5}
+use Rattle.pb_price.specs.declared.Failure.{Failure}
+use Rattle.pb_price.specs.declared.Failure.TheVariants as failure
+use Rattle.pb_price.specs.declared.Findings.{Findings}
+use Rattle.pb_price.specs.declared.Mode.{Mode}
+
+-- Feasible holds where the total is at most the limit, Cover where the budgets are more than the limit, and each other condition
+-- where it has no culprit
+pub record TellWhatHolds (e : Instance) (w : List Bool) (p : Prices) (f : Findings) : Type 0 where
+  pub feasible : (f.total ≤ f.limit) ↔ Feasible e w
+  pub exhaustive : (f.exhaustive.count ≡ 0) ↔ Exhaustive e w
+  pub cover : (f.limit < f.budgets) ↔ Cover e p
+  pub c1 : (f.c1.count ≡ 0) ↔ C1 e p
+  pub c2 : (f.c2.count ≡ 0) ↔ C2 e p
+  pub c3 : (f.c3.count ≡ 0) ↔ C3 e w p
+  pub c4 : (f.c4.count ≡ 0) ↔ C4 e w p
+  pub c5 : (f.c5.count ≡ 0) ↔ C5 e w p
+  pub s5 : (f.s5.count ≡ 0) ↔ S5 e w p
+
+-- The first condition that the mode asks for and the findings tell to be false, with its first culprit.
+
+abbrev pub told_of_outcome : Mode → Findings → Option Failure
+told_of_outcome m f =
+    option_or (if nat_lt f.limit f.total then Some failure.Feasible else None)
+    (if m.exhaustive then option_map failure.Exhaustive f.exhaustive.first else None)
+
+abbrev pub told_of_budgets : Mode → Findings → Option Failure
+told_of_budgets m f = if m.cover then if nat_le f.budgets f.limit then Some failure.Cover else None else None
+
+abbrev pub told_of_payments : Findings → Option Failure
+told_of_payments f =
+    option_or (option_or (option_or
+    (option_map (λ q. failure.C1 q.0 q.1) f.c1.first)
+    (option_map failure.C2 f.c2.first))
+    (option_map failure.C3 f.c3.first))
+    (option_map failure.C4 f.c4.first)
+
+abbrev pub told_of_supporters : Mode → Findings → Option Failure
+told_of_supporters m f = if m.stable then option_map failure.S5 f.s5.first else option_map failure.C5 f.c5.first
+
+abbrev pub first_told : Mode → Findings → Option Failure
+first_told m f = option_or (option_or (option_or (told_of_outcome m f) (told_of_budgets m f)) (told_of_payments f)) (told_of_supporters m f)

@@ -1,0 +1,176 @@
+//! What each condition on a price system comes to, read off the sums of its payments, in one pass over the projects behind the
+//! one that adds up what the funded ones cost.
+
+ghost use Rattle.std.specs.Prelude.{◌≡◌, ◌≤◌, ◌^◌, ◌⊎◌, ℕ, IfErr, IfOk, MatchResult, length};
+ghost use Rattle.pb_election.specs.Instance.{IsProject, projects};
+ghost use Rattle.pb_election.specs.Outcome as outcomes;
+ghost use Rattle.pb_certificate.specs.Faults.{Refuses, certificate_records, no_memory, price_form};
+ghost use Rattle.pb_certificate.specs.PriceText.{IsPriceText};
+ghost use Rattle.pb_certificate.specs.Prices as spec;
+ghost use Rattle.pb_price.specs.Findings.{AreFindings};
+ghost use Rattle.pb_price.specs.Looked.{AreFoundTo, AreSmallFindings, with_funded, with_unfunded};
+ghost use Rattle.pb_price.specs.Tallies.{AreInRange, IsTallyOf, IsWithin, sums_of};
+
+use crate::conditions::cost_of_funded;
+use crate::noting::NOTHING_FOUND;
+use crate::takings::take_certificate;
+use crate::tally::{ProjectSums, Tally};
+use crate::{Comparison, Finding, Findings};
+use pb_certificate::CertRefusal;
+use pb_election::{Election, Outcome};
+use pb_money::cost_grains;
+use std::alloc::Global;
+
+/// What each condition comes to by the prices that the bytes of a price certificate state, in one pass over the certificate
+/// that keeps no table of its payments. The outcome is to fit the election. A refusal is that of `Prices::read`.
+pub fn findings_of(
+    alloc: Global,
+    election: &Election,
+    outcome: &Outcome,
+    bytes: &[u8],
+) -> Result<Findings, CertRefusal>
+    requires { outcomes.Fits outcome.now election.now }
+
+    // The bytes state prices, and the findings are those on them.
+    ensures found { IfOk result (λ f. (p : spec.Prices) × IsPriceText (certificate_records bytes.now) election.now p × AreFindings election.now (outcome.now).marks p f) }
+
+    // A refusal is the first fault, or want of memory.
+    ensures refused { IfErr result (λ r. (r ≡ no_memory) ⊎ Refuses (price_form election.now) bytes.now r) }
+
+    // Where the bytes state prices the findings are those on them, memory aside.
+    ensures only { (p : spec.Prices) → IsPriceText (certificate_records bytes.now) election.now p → MatchResult result (λ f. AreFindings election.now (outcome.now).marks p f) (λ r. r ≡ no_memory) }
+{
+    let taken = take_certificate(alloc, election, bytes)?;
+    Ok(findings_by(election, outcome, taken.denominator, &taken.tally))
+}
+
+// The findings by the tally of all payments, which are over this denominator.
+fn findings_by(election: &Election, outcome: &Outcome, denominator: u32, tally: &Tally) -> Findings
+    requires outcome { outcomes.Fits outcome.now election.now }
+    requires low { 1 ≤ denominator }
+    requires high { denominator ≤ 10 ^ 9 }
+    requires budget { (tally.now).budget ≤ 10 ^ 27 }
+    requires sums { length (tally.now).projects.items ≡ projects election.now }
+    requires small { (c : ℕ) → IsProject election.now c → AreInRange (sums_of (tally.now).projects.items c) }
+    ensures { (p : spec.Prices) → p.denominator ≡ denominator → IsTallyOf election.now p tally.now → AreFindings election.now (outcome.now).marks p result }
+{
+    let mut steps = 0;
+    let total = cost_of_funded(election, outcome, &mut steps) * u128::from(denominator);
+    let limit = cost_grains(election.limit(), denominator);
+    let remaining = limit as i128 - total as i128;
+    let sums = &tally.projects;
+    let of_projects = project_findings(election, outcome, denominator, remaining, sums);
+    Findings {
+        grains_per_unit: 1_000_000 * u64::from(denominator),
+        total,
+        limit,
+        budgets: u128::from(election.voters()) * tally.budget,
+        exhaustive: of_projects.exhaustive,
+        c1: tally.unapproved,
+        c2: tally.over_budget,
+        c3: of_projects.c3,
+        c4: of_projects.c4,
+        c5: of_projects.c5,
+        s5: of_projects.s5,
+    }
+}
+
+// The findings on projects, as far as these were looked at.
+#[derive(Clone, Copy, Debug, PartialEq, Eq)]
+struct ProjectFindings {
+    exhaustive: Finding,
+    c3: Finding,
+    c4: Finding,
+    c5: Finding,
+    s5: Finding,
+}
+
+// The findings on all projects, by their sums, where so much remains of the limit.
+fn project_findings(
+    election: &Election,
+    outcome: &Outcome,
+    denominator: u32,
+    remaining: i128,
+    sums: &[ProjectSums],
+) -> ProjectFindings
+    requires outcome { outcomes.Fits outcome.now election.now }
+    requires low { 1 ≤ denominator }
+    requires high { denominator ≤ 10 ^ 9 }
+    requires remaining { IsWithin (10 ^ 38) remaining }
+    requires sums { length sums.now ≡ projects election.now }
+    requires small { (c : ℕ) → IsProject election.now c → AreInRange (sums_of sums.now c) }
+    ensures { AreFoundTo (projects election.now) election.now (outcome.now).marks denominator remaining sums.now result }
+{
+    let mut findings = ProjectFindings {
+        exhaustive: NOTHING_FOUND,
+        c3: NOTHING_FOUND,
+        c4: NOTHING_FOUND,
+        c5: NOTHING_FOUND,
+        s5: NOTHING_FOUND,
+    };
+    for k in 0..election.projects() {
+        let j = k + 1;
+        let of_project = sums[k as usize];
+        let cost = cost_grains(election.cost(j), denominator);
+        if outcome.has(j) {
+            findings.look_at_funded(j, cost, of_project.paid);
+        } else {
+            findings.look_at_unfunded(j, cost, remaining, of_project);
+        }
+    }
+    findings
+}
+
+impl ProjectFindings {
+    // Looks at a funded project.
+    fn look_at_funded(&mut self, j: u32, cost: u128, paid: u128)
+        requires known { AreSmallFindings (10 ^ 6) self.old }
+        requires cost { cost ≤ 10 ^ 34 }
+        requires paid { paid ≤ 10 ^ 34 }
+        ensures { self.new ≡ with_funded j cost paid self.old }
+    {
+        if paid != cost {
+            let compared = Comparison {
+                at: j,
+                bound: cost,
+                amount: paid as i128,
+            };
+            self.c3.note(true, compared);
+        }
+    }
+
+    // Looks at an unfunded project.
+    fn look_at_unfunded(&mut self, j: u32, cost: u128, remaining: i128, sums: ProjectSums)
+        requires known { AreSmallFindings (10 ^ 6) self.old }
+        requires cost { cost ≤ 10 ^ 34 }
+        requires remaining { IsWithin (10 ^ 38) remaining }
+        requires sums { AreInRange sums }
+        ensures { self.new ≡ with_unfunded j cost remaining sums self.old }
+    {
+        let of_cost = Comparison {
+            at: j,
+            bound: cost,
+            amount: remaining,
+        };
+        let cost = cost as i128;
+        self.exhaustive.note(cost <= remaining, of_cost);
+        if sums.paid != 0 {
+            let in_vain = Comparison {
+                at: j,
+                bound: 0,
+                amount: sums.paid as i128,
+            };
+            self.c4.note(true, in_vain);
+        }
+        let left = Comparison {
+            amount: sums.left,
+            ..of_cost
+        };
+        self.c5.note(cost < sums.left, left);
+        let offer = Comparison {
+            amount: sums.offer,
+            ..of_cost
+        };
+        self.s5.note(cost < sums.offer, offer);
+    }
+}
