@@ -29,7 +29,7 @@ from reference.answers import NAMES, answer
 
 LATER = ["cost", "cover", "both", "folder", "margins", "explain"]
 # What the program has of these by now; it is always compared.
-HAS = ["cost", "cover", "both", "folder"]
+HAS = ["cost", "cover", "both", "folder", "margins"]
 VERDICTS = [
     "read .. funded", "read .. no outcome", "note: num_projects", "note: num_votes", "note: selected",
     "supported priceable", "supported stable", "failed Feasible", "failed Exhaustive", "failed C1", "failed C2",

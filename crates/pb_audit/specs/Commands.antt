@@ -49,6 +49,11 @@ both_app = command_of (codes "both")
     (path_rule (codes "election") ∷ path_rule (codes "prices") ∷ path_rule (codes "violation")
     ∷ switch_rule (codes "stable") ∷ switch_rule (codes "no-exhaustive") ∷ switch_rule (codes "cover") ∷ outcome_rule ∷ [])
 
+-- `margins ELECTION CERTIFICATE [--outcome FILE]`
+unfoldable pub margins_app : App
+margins_app = command_of (codes "margins")
+    (path_rule (codes "election") ∷ path_rule (codes "certificate") ∷ outcome_rule ∷ [])
+
 -- `tidy ELECTION CERTIFICATE`
 unfoldable pub tidy_app : App
 tidy_app = command_of (codes "tidy") (path_rule (codes "election") ∷ path_rule (codes "certificate") ∷ [])
@@ -61,4 +66,4 @@ folder_app = command_of (codes "folder")
 -- `pbaudit`, with its commands
 unfoldable pub pbaudit : App
 pbaudit = fold (λ a (s : App). with_subcommand a s.top) (with_version (new_app (codes "pbaudit")))
-    (read_app ∷ prices_app ∷ violation_app ∷ both_app ∷ tidy_app ∷ folder_app ∷ [])
+    (read_app ∷ prices_app ∷ violation_app ∷ both_app ∷ margins_app ∷ tidy_app ∷ folder_app ∷ [])

@@ -7,6 +7,7 @@ pub mod Promises
 pub mod Answers
 pub mod Readers
 pub mod Both
+pub mod Margins
 pub mod Loaded
 pub mod Reports
 pub mod Folders

@@ -18,6 +18,7 @@ use Rattle.pb_price.specs.declared.Mode.{Mode}
 use Rattle.pb_price.specs.declared.Verdict.{Verdict}
 use Rattle.pb_audit.specs.Answers.{Answer, Reply, answer_of, refused, tidy_answer, with_input}
 use Rattle.pb_audit.specs.Inputs.{Stated, StatesFile, StatesOutcome, StatesPrices, audited, refusal_of}
+use Rattle.pb_audit.specs.Margins.{margins_reply}
 use Rattle.pb_audit.specs.Readers.{Delivers, DeliversFile, FileReading, Reading}
 use Rattle.pb_audit.specs.declared.input.InputFault.{InputFault}
 use Rattle.pb_audit.specs.declared.input.InputFault.TheVariants as fault
@@ -114,3 +115,8 @@ JudgesPrices input m e w certificate (Err r) = StatesPrices input e certificate 
 abbrev pub TidiesPrices : Instance → Delivery → Stated Answer → Type 0
 TidiesPrices e certificate (Ok answer) = (p : Prices) × (StatesPrices name.Certificate e certificate (Ok p) × (answer ≡ tidy_answer (Ok e) (Ok p)))
 TidiesPrices e certificate (Err r) = StatesPrices name.Certificate e certificate (Err r)
+
+-- the table of margins by the prices of a certificate
+abbrev pub TablesMargins : Instance → List Bool → Delivery → Stated Answer → Type 0
+TablesMargins e w certificate (Ok answer) = (p : Prices) × (StatesPrices name.Certificate e certificate (Ok p) × (answer ≡ answer_of (margins_reply e w p)))
+TablesMargins e w certificate (Err r) = StatesPrices name.Certificate e certificate (Err r)

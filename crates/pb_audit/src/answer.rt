@@ -101,6 +101,19 @@ pub(crate) fn settled(alloc: Global, work: Result<Reply, Stop>) -> Result<Reply,
     }
 }
 
+/// The answer that the work came to: its own, or the line of the input that was refused.
+pub(crate) fn settled_answer(
+    alloc: Global,
+    work: Result<Answer, Stop>,
+) -> Result<Answer, AllocError>
+    ensures { IfOk result (λ answer. spec.settled_answer work ≡ Some answer) }
+{
+    match work {
+        Ok(answer) => Ok(answer),
+        Err(stop) => stopped(alloc, &stop)?.answer(alloc),
+    }
+}
+
 /// The line of the input that was refused.
 pub(crate) fn stopped(alloc: Global, stop: &Stop) -> Result<Reply, AllocError>
     ensures { IfOk result (λ reply. spec.stopped stop.now ≡ Some reply) }

@@ -5,6 +5,7 @@ ghost use Rattle.pb_audit.specs.Commands.{
   IsCommand,
   both_app,
   folder_app,
+  margins_app,
   outcome_rule,
   path_rule,
   pbaudit,
@@ -16,7 +17,8 @@ ghost use Rattle.pb_audit.specs.Commands.{
 };
 
 use crate::help::{
-    BOTH_NOTES, FOLDER_NOTES, PRICES_NOTES, PROGRAM_NOTES, READ_NOTES, TIDY_NOTES, VIOLATION_NOTES,
+    BOTH_NOTES, FOLDER_NOTES, MARGINS_NOTES, PRICES_NOTES, PROGRAM_NOTES, READ_NOTES, TIDY_NOTES,
+    VIOLATION_NOTES,
 };
 use clap::{Arg, ArgAction, Command};
 use std::alloc::{AllocError, Global};
@@ -35,6 +37,7 @@ pub(crate) fn pbaudit_command<'a>(alloc: Global) -> Result<Command<'a>, AllocErr
             .subcommand(prices_command(alloc)?)?
             .subcommand(violation_command(alloc)?)?
             .subcommand(both_command(alloc)?)?
+            .subcommand(margins_command(alloc)?)?
             .subcommand(tidy_command(alloc)?)?
             .subcommand(folder_command(alloc)?)?
             .after_help(PROGRAM_NOTES),
@@ -110,6 +113,19 @@ fn both_command<'a>(alloc: Global) -> Result<Command<'a>, AllocError>
             .arg(cover_arg(alloc))?
             .arg(outcome_arg(alloc))?
             .after_help(BOTH_NOTES),
+    )
+}
+
+fn margins_command<'a>(alloc: Global) -> Result<Command<'a>, AllocError>
+    ensures { IfOk result (IsCommand margins_app) }
+{
+    Ok(
+        Command::new(alloc, "margins")
+            .about("Print what each project costs, is paid and could be offered, as a CSV file")
+            .arg(election_arg(alloc))?
+            .arg(price_certificate_arg(alloc))?
+            .arg(outcome_arg(alloc))?
+            .after_help(MARGINS_NOTES),
     )
 }
 

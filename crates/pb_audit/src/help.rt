@@ -20,6 +20,7 @@ Examples:
   pbaudit prices town.pb prices.csv --stable
   pbaudit violation town.pb violation.csv
   pbaudit both town.pb prices.csv violation.csv --stable --cover
+  pbaudit margins town.pb prices.csv > margins.csv
   pbaudit tidy town.pb prices.csv > canonical.csv
   pbaudit folder elections";
 
@@ -142,6 +143,37 @@ Exit statuses: 0 supported and a violation, 1 a condition or a test failed,
 Examples:
   pbaudit both town.pb prices.csv violation.csv --stable --cover
   pbaudit both town.pb prices.csv violation.csv --outcome outcome.csv";
+
+/// What `margins` prints.
+pub(crate) const MARGINS_NOTES: &str = "\
+Prints a CSV file with a row for each project, in the order of the election:
+  pb-margins,1
+  grains_per_unit,2000000
+  project,funded,supporters,cost,paid,left,offer
+  park,1,2,24000000,24000000,12000000,24000000
+  pool,0,2,40000000,0,24000000,30000000
+All amounts are whole numbers of grains, so that nothing is rounded. One unit of
+the currency has as many grains as the second record says: 1000000 times the
+denominator of the certificate. Here the park costs 24000000/2000000 = 12.
+  funded      1 where the project is funded, and 0 where it is not
+  supporters  how many voters approve it
+  cost        what it costs
+  paid        what all voters pay for it
+  left        what its supporters have left over, which may be less than 0
+  offer       the same sum, where for each supporter the largest single payment
+              counts if it is more than what is left over
+By these figures C3 wants 'paid' to be 'cost' where 'funded' is 1. Where it is 0,
+C4 wants 'paid' to be 0, C5 wants 'left' to be no more than 'cost', and S5 wants
+'offer' to be no more than 'cost'.
+
+A file that is refused gives a line instead of the table, as with 'prices'. The
+table is printed whether or not the certificate supports the outcome.
+
+Exit statuses: 0 printed, 2 refused, 3 usage, 4 fault.
+
+Examples:
+  pbaudit margins town.pb prices.csv > margins.csv
+  pbaudit margins town.pb prices.csv --outcome outcome.csv";
 
 /// What `tidy` prints.
 pub(crate) const TIDY_NOTES: &str = "\

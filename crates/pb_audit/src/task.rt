@@ -59,6 +59,15 @@ pub enum Task {
         /// Which conditions are asked for.
         mode: Mode,
     },
+    /// Write the figures of each project by a price certificate, with the outcome as for prices.
+    Margins {
+        /// The election.
+        election: String,
+        /// The price certificate.
+        certificate: String,
+        /// The outcome file.
+        outcome: Option<String>,
+    },
     /// Write a price certificate in its canonical form.
     Tidy {
         /// The election.
@@ -156,6 +165,7 @@ fn command_task(
         "prices" => prices_task(alloc, matches),
         "violation" => violation_task(alloc, matches),
         "both" => both_task(alloc, matches),
+        "margins" => margins_task(alloc, matches),
         "tidy" => tidy_task(alloc, matches),
         "folder" => folder_task(alloc, matches),
         _ => Ok(None),
@@ -218,6 +228,22 @@ fn both_task(alloc: Global, matches: &ArgMatches<'_>) -> Result<Option<Task>, Al
             violation,
             outcome,
             mode: mode_of(matches),
+        })),
+        _ => Ok(None),
+    }
+}
+
+fn margins_task(alloc: Global, matches: &ArgMatches<'_>) -> Result<Option<Task>, AllocError>
+    ensures { IfOk result (λ t. option_map asked t ≡ asked_by (codes "margins") (rows_of (found_of matches.now))) }
+{
+    let election = path_of(alloc, matches, "election")?;
+    let certificate = path_of(alloc, matches, "certificate")?;
+    let outcome = path_of(alloc, matches, "outcome")?;
+    match (election, certificate) {
+        (Some(election), Some(certificate)) => Ok(Some(Task::Margins {
+            election,
+            certificate,
+            outcome,
         })),
         _ => Ok(None),
     }

@@ -1,13 +1,12 @@
 //! Writing a price certificate in its canonical form.
-ghost use Rattle.std.specs.Prelude.{◌≡◌, IfOk, IfSome, Some};
+ghost use Rattle.std.specs.Prelude.{IfOk, IfSome};
 ghost use Rattle.pb_audit.specs.Answers.{AnswersTidy, AnswersTidyFiles};
 ghost use Rattle.pb_audit.specs.Loaded.{lent};
 ghost use Rattle.pb_audit.specs.Readers.{ReadsTidy, reading};
 ghost use Rattle.pb_audit.specs.Taking.{IfTaken, TidiesPrices, settled_answer};
-ghost use Rattle.pb_audit.specs.Taking as spec;
 ghost use Rattle.pb_audit.specs.Writing.{Writes};
 
-use crate::answer::{Answer, stopped};
+use crate::answer::{Answer, settled_answer};
 use crate::input::{InputFault, InputName, Stop, stop_at};
 use crate::loaded::{File, Loaded, bytes_of};
 use crate::taking::{election_of, take_election};
@@ -78,15 +77,5 @@ fn tidied(alloc: Global, election: &Election, certificate: File<'_>) -> Result<A
             status: Status::Yes,
         }),
         Err(refusal) => Err(stop_at(InputName::Certificate, InputFault::Certificate(refusal))),
-    }
-}
-
-/// The answer that the work came to: its own, or the line of the input that was refused.
-fn settled_answer(alloc: Global, work: Result<Answer, Stop>) -> Result<Answer, AllocError>
-    ensures { IfOk result (λ answer. spec.settled_answer work ≡ Some answer) }
-{
-    match work {
-        Ok(answer) => Ok(answer),
-        Err(stop) => stopped(alloc, &stop)?.answer(alloc),
     }
 }

@@ -3,7 +3,9 @@ use crate::file::FileReader;
 use crate::folder::run_folder;
 use crate::noted::{NotedReader, NotedWriter};
 use crate::refusals::tell_hint;
-use pb_audit::{Fault, Status, Task, run_both, run_prices, run_read, run_tidy, run_violation};
+use pb_audit::{
+    Fault, Status, Task, run_both, run_margins, run_prices, run_read, run_tidy, run_violation,
+};
 use pb_election::{Input, Output, Sink};
 use std::cell::Cell;
 use std::io::{IsTerminal, Read, Write};
@@ -83,6 +85,17 @@ fn answer<I: Read, O: Sink, E: Write + IsTerminal>(
             &mut files.open(prices),
             &mut files.open(violation),
             *mode,
+            out,
+        ),
+        Task::Margins {
+            election,
+            certificate,
+            outcome,
+        } => run_margins(
+            alloc,
+            &mut files.open(election),
+            &mut files.open_given(outcome),
+            &mut files.open(certificate),
             out,
         ),
         Task::Tidy {

@@ -11,6 +11,7 @@ mod hints;
 mod in_turn;
 mod library;
 mod limits;
+mod margin_answers;
 mod price_answers;
 mod read_answers;
 mod records;

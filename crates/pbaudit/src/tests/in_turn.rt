@@ -1,8 +1,10 @@
 //! Each read and each write of each command, made to fail one after the other.
 use super::engines;
 use super::fakes::{InterruptedReader, Lapse, LapsingWriter};
-use super::samples::{ELECTION, PLAIN, PRICES, UNFAIR_ELECTION, UNTIDY_PRICES, VIOLATION};
-use pb_audit::{Fault, Status, folder_text, run_prices, run_read, run_tidy, run_violation};
+use super::samples::{ELECTION, MARGINS, PLAIN, PRICES, UNFAIR_ELECTION, UNTIDY_PRICES, VIOLATION};
+use pb_audit::{
+    Fault, Status, folder_text, run_margins, run_prices, run_read, run_tidy, run_violation,
+};
 use pb_certificate::{Prices, WriteFault};
 use pb_election::{Election, Input, Output};
 use std::alloc::Global;
@@ -22,6 +24,7 @@ enum Command {
     Read,
     Prices,
     Violation,
+    Margins,
     Tidy,
 }
 
@@ -32,6 +35,7 @@ impl Command {
             Command::Read => [ELECTION, "", ""],
             Command::Prices => [ELECTION, "pb-outcome,1\nproject,a\nproject,b\n", PRICES],
             Command::Violation => [UNFAIR_ELECTION, "pb-outcome,1\nproject,y\n", VIOLATION],
+            Command::Margins => [ELECTION, "pb-outcome,1\nproject,c\n", PRICES],
             Command::Tidy => [ELECTION, "", UNTIDY_PRICES],
         }
     }
@@ -74,6 +78,12 @@ impl Command {
                 Some(&mut outcome),
                 &mut certificate,
             )?,
+            Command::Margins => engines::margins(
+                alloc,
+                &mut election,
+                Some(&mut outcome),
+                &mut certificate,
+            )?,
             Command::Tidy => engines::tidy(alloc, &mut election, &mut certificate)?,
         };
         let reads = [election.reads, outcome.reads, certificate.reads];
@@ -89,6 +99,7 @@ fn each_read_fails_in_turn(rt: HostRuntime) -> Result<(), Fail> {
         Command::Read,
         Command::Prices,
         Command::Violation,
+        Command::Margins,
         Command::Tidy,
     ] {
         let all_reads = command.reads();
@@ -122,6 +133,7 @@ enum Written {
     Election,
     Prices,
     Violation,
+    Margins,
     Tidy,
     Folder,
     Canonical,
@@ -134,6 +146,7 @@ impl Written {
             Written::Election => "read 3 voters 3 projects 2 funded\n",
             Written::Prices => "supported priceable\n",
             Written::Violation => "violation\n",
+            Written::Margins => MARGINS,
             Written::Tidy | Written::Canonical => PRICES,
             Written::Folder => "total 0 elections 0 yes 0 no 0 refused\n",
         }
@@ -162,6 +175,9 @@ impl Written {
                 &mut Input::new(VIOLATION.as_bytes()),
                 &mut out,
             ),
+            Written::Margins => {
+                run_margins(alloc, &mut election, &mut none, &mut prices, &mut out)
+            }
             Written::Tidy => run_tidy(alloc, &mut election, &mut prices, &mut out),
             Written::Folder => folder_text(alloc, &[], PLAIN)?.write(&mut out),
             Written::Canonical => {
@@ -181,10 +197,11 @@ impl Written {
     }
 }
 
-const WRITTEN: [Written; 6] = [
+const WRITTEN: [Written; 7] = [
     Written::Election,
     Written::Prices,
     Written::Violation,
+    Written::Margins,
     Written::Tidy,
     Written::Folder,
     Written::Canonical,

@@ -103,6 +103,17 @@ voter,project,payment
 3,b,2
 ";
 
+/// The table of margins by these prices. Each voter has 4. Voter 1 pays 2 and 2, voter 2 pays 4, and
+/// voter 3 pays 2 and has 2 left.
+pub const MARGINS: &str = "\
+pb-margins,1
+grains_per_unit,1000000
+project,funded,supporters,cost,paid,left,offer
+a,1,2,6000000,6000000,0,6000000
+b,1,2,4000000,4000000,2000000,4000000
+c,0,1,9000000,0,2000000,2000000
+";
+
 /// The sample election and its price certificate with the id a"1 in place of a.
 pub const QUOTED_ELECTION: &str = "\
 META

@@ -1,0 +1,160 @@
+-- The table of margins, as far as it has been written, and the answers with it.
+use mir.Syntax.{w128}
+use Rattle.std.proofs.Common.{◌≡◌, ◌∙◌, ◌<◌, ◌≤◌, ◌+◌, ◌-◌, ◌*◌, ◌^◌, ℕ, zero, suc, List, [], ◌∷◌, ◌++◌, length, map, refl, sym, ap, arith, SFits, append_assoc, append-nil, get_or, Bool, true, false, subst, Option}
+use Rattle.std.specs.Prelude.{IfSome, Result, Ok, Err, Some, codes, decimal, ℤ, pos, negsuc}
+use Rattle.std.specs.Fmt.{signed_decimal}
+use Rattle.std.specs.List.{range_with_len}
+use Rattle.std.proofs.lemmas.Grind.{flat_map-append}
+use Rattle.std.proofs.lemmas.List.{map-append}
+use Rattle.csv.specs.Writing.{default_writer, row_text}
+use Rattle.pb_election.specs.Instance.{Instance, id_of, projects}
+use Rattle.pb_election.specs.Text.{IsId}
+use Rattle.pb_records.specs.Loading.{Delivery}
+use Rattle.pb_records.specs.Records.{Field, Rec}
+use Rattle.pb_certificate.specs.Canon.{line, lines, line_end}
+use Rattle.pb_certificate.specs.Prices.{Prices}
+use Rattle.pb_certificate.proofs.Lines.{IsPlain, decimal-plain, id-plain, row-line}
+use Rattle.pb_certificate.proofs.Written.{range-push}
+use Rattle.pb_price.specs.Margins.{AreMargins, margins_of_project}
+use Rattle.pb_price.specs.declared.Margins.{Margins}
+use Rattle.pb_price.specs.declared.ProjectMargins.{ProjectMargins}
+use Rattle.pb_audit.specs.Answers.{Answer, Reply, answer_of, refused, text_of}
+use Rattle.pb_audit.specs.Inputs.{StatesElection, StatesPrices, refusal_of}
+use Rattle.pb_audit.specs.Lines.{Text}
+use Rattle.pb_audit.specs.Margins.{AlwaysYes, AnswersMargins, ReadsMargins, flag_of, head_records, margins_reply, record_line, row_of, rows_of, table_of}
+use Rattle.pb_audit.specs.Readers.{Delivers, FileReading, Reading, TellsReply}
+use Rattle.pb_audit.specs.Taking.{AnswersCertificate, AuditsOutcome, Gives, IfTaken, ReadsOutcome, TablesMargins, settled_answer, stopped}
+use Rattle.pb_audit.specs.declared.input.InputName.TheVariants.{Certificate}
+use Rattle.pb_audit.specs.declared.status.Status.TheVariants.{Yes}
+use Rattle.pb_audit.specs.declared.input.Stop.{Stop}
+use Rattle.pb_audit.specs.declared.input.Stop.TheVariants as stop
+use Rattle.pb_audit.proofs.Audits.{Promised, certificate_answered, readers_settled}
+
+-- Fields.
+
+flag_plain : (b : Bool) → IsPlain (flag_of b)
+flag_plain true = refl
+flag_plain false = refl
+
+pub signed_plain : (z : ℤ) → SFits w128 z → IsPlain (signed_decimal z)
+signed_plain (pos n) fits = decimal-plain n (omega (arith, fits.sfits))
+signed_plain (negsuc n) fits = decimal-plain (suc n) (omega (arith, fits.sfits))
+
+-- A record as it is written.
+
+line_is : (r : Rec) → line r ≡ record_line r ++ (line_end ∷ [])
+unfolding line
+line_is r = refl
+
+pub lines_are : (rs : List Rec) → lines rs ≡ text_of (map record_line rs)
+lines_are [] = refl
+lines_are (r ∷ rs) = rw (line_is r, lines_are rs) refl
+
+pub row_written : (id : Field) (m : ProjectMargins) → IsId id → IsPlain (decimal m.supporters) → IsPlain (decimal m.cost) → IsPlain (decimal m.paid) → IsPlain (signed_decimal m.left) → IsPlain (signed_decimal m.offer)
+    → row_text default_writer (row_of id m) ≡ line (row_of id m)
+row_written id m is s c p l o = row-line id (flag_of m.funded) _ (id-plain id is, (flag_plain m.funded, (s, (c, (p, (l, (o, tt)))))))
+
+-- The head.
+
+pub head_written : (g : ℕ) (h0 h1 h2 h3 : Text) → g < 10 ^ 64
+    → h1 ≡ h0 ++ row_text default_writer (codes "pb-margins" ∷ codes "1" ∷ [])
+    → h2 ≡ h1 ++ row_text default_writer (codes "grains_per_unit" ∷ decimal g ∷ [])
+    → h3 ≡ h2 ++ row_text default_writer (codes "project" ∷ codes "funded" ∷ codes "supporters" ∷ codes "cost" ∷ codes "paid" ∷ codes "left" ∷ codes "offer" ∷ [])
+    → h3 ≡ h0 ++ lines (head_records g)
+head_written g h0 h1 h2 h3 small e1 e2 e3 =
+    let name = row-line (codes "pb-margins") (codes "1") [] (refl, (refl, tt)) in
+    let grains = row-line (codes "grains_per_unit") (decimal g) [] (refl, (decimal-plain g small, tt)) in
+    let columns = row-line (codes "project") (codes "funded") (codes "supporters" ∷ codes "cost" ∷ codes "paid" ∷ codes "left" ∷ codes "offer" ∷ []) (refl, (refl, (refl, (refl, (refl, (refl, (refl, tt))))))) in
+    pushed h0 h1 h2 h3 _ _ _ (e1 ∙ ap (λ (x : Text). h0 ++ x) name) (e2 ∙ ap (λ (x : Text). h1 ++ x) grains) (e3 ∙ ap (λ (x : Text). h2 ++ x) columns)
+  where
+    joined : (h a b c : Text) → ((h ++ a) ++ b) ++ c ≡ h ++ (a ++ (b ++ (c ++ [])))
+    joined h a b c = simp (append_assoc, append-nil)
+
+    pushed : (h0 h1 h2 h3 a b c : Text) → h1 ≡ h0 ++ a → h2 ≡ h1 ++ b → h3 ≡ h2 ++ c → h3 ≡ h0 ++ (a ++ (b ++ (c ++ [])))
+    pushed h0 h1 h2 h3 a b c e1 e2 e3 = e3 ∙ ap (λ (x : Text). x ++ c) (e2 ∙ ap (λ (x : Text). x ++ b) e1) ∙ joined h0 a b c
+
+-- The rows.
+
+-- the figures of the project at a place of the list
+at_place : {A : Type 0} (f : ℕ → A) (a n k : ℕ) (d : A) → k < n → get_or (map f (range_with_len a n)) k d ≡ f (a + k)
+at_place f a zero k d h = absurd (omega arith)
+at_place f a (suc n) zero d h = ap f (omega arith)
+at_place f a (suc n) (suc k) d h =
+    let here : a + 1 + k ≡ a + suc k = omega arith in
+    at_place f (a + 1) n k d (omega arith) ∙ ap f here
+
+lines_push : (rows : List Rec) (r : Rec) → lines (rows ++ (r ∷ [])) ≡ lines rows ++ line r
+lines_push rows r = flat_map-append line rows (r ∷ []) ∙ ap (λ (x : Text). lines rows ++ x) (append-nil (line r))
+
+pub as_many_rows : (e : Instance) (w : List Bool) (p : Prices) (m : Margins) → AreMargins e w p m → length m.projects.items ≡ projects e
+as_many_rows e w p m are = ap length are.projects ∙ as_many (margins_of_project e w p) 1 (projects e)
+  where
+    as_many : {A : Type 0} (f : ℕ → A) (a n : ℕ) → length (map f (range_with_len a n)) ≡ n
+    as_many f a zero = refl
+    as_many f a (suc n) = ap suc (as_many f (a + 1) n)
+
+-- one more row, that of project c
+pub row_pushed : (e : Instance) (w : List Bool) (p : Prices) (m : Margins) (c : ℕ) (d : ProjectMargins) (before after : Text) → AreMargins e w p m → 1 ≤ c → c ≤ projects e
+    → before ≡ lines (head_records m.grains_per_unit ++ rows_of e w p (range_with_len 1 (c - 1)))
+    → after ≡ before ++ line (row_of (id_of e c) (get_or m.projects.items (c - 1) d))
+    → after ≡ lines (head_records m.grains_per_unit ++ rows_of e w p (range_with_len 1 c))
+row_pushed e w p m c d before after are low high b a =
+    let past : suc (c - 1) ≡ c = omega arith in
+    let here : 1 + (c - 1) ≡ c = omega arith in
+    let row : ℕ → Rec = λ j. row_of (id_of e j) (margins_of_project e w p j) in
+    let figures : get_or m.projects.items (c - 1) d ≡ margins_of_project e w p c =
+    ap (λ (ms : List ProjectMargins). get_or ms (c - 1) d) are.projects ∙ (at_place (margins_of_project e w p) 1 (projects e) (c - 1) d (omega arith) ∙ ap (margins_of_project e w p) here) in
+    let head : List Rec = head_records m.grains_per_unit in
+    let others : List Rec = rows_of e w p (range_with_len 1 (c - 1)) in
+    let range : range_with_len 1 c ≡ range_with_len 1 (c - 1) ++ (c ∷ []) =
+    ap (range_with_len 1) (sym past) ∙ (range-push 1 (c - 1) ∙ ap (λ (j : ℕ). range_with_len 1 (c - 1) ++ (j ∷ [])) here) in
+    let rows : rows_of e w p (range_with_len 1 c) ≡ others ++ (row c ∷ []) = ap (rows_of e w p) range ∙ map-append row (range_with_len 1 (c - 1)) (c ∷ []) in
+    a ∙ (ap (λ (x : Text). x ++ line (row_of (id_of e c) (get_or m.projects.items (c - 1) d))) b ∙ (ap (λ (f : ProjectMargins). lines (head ++ others) ++ line (row_of (id_of e c) f)) figures
+    ∙ (sym (lines_push (head ++ others) (row c)) ∙ ap lines (append_assoc head others (row c ∷ []) ∙ ap (λ (x : List Rec). head ++ x) (sym rows)))))
+
+-- all rows
+pub table_written : (e : Instance) (w : List Bool) (p : Prices) (m : Margins) (c : ℕ) (text : Text) → AreMargins e w p m → c ≡ projects e
+    → text ≡ lines (head_records m.grains_per_unit ++ rows_of e w p (range_with_len 1 c)) → text ≡ lines (table_of e w p)
+table_written e w p m c text are all is =
+    is ∙ (ap (λ (g : ℕ). lines (head_records g ++ rows_of e w p (range_with_len 1 c))) are.grains_per_unit ∙ ap (λ (n : ℕ). lines (head_records (10 ^ 6 * p.denominator) ++ rows_of e w p (range_with_len 1 n))) all)
+
+-- The answers.
+
+abbrev answer_with : Text → Answer
+answer_with text = record { text = text; status = Yes }
+
+pub text_told : (e : Instance) (w : List Bool) (p : Prices) (text : Text) → text ≡ lines (table_of e w p) → answer_with text ≡ answer_of (margins_reply e w p)
+text_told e w p text is = ap answer_with (is ∙ lines_are (table_of e w p))
+
+-- the text of a reply, as an answer
+told : (is_reply : Reply → Type 0) (reply : Reply) → is_reply reply → TellsReply is_reply (answer_of reply)
+told is_reply reply of = record { reply = reply; of_inputs = of; out = refl }
+
+-- the work on the certificate as a reply, which the answer tells
+work_told : (is_reply : Reply → Type 0) (e : Instance) (w : List Bool) (certificate : Delivery) (work : Result Answer Stop) → IfTaken work (TablesMargins e w certificate)
+    → ((r : Reply) → AnswersCertificate (StatesPrices Certificate) margins_reply e w certificate r → is_reply r) → IfSome (settled_answer work) (TellsReply is_reply)
+work_told is_reply e w certificate (Ok answer) tables each =
+    let reply = margins_reply e w tables.0 in
+    subst (TellsReply is_reply) (sym tables.1.1) (told is_reply reply (each reply (record { c = Ok tables.0; given = tables.1.0; out = refl })))
+work_told is_reply e w certificate (Err (stop.Refused input why)) tables each =
+    let reply = refused (refusal_of input why) in
+    told is_reply reply (each reply (record { c = Err (refusal_of input why); given = tables; out = refl }))
+work_told is_reply e w certificate (Err stop.Memory) tables each = tt
+
+-- an input that was refused before the certificate
+pub stop_told : (is_reply : Reply → Type 0) (why : Stop) → IfSome (stopped why) is_reply → IfSome (settled_answer (Err why)) (TellsReply is_reply)
+stop_told is_reply (stop.Refused input why) of = told is_reply (refused (refusal_of input why)) of
+stop_told is_reply stop.Memory of = tt
+
+always_yes : Promised margins_reply AlwaysYes
+always_yes e w p = refl
+
+pub margins_answered : (election : Delivery) (outcome : Option Delivery) (certificate : Delivery) (e : Instance) (w : List Bool) (work : Result Answer Stop)
+    → StatesElection election (Ok e) → AuditsOutcome e outcome (Ok w) → IfTaken work (TablesMargins e w certificate) → IfSome (settled_answer work) (AnswersMargins election outcome certificate)
+margins_answered election outcome certificate e w work given taken tables =
+    work_told _ e w certificate work tables (λ r answered. certificate_answered (StatesPrices Certificate) margins_reply AlwaysYes always_yes election outcome certificate e w r given taken answered)
+
+pub margins_read : (election : Reading) (outcome : FileReading) (certificate : Reading) (e : Instance) (w : List Bool) (d : Delivery) (work : Result Answer Stop)
+    → Gives StatesElection election (Ok e) → ReadsOutcome e outcome (Ok w) → Delivers certificate d → IfTaken work (TablesMargins e w d) → IfSome (settled_answer work) (ReadsMargins election outcome certificate)
+margins_read election outcome certificate e w d work given taken delivered tables =
+    work_told _ e w d work tables (λ r answered. readers_settled (StatesPrices Certificate) margins_reply AlwaysYes always_yes election outcome certificate e w d (Some r) given taken delivered answered)
