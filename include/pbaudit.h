@@ -63,6 +63,13 @@ uint8_t pbaudit_both(const uint8_t *election, size_t election_length,
                      bool stable, bool exhaustive, bool cover,
                      uint8_t *out, size_t room, size_t *needed);
 
+/* What each project costs, is paid and could be offered by a price certificate: the table of `pbaudit margins`, as
+ * comma-separated values. The outcome is as for prices. 0, 2 or 4. */
+uint8_t pbaudit_margins(const uint8_t *election, size_t election_length,
+                        const uint8_t *outcome, size_t outcome_length, bool has_outcome,
+                        const uint8_t *certificate, size_t certificate_length,
+                        uint8_t *out, size_t room, size_t *needed);
+
 /* A price certificate in its canonical form. 0, 2 or 4. */
 uint8_t pbaudit_tidy(const uint8_t *election, size_t election_length,
                      const uint8_t *certificate, size_t certificate_length,

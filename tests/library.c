@@ -56,6 +56,9 @@ static void call(void) {
     int is_both = !strcmp(command, "both"), outcome = is_both ? 3 : 2, has_outcome = given == outcome + 1;
     if (!strcmp(command, "read"))
         status = pbaudit_read(files[0].at, files[0].length, out, room, &needed);
+    else if (!strcmp(command, "margins"))
+        status = pbaudit_margins(files[0].at, files[0].length, files[2].at, files[2].length, has_outcome, files[1].at,
+                                 files[1].length, out, room, &needed);
     else if (!strcmp(command, "tidy"))
         status = pbaudit_tidy(files[0].at, files[0].length, files[1].at, files[1].length, out, room, &needed);
     else if (!strcmp(command, "violation"))

@@ -85,7 +85,7 @@ def try_symbols(score, folder):
     """The libraries have the functions of the header and nothing else, and need the C library alone."""
     with open(os.path.join(folder, "pbaudit.h"), encoding="utf-8") as file:
         functions = sorted(re.findall(r"^uint8_t (pbaudit_\w+)\(", file.read(), re.MULTILINE))
-    score.check(len(functions) >= 5, "the functions of the header")
+    score.check(len(functions) >= 6, "the functions of the header")
     for words in (["nm", "-D", "--defined-only", "libpbaudit.so"], ["nm", "-g", "--defined-only", "libpbaudit.a"]):
         symbols = sorted(re.findall(r"^[0-9a-f]+ \w (\S+)$", run(words, folder).stdout.decode(), re.MULTILINE))
         score.check(symbols == functions, f"{' '.join(words)}: {symbols}")
@@ -167,7 +167,7 @@ class Rooms(_auditor._Library):
 
 def try_damaged(score, folder, program, count, seed):
     cases.DAMAGED = 1.0
-    made = cases.random_cases(count, seed, ["cost", "cover", "both"])
+    made = cases.random_cases(count, seed, ["cost", "cover", "both", "margins"])
     with concurrent.futures.ThreadPoolExecutor(4) as threads:
         for holds, told in threads.map(lambda case: try_case(folder, program, case), made):
             score.check(holds, told)

@@ -43,7 +43,7 @@ class Question:
     mode: Mode = Mode()
 
 
-_WITH_OUTCOME = ("prices", "violation", "both")
+_WITH_OUTCOME = ("prices", "violation", "both", "margins")
 _WITH_MODE = ("prices", "both")
 
 
@@ -59,6 +59,7 @@ class _Library:
         "prices": _FILE + _OUTCOME + _FILE + _MODE,
         "violation": _FILE + _OUTCOME + _FILE,
         "both": _FILE + _OUTCOME + _FILE + _FILE + _MODE,
+        "margins": _FILE + _OUTCOME + _FILE,
         "tidy": _FILE + _FILE,
     }
 

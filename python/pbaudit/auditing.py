@@ -4,9 +4,12 @@ A `str` or `os.PathLike` is the path of a file, and `bytes` are a file's bytes. 
 OSError, and a file that isn't what it has to be is a Refusal. Both are exceptions, since neither is an answer to what
 was asked. That a condition fails is an answer, and so a value.
 """
+import csv
+import io
 import os
 import re
 from dataclasses import dataclass
+from fractions import Fraction
 from typing import Optional, Tuple, Union
 
 from ._auditor import Mode, Question, ask
@@ -67,6 +70,21 @@ class Summary:
         return self.line
 
 
+@dataclass(frozen=True)
+class ProjectMargins:
+    """The figures of a project by a price certificate: its id, whether it is funded, how many voters approve it, and exact
+    amounts in the currency of the election. `left` is what its supporters have left together, which may be less than 0, and
+    `offer` the same where for each supporter the largest single payment counts if it is more."""
+
+    project: str
+    funded: bool
+    supporters: int
+    cost: Fraction
+    paid: Fraction
+    left: Fraction
+    offer: Fraction
+
+
 def read(election: File) -> Summary:
     """Reads an election. Raises Refusal, OSError and MemoryError."""
     line, *notes = _lines(Question("read", bytes_of(election)))
@@ -100,6 +118,17 @@ def audit_both(election: File, prices: File, violation: File, outcome: Optional[
     files = bytes_of(election), bytes_of(prices), bytes_of(violation)
     first, second = _lines(Question("both", *files, outcome=_given(outcome), mode=mode))
     return _verdict(first), _verdict(second)
+
+
+def margins(election: File, certificate: File, outcome: Optional[File] = None) -> Tuple[ProjectMargins, ...]:
+    """What each project costs, is paid and could be offered by a price certificate, in the order of the election. The outcome
+    is as for `audit_prices`. Raises Refusal, OSError and MemoryError."""
+    text = _text(Question("margins", bytes_of(election), bytes_of(certificate), outcome=_given(outcome)))
+    _, (_, grains_per_unit), _, *rows = csv.reader(io.StringIO(text.decode("utf-8"), newline=""))
+    return tuple(
+        ProjectMargins(project, funded == "1", int(supporters), *(Fraction(int(grains), int(grains_per_unit)) for grains in amounts))
+        for project, funded, supporters, *amounts in rows
+    )
 
 
 def tidy(election: File, certificate: File) -> bytes:

@@ -6,6 +6,7 @@ import subprocess
 import sys
 import tempfile
 import unittest
+from fractions import Fraction
 
 import pbaudit
 from pbaudit import Refusal, _auditor
@@ -13,7 +14,7 @@ from pbaudit import Refusal, _auditor
 REPOSITORY = pathlib.Path(__file__).resolve().parents[2]
 EXAMPLES = REPOSITORY / "examples"
 PROGRAM = REPOSITORY / "crates" / "pbaudit" / "out" / "pbaudit"
-AUDITS = ("read", "prices", "violation", "both", "tidy")
+AUDITS = ("read", "prices", "violation", "both", "margins", "tidy")
 
 
 def wanted_answers():
@@ -117,6 +118,19 @@ class Audits(unittest.TestCase):
         with self.assertRaises(Refusal) as caught:
             pbaudit.audit_both(EXAMPLES / "sample.pb", EXAMPLES / "sample.prices.csv", EXAMPLES / "sample.prices.csv")
         self.assertEqual((caught.exception.input, caught.exception.number), ("violation", 21))
+
+    def test_margins(self):
+        files = EXAMPLES / "sample.pb", EXAMPLES / "sample.prices.csv"
+        first, second, third = pbaudit.margins(*files)
+        self.assertEqual(first, pbaudit.ProjectMargins("a", True, 2, 6, 6, 0, 6))
+        self.assertEqual(second, pbaudit.ProjectMargins("b", True, 2, 4, 4, 2, 4))
+        self.assertEqual(third, pbaudit.ProjectMargins("c", False, 1, 9, 0, 2, 2))
+        thirds = files[1].read_bytes().replace(b"denominator,1", b"denominator,3")
+        first, _, third = pbaudit.margins(files[0], thirds, b"pb-outcome,1\nproject,c\n")
+        self.assertEqual((first.funded, first.paid), (False, 2))
+        self.assertEqual((third.funded, third.left), (True, Fraction(2, 3)))
+        with self.assertRaises(Refusal):
+            pbaudit.margins(*reversed(files))
 
     def test_tidy(self):
         untidy = EXAMPLES / "sample.untidy.prices.csv"

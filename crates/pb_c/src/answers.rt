@@ -2,10 +2,11 @@
 ghost use Rattle.std.specs.Prelude.{◌≡◌, IfOk, option_copied};
 ghost use Rattle.pb_audit.specs.Answers.{AnswersElectionFile, AnswersPriceFiles, AnswersViolationFiles};
 ghost use Rattle.pb_audit.specs.Both.{AnswersBothFiles};
+ghost use Rattle.pb_audit.specs.Margins.{AnswersMarginFiles};
 ghost use Rattle.pb_audit.specs.Readers.{TellsReply};
 ghost use Rattle.pb_c.specs.Files.{given_file};
 
-use pb_audit::{Answer, both_reply, prices_reply, read_reply, violation_reply};
+use pb_audit::{Answer, both_reply, margins_answer, prices_reply, read_reply, violation_reply};
 use pb_price::Mode;
 use std::alloc::{AllocError, Global};
 
@@ -59,6 +60,20 @@ pub(crate) fn both_answer(
 {
     let outcome = optional_file(outcome, has_outcome);
     both_reply(alloc, election, outcome, prices, violation, mode)?.answer(alloc)
+}
+
+/// The answer with the figures of each project.
+pub(crate) fn figures_answer(
+    alloc: Global,
+    election: &[u8],
+    outcome: &[u8],
+    has_outcome: bool,
+    certificate: &[u8],
+) -> Result<Answer, AllocError>
+    ensures { IfOk result (AnswersMarginFiles election.now (given_file has_outcome outcome.now) certificate.now) }
+{
+    let outcome = optional_file(outcome, has_outcome);
+    margins_answer(alloc, election, outcome, certificate)
 }
 
 /// The file, where it is given.

@@ -5,6 +5,7 @@
 ghost use Rattle.std.specs.Prelude.{◌≡◌, ◌≢◌};
 ghost use Rattle.pb_audit.specs.Answers.{AnswersElectionFile, AnswersPriceFiles, AnswersTidyFiles, AnswersViolationFiles};
 ghost use Rattle.pb_audit.specs.Both.{AnswersBothFiles};
+ghost use Rattle.pb_audit.specs.Margins.{AnswersMarginFiles};
 ghost use Rattle.pb_audit.specs.Readers.{TellsReply};
 ghost use Rattle.pb_c.specs.Files.{given_file};
 ghost use Rattle.pb_c.specs.Reports.{IsReported, memory_code};
@@ -12,7 +13,7 @@ ghost use Rattle.pb_c.specs.Reports.{IsReported, memory_code};
 mod answers;
 mod report;
 
-use answers::{both_answer, prices_answer, read_answer, violation_answer};
+use answers::{both_answer, figures_answer, prices_answer, read_answer, violation_answer};
 use pb_audit::tidy_answer;
 use pb_price::Mode;
 use report::report;
@@ -134,6 +135,30 @@ pub extern "C" fn pbaudit_both(
         violation,
         mode,
     );
+    report(&answer, out, needed)
+}
+
+/// Gives the figures of each project by a price certificate, as comma-separated values: 0 where they are given, 2 where a file
+/// is refused, and 4 where memory ran out. The outcome is as for `pbaudit_prices`, and the text and its length are given as
+/// by `pbaudit_read`.
+#[unsafe(no_mangle)]
+pub extern "C" fn pbaudit_margins(
+    alloc: Global,
+    election: &[u8],
+    outcome: &[u8],
+    has_outcome: bool,
+    certificate: &[u8],
+    out: &mut [u8],
+    needed: &mut usize,
+) -> u8
+    // The number, the text and its length are those of the answer on these bytes.
+    ensures reported { result ≢ memory_code → IsReported (AnswersMarginFiles election.now (given_file has_outcome outcome.now) certificate.now) result out.old out.new needed.new }
+
+    // Where memory ran out, nothing was written.
+    ensures memory_out { result ≡ memory_code → out.new ≡ out.old }
+    ensures memory_needed { result ≡ memory_code → needed.new ≡ 0 }
+{
+    let answer = figures_answer(alloc, election, outcome, has_outcome, certificate);
     report(&answer, out, needed)
 }
 
