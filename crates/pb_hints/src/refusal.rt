@@ -1,4 +1,8 @@
 //! The line of a refusal, in its parts.
+ghost use Rattle.std.specs.Prelude.{◌≡◌, IfSome};
+ghost use Rattle.pb_certificate.specs.Faults as certificates;
+ghost use Rattle.pb_election.specs.Faults as elections;
+
 use pb_certificate::CertFault;
 use pb_election::ElectionFault;
 
@@ -63,7 +67,9 @@ impl Fault {
     }
 }
 
-fn election_fault(number: u32) -> Option<ElectionFault> {
+fn election_fault(number: u32) -> Option<ElectionFault>
+    ensures { IfSome result (λ fault. elections.fault_number fault ≡ number) }
+{
     Some(match number {
         1 => ElectionFault::NotUtf8,
         2 => ElectionFault::NoMeta,
@@ -85,7 +91,9 @@ fn election_fault(number: u32) -> Option<ElectionFault> {
     })
 }
 
-fn certificate_fault(number: u32) -> Option<CertFault> {
+fn certificate_fault(number: u32) -> Option<CertFault>
+    ensures { IfSome result (λ fault. certificates.fault_number fault ≡ number) }
+{
     Some(match number {
         20 => CertFault::NotUtf8,
         21 => CertFault::BadHead,
