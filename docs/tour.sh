@@ -1,6 +1,6 @@
 #!/usr/bin/env bash
-# Runs each command that the README shows behind '$ ', at the repository's top, and compares what it writes with the lines
-# that stand under it there, up to the next blank line. The last line is 'N passed, M failed'.
+# Runs each command that the README and the documents show behind '$ ', at the repository's top, and compares what it writes
+# with the lines that stand under it there, up to the next blank line. The last line is 'N passed, M failed'.
 set -euo pipefail
 cd "$(dirname "$0")/.."
 # Builds the program where that is needed, so that no command below tells of it.
@@ -20,13 +20,15 @@ compare() {
   command=""
 }
 
-while IFS= read -r line; do
-  case "$line" in
-    '    $ '*) compare; command=${line#'    $ '} wanted="" ;;
-    '    '*) wanted+="${line#'    '}"$'\n' ;;
-    *) compare ;;
-  esac
-done < README.md
-compare
+for page in README.md docs/*.md; do
+  while IFS= read -r line; do
+    case "$line" in
+      '    $ '*) compare; command=${line#'    $ '} wanted="" ;;
+      '    '*) wanted+="${line#'    '}"$'\n' ;;
+      *) compare ;;
+    esac
+  done < "$page"
+  compare
+done
 echo "$passed passed, $failed failed"
 [ "$failed" = 0 ] && [ "$passed" != 0 ]
