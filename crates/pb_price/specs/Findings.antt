@@ -57,6 +57,7 @@ pub record AreFindings (e : Instance) (w : List Bool) (p : Prices) (f : Findings
   -- what Feasible and Cover compare
   pub total : f.total ≡ total_grains e w p
   pub limit : f.limit ≡ budget_limit e p
+  pub voter_budget : f.voter_budget ≡ beta p
   pub budgets : f.budgets ≡ voters e * beta p
   -- Exhaustive: what remains of the limit, against the cost
   pub exhaustive : IsFinding (culprits_of_Exhaustive e w) (IsUnfunded e w) (cost e p) (λ c. pos (budget_limit e p) -ℤ pos (total_grains e w p)) f.exhaustive

@@ -64,6 +64,7 @@ fn findings_by(election: &Election, outcome: &Outcome, denominator: u32, tally: 
         grains_per_unit: 1_000_000 * u64::from(denominator),
         total,
         limit,
+        voter_budget: tally.budget,
         budgets: u128::from(election.voters()) * tally.budget,
         exhaustive: of_projects.exhaustive,
         c1: tally.unapproved,

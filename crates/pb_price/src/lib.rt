@@ -128,6 +128,8 @@ pub struct Findings {
     pub total: u128,
     /// The budget limit, at most 10^27.
     pub limit: u128,
+    /// The budget of each voter, at most 10^27.
+    pub voter_budget: u128,
     /// The voter budgets of all voters together, at most 10^33. Cover holds where this is more than the limit.
     pub budgets: u128,
     /// Exhaustive: the cost of an unfunded project, and what remains of the limit, which is to be less.

@@ -1,6 +1,6 @@
 //! What is kept of a condition while its voters or projects are looked at one by one.
 
-ghost use Rattle.std.specs.Prelude.{◌≡◌, ◌≤◌, ◌^◌, ◌||◌, IfSome};
+ghost use Rattle.std.specs.Prelude.{◌≡◌, ◌≤◌, ◌^◌, IfSome};
 ghost use Rattle.pb_price.specs.Findings.{excess};
 ghost use Rattle.pb_price.specs.Noted.{is_closer, noted};
 ghost use Rattle.pb_price.specs.Looked.{IsSmallComparison};

@@ -21,6 +21,7 @@ returns c = λ p is tally. (
       grains_per_unit = omega (arith, c.from-2.ensures, is);
       total = total_is ∙ ap (cost_grains (total c.args.election.now c.args.outcome.now.marks)) (sym is);
       limit = limit_is ∙ ap (cost_grains c.args.election.now.limit) (sym is);
+      voter_budget = tally.budget;
       budgets = ap (λ n. n * c.args.tally.now.budget) (c.from-3.ensures ∙ c.voters.ensures.value) ∙ ap (λ n. voters c.args.election.now * n) tally.budget;
       exhaustive = on.exhaustive;
       c1 = tally.unapproved;
