@@ -13,7 +13,7 @@ use Rattle.pb_records.specs.declared.drafts.Stop.TheVariants.{Fault, Memory}
 use Rattle.pb_certificate.specs.Faults.{no_memory, refusal_of}
 use Rattle.pb_certificate.specs.declared.refusal.CertFault.{CertFault}
 
-fault-last : {F : Type 0} (form : Form F) (recs : List Rec) → fault_at form recs (suc (length recs)) ≡ form (nonblank recs) None
+pub fault-last : {F : Type 0} (form : Form F) (recs : List Rec) → fault_at form recs (suc (length recs)) ≡ form (nonblank recs) None
 fault-last form recs =
     let same : take (length recs) recs ≡ recs = take_all (length recs) recs (omega arith) in
     rw (slice_get_past recs (length recs) (omega arith), same) refl

@@ -85,7 +85,7 @@ columns-taken old new done m is e recs before n s = (same-is (fields new.row) co
 not-text-form : (e : Instance) (before : List Rec) (r : Rec) → is_text r ≡ false → price_form e before (Some r) ≡ Some fault.NotUtf8
 not-text-form e before r n = rw n refl
 
-end-form : (e : Instance) (before : List Rec) → length before < 4 → price_form e before None ≡ Some fault.BadHead
+pub end-form : (e : Instance) (before : List Rec) → length before < 4 → price_form e before None ≡ Some fault.BadHead
 end-form e [] l = refl
 end-form e (h ∷ []) l = refl
 end-form e (h ∷ d ∷ []) l = refl

@@ -38,3 +38,7 @@ pub mod MarkLemmas
 pub mod Ends
 pub mod OutcomeSteps
 pub mod ViolationSteps
+pub mod FirstOrNone
+pub mod OutcomeAnswered
+pub mod GroupAnswered
+pub mod PriceAnswered

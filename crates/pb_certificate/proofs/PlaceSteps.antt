@@ -66,7 +66,7 @@ clear-blanks form taken (b ∷ bs) tail none h k le =
     let rest = clear-blanks form (taken ++ (b ∷ [])) bs tail parts.1 (λ i l. rw joined (clear i (omega arith))) k (omega arith) in
     rw joined at rest
 
-nonblank-joined : (xs ys : List Rec) → nonblank (xs ++ ys) ≡ nonblank xs ++ nonblank ys
+pub nonblank-joined : (xs ys : List Rec) → nonblank (xs ++ ys) ≡ nonblank xs ++ nonblank ys
 nonblank-joined xs ys = filter-append (λ x. not (is_blank x)) xs ys
 
 -- The records behind a cursor, and those that come.
@@ -125,7 +125,7 @@ before-of form recs old blanks tail before s none next =
       clear = λ k le. subst (λ (xs : List Rec). fault_at form xs k ≡ None) (sym long) (clear k (omega arith));
     }
 
-form-here : (form : Form CertFault) (recs taken rest before : List Rec) (r : Rec) → recs ≡ taken ++ (r ∷ rest) → nonblank taken ≡ before → is_blank r ≡ false → fault_at form recs (length taken + 1) ≡ form before (Some r)
+pub form-here : (form : Form CertFault) (recs taken rest before : List Rec) (r : Rec) → recs ≡ taken ++ (r ∷ rest) → nonblank taken ≡ before → is_blank r ≡ false → fault_at form recs (length taken + 1) ≡ form before (Some r)
 form-here form recs taken rest before r cut behind full =
     ap (λ (xs : List Rec). fault_at form xs (length taken + 1)) cut ∙ fault-here form taken rest r ∙ rw full (ap (λ (xs : List Rec). form xs (Some r)) behind)
 

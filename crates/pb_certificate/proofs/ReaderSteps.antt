@@ -123,7 +123,7 @@ rise-low low (x ∷ xs) h = let first : low ≤ x = h.0 in (h.0, below low x xs 
     below a b [] l h = tt
     below a b (y ∷ ys) l h = (let here : b ≤ y = h.0 in omega arith, below a b ys l h.1)
 
-rises : (low : ℕ) (xs : List ℕ) → RiseFrom low xs → IsNonDecreasing xs
+pub rises : (low : ℕ) (xs : List ℕ) → RiseFrom low xs → IsNonDecreasing xs
 rises low [] h = nil-rises
 rises low (x ∷ xs) h = cons-rises x xs (rise-low x xs h.1) (rises x xs h.1)
 

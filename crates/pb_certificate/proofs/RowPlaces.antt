@@ -65,7 +65,7 @@ any-by e r q (d ∷ ds) (m ∷ ms) is k =
     let rest : map (payment_of e) ds ≡ map Some ms = cc in
     rw (same-by e r d q m is first, any-by e r q ds ms is rest) refl
 
-place-is : (e : Instance) (r : Rec) (q : Payment) (done : List Rec) (qs : List Payment) → payment_of e r ≡ Some q → map (payment_of e) done ≡ map Some qs → place_fault r done ≡ payment_fault qs q
+pub place-is : (e : Instance) (r : Rec) (q : Payment) (done : List Rec) (qs : List Payment) → payment_of e r ≡ Some q → map (payment_of e) done ≡ map Some qs → place_fault r done ≡ payment_fault qs q
 place-is e r q done qs is k =
     let lower : at_record (last_or None done) (λ d. nat_lt q.voter (number (cell 0 d))) ≡ nat_lt q.voter (last_voter qs) = lower-by q.voter 0 None e done qs (sym (le-ltb q.voter 0 (omega arith))) k in
     rw (row-number e r q (row-of e r q is), lower, any-by e r q done qs is k, stated-length (payment_of e) done qs k) refl

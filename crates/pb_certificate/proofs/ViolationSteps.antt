@@ -238,7 +238,7 @@ rows-whole e d recs text s =
     }
 
 -- all records of a file were taken, and no fault stands among them
-whole-violation : (e : Instance) (d : Reading) (a : Awaited) (recs : List Rec) → d.awaited ≡ a → ViolationTaken e d (nonblank recs) → NoFault (violation_form e) recs → IsViolationText recs e d.measure (marked d.group) (marked d.demand)
+pub whole-violation : (e : Instance) (d : Reading) (a : Awaited) (recs : List Rec) → d.awaited ≡ a → ViolationTaken e d (nonblank recs) → NoFault (violation_form e) recs → IsViolationText recs e d.measure (marked d.group) (marked d.demand)
 whole-violation e d Format recs is h none = let end : Some fault.BadHead ≡ None = sym (end-told e d Format (nonblank recs) is h) ∙ none-at-end (violation_form e) recs none in cc
 whole-violation e d Satisfaction recs is h none = let end : Some fault.BadHead ≡ None = sym (end-told e d Satisfaction (nonblank recs) is h) ∙ none-at-end (violation_form e) recs none in cc
 whole-violation e d Row recs is h none = rows-whole e d recs h.0 (stands-at e d Row (nonblank recs) is h)

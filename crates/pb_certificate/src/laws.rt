@@ -1,6 +1,6 @@
 //! Laws on certificates, whatever the election and the records are.
 
-ghost use Rattle.std.specs.Prelude.{◌≡◌, ℕ, Bool, List, length};
+ghost use Rattle.std.specs.Prelude.{◌≡◌, ◌⊎◌, ℕ, Bool, List, length};
 ghost use Rattle.pb_election.specs.Instance.{Instance, IsProject, IsSet, IsVoter, projects, voters};
 ghost use Rattle.pb_records.specs.Records.{Rec};
 ghost use Rattle.pb_records.specs.FirstFault.{IsFirstFault};
@@ -20,24 +20,36 @@ pub fn texts_state_prices()
     ensures payments { (recs : List Rec) (e : Instance) (p : Prices) (t : IsPriceText recs e p) (i j : ℕ) → IsVoter e i → IsProject e j → payment p i j ≡ stated t.payments i j }
 {}
 
-/// The records of a certificate or an outcome file are the text of one thing at most.
-pub fn texts_state_one_thing()
-    ensures prices { (recs : List Rec) (e : Instance) (p q : Prices) → IsPriceText recs e p → IsPriceText recs e q → p ≡ q }
-    ensures groups { (recs : List Rec) (e : Instance) (m m' : Measure) (s t s' t' : List ℕ) → IsViolationText recs e m s t → IsViolationText recs e m' s' t' → (m ≡ m') × (s ≡ s') × (t ≡ t') }
-    ensures outcomes { (recs : List Rec) (e : Instance) (w w' : List Bool) → IsOutcomeText recs e w → IsOutcomeText recs e w' → w ≡ w' }
+/// Records are either the text of one price system for the election, or refused at one place for one fault, and never
+/// both.
+pub fn one_answer_on_prices()
+    ensures answered { (recs : List Rec) (e : Instance) → ((p : Prices) × IsPriceText recs e p) ⊎ ((place : ℕ) × (f : CertFault) × IsFirstFault (price_form e) recs place f) }
+    ensures apart { (recs : List Rec) (e : Instance) (p : Prices) (place : ℕ) (f : CertFault) → IsPriceText recs e p → IsFirstFault (price_form e) recs place f → ⊥ }
+    ensures alone { (recs : List Rec) (e : Instance) (p q : Prices) → IsPriceText recs e p → IsPriceText recs e q → p ≡ q }
+    ensures first { (recs : List Rec) (e : Instance) (k j : ℕ) (f g : CertFault) → IsFirstFault (price_form e) recs k f → IsFirstFault (price_form e) recs j g → (k ≡ j) × (f ≡ g) }
+{}
+
+/// Records are either the text of one measure, one group and one demand, or refused at one place for one fault, and never
+/// both.
+pub fn one_answer_on_violations()
+    ensures answered { (recs : List Rec) (e : Instance) → ((m : Measure) × (s : List ℕ) × (t : List ℕ) × IsViolationText recs e m s t) ⊎ ((place : ℕ) × (f : CertFault) × IsFirstFault (violation_form e) recs place f) }
+    ensures apart { (recs : List Rec) (e : Instance) (m : Measure) (s t : List ℕ) (place : ℕ) (f : CertFault) → IsViolationText recs e m s t → IsFirstFault (violation_form e) recs place f → ⊥ }
+    ensures alone { (recs : List Rec) (e : Instance) (m m' : Measure) (s t s' t' : List ℕ) → IsViolationText recs e m s t → IsViolationText recs e m' s' t' → (m ≡ m') × (s ≡ s') × (t ≡ t') }
+    ensures first { (recs : List Rec) (e : Instance) (k j : ℕ) (f g : CertFault) → IsFirstFault (violation_form e) recs k f → IsFirstFault (violation_form e) recs j g → (k ≡ j) × (f ≡ g) }
+{}
+
+/// Records are either the text of one outcome, or refused at one place for one fault, and never both.
+pub fn one_answer_on_outcomes()
+    ensures answered { (recs : List Rec) (e : Instance) → ((w : List Bool) × IsOutcomeText recs e w) ⊎ ((place : ℕ) × (f : CertFault) × IsFirstFault (outcome_form e) recs place f) }
+    ensures apart { (recs : List Rec) (e : Instance) (w : List Bool) (place : ℕ) (f : CertFault) → IsOutcomeText recs e w → IsFirstFault (outcome_form e) recs place f → ⊥ }
+    ensures alone { (recs : List Rec) (e : Instance) (w w' : List Bool) → IsOutcomeText recs e w → IsOutcomeText recs e w' → w ≡ w' }
+    ensures first { (recs : List Rec) (e : Instance) (k j : ℕ) (f g : CertFault) → IsFirstFault (outcome_form e) recs k f → IsFirstFault (outcome_form e) recs j g → (k ≡ j) × (f ≡ g) }
 {}
 
 /// A group and a demand that a text states are sets of voters and of projects, and an outcome speaks of each project.
 pub fn texts_fit_the_election()
     ensures groups { (recs : List Rec) (e : Instance) (m : Measure) (s t : List ℕ) → IsViolationText recs e m s t → IsSet 1 (voters e) s × IsSet 1 (projects e) t }
     ensures outcomes { (recs : List Rec) (e : Instance) (w : List Bool) → IsOutcomeText recs e w → length w ≡ projects e }
-{}
-
-/// What is the text of prices, of a measure, a group and a demand, or of an outcome, is refused at no record.
-pub fn texts_are_not_refused()
-    ensures prices { (recs : List Rec) (e : Instance) (p : Prices) → IsPriceText recs e p → (place : ℕ) (f : CertFault) → IsFirstFault (price_form e) recs place f → ⊥ }
-    ensures groups { (recs : List Rec) (e : Instance) (m : Measure) (s t : List ℕ) → IsViolationText recs e m s t → (place : ℕ) (f : CertFault) → IsFirstFault (violation_form e) recs place f → ⊥ }
-    ensures outcomes { (recs : List Rec) (e : Instance) (w : List Bool) → IsOutcomeText recs e w → (place : ℕ) (f : CertFault) → IsFirstFault (outcome_form e) recs place f → ⊥ }
 {}
 
 /// The canonical text of prices for an election is a text of those prices, and of no others.

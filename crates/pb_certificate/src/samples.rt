@@ -4,6 +4,7 @@ ghost use Rattle.std.specs.Prelude.{true, false, ◌≡◌, ◌∷◌, ◌++◌,
 ghost use Rattle.pb_election.specs.Instance.{all_voters};
 ghost use Rattle.pb_certificate.specs.Canon.{Canon, line, line_end};
 ghost use Rattle.pb_certificate.specs.Faults.{outcome_form, price_form, violation_form};
+ghost use Rattle.pb_records.specs.FirstFault.{IsFirstFault};
 ghost use Rattle.pb_certificate.specs.NamedRows.{Named, named_of};
 ghost use Rattle.pb_certificate.specs.NamedRows.Named.{Voter};
 ghost use Rattle.pb_certificate.specs.ViolationText.{IsViolationText};
@@ -87,4 +88,11 @@ pub fn sample_texts()
     ensures group { IsViolationText (violation_records (demand_x1 ∷ demand_x2 ∷ member_1 ∷ two (codes "voter") (codes "2") ∷ [])) unfair_election Measure.ByCount (1 ∷ 2 ∷ []) (1 ∷ 2 ∷ []) }
     ensures by_cost { IsViolationText (measured_records (codes "cost") (demand_x1 ∷ demand_x2 ∷ member_1 ∷ [])) unfair_election Measure.ByCost (1 ∷ []) (1 ∷ 2 ∷ []) }
     ensures outcome { IsOutcomeText (outcome_records (two (codes "project") (codes "b") ∷ two (codes "project") (codes "a") ∷ [])) sample_election (true ∷ true ∷ false ∷ []) }
+{}
+
+/// What other records are refused for, and where.
+pub fn sample_refusals()
+    ensures prices { IsFirstFault (price_form sample_election) (price_records (row_1a ∷ row_1a ∷ row_2a ∷ [])) 6 CertFault.Repeated }
+    ensures group { IsFirstFault (violation_form unfair_election) (violation_records (demand_x1 ∷ two (codes "voter") (codes "5") ∷ [])) 3 CertFault.UnknownVoter }
+    ensures outcome { IsFirstFault (outcome_form sample_election) (outcome_records (member_1 ∷ [])) 2 CertFault.BadRow }
 {}

@@ -1,0 +1,15 @@
+use Rattle.pb_records.proofs.First.{one-first}
+use Rattle.pb_certificate.specs.Faults.{violation_form}
+use Rattle.pb_certificate.proofs.GroupAnswered.{group-answered}
+use Rattle.pb_certificate.proofs.GroupClear.{group-clear}
+use Rattle.pb_certificate.proofs.Unique.{group-text-same}
+use Rattle.pb_certificate.proofs.laws.one_answer_on_violations.Goals as goal
+
+pub returns : goal.returns
+returns c =
+    record {
+      answered = group-answered;
+      apart = λ recs e m s t place f text. group-clear recs e m s t text place f;
+      alone = group-text-same;
+      first = λ recs e. one-first (violation_form e) recs;
+    }
