@@ -5,6 +5,7 @@ pub mod Named
 pub mod Inputs
 pub mod Promises
 pub mod Answers
+pub mod OneAnswer
 pub mod Readers
 pub mod Both
 pub mod Margins

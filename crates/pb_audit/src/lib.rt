@@ -10,6 +10,7 @@ mod folder_report;
 mod found;
 mod help;
 mod input;
+pub mod laws;
 mod lines;
 mod loaded;
 mod margin_engine;

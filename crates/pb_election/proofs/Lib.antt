@@ -1,13 +1,13 @@
 mod Distinct
 mod KeyLemmas
-mod FoundParts
+pub mod FoundParts
 mod Clear
 mod Taken
 mod Spots
-mod Apart
+pub mod Apart
 mod BeginningLemmas
 mod Extends
-mod Reading
+pub mod Reading
 mod Elections
 mod Totals
 mod Sound
