@@ -9,8 +9,8 @@ use Rattle.pb_records.specs.Cells.{is_text}
 use Rattle.pb_records.specs.FirstFault.{IsFirstFault}
 use Rattle.pb_certificate.specs.NamedRows.{Named, same_named}
 use Rattle.pb_certificate.specs.NamedRows.Named.{Voter, Project}
-use Rattle.pb_certificate.specs.ViolationText.{IsViolationText, StateMeasure}
-use Rattle.pb_certificate.specs.Faults.{is_kind, is_version_1, is_version_2, same_name, states_measure, violation_fault_stands, violation_form}
+use Rattle.pb_certificate.specs.ViolationText.{IsViolationText, StateMeasure, is_version_1, is_version_2}
+use Rattle.pb_certificate.specs.Faults.{is_kind, same_name, states_measure, violation_fault_stands, violation_form}
 use Rattle.pb_certificate.specs.declared.measure.Measure.{Measure}
 use Rattle.pb_certificate.specs.declared.refusal.CertFault.{CertFault}
 use Rattle.pb_certificate.specs.declared.refusal.CertFault.TheVariants as fault

@@ -16,6 +16,7 @@ pub mod MarkedRows
 pub mod OutcomeClear
 pub mod PriceClear
 pub mod Heads
+pub mod FirstHead
 pub mod Found
 pub mod PriceRows
 pub mod PlaceSteps

@@ -11,9 +11,8 @@ use Rattle.pb_certificate.specs.Fields.{fields, same_fields, whole_within}
 use Rattle.pb_certificate.specs.PriceText.{IsPriceText, payment_of, payments_stated}
 use Rattle.pb_certificate.specs.NamedRows.{named_of, was_named}
 use Rattle.pb_certificate.specs.NamedRows.Named.{Voter, Project}
-use Rattle.pb_certificate.specs.ViolationText.{IsViolationText, StateMeasure, satisfaction_by}
+use Rattle.pb_certificate.specs.ViolationText.{IsViolationText, StateMeasure, is_version_2, satisfaction_by}
 use Rattle.pb_certificate.specs.OutcomeText.{IsOutcomeText}
-use Rattle.pb_certificate.specs.Faults.{is_version_2}
 use Rattle.pb_certificate.specs.declared.measure.Measure.{Measure}
 use Rattle.pb_certificate.specs.declared.measure.Measure.TheVariants.{ByCount, ByCost}
 use Rattle.pb_certificate.proofs.ViolationHeads.{is-version-2, not-version-2}

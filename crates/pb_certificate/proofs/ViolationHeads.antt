@@ -4,8 +4,8 @@ use Rattle.std.specs.Prelude.{◌||◌, drop}
 use Rattle.std.proofs.lemmas.Bool.{and_left, and_right}
 use Rattle.pb_records.specs.Records.{Field, Rec}
 use Rattle.pb_certificate.specs.Fields.{fields, same_fields}
-use Rattle.pb_certificate.specs.Faults.{at_measure, is_version_1, is_version_2, states_measure, violation_heads, violation_rows}
-use Rattle.pb_certificate.specs.ViolationText.{StateMeasure, satisfaction_by, version_1, version_2}
+use Rattle.pb_certificate.specs.Faults.{at_measure, states_measure, violation_heads, violation_rows}
+use Rattle.pb_certificate.specs.ViolationText.{StateMeasure, is_version_1, is_version_2, satisfaction_by, version_1, version_2}
 use Rattle.pb_certificate.specs.declared.measure.Measure.{Measure}
 use Rattle.pb_certificate.specs.declared.measure.Measure.TheVariants.{ByCount, ByCost}
 use Rattle.pb_certificate.proofs.HeadRecords.{past, rows-before}

@@ -12,12 +12,12 @@ use Rattle.pb_records.specs.FirstFault.{NoFault}
 use Rattle.pb_records.specs.declared.drafts.Stop.{Stop}
 use Rattle.pb_records.specs.declared.drafts.Stop.TheVariants.{Fault}
 use Rattle.pb_certificate.specs.Fields.{fields, project_in, same_fields, voter_in, whole_in}
-use Rattle.pb_certificate.specs.Faults.{is_kind, is_version_1, is_version_2, same_name, states_measure, violation_form}
+use Rattle.pb_certificate.specs.Faults.{is_kind, same_name, states_measure, violation_form}
 use Rattle.pb_certificate.specs.Marks.{marked, project_after, voter_after}
 use Rattle.pb_certificate.specs.NamedRows.{Named, was_named}
 use Rattle.pb_certificate.specs.NamedRows.Named.{Voter, Project}
 use Rattle.pb_certificate.specs.ViolationDrafts.{AreMarked, Reading, Took, ViolationRows, ViolationStands, ViolationTaken, after_violation_row, with_demand, with_group}
-use Rattle.pb_certificate.specs.ViolationText.{IsViolationText, StateMeasure, satisfaction_by, version_1, version_2}
+use Rattle.pb_certificate.specs.ViolationText.{IsViolationText, StateMeasure, is_version_1, is_version_2, satisfaction_by, version_1, version_2}
 use Rattle.pb_certificate.specs.declared.measure.Measure.{Measure}
 use Rattle.pb_certificate.specs.declared.violation_draft.Awaited.{Awaited}
 use Rattle.pb_certificate.specs.declared.violation_draft.Awaited.TheVariants.{Format, Satisfaction, Row}

@@ -12,7 +12,7 @@ use Rattle.pb_records.specs.declared.drafts.Stop.{Stop}
 use Rattle.pb_records.specs.declared.drafts.Stop.TheVariants.{Fault, Memory}
 use Rattle.pb_certificate.specs.Fields.{fields, number, project_in, same_fields, voter_in, whole_in, whole_within}
 use Rattle.pb_certificate.specs.PriceText.{numerator_of}
-use Rattle.pb_certificate.specs.ViolationText.{satisfaction_by, version_1, version_2}
+use Rattle.pb_certificate.specs.ViolationText.{is_version_1, is_version_2, satisfaction_by}
 use Rattle.pb_certificate.specs.declared.measure.Measure.TheVariants.{ByCount, ByCost}
 use Rattle.pb_certificate.specs.declared.refusal.CertFault.{CertFault}
 use Rattle.pb_certificate.specs.declared.refusal.CertFault.TheVariants as fault
@@ -132,12 +132,6 @@ same_name a b =
     || (is_project_row a && is_project_row b && bytes_eq (named_field a) (named_field b))
 
 -- A violation certificate of version 1 has one head record. In version 2 it has a second one, which states the measure.
-
-abbrev pub is_version_1 : Rec → Bool
-is_version_1 r = same_fields (fields r) version_1
-
-abbrev pub is_version_2 : Rec → Bool
-is_version_2 r = same_fields (fields r) version_2
 
 abbrev pub states_measure : Rec → Bool
 states_measure r = same_fields (fields r) (satisfaction_by ByCount) || same_fields (fields r) (satisfaction_by ByCost)

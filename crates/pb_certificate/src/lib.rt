@@ -7,6 +7,7 @@ mod canonical_draft;
 mod canonical_rows;
 mod fields;
 mod gathering;
+mod kind;
 pub mod laws;
 mod ledger;
 mod marks;
@@ -29,6 +30,7 @@ mod violation;
 mod violation_draft;
 
 pub use canonical::{WriteFault, canonical_text_of};
+pub use kind::is_violation;
 pub use measure::Measure;
 pub use outcome_reader::read_outcome;
 pub use price_row::PriceRow;

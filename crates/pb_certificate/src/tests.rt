@@ -1,5 +1,6 @@
 //! Certificates whose answers were worked out by hand.
 mod canonical;
+mod kinds;
 mod outcomes;
 mod prices;
 mod rows;
