@@ -47,6 +47,15 @@ back-twice (b ∷ bs) = by (is_space b && is_empty (drop_back is_space bs)) refl
 pub clean-clean : (f : Field) → clean (clean f) ≡ clean f
 clean-clean f = ap (drop_back is_space) (front-same (clean f) (back-starts (drop_front is_space f) (front-starts f))) ∙ back-twice (drop_front is_space f)
 
+-- a field is blank where nothing is left of it at the front
+back-empty : (f : Field) → StartsPlain f → is_empty (drop_back is_space f) ≡ is_empty f
+unfolding StartsPlain drop_back
+back-empty [] h = refl
+back-empty (b ∷ bs) h = rw h refl
+
+pub empty-by-front : (f : Field) → is_empty (clean f) ≡ is_empty (drop_front is_space f)
+empty-by-front f = back-empty (drop_front is_space f) (front-starts f)
+
 -- UTF-8.
 
 front-utf8 : (f : Field) → IsUtf8 f → IsUtf8 (drop_front is_space f)

@@ -9,7 +9,8 @@ use csv::StringRecord;
 fn is_space(byte: u8) -> bool
     ensures { result ≡ spec.is_space byte }
 {
-    matches!(byte, 9..=13 | 32)
+    // Most bytes are above 32, which one comparison tells.
+    byte <= 32 && matches!(byte, 9..=13 | 32)
 }
 
 fn clean_front(text: &str) -> &str
@@ -57,7 +58,7 @@ pub fn is_blank_from(row: &StringRecord, start: usize) -> bool
 {
     let mut i = start;
     while let Some(field) = row.get(i) {
-        if !clean(field).is_empty() {
+        if !clean_front(field).is_empty() {
             return false;
         }
         i += 1;
