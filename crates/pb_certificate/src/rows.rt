@@ -14,7 +14,7 @@ use std::marker::Model;
 /// between two records, and no fault stands before it.
 #[derive(Drop)]
 pub struct Rows<'a> {
-    reader: RowReader<'a>,
+    reader: Box<RowReader<'a>>,
 }
 
 impl<'a> Model for Rows<'a> {
@@ -23,9 +23,9 @@ impl<'a> Model for Rows<'a> {
 
     ghost Value = { spec.Rows };
 
-    ghost view = { λ a. place_of a.reader };
+    ghost view = { λ a. place_of a.reader.value };
 
-    ghost invariant = { λ a. IsReading a.reader };
+    ghost invariant = { λ a. IsReading a.reader.value };
 }
 
 impl<'a> Rows<'a> {
@@ -47,6 +47,9 @@ impl<'a> Rows<'a> {
         ensures in_head { IfErr result (λ r. IsInHead (certificate_records bytes.now) r) }
     {
         let reader = RowReader::open(alloc, bytes, election)?;
+        let Ok(reader) = Box::new(alloc, reader) else {
+            return Err(CertRefusal::NO_MEMORY);
+        };
         Ok(Rows { reader })
     }
 
