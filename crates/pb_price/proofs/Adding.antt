@@ -14,7 +14,7 @@ use Rattle.pb_price.specs.declared.tally.ProjectSums.{ProjectSums}
 use Rattle.pb_price.specs.declared.tally.Tally.{Tally}
 use Rattle.pb_price.proofs.Amounts.{lefts-same, offers-same, paid-here, paid-other, spent-here, spent-same, top-here}
 use Rattle.pb_price.proofs.Ballots.{written}
-use Rattle.pb_price.specs.Noted.{IsFindingTo, among}
+use Rattle.pb_price.specs.Noted.{IsFindingTo}
 use Rattle.pb_price.specs.declared.Finding.{Finding}
 use Rattle.pb_price.proofs.Counting.{count-added, count-few}
 use Rattle.pb_price.proofs.Firsts.{pair-next, pair-same}
@@ -101,9 +101,8 @@ over-kept : (e : Instance) (a b : Taken) (q : PriceRow) (closed : ℕ) (f : Find
     → IsFindingTo closed (λ i. nat_lt a.budget (spent_by e a.pays i)) (λ i. true) (λ i. a.budget) (λ i. pos (spent_by e a.pays i)) f
     → IsFindingTo closed (λ i. nat_lt b.budget (spent_by e b.pays i)) (λ i. true) (λ i. b.budget) (λ i. pos (spent_by e b.pays i)) f
 over-kept e a b q closed f r low h =
-    finding-as closed (λ i. nat_lt a.budget (spent_by e a.pays i)) (λ i. true) _ (among closed (λ i. true)) (λ i. a.budget) (λ i. b.budget) (λ i. pos (spent_by e a.pays i)) (λ i. pos (spent_by e b.pays i)) f h (over-added e a b q closed r low)
+    finding-as closed (λ i. nat_lt a.budget (spent_by e a.pays i)) (λ i. true) _ (λ i. a.budget) (λ i. b.budget) (λ i. pos (spent_by e a.pays i)) (λ i. pos (spent_by e b.pays i)) f h (over-added e a b q closed r low)
     (record { bounds = λ i from to. sym r.budget; amounts = λ i from to. ap pos (sym (spent-same e a.pays b.pays i (λ c. r.voters i c (λ is. omega arith)))) })
-    (λ x. (λ k. k, λ k. k))
 
 -- the first payment for a project that is not approved
 wrong-other : (e : Instance) (f g : ℕ → ℕ → ℕ) (i c : ℕ) → g i c ≡ f i c → pays_wrongly e g i c ≡ pays_wrongly e f i c

@@ -7,8 +7,8 @@ use Rattle.std.proofs.lemmas.List.{get_or_past}
 use Rattle.std.proofs.lemmas.List.Sums.{get_or-le-sum_by, sum_by-take-le}
 use Rattle.pb_election.specs.Instance.{Instance, IsProject, approvals, approves, ballot_of, projects, voters}
 use Rattle.pb_cohesion.specs.Conditions.{sum_ℤ}
-use Rattle.pb_price.specs.Findings.{IsShown, comparison}
-use Rattle.pb_price.specs.Noted.{among}
+use Rattle.pb_price.specs.Findings.{comparison}
+use Rattle.pb_price.specs.Noted.{IsShown, among}
 use Rattle.pb_price.specs.Looked.{IsSmallComparison}
 use Rattle.pb_price.specs.declared.Comparison.{Comparison}
 use Rattle.pb_price.specs.Tallies.{AreChanged, AreInRange, AreSmall, IsWithin, Taken, Tallied, first_supporters, left_by, most_by, paid_by, spent_by, sums_of}

@@ -1,33 +1,31 @@
 -- The findings as the sums tell them are the findings on the prices.
-use Rattle.std.proofs.Common.{◌≡◌, ℕ, ◌+◌, ◌*◌, ◌<◌, ◌≤◌, ◌↔◌, Bool, true, false, List, refl, sym, ◌∙◌, ap, inl, inr, arith}
+use Rattle.std.proofs.Common.{◌≡◌, ℕ, ◌+◌, ◌*◌, ◌^◌, ◌<◌, ◌≤◌, Bool, true, false, List, [], refl, sym, ◌∙◌, ap, inl, inr, arith}
 use Rattle.std.specs.Prelude.{ℤ, pos, ◌-ℤ◌, ◌&&◌, filter, int_le, nat_le, not}
-use Rattle.std.proofs.lemmas.Bool.{cases_lt, false≢true, le-leb, lt-leb, not-true}
+use Rattle.std.specs.List.{range_with_len}
+use Rattle.std.proofs.lemmas.Bool.{cases_lt, le-leb, lt-leb}
 use Rattle.std.proofs.lemmas.Int.{ints}
 use Rattle.std.proofs.lemmas.Nat.{mul-le}
 use Rattle.pb_money.specs.Grains.{cost_grains}
-use Rattle.pb_election.specs.Instance.{Instance, all_projects, cost_of, projects, supporters}
+use Rattle.pb_election.specs.Instance.{Instance, all_projects, all_voters, cost_of, projects, supporters, voters}
 use Rattle.pb_election.specs.Outcome.{has}
 use Rattle.pb_certificate.specs.Prices.{Prices}
-use Rattle.pb_cohesion.specs.Amounts.{budget_limit, cost, left, paid}
-use Rattle.pb_cohesion.specs.Conditions.{culprits_of_C3, culprits_of_C4, culprits_of_C5, culprits_of_Exhaustive, culprits_of_S5, most_of, sum_ℤ}
-use Rattle.pb_cohesion.specs.Outcome.{IsUnfunded, total}
+use Rattle.pb_cohesion.specs.Amounts.{beta, budget_limit, cost, left, paid, spent}
+use Rattle.pb_cohesion.specs.Conditions.{culprits_of_C1, culprits_of_C2, culprits_of_C3, culprits_of_C4, culprits_of_C5, culprits_of_Exhaustive, culprits_of_S5, most_of, sum_ℤ}
+use Rattle.pb_cohesion.specs.Outcome.{total, unfunded}
 use Rattle.pb_cohesion.proofs.Ballots.{filter-same}
-use Rattle.pb_price.specs.Findings.{IsFinding, nowhere, total_grains}
-use Rattle.pb_price.specs.Noted.{among}
+use Rattle.pb_cohesion.proofs.Culprits.{nil-filter}
+use Rattle.pb_price.specs.Findings.{finding, findings, payment_finding, total_grains}
 use Rattle.pb_price.specs.Looked.{AreFoundTo, has_room}
 use Rattle.pb_price.specs.Tallies.{AreSums}
+use Rattle.pb_price.specs.declared.Finding.{Finding}
+use Rattle.pb_price.specs.declared.Findings.{Findings}
+use Rattle.pb_price.specs.declared.PaymentFinding.{PaymentFinding}
 use Rattle.pb_price.specs.declared.explaining.ProjectFindings.{ProjectFindings}
 use Rattle.pb_price.specs.declared.tally.ProjectSums.{ProjectSums}
-use Rattle.pb_price.proofs.SameSums.{finding-as}
+use Rattle.pb_price.proofs.Closest.{found-as}
 use Rattle.pb_price.proofs.Culprits.{affordable, affordable-is}
+use Rattle.pb_price.proofs.Looking.{found}
 use Rattle.pb_price.proofs.Reading.{cost-at, exactly-is, left-at, offer-at, paid-at, plain-is, stable-is, vain-is}
-
--- the candidates
-unfunded-among : (e : Instance) (w : List Bool) (c : ℕ) → among (projects e) (λ x. not (has w x)) c ↔ IsUnfunded e w c
-unfunded-among e w c = (λ a. ((a.0, a.1), not-true _ a.2), λ u. (u.0.0, u.0.1, ap not u.1))
-
-none-among : (n c : ℕ) → among n (λ x. false) c ↔ nowhere c
-none-among n c = (λ a. false≢true a.2, λ u. absurd u)
 
 -- room for one more project, in grains
 room-is : (t k l d : ℕ) → 1 ≤ d → int_le (pos (k * d)) (pos (l * d) -ℤ pos (t * d)) ≡ nat_le (t + k) l
@@ -55,20 +53,45 @@ room-culprits e w d low =
 
 -- the findings on projects
 pub record AreOn (e : Instance) (w : List Bool) (p : Prices) (f : ProjectFindings) : Type 0 where
-  pub exhaustive : IsFinding (culprits_of_Exhaustive e w) (IsUnfunded e w) (cost e p) (λ c. pos (budget_limit e p) -ℤ pos (total_grains e w p)) f.exhaustive
-  pub c3 : IsFinding (culprits_of_C3 e w p) nowhere (cost e p) (λ c. pos (paid e p c)) f.c3
-  pub c4 : IsFinding (culprits_of_C4 e w p) nowhere (λ c. 0) (λ c. pos (paid e p c)) f.c4
-  pub c5 : IsFinding (culprits_of_C5 e w p) (IsUnfunded e w) (cost e p) (λ c. sum_ℤ (left e p) (supporters e c)) f.c5
-  pub s5 : IsFinding (culprits_of_S5 e w p) (IsUnfunded e w) (cost e p) (λ c. sum_ℤ (most_of e p) (supporters e c)) f.s5
+  pub exhaustive : f.exhaustive ≡ finding (culprits_of_Exhaustive e w) (unfunded e w) (cost e p) (λ c. pos (budget_limit e p) -ℤ pos (total_grains e w p))
+  pub c3 : f.c3 ≡ finding (culprits_of_C3 e w p) [] (cost e p) (λ c. pos (paid e p c))
+  pub c4 : f.c4 ≡ finding (culprits_of_C4 e w p) [] (λ c. 0) (λ c. pos (paid e p c))
+  pub c5 : f.c5 ≡ finding (culprits_of_C5 e w p) (unfunded e w) (cost e p) (λ c. sum_ℤ (left e p) (supporters e c))
+  pub s5 : f.s5 ≡ finding (culprits_of_S5 e w p) (unfunded e w) (cost e p) (λ c. sum_ℤ (most_of e p) (supporters e c))
+
+none-among : (n : ℕ) → filter (λ c. false) (range_with_len 1 n) ≡ []
+none-among n = nil-filter (λ c. false) n 1 (λ c low high. refl)
 
 pub are-on : (e : Instance) (w : List Bool) (p : Prices) (d : ℕ) (sums : List ProjectSums) (remaining : ℤ) (f : ProjectFindings) → p.denominator ≡ d → 1 ≤ d → AreSums e p sums
     → remaining ≡ pos (cost_grains e.limit d) -ℤ pos (cost_grains (total e w) d) → AreFoundTo (projects e) e w d remaining sums f → AreOn e w p f
 are-on e w p d sums remaining f is low h same k = record {
   exhaustive =
-      finding-as (projects e) _ _ _ _ _ _ _ _ f.exhaustive k.exhaustive (ap (λ r. filter (has_room e w d r) (all_projects e)) same ∙ room-culprits e w d low)
-      (record { bounds = λ c a b. cost-at e p d c is; amounts = λ c a b. (same ∙ ap (λ x. pos (cost_grains e.limit x) -ℤ pos (cost_grains (total e w) x)) (sym is)) }) (unfunded-among e w);
-  c3 = finding-as (projects e) _ _ _ _ _ _ _ _ f.c3 k.c3 (exactly-is e w p d sums is h) (record { bounds = λ c a b. cost-at e p d c is; amounts = λ c a b. ap pos (paid-at e p sums c h a b) }) (none-among (projects e));
-  c4 = finding-as (projects e) _ _ _ _ _ _ _ _ f.c4 k.c4 (vain-is e w p sums h) (record { bounds = λ c a b. refl; amounts = λ c a b. ap pos (paid-at e p sums c h a b) }) (none-among (projects e));
-  c5 = finding-as (projects e) _ _ _ _ _ _ _ _ f.c5 k.c5 (plain-is e w p d sums is h) (record { bounds = λ c a b. cost-at e p d c is; amounts = λ c a b. left-at e p sums c h a b }) (unfunded-among e w);
-  s5 = finding-as (projects e) _ _ _ _ _ _ _ _ f.s5 k.s5 (stable-is e w p d sums is h) (record { bounds = λ c a b. cost-at e p d c is; amounts = λ c a b. offer-at e p sums c h a b }) (unfunded-among e w);
+      found-as (projects e) _ _ _ _ _ _ _ _ f.exhaustive k.exhaustive (ap (λ r. filter (has_room e w d r) (all_projects e)) same ∙ room-culprits e w d low)
+      (record { bounds = λ c a b. cost-at e p d c is; amounts = λ c a b. (same ∙ ap (λ x. pos (cost_grains e.limit x) -ℤ pos (cost_grains (total e w) x)) (sym is)) }) refl;
+  c3 = found-as (projects e) _ _ _ _ _ _ _ _ f.c3 k.c3 (exactly-is e w p d sums is h) (record { bounds = λ c a b. cost-at e p d c is; amounts = λ c a b. ap pos (paid-at e p sums c h a b) }) (none-among (projects e));
+  c4 = found-as (projects e) _ _ _ _ _ _ _ _ f.c4 k.c4 (vain-is e w p sums h) (record { bounds = λ c a b. refl; amounts = λ c a b. ap pos (paid-at e p sums c h a b) }) (none-among (projects e));
+  c5 = found-as (projects e) _ _ _ _ _ _ _ _ f.c5 k.c5 (plain-is e w p d sums is h) (record { bounds = λ c a b. cost-at e p d c is; amounts = λ c a b. left-at e p sums c h a b }) refl;
+  s5 = found-as (projects e) _ _ _ _ _ _ _ _ f.s5 k.s5 (stable-is e w p d sums is h) (record { bounds = λ c a b. cost-at e p d c is; amounts = λ c a b. offer-at e p sums c h a b }) refl;
 }
+
+-- findings of the same parts
+abbrev of : ℕ → ℕ → ℕ → ℕ → ℕ → Finding → PaymentFinding → Finding → Finding → Finding → Finding → Finding → Findings
+of a b c d e x y z u v s t = record { grains_per_unit = a; total = b; limit = c; voter_budget = d; budgets = e; exhaustive = x; c1 = y; c2 = z; c3 = u; c4 = v; c5 = s; s5 = t }
+
+of-parts : (a a' b b' c c' d d' e e' : ℕ) (x x' : Finding) (y y' : PaymentFinding) (z z' u u' v v' s s' t t' : Finding) → a ≡ a' → b ≡ b' → c ≡ c' → d ≡ d' → e ≡ e' → x ≡ x' → y ≡ y' → z ≡ z' → u ≡ u' → v ≡ v' → s ≡ s' → t ≡ t'
+    → of a b c d e x y z u v s t ≡ of a' b' c' d' e' x' y' z' u' v' s' t'
+of-parts a a' b b' c c' d d' e e' x x' y y' z z' u u' v v' s s' t t' p1 p2 p3 p4 p5 p6 p7 p8 p9 p10 p11 p12 = rw (p1, p2, p3, p4, p5, p6, p7, p8, p9, p10, p11, p12) refl
+
+pub record HasFound (e : Instance) (w : List Bool) (p : Prices) (f : Findings) : Type 0 where
+  pub grains_per_unit : f.grains_per_unit ≡ 10 ^ 6 * p.denominator
+  pub total : f.total ≡ total_grains e w p
+  pub limit : f.limit ≡ budget_limit e p
+  pub voter_budget : f.voter_budget ≡ beta p
+  pub budgets : f.budgets ≡ voters e * beta p
+  pub c1 : f.c1 ≡ payment_finding (culprits_of_C1 e p)
+  pub c2 : f.c2 ≡ finding (culprits_of_C2 e p) (all_voters e) (λ i. beta p) (λ i. pos (spent e p i))
+  pub on : AreOn e w p (found f.exhaustive f.c3 f.c4 f.c5 f.s5)
+
+pub are-findings : (e : Instance) (w : List Bool) (p : Prices) (f : Findings) → HasFound e w p f → f ≡ findings e w p
+are-findings e w p f h =
+    of-parts f.grains_per_unit _ f.total _ f.limit _ f.voter_budget _ f.budgets _ f.exhaustive _ f.c1 _ f.c2 _ f.c3 _ f.c4 _ f.c5 _ f.s5 _ h.grains_per_unit h.total h.limit h.voter_budget h.budgets h.on.exhaustive h.c1 h.c2 h.on.c3 h.on.c4 h.on.c5 h.on.s5

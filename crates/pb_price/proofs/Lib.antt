@@ -19,6 +19,7 @@ pub mod Certificates
 pub mod Ranges
 pub mod OneMore
 pub mod SameSums
+pub mod Closest
 pub mod Counting
 pub mod Looking
 pub mod Explained

@@ -7,8 +7,8 @@ use Rattle.std.proofs.lemmas.Int.{ints}
 use Rattle.std.proofs.lemmas.List.{length-append}
 use Rattle.std.proofs.lemmas.List.Elements.{filter-append}
 use Rattle.pb_cohesion.proofs.Firsts.{range-next}
-use Rattle.pb_price.specs.Findings.{IsFirstGreatest, IsShown, comparison, excess}
-use Rattle.pb_price.specs.Noted.{IsFindingTo, among, first_number, is_closer, noted, shown_with}
+use Rattle.pb_price.specs.Findings.{comparison, excess}
+use Rattle.pb_price.specs.Noted.{IsFindingTo, IsFirstGreatest, IsShown, among, first_number, is_closer, noted, shown_with}
 use Rattle.pb_price.specs.Looked.{IsSmallComparison, IsSmallFinding, compared}
 use Rattle.pb_price.specs.declared.Comparison.{Comparison}
 use Rattle.pb_price.specs.declared.Finding.{Finding}

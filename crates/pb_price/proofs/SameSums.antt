@@ -1,9 +1,9 @@
 -- A finding by two accounts of the same sums.
-use Rattle.std.proofs.Common.{◌≡◌, ℕ, zero, suc, ◌+◌, ◌<◌, ◌≤◌, ◌↔◌, Bool, true, false, cond, List, ◌∷◌, length, sym, ◌∙◌, ap, subst, arith}
+use Rattle.std.proofs.Common.{◌≡◌, ℕ, zero, suc, ◌+◌, ◌<◌, ◌≤◌, Bool, true, false, cond, List, ◌∷◌, length, sym, ◌∙◌, ap, subst, arith}
 use Rattle.std.specs.Prelude.{ℤ, ◌≤ℤ◌, Option, Some, None, filter, slice_get}
 use Rattle.std.specs.List.{range_with_len}
-use Rattle.pb_price.specs.Findings.{IsFinding, IsShown, comparison, excess}
-use Rattle.pb_price.specs.Noted.{IsFindingTo, among}
+use Rattle.pb_price.specs.Findings.{comparison, excess}
+use Rattle.pb_price.specs.Noted.{IsFindingBy, IsFindingTo, IsShown, among}
 use Rattle.pb_price.specs.declared.Comparison.{Comparison}
 use Rattle.pb_price.specs.declared.Finding.{Finding}
 
@@ -28,26 +28,26 @@ make x b a = record { at = x; bound = b; amount = a }
 same-at : (n : ℕ) (bound bound' : ℕ → ℕ) (amount amount' : ℕ → ℤ) (x : ℕ) → Same n bound bound' amount amount' → 1 ≤ x → x ≤ n → comparison bound amount x ≡ comparison bound' amount' x
 same-at n bound bound' amount amount' x s low high = ap (λ b. make x b (amount x)) (s.bounds x low high) ∙ ap (make x (bound' x)) (s.amounts x low high)
 
-shown-as : (n : ℕ) (q r : ℕ → Bool) (candidate : ℕ → Type 0) (bound bound' : ℕ → ℕ) (amount amount' : ℕ → ℤ) (o : Option ℕ) (s : Option Comparison) → Same n bound bound' amount amount' → ((x : ℕ) → among n r x ↔ candidate x)
-    → o ≡ slice_get (filter q (range_with_len 1 n)) 0 → IsShown o (among n r) bound amount s → IsShown o candidate bound' amount' s
-shown-as n q r candidate bound bound' amount amount' (Some x) s same iff first h = let in_range = first-within q n 1 x first in h ∙ ap Some (same-at n bound bound' amount amount' x same in_range.0 (omega (arith, in_range.1)))
-shown-as n q r candidate bound bound' amount amount' None None same iff first h = λ x k. h x ((iff x).1 k)
-shown-as n q r candidate bound bound' amount amount' None (Some m) same iff first h = (
+shown-as : (n : ℕ) (q r : ℕ → Bool) (bound bound' : ℕ → ℕ) (amount amount' : ℕ → ℤ) (o : Option ℕ) (s : Option Comparison) → Same n bound bound' amount amount'
+    → o ≡ slice_get (filter q (range_with_len 1 n)) 0 → IsShown o (among n r) bound amount s → IsShown o (among n r) bound' amount' s
+shown-as n q r bound bound' amount amount' (Some x) s same first h = let in_range = first-within q n 1 x first in h ∙ ap Some (same-at n bound bound' amount amount' x same in_range.0 (omega (arith, in_range.1)))
+shown-as n q r bound bound' amount amount' None None same first h = h
+shown-as n q r bound bound' amount amount' None (Some m) same first h = (
   h.0 ∙ same-at n bound bound' amount amount' m.at same h.1.one.0 h.1.one.1,
   record {
-    one = (iff m.at).0 h.1.one;
-    greatest = λ y k. (let a = (iff y).1 k in subst (λ z. z ≤ℤ excess (comparison bound' amount' m.at)) (known y a) (subst (λ z. excess (comparison bound amount y) ≤ℤ z) (known m.at h.1.one) (h.1.greatest y a)));
-    lowest = λ y k e. (let a = (iff y).1 k in h.1.lowest y a (known y a ∙ e ∙ sym (known m.at h.1.one)));
+    one = h.1.one;
+    greatest = λ y a. subst (λ z. z ≤ℤ excess (comparison bound' amount' m.at)) (known y a) (subst (λ z. excess (comparison bound amount y) ≤ℤ z) (known m.at h.1.one) (h.1.greatest y a));
+    lowest = λ y a e. h.1.lowest y a (known y a ∙ e ∙ sym (known m.at h.1.one));
   },
 )
   where
     known : (y : ℕ) → among n r y → excess (comparison bound amount y) ≡ excess (comparison bound' amount' y)
     known y a = ap excess (same-at n bound bound' amount amount' y same a.0 a.1)
 
-pub finding-as : (n : ℕ) (q r : ℕ → Bool) (culprits : List ℕ) (candidate : ℕ → Type 0) (bound bound' : ℕ → ℕ) (amount amount' : ℕ → ℤ) (f : Finding) → IsFindingTo n q r bound amount f
-    → filter q (range_with_len 1 n) ≡ culprits → Same n bound bound' amount amount' → ((x : ℕ) → among n r x ↔ candidate x) → IsFinding culprits candidate bound' amount' f
-finding-as n q r culprits candidate bound bound' amount amount' f h is same iff = record {
+pub finding-as : (n : ℕ) (q r : ℕ → Bool) (culprits : List ℕ) (bound bound' : ℕ → ℕ) (amount amount' : ℕ → ℤ) (f : Finding) → IsFindingTo n q r bound amount f
+    → filter q (range_with_len 1 n) ≡ culprits → Same n bound bound' amount amount' → IsFindingBy culprits n r bound' amount' f
+finding-as n q r culprits bound bound' amount amount' f h is same = record {
   first = h.first ∙ ap (λ xs. slice_get xs 0) is;
   count = h.count ∙ ap (λ xs. length xs) is;
-  shown = shown-as n q r candidate bound bound' amount amount' f.first f.shown same iff h.first h.shown;
+  shown = shown-as n q r bound bound' amount amount' f.first f.shown same h.first h.shown;
 }

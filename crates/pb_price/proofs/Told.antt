@@ -10,12 +10,11 @@ use Rattle.pb_cohesion.specs.Amounts.{beta, budget_limit}
 use Rattle.pb_cohesion.specs.Conditions.{culprits_of_C1, culprits_of_C2, culprits_of_C3, culprits_of_C4, culprits_of_C5, culprits_of_Exhaustive, culprits_of_S5}
 use Rattle.pb_cohesion.specs.Outcome.{total}
 use Rattle.pb_cohesion.proofs.Culprits.{C1-iff, C2-iff, C3-iff, C4-iff, C5-iff, Exhaustive-iff, S5-iff}
-use Rattle.pb_price.specs.Findings.{AreFindings}
+use Rattle.pb_price.specs.Findings.{findings}
 use Rattle.pb_price.specs.First.{First, failures_of_budgets, failures_of_outcome, failures_of_payments, failures_of_supporters}
 use Rattle.pb_price.specs.Told.{TellWhatHolds, first_told, told_of_budgets, told_of_outcome, told_of_payments, told_of_supporters}
 use Rattle.pb_price.specs.declared.Failure.{Failure}
 use Rattle.pb_price.specs.declared.Failure.TheVariants as failure
-use Rattle.pb_price.specs.declared.Findings.{Findings}
 use Rattle.pb_price.specs.declared.Mode.{Mode}
 
 -- a condition holds where its culprits are none
@@ -39,17 +38,17 @@ over-is t l d low = elim (cases_lt l t) [
   | inr less ↦ le-ltb (l * d) (t * d) (mul-le t d l d less (omega arith)) ∙ sym (le-ltb l t less)
 ]
 
-pub tell-what-holds : (e : Instance) (w : List Bool) (p : Prices) (f : Findings) → 1 ≤ p.denominator → AreFindings e w p f → TellWhatHolds e w p f
-tell-what-holds e w p f low k = record {
-  feasible = (λ h. within (total e w) e.limit p.denominator low (omega (arith, k.total, k.limit)), λ h. omega (arith, k.total, k.limit, mul-le (total e w) p.denominator e.limit p.denominator h (omega arith)));
-  exhaustive = through (none-iff (culprits_of_Exhaustive e w) f.exhaustive.count k.exhaustive.count) (Exhaustive-iff e w);
-  cover = (λ h. omega (arith, k.budgets, k.limit), λ h. omega (arith, k.budgets, k.limit));
-  c1 = through (none-iff (culprits_of_C1 e p) f.c1.count k.c1.count) (C1-iff e p);
-  c2 = through (none-iff (culprits_of_C2 e p) f.c2.count k.c2.count) (C2-iff e p);
-  c3 = through (none-iff (culprits_of_C3 e w p) f.c3.count k.c3.count) (C3-iff e w p);
-  c4 = through (none-iff (culprits_of_C4 e w p) f.c4.count k.c4.count) (C4-iff e w p);
-  c5 = through (none-iff (culprits_of_C5 e w p) f.c5.count k.c5.count) (C5-iff e w p);
-  s5 = through (none-iff (culprits_of_S5 e w p) f.s5.count k.s5.count) (S5-iff e w p);
+pub tell-what-holds : (e : Instance) (w : List Bool) (p : Prices) → 1 ≤ p.denominator → TellWhatHolds e w p (findings e w p)
+tell-what-holds e w p low = record {
+  feasible = (λ h. within (total e w) e.limit p.denominator low h, λ h. mul-le (total e w) p.denominator e.limit p.denominator h (omega arith));
+  exhaustive = through (none-iff (culprits_of_Exhaustive e w) _ refl) (Exhaustive-iff e w);
+  cover = (λ h. h, λ h. h);
+  c1 = through (none-iff (culprits_of_C1 e p) _ refl) (C1-iff e p);
+  c2 = through (none-iff (culprits_of_C2 e p) _ refl) (C2-iff e p);
+  c3 = through (none-iff (culprits_of_C3 e w p) _ refl) (C3-iff e w p);
+  c4 = through (none-iff (culprits_of_C4 e w p) _ refl) (C4-iff e w p);
+  c5 = through (none-iff (culprits_of_C5 e w p) _ refl) (C5-iff e w p);
+  s5 = through (none-iff (culprits_of_S5 e w p) _ refl) (S5-iff e w p);
 }
 
 -- the first of two lists, and of one that is mapped
@@ -73,37 +72,34 @@ of-choice : (b : Bool) (xs ys : List Failure) (o q : Option Failure) → o ≡ s
 of-choice true xs ys o q is is' = is
 of-choice false xs ys o q is is' = is'
 
-outcome-told : (m : Mode) (e : Instance) (w : List Bool) (p : Prices) (f : Findings) → 1 ≤ p.denominator → AreFindings e w p f → told_of_outcome m f ≡ slice_get (failures_of_outcome m e w) 0
-outcome-told m e w p f low k =
+outcome-told : (m : Mode) (e : Instance) (w : List Bool) (p : Prices) → 1 ≤ p.denominator → told_of_outcome m (findings e w p) ≡ slice_get (failures_of_outcome m e w) 0
+outcome-told m e w p low =
     of-two (cond (nat_lt e.limit (total e w)) (failure.Feasible ∷ []) []) (cond m.exhaustive (map failure.Exhaustive (culprits_of_Exhaustive e w)) []) _ _
-    (ap (λ n. cond (nat_lt n f.total) (Some failure.Feasible) None) k.limit ∙ ap (λ n. cond (nat_lt (budget_limit e p) n) (Some failure.Feasible) None) k.total
-    ∙ ap (λ b. cond b (Some failure.Feasible) None) (over-is (total e w) e.limit p.denominator low) ∙ of-test (nat_lt e.limit (total e w)) failure.Feasible)
-    (of-asked m.exhaustive (map failure.Exhaustive (culprits_of_Exhaustive e w)) _ (of-mapped failure.Exhaustive (culprits_of_Exhaustive e w) f.exhaustive.first k.exhaustive.first))
+    (ap (λ b. cond b (Some failure.Feasible) None) (over-is (total e w) e.limit p.denominator low) ∙ of-test (nat_lt e.limit (total e w)) failure.Feasible)
+    (of-asked m.exhaustive (map failure.Exhaustive (culprits_of_Exhaustive e w)) _ (of-mapped failure.Exhaustive (culprits_of_Exhaustive e w) _ refl))
 
-budgets-told : (m : Mode) (e : Instance) (w : List Bool) (p : Prices) (f : Findings) → AreFindings e w p f → told_of_budgets m f ≡ slice_get (failures_of_budgets m e p) 0
-budgets-told m e w p f k =
-    of-asked m.cover (cond (nat_le (voters e * beta p) (budget_limit e p)) (failure.Cover ∷ []) []) _
-    (ap (λ n. cond (nat_le n f.limit) (Some failure.Cover) None) k.budgets ∙ ap (λ n. cond (nat_le (voters e * beta p) n) (Some failure.Cover) None) k.limit ∙ of-test (nat_le (voters e * beta p) (budget_limit e p)) failure.Cover)
+budgets-told : (m : Mode) (e : Instance) (w : List Bool) (p : Prices) → told_of_budgets m (findings e w p) ≡ slice_get (failures_of_budgets m e p) 0
+budgets-told m e w p = of-asked m.cover (cond (nat_le (voters e * beta p) (budget_limit e p)) (failure.Cover ∷ []) []) _ (of-test (nat_le (voters e * beta p) (budget_limit e p)) failure.Cover)
 
-payments-told : (e : Instance) (w : List Bool) (p : Prices) (f : Findings) → AreFindings e w p f → told_of_payments f ≡ slice_get (failures_of_payments e w p) 0
-payments-told e w p f k =
+payments-told : (e : Instance) (w : List Bool) (p : Prices) → told_of_payments (findings e w p) ≡ slice_get (failures_of_payments e w p) 0
+payments-told e w p =
     of-two _ (map failure.C4 (culprits_of_C4 e w p)) _ _
     (of-two _ (map failure.C3 (culprits_of_C3 e w p)) _ _
     (of-two (map (λ q. failure.C1 q.0 q.1) (culprits_of_C1 e p)) (map failure.C2 (culprits_of_C2 e p)) _ _
-    (of-mapped (λ q. failure.C1 q.0 q.1) (culprits_of_C1 e p) f.c1.first k.c1.first)
-    (of-mapped failure.C2 (culprits_of_C2 e p) f.c2.first k.c2.first))
-    (of-mapped failure.C3 (culprits_of_C3 e w p) f.c3.first k.c3.first))
-    (of-mapped failure.C4 (culprits_of_C4 e w p) f.c4.first k.c4.first)
+    (of-mapped (λ q. failure.C1 q.0 q.1) (culprits_of_C1 e p) _ refl)
+    (of-mapped failure.C2 (culprits_of_C2 e p) _ refl))
+    (of-mapped failure.C3 (culprits_of_C3 e w p) _ refl))
+    (of-mapped failure.C4 (culprits_of_C4 e w p) _ refl)
 
-supporters-told : (m : Mode) (e : Instance) (w : List Bool) (p : Prices) (f : Findings) → AreFindings e w p f → told_of_supporters m f ≡ slice_get (failures_of_supporters m e w p) 0
-supporters-told m e w p f k =
+supporters-told : (m : Mode) (e : Instance) (w : List Bool) (p : Prices) → told_of_supporters m (findings e w p) ≡ slice_get (failures_of_supporters m e w p) 0
+supporters-told m e w p =
     of-choice m.stable (map failure.S5 (culprits_of_S5 e w p)) (map failure.C5 (culprits_of_C5 e w p)) _ _
-    (of-mapped failure.S5 (culprits_of_S5 e w p) f.s5.first k.s5.first) (of-mapped failure.C5 (culprits_of_C5 e w p) f.c5.first k.c5.first)
+    (of-mapped failure.S5 (culprits_of_S5 e w p) _ refl) (of-mapped failure.C5 (culprits_of_C5 e w p) _ refl)
 
-pub tell-first : (m : Mode) (e : Instance) (w : List Bool) (p : Prices) (f : Findings) → 1 ≤ p.denominator → AreFindings e w p f → first_told m f ≡ First m e w p
-tell-first m e w p f low k =
+pub tell-first : (m : Mode) (e : Instance) (w : List Bool) (p : Prices) → 1 ≤ p.denominator → first_told m (findings e w p) ≡ First m e w p
+tell-first m e w p low =
     of-two (failures_of_outcome m e w ++ failures_of_budgets m e p ++ failures_of_payments e w p) (failures_of_supporters m e w p) _ _
     (of-two (failures_of_outcome m e w ++ failures_of_budgets m e p) (failures_of_payments e w p) _ _
-    (of-two (failures_of_outcome m e w) (failures_of_budgets m e p) _ _ (outcome-told m e w p f low k) (budgets-told m e w p f k))
-    (payments-told e w p f k))
-    (supporters-told m e w p f k)
+    (of-two (failures_of_outcome m e w) (failures_of_budgets m e p) _ _ (outcome-told m e w p low) (budgets-told m e w p))
+    (payments-told e w p))
+    (supporters-told m e w p)

@@ -1,5 +1,5 @@
 -- A tally of all payments of a price system.
-use Rattle.std.proofs.Common.{◌≡◌, ℕ, ◌+◌, ◌-◌, ◌*◌, ◌≤◌, Bool, true, false, List, [], length, take, refl, sym, ◌∙◌, ap, subst, arith}
+use Rattle.std.proofs.Common.{◌≡◌, ℕ, ◌+◌, ◌-◌, ◌*◌, ◌≤◌, Bool, true, false, List, [], length, take, sym, ◌∙◌, ap, subst, arith}
 use Rattle.std.specs.Prelude.{Option, Some, None, pos, ◌-ℤ◌, ◌&&◌, filter, flat_map, map, nat_lt, not, slice_get}
 use Rattle.std.specs.Int.{int_max}
 use Rattle.std.specs.List.{range_with_len}
@@ -16,10 +16,11 @@ use Rattle.pb_cohesion.proofs.Loops.{range-first, range-lists-first}
 use Rattle.pb_cohesion.proofs.Sums.{range-same}
 use Rattle.pb_price.specs.Answers.{AreStepsOf}
 use Rattle.pb_price.specs.Tallies.{IsFirstPair, IsTallyOf, Taken, Tallied, first_supporters, left_by, most_by, paid_by, pays_wrongly, spent_by, top_by}
+use Rattle.pb_price.specs.declared.PaymentFinding.{PaymentFinding}
 use Rattle.pb_price.specs.declared.tally.Tally.{Tally}
 use Rattle.pb_price.specs.Noted.{IsFindingTo}
 use Rattle.pb_price.proofs.Counting.{count-culprits}
-use Rattle.pb_price.proofs.SameSums.{finding-as}
+use Rattle.pb_price.proofs.Closest.{each-passes, found-as}
 use Rattle.pb_price.proofs.Signed.{signed-same}
 use Rattle.pb_price.proofs.Sums.{largest-same}
 
@@ -70,6 +71,9 @@ first-wrong e f p (Some q) h first =
     let here : slice_get (filter (wrong e p q.0) (all_projects e)) 0 ≡ Some q.1 = range-first (wrong e p q.0) (projects e) q.1 before' low' high' (wrong-agree e f p q.0 q.1 h first.0 first.1 ∙ first.2) in
     sym (range-lists-first (wrong_of e p) (voters e) q.0 (pair q.0 q.1) before low high (first-mapped (λ c. pair q.0 c) (filter (wrong e p q.0) (all_projects e)) q.1 here))
 
+abbrev wrongly : Option (ℕ × ℕ) → ℕ → PaymentFinding
+wrongly first count = record { first = first; count = count }
+
 pub whole : (e : Instance) (a : Taken) (t : Tally) (p : Prices) → Tallied e a t → t.closed ≡ voters e → a.budget ≡ beta p → Agree e a.pays (payment p) → IsTallyOf e p t
 whole e a t p h all budget agree = record {
   budget = h.budget ∙ budget;
@@ -86,17 +90,14 @@ whole e a t p h all budget agree = record {
         ∙ signed-same (most_by (beta p) e a.pays) (most_of e p) (λ i. approves e i (k + 1)) 1 (voters e) (λ i low high. most-agree (beta p) e a.pays (payment p) i agree (low, omega arith)));
     count = λ k d w. (h.sums.count k d w ∙ ap (λ n. length (first_supporters e n (k + 1))) all);
   };
-  unapproved = record {
-    first = first-wrong e a.pays p t.unapproved.first agree h.unapproved;
-    count = h.count_unapproved ∙ count-culprits e a.pays p agree.pays;
-  };
+  unapproved = ap (λ o. wrongly o t.unapproved.count) (first-wrong e a.pays p t.unapproved.first agree h.unapproved) ∙ ap (wrongly (slice_get (culprits_of_C1 e p) 0)) (h.count_unapproved ∙ count-culprits e a.pays p agree.pays);
   over_budget =
-      finding-as (voters e) (λ i. nat_lt a.budget (spent_by e a.pays i)) (λ i. true) (culprits_of_C2 e p) (IsVoter e) (λ i. a.budget) (λ i. beta p) (λ i. pos (spent_by e a.pays i)) (λ i. pos (spent e p i)) t.over_budget
+      found-as (voters e) (λ i. nat_lt a.budget (spent_by e a.pays i)) (λ i. true) (culprits_of_C2 e p) (all_voters e) (λ i. a.budget) (λ i. beta p) (λ i. pos (spent_by e a.pays i)) (λ i. pos (spent e p i)) t.over_budget
       (subst (λ n. IsFindingTo n (λ i. nat_lt a.budget (spent_by e a.pays i)) (λ i. true) (λ i. a.budget) (λ i. pos (spent_by e a.pays i)) t.over_budget) all h.over_budget)
       (ap (λ b. filter (λ i. nat_lt b (spent_by e a.pays i)) (all_voters e)) budget
       ∙ filter-same (λ i. nat_lt (beta p) (spent_by e a.pays i)) (λ i. nat_lt (beta p) (spent e p i)) (voters e) 1 (λ i low high. ap (nat_lt (beta p)) (spent-agree e a.pays (payment p) i agree (low, omega arith))))
       (record { bounds = λ i low high. budget; amounts = λ i low high. ap pos (spent-agree e a.pays (payment p) i agree (low, high)) })
-      (λ i. (λ k. (k.0, k.1), λ v. (v.0, v.1, refl)));
+      (each-passes (voters e) 1);
 }
 
 -- the steps of a whole tally, and those of the passes over the projects

@@ -10,7 +10,7 @@ use Rattle.pb_certificate.specs.Prices.{Prices}
 use Rattle.pb_certificate.specs.declared.price_row.PriceRow.{PriceRow}
 use Rattle.pb_cohesion.specs.Amounts.{beta, largest_by, left, paid, spent}
 use Rattle.pb_cohesion.specs.Conditions.{culprits_of_C1, culprits_of_C2, most_of, sum_ℤ}
-use Rattle.pb_price.specs.Findings.{IsFinding, IsPaymentFinding}
+use Rattle.pb_price.specs.Findings.{finding, payment_finding}
 use Rattle.pb_price.specs.Noted.{IsFindingTo}
 use Rattle.pb_price.specs.declared.ProjectMargins.{ProjectMargins}
 use Rattle.pb_price.specs.declared.tally.ProjectSums.{ProjectSums}
@@ -161,8 +161,8 @@ pub record AreSums (e : Instance) (p : Prices) (sums : List ProjectSums) : Type 
 pub record IsTallyOf (e : Instance) (p : Prices) (t : Tally) : Type 0 where
   pub budget : t.budget ≡ beta p
   pub sums : AreSums e p t.projects.items
-  pub unapproved : IsPaymentFinding (culprits_of_C1 e p) t.unapproved
-  pub over_budget : IsFinding (culprits_of_C2 e p) (IsVoter e) (λ i. beta p) (λ i. pos (spent e p i)) t.over_budget
+  pub unapproved : t.unapproved ≡ payment_finding (culprits_of_C1 e p)
+  pub over_budget : t.over_budget ≡ finding (culprits_of_C2 e p) (all_voters e) (λ i. beta p) (λ i. pos (spent e p i))
 
 -- The conditions as the sums tell them, where w marks the funded projects and d is the denominator.
 

@@ -113,8 +113,8 @@ fn judge(
     }
 }
 
-// The verdict by the first condition that is false, if there is one.
-fn verdict_by(failure: Option<Failure>) -> Verdict
+/// The verdict by the first condition that is false, if there is one.
+pub(crate) fn verdict_by(failure: Option<Failure>) -> Verdict
     ensures { result ≡ verdict_of failure }
 {
     match failure {

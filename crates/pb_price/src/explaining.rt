@@ -7,7 +7,7 @@ ghost use Rattle.pb_election.specs.Outcome as outcomes;
 ghost use Rattle.pb_certificate.specs.Faults.{Refuses, certificate_records, no_memory, price_form};
 ghost use Rattle.pb_certificate.specs.PriceText.{IsPriceText};
 ghost use Rattle.pb_certificate.specs.Prices as spec;
-ghost use Rattle.pb_price.specs.Findings.{AreFindings};
+ghost use Rattle.pb_price.specs.Findings.{findings};
 ghost use Rattle.pb_price.specs.Looked.{AreFoundTo, AreSmallFindings, with_funded, with_unfunded};
 ghost use Rattle.pb_price.specs.Tallies.{AreInRange, IsTallyOf, IsWithin, sums_of};
 
@@ -32,13 +32,13 @@ pub fn findings_of(
     requires { outcomes.Fits outcome.now election.now }
 
     // The bytes state prices, and the findings are those on them.
-    ensures found { IfOk result (λ f. (p : spec.Prices) × IsPriceText (certificate_records bytes.now) election.now p × AreFindings election.now (outcome.now).marks p f) }
+    ensures found { IfOk result (λ f. (p : spec.Prices) × IsPriceText (certificate_records bytes.now) election.now p × (f ≡ findings election.now (outcome.now).marks p)) }
 
     // A refusal is the first fault, or want of memory.
     ensures refused { IfErr result (λ r. (r ≡ no_memory) ⊎ Refuses (price_form election.now) bytes.now r) }
 
     // Where the bytes state prices the findings are those on them, memory aside.
-    ensures only { (p : spec.Prices) → IsPriceText (certificate_records bytes.now) election.now p → MatchResult result (λ f. AreFindings election.now (outcome.now).marks p f) (λ r. r ≡ no_memory) }
+    ensures only { (p : spec.Prices) → IsPriceText (certificate_records bytes.now) election.now p → MatchResult result (λ f. f ≡ findings election.now (outcome.now).marks p) (λ r. r ≡ no_memory) }
 {
     let taken = take_certificate(alloc, election, bytes)?;
     Ok(findings_by(election, outcome, taken.denominator, &taken.tally))
@@ -52,7 +52,7 @@ fn findings_by(election: &Election, outcome: &Outcome, denominator: u32, tally: 
     requires budget { (tally.now).budget ≤ 10 ^ 27 }
     requires sums { length (tally.now).projects.items ≡ projects election.now }
     requires small { (c : ℕ) → IsProject election.now c → AreInRange (sums_of (tally.now).projects.items c) }
-    ensures { (p : spec.Prices) → p.denominator ≡ denominator → IsTallyOf election.now p tally.now → AreFindings election.now (outcome.now).marks p result }
+    ensures { (p : spec.Prices) → p.denominator ≡ denominator → IsTallyOf election.now p tally.now → result ≡ findings election.now (outcome.now).marks p }
 {
     let mut steps = 0;
     let total = cost_of_funded(election, outcome, &mut steps) * u128::from(denominator);

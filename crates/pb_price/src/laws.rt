@@ -5,11 +5,10 @@ ghost use Rattle.pb_election.specs.Instance.{Instance};
 ghost use Rattle.pb_election.specs.Text.{IsElection};
 ghost use Rattle.pb_certificate.specs.Prices.{ArePrices, Prices};
 ghost use Rattle.pb_cohesion.specs.Conditions.{Supports};
-ghost use Rattle.pb_price.specs.Findings.{AreFindings};
+ghost use Rattle.pb_price.specs.Findings.{findings};
 ghost use Rattle.pb_price.specs.First.{First};
 ghost use Rattle.pb_price.specs.Ranges.{AllSumsFit};
 ghost use Rattle.pb_price.specs.Told.{TellWhatHolds, first_told};
-ghost use Rattle.pb_price.specs.declared.Findings.{Findings};
 ghost use Rattle.pb_price.specs.declared.Mode.{Mode};
 
 /// The prices support the outcome exactly where no condition fails, whatever the mode asks for.
@@ -27,10 +26,11 @@ pub fn sums_fit()
 /// The findings on prices tell which conditions hold: Feasible where the total is at most the limit, Cover where the budgets
 /// are more than the limit, and each other condition where it has no culprit.
 pub fn findings_tell_what_holds()
-    ensures { (e : Instance) (w : List Bool) (p : Prices) (f : Findings) → 1 ≤ p.denominator → AreFindings e w p f → TellWhatHolds e w p f }
+    ensures { (e : Instance) (w : List Bool) (p : Prices) → 1 ≤ p.denominator → TellWhatHolds e w p (findings e w p) }
 {}
 
-/// The first condition that the findings tell to be false is the first failure.
+/// The first condition that the findings tell to be false is the first failure. So `Findings::verdict` is the verdict on the
+/// prices.
 pub fn findings_tell_the_first_failure()
-    ensures { (m : Mode) (e : Instance) (w : List Bool) (p : Prices) (f : Findings) → 1 ≤ p.denominator → AreFindings e w p f → first_told m f ≡ First m e w p }
+    ensures { (m : Mode) (e : Instance) (w : List Bool) (p : Prices) → 1 ≤ p.denominator → first_told m (findings e w p) ≡ First m e w p }
 {}

@@ -12,6 +12,7 @@ mod noting;
 mod samples;
 mod takings;
 mod tally;
+mod telling;
 #[cfg(test)]
 mod tests;
 

@@ -1,6 +1,8 @@
 //! The calls on elections and certificates with answers that were worked out by hand, and the groups of supporters of one
 //! project, one by one.
 
+mod telling;
+
 use crate::{
     Checked, Comparison, Failure, Finding, Findings, Margins, Mode, PaymentFinding, ProjectMargins,
     Verdict, check, check_rows, findings_of, margins_of,
