@@ -11,3 +11,4 @@ pub mod Ballots
 pub mod Totals
 pub mod Firsts
 pub mod Loops
+pub mod Counted

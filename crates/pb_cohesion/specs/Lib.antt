@@ -4,4 +4,5 @@ pub mod Conditions
 pub mod Groups
 pub mod EveryGroup
 pub mod FirstV
+pub mod ViolationFindings
 pub mod Satisfactions

@@ -1,2 +1,3 @@
-//! Violations whose verdicts were worked out by hand.
+//! Violations whose verdicts and findings were worked out by hand.
+mod explaining;
 mod measures;

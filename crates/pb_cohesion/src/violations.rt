@@ -59,7 +59,11 @@ fn first_failure<S: Satisfaction>(
 }
 
 /// The first member that does not approve a demanded project, with the first such project.
-fn first_not_approved(election: &Election, group: &[u32], demand: &[u32]) -> Option<(u32, u32)>
+pub(crate) fn first_not_approved(
+    election: &Election,
+    group: &[u32],
+    demand: &[u32],
+) -> Option<(u32, u32)>
     requires group { IsGroup election.now group.now }
     requires demand { AreProjects election.now demand.now }
     ensures { result ≡ slice_get (culprits_of_V2 election.now group.now demand.now) 0 }

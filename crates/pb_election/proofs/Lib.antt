@@ -13,7 +13,7 @@ mod Totals
 mod Sound
 mod IdLemmas
 mod ColumnLemmas
-mod Sets
+pub mod Sets
 mod VoteLemmas
 mod Rising
 mod MarkerLemmas

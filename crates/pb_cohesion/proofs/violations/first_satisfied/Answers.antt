@@ -1,19 +1,12 @@
-use Rattle.std.proofs.Common.{◌≡◌, ℕ, Bool, List, true, false, get_or, filter, sym, ◌∙◌, ap, subst}
+use Rattle.std.proofs.Common.{◌≡◌, ℕ, true, false, get_or, sym, ◌∙◌, ap}
 use Rattle.std.specs.Prelude.{nat_le}
 use Rattle.std.proofs.lemmas.Bool.{le-leb, lt-leb}
-use Rattle.pb_election.specs.Instance.{Instance, IsSet, ballot_of, projects, voters}
-use Rattle.pb_election.specs.Outcome.{has}
+use Rattle.pb_election.specs.Instance.{voters}
 use Rattle.pb_cohesion.specs.Groups.{gets, sat}
-use Rattle.pb_cohesion.proofs.Ballots.{gets-ballot}
+use Rattle.pb_cohesion.proofs.Ballots.{worth-is}
 use Rattle.pb_cohesion.proofs.Firsts.{filter-first, filter-more}
 use Rattle.pb_cohesion.proofs.Loops.{set-at}
 use Rattle.pb_cohesion.proofs.violations.first_satisfied.Goals as goal
-
--- what the funded projects of a ballot are worth is what its voter gets
-worth-is : (worth : ℕ → ℕ) (e : Instance) (w : List Bool) (i : ℕ) (b : List ℕ) (n : ℕ) → b ≡ ballot_of e i → IsSet 1 (projects e) b → n ≡ sat worth (filter (has w) b) → n ≡ sat worth (gets e w i)
-worth-is worth e w i b n is rises worth_is =
-    let set : IsSet 1 (projects e) (ballot_of e i) = subst (λ xs. IsSet 1 (projects e) xs) is rises in
-    worth_is ∙ ap (λ xs. sat worth (filter (has w) xs)) is ∙ ap (sat worth) (sym (gets-ballot e w i set))
 
 pub ballot-requires : goal.ballot-requires
 ballot-requires g c = set-at 1 (voters c.args.election.now) c.args.group.now c.loop-i.i-index c.requires.group c.loop-i-test.true

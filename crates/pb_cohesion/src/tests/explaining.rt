@@ -1,0 +1,169 @@
+//! What each test of a violation comes to, for one group and demand of each kind.
+use crate::{
+    MissingApprovals, SatisfiedMembers, ViolationFailure, ViolationFindings, ViolationVerdict,
+    check_violation, violation_findings,
+};
+use pb_certificate::Violation;
+use pb_election::{Election, Outcome};
+use std::test::Fail;
+
+// Four voters, and a limit of 12. The projects a and b cost 3 each, c costs 2.5 and d costs 4. The last two are funded.
+const FOUR: &[u8] =
+    b"META\nkey;value\nbudget;12\nvote_type;approval\nPROJECTS\nproject_id;cost;selected\na;3;0\nb;3;0\nc;2.5;1\nd;4;1\nVOTES\nvoter_id;vote\n1;a,b,c\n2;a,b,d\n3;a,c,d\n4;d\n";
+
+const ALL_APPROVE: MissingApprovals = MissingApprovals {
+    first: None,
+    count: 0,
+};
+
+const NOBODY: SatisfiedMembers = SatisfiedMembers {
+    first: None,
+    count: 0,
+};
+
+/// The findings by a certificate, and the verdict on it.
+fn explained(
+    rt: &HostRuntime,
+    certificate: &str,
+) -> Result<(ViolationFindings, ViolationVerdict), Fail> {
+    let election = Election::read(rt.alloc(), FOUR)?;
+    let outcome = Outcome::selected(rt.alloc(), &election)?;
+    let violation = Violation::read(rt.alloc(), certificate.as_bytes(), &election)?;
+    let measure = violation.satisfaction();
+    let findings = violation_findings(&election, &outcome, &violation, &measure);
+    let verdict = check_violation(&election, &outcome, &violation, &measure);
+    Ok((findings, verdict))
+}
+
+/// Voters 1 and 2 demand a and b. Voter 1 gets c, and voter 2 gets d, which costs more.
+#[test]
+fn explains_a_violation(rt: HostRuntime) -> Result<(), Fail> {
+    let counted = ViolationFindings {
+        members: 2,
+        cost: 6_000_000,
+        unapproved: ALL_APPROVE,
+        demanded: 2,
+        satisfied: NOBODY,
+        gets: 1,
+    };
+    let by_cost = ViolationFindings {
+        demanded: 6_000_000,
+        gets: 4_000_000,
+        ..counted
+    };
+    let (findings, verdict) = explained(
+        &rt,
+        "pb-violation,1\nproject,a\nproject,b\nvoter,1\nvoter,2\n",
+    )?;
+    assert_eq!(rt; findings, counted);
+    assert_eq!(rt; verdict, ViolationVerdict::Violation);
+    let (findings, verdict) = explained(
+        &rt,
+        "pb-violation,2\nsatisfaction,cost\nproject,a\nproject,b\nvoter,1\nvoter,2\n",
+    )?;
+    assert_eq!(rt; findings, by_cost);
+    assert_eq!(rt; verdict, ViolationVerdict::Violation);
+    Ok(())
+}
+
+/// Nobody demands a.
+#[test]
+fn explains_an_empty_group(rt: HostRuntime) -> Result<(), Fail> {
+    let expected = ViolationFindings {
+        members: 0,
+        cost: 3_000_000,
+        unapproved: ALL_APPROVE,
+        demanded: 1,
+        satisfied: NOBODY,
+        gets: 0,
+    };
+    let (findings, verdict) = explained(&rt, "pb-violation,1\nproject,a\n")?;
+    assert_eq!(rt; findings, expected);
+    assert_eq!(rt; verdict, ViolationVerdict::Failed(ViolationFailure::V1));
+    Ok(())
+}
+
+/// All voters demand a and b. Voter 3 does not approve b, and voter 4 approves neither. Voter 3 alone gets both c and d.
+#[test]
+fn explains_missing_approvals(rt: HostRuntime) -> Result<(), Fail> {
+    let expected = ViolationFindings {
+        members: 4,
+        cost: 6_000_000,
+        unapproved: MissingApprovals {
+            first: Some((3, 2)),
+            count: 3,
+        },
+        demanded: 2,
+        satisfied: SatisfiedMembers {
+            first: Some(3),
+            count: 1,
+        },
+        gets: 2,
+    };
+    let (findings, verdict) = explained(
+        &rt,
+        "pb-violation,1\nproject,a\nproject,b\nvoter,1\nvoter,2\nvoter,3\nvoter,4\n",
+    )?;
+    assert_eq!(rt; findings, expected);
+    assert_eq!(rt;
+        verdict,
+        ViolationVerdict::Failed(ViolationFailure::V2(3, 2))
+    );
+    Ok(())
+}
+
+/// The share of voter 1 is 3, and it demands a and b for 6.
+#[test]
+fn explains_a_group_that_is_too_small(rt: HostRuntime) -> Result<(), Fail> {
+    let expected = ViolationFindings {
+        members: 1,
+        cost: 6_000_000,
+        unapproved: ALL_APPROVE,
+        demanded: 2,
+        satisfied: NOBODY,
+        gets: 1,
+    };
+    let (findings, verdict) = explained(&rt, "pb-violation,1\nproject,a\nproject,b\nvoter,1\n")?;
+    assert_eq!(rt; findings, expected);
+    assert_eq!(rt; verdict, ViolationVerdict::Failed(ViolationFailure::V3));
+    Ok(())
+}
+
+/// Voters 1, 2 and 3 demand a, which costs 3. By cost voter 1 gets 2.5, voter 2 gets 4 and voter 3 gets 6.5, and by
+/// counting they get 1, 1 and 2.
+#[test]
+fn explains_satisfied_members(rt: HostRuntime) -> Result<(), Fail> {
+    let by_cost = ViolationFindings {
+        members: 3,
+        cost: 3_000_000,
+        unapproved: ALL_APPROVE,
+        demanded: 3_000_000,
+        satisfied: SatisfiedMembers {
+            first: Some(2),
+            count: 2,
+        },
+        gets: 4_000_000,
+    };
+    let counted = ViolationFindings {
+        demanded: 1,
+        satisfied: SatisfiedMembers {
+            first: Some(1),
+            count: 3,
+        },
+        gets: 1,
+        ..by_cost
+    };
+    let (findings, verdict) = explained(
+        &rt,
+        "pb-violation,2\nsatisfaction,cost\nproject,a\nvoter,1\nvoter,2\nvoter,3\n",
+    )?;
+    assert_eq!(rt; findings, by_cost);
+    assert_eq!(rt; verdict, ViolationVerdict::Failed(ViolationFailure::V4(2)));
+    let (findings, verdict) = explained(
+        &rt,
+        "pb-violation,1\nproject,a\nvoter,1\nvoter,2\nvoter,3\n",
+    )?;
+    assert_eq!(rt; findings, counted);
+    assert_eq!(rt; verdict, ViolationVerdict::Failed(ViolationFailure::V4(1)));
+    Ok(())
+}
