@@ -62,7 +62,7 @@ WAYS = [
     ("write", str(errno.ENOSPC)), ("write", str(errno.EINTR)), ("write", "none"), ("write", "one"),
 ]  # fmt: skip
 # The tests of the library's calls, by crate: what their names begin with, and one that would take hours.
-TESTS = [("pb_audit", ""), ("pbaudit", "tests::certificates::"), ("pbaudit", "tests::library::")]
+TESTS = [("pb_command", ""), ("pb_audit", ""), ("pbaudit", "tests::certificates::"), ("pbaudit", "tests::library::")]
 TOO_LARGE = "tests::certificates::empty_ballots_cost_a_step_each"
 # How such a test ends where memory is wanted: by the call, or by the writer into memory that the test gives it.
 WANTS = (

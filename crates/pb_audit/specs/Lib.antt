@@ -1,5 +1,3 @@
-pub mod Commands
-pub mod Tasks
 pub mod Lines
 pub mod Named
 pub mod Inputs

@@ -4,11 +4,9 @@
 
 mod answer;
 mod both_engine;
-mod command;
 mod folder;
 mod folder_report;
 mod found;
-mod help;
 mod input;
 pub mod laws;
 mod lines;
@@ -20,7 +18,6 @@ mod read_engine;
 mod report;
 mod status;
 mod taking;
-mod task;
 mod tidy_engine;
 mod total;
 mod verdict_lines;
@@ -32,11 +29,11 @@ pub use folder::{Entry, folder_text};
 pub use folder_report::FolderReport;
 pub use loaded::Loaded;
 pub use margin_engine::{margins_answer, run_margins};
+pub use pb_command::{Task, UsageFault, task_of};
 pub use price_engine::{prices_reply, run_prices};
 pub use read_engine::{read_reply, run_read};
 pub use report::Report;
 pub use status::{Fault, Status};
-pub use task::{Task, UsageFault, task_of};
 pub use tidy_engine::{run_tidy, tidy_answer};
 pub use violation_engine::{run_violation, violation_reply};
 

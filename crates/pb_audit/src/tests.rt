@@ -1,5 +1,4 @@
 //! Tests of what no contract says, and one run of each call over files in memory.
-mod command_line;
 mod files_in_memory;
 mod folders;
 mod samples;

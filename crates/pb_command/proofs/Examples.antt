@@ -1,0 +1,94 @@
+-- The definitions at words that are written out.
+use Rattle.std.proofs.Common.{◌≡◌, refl, false, true, List, [], ◌∷◌, Some, None, codes}
+use Rattle.clap.specs.Words.{Text, fault_of, takes}
+use Rattle.clap.specs.declared.error.kind.ErrorKind.TheVariants as kind
+use Rattle.clap.proofs.OnLiterals.{clap_on_literals}
+use Rattle.pb_command.specs.Commands.{pbaudit}
+use Rattle.pb_command.proofs.Written.{commands_written}
+use Rattle.pb_command.specs.Tasks.{TaskOf, asked_in, folder, prices, read, tidy, violation}
+
+bare_task : TaskOf (codes "pbaudit" ∷ []) ≡ Some (read None)
+unfolding clap_on_literals commands_written asked_in
+bare_task = refl
+
+bare_taken : takes pbaudit (codes "pbaudit" ∷ []) ≡ true
+unfolding clap_on_literals commands_written
+bare_taken = refl
+
+abbrev read_words : List Text
+read_words = codes "pbaudit" ∷ codes "read" ∷ codes "e.pb" ∷ []
+
+read_task : TaskOf read_words ≡ Some (read (Some (codes "e.pb")))
+unfolding clap_on_literals commands_written asked_in
+read_task = refl
+
+read_taken : takes pbaudit read_words ≡ true
+unfolding clap_on_literals commands_written
+read_taken = refl
+
+abbrev stable_words : List Text
+stable_words = codes "pbaudit" ∷ codes "prices" ∷ codes "e.pb" ∷ codes "c.csv" ∷ codes "--stable" ∷ []
+
+stable_task : TaskOf stable_words ≡ Some (prices (codes "e.pb") (codes "c.csv") None (record { stable = true; exhaustive = true; cover = false }))
+unfolding clap_on_literals commands_written asked_in
+stable_task = refl
+
+stable_taken : takes pbaudit stable_words ≡ true
+unfolding clap_on_literals commands_written
+stable_taken = refl
+
+abbrev outcome_words : List Text
+outcome_words = codes "pbaudit" ∷ codes "prices" ∷ codes "e.pb" ∷ codes "c.csv" ∷ codes "--outcome" ∷ codes "o.csv" ∷ codes "--no-exhaustive" ∷ []
+
+outcome_task : TaskOf outcome_words ≡ Some (prices (codes "e.pb") (codes "c.csv") (Some (codes "o.csv")) (record { stable = false; exhaustive = false; cover = false }))
+unfolding clap_on_literals commands_written asked_in
+outcome_task = refl
+
+one_path : fault_of pbaudit (codes "pbaudit" ∷ codes "prices" ∷ codes "e.pb" ∷ []) ≡ kind.MissingRequiredArgument ∷ []
+unfolding clap_on_literals commands_written
+one_path = refl
+
+abbrev violation_words : List Text
+violation_words = codes "pbaudit" ∷ codes "violation" ∷ codes "e.pb" ∷ codes "v.csv" ∷ codes "--outcome" ∷ codes "o.csv" ∷ []
+
+violation_task : TaskOf violation_words ≡ Some (violation (codes "e.pb") (codes "v.csv") (Some (codes "o.csv")))
+unfolding clap_on_literals commands_written asked_in
+violation_task = refl
+
+violation_taken : takes pbaudit violation_words ≡ true
+unfolding clap_on_literals commands_written
+violation_taken = refl
+
+abbrev tidy_words : List Text
+tidy_words = codes "pbaudit" ∷ codes "tidy" ∷ codes "e.pb" ∷ codes "c.csv" ∷ []
+
+tidy_task : TaskOf tidy_words ≡ Some (tidy (codes "e.pb") (codes "c.csv"))
+unfolding clap_on_literals commands_written asked_in
+tidy_task = refl
+
+tidy_taken : takes pbaudit tidy_words ≡ true
+unfolding clap_on_literals commands_written
+tidy_taken = refl
+
+abbrev folder_words : List Text
+folder_words = codes "pbaudit" ∷ codes "folder" ∷ codes "d" ∷ codes "--no-exhaustive" ∷ []
+
+folder_task : TaskOf folder_words ≡ Some (folder (codes "d") (record { stable = false; exhaustive = false; cover = false }))
+unfolding clap_on_literals commands_written asked_in
+folder_task = refl
+
+folder_taken : takes pbaudit folder_words ≡ true
+unfolding clap_on_literals commands_written
+folder_taken = refl
+
+no_path : fault_of pbaudit (codes "pbaudit" ∷ codes "read" ∷ []) ≡ kind.MissingRequiredArgument ∷ []
+unfolding clap_on_literals commands_written
+no_path = refl
+
+help_asked : fault_of pbaudit (codes "pbaudit" ∷ codes "--help" ∷ []) ≡ kind.DisplayHelp ∷ []
+unfolding clap_on_literals commands_written
+help_asked = refl
+
+version_asked : fault_of pbaudit (codes "pbaudit" ∷ codes "--version" ∷ []) ≡ kind.DisplayVersion ∷ []
+unfolding clap_on_literals commands_written
+version_asked = refl

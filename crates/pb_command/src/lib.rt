@@ -1,0 +1,11 @@
+//! The command line of `pbaudit`: its commands, their help, and the task that a line of words asks for.
+#![tactic(auto)]
+
+mod command;
+mod help;
+mod task;
+
+pub use task::{Task, UsageFault, task_of};
+
+#[cfg(test)]
+mod tests;

@@ -1,0 +1,304 @@
+//! The task that a line of words asks for.
+ghost use Rattle.std.specs.Prelude.{◌≡◌, ◌⊎◌, [], Some, IfErr, IfOk, codes, map, option_map, string_bytes, true};
+ghost use Rattle.clap.specs.Words.{
+  fault_of,
+  first_of,
+  found_of,
+  kind_of,
+  rows_of,
+  subcommand_rows_of,
+  takes,
+};
+ghost use Rattle.clap.specs.declared.error.kind.ErrorKind.TheVariants.{OutOfMemory};
+ghost use Rattle.pb_command.specs.Commands.{pbaudit};
+ghost use Rattle.pb_command.specs.declared.task.UsageFault.TheVariants.{Memory};
+ghost use Rattle.pb_command.specs.Tasks.{FitsKind, IsFaultOf, TaskOf, asked, asked_by, asked_in, is_on, mode_in};
+
+use crate::command::pbaudit_command;
+use clap::error::ErrorKind;
+use clap::{ArgMatches, Error};
+use pb_price::Mode;
+use std::alloc::{AllocError, Global};
+
+/// What a line of words asks for. Each text is a path, as it stands among the words.
+#[derive(Debug, Drop)]
+pub enum Task {
+    /// Read this election, or the one on standard input.
+    Read(Option<String>),
+    /// Check a price certificate for the outcome of an outcome file, or for the election's own
+    /// outcome where none is named.
+    Prices {
+        /// The election.
+        election: String,
+        /// The price certificate.
+        certificate: String,
+        /// The outcome file.
+        outcome: Option<String>,
+        /// Which conditions are asked for.
+        mode: Mode,
+    },
+    /// Check a violation certificate, with the outcome as for prices.
+    Violation {
+        /// The election.
+        election: String,
+        /// The violation certificate.
+        certificate: String,
+        /// The outcome file.
+        outcome: Option<String>,
+    },
+    /// Check a price certificate and a violation certificate, with the outcome as for prices.
+    Both {
+        /// The election.
+        election: String,
+        /// The price certificate.
+        prices: String,
+        /// The violation certificate.
+        violation: String,
+        /// The outcome file.
+        outcome: Option<String>,
+        /// Which conditions are asked for.
+        mode: Mode,
+    },
+    /// Write the figures of each project by a price certificate, with the outcome as for prices.
+    Margins {
+        /// The election.
+        election: String,
+        /// The price certificate.
+        certificate: String,
+        /// The outcome file.
+        outcome: Option<String>,
+    },
+    /// Write a price certificate in its canonical form.
+    Tidy {
+        /// The election.
+        election: String,
+        /// The price certificate.
+        certificate: String,
+    },
+    /// Audit the elections of a folder with their certificates.
+    Folder {
+        /// The folder.
+        folder: String,
+        /// Which conditions are asked for.
+        mode: Mode,
+    },
+}
+
+/// Why a line of words gives no task.
+#[derive(Debug, Drop)]
+pub enum UsageFault {
+    /// Help or the version was asked for. Its text is for standard output.
+    Help(String),
+    /// The words are not understood. The text is for standard error.
+    Usage(String),
+    /// Memory was wanted.
+    Memory,
+}
+
+impl From<AllocError> for UsageFault {
+    ghost from_gives = { λ _ e. e ≡ Memory };
+
+    fn from(_error: AllocError) -> UsageFault {
+        UsageFault::Memory
+    }
+}
+
+/// The task that the words ask for, the first of which is the program's name.
+///
+/// # Errors
+/// `Help` where the words ask for help or the version, `Usage` where they are no line of a
+/// command, and `Memory` where memory was wanted, which comes only where a growth was refused; that is
+/// tested and not proved.
+pub fn task_of(alloc: Global, words: Vec<String>) -> Result<Task, UsageFault>
+    ensures task { IfOk result (λ t. Some (asked t) ≡ TaskOf (map string_bytes words.items)) }
+    ensures taken { takes pbaudit (map string_bytes words.items) ≡ true
+        → IfErr result (λ e. e ≡ UsageFault.Memory) }
+    ensures accepted { IfOk result (λ _. fault_of pbaudit (map string_bytes words.items) ≡ []) }
+    ensures refused { IfErr result (IsFaultOf (fault_of pbaudit (map string_bytes words.items))) }
+{
+    let command = pbaudit_command(alloc)?;
+    match command.try_get_matches_from(words.as_slice()) {
+        Ok(matches) => match task_in(alloc, &matches)? {
+            Some(task) => Ok(task),
+            None => unreachable!(),
+        },
+        Err(error) => Err(fault_in(alloc, &error)),
+    }
+}
+
+/// The fault that clap's error stands for.
+fn fault_in(alloc: Global, error: &Error) -> UsageFault
+    ensures memory { kind_of error.now ≡ OutOfMemory → result ≡ UsageFault.Memory }
+    ensures kind { (result ≡ UsageFault.Memory) ⊎ FitsKind (kind_of error.now) result }
+{
+    let text = match error.to_string(alloc) {
+        Ok(text) => text,
+        Err(_) => return UsageFault::Memory,
+    };
+    match error.kind() {
+        ErrorKind::OutOfMemory => UsageFault::Memory,
+        ErrorKind::DisplayHelp | ErrorKind::DisplayVersion => UsageFault::Help(text),
+        _ => UsageFault::Usage(text),
+    }
+}
+
+/// The task of the matches, where they are those of a command with its paths.
+fn task_in(alloc: Global, matches: &ArgMatches<'_>) -> Result<Option<Task>, AllocError>
+    ensures { IfOk result (λ t. option_map asked t ≡ asked_in (subcommand_rows_of matches.now)) }
+{
+    match matches.subcommand() {
+        Some((name, inner)) => command_task(alloc, name, inner),
+        None => Ok(Some(Task::Read(None))),
+    }
+}
+
+/// The task of the command `name`, by its matches.
+fn command_task(
+    alloc: Global,
+    name: &str,
+    matches: &ArgMatches<'_>,
+) -> Result<Option<Task>, AllocError>
+    ensures { IfOk result (λ t. option_map asked t ≡ asked_by name.now (rows_of (found_of matches.now))) }
+{
+    match name {
+        "read" => read_task(alloc, matches),
+        "prices" => prices_task(alloc, matches),
+        "violation" => violation_task(alloc, matches),
+        "both" => both_task(alloc, matches),
+        "margins" => margins_task(alloc, matches),
+        "tidy" => tidy_task(alloc, matches),
+        "folder" => folder_task(alloc, matches),
+        _ => Ok(None),
+    }
+}
+
+fn read_task(alloc: Global, matches: &ArgMatches<'_>) -> Result<Option<Task>, AllocError>
+    ensures { IfOk result (λ t. option_map asked t ≡ asked_by (codes "read") (rows_of (found_of matches.now))) }
+{
+    match path_of(alloc, matches, "election")? {
+        Some(election) => Ok(Some(Task::Read(Some(election)))),
+        None => Ok(None),
+    }
+}
+
+fn prices_task(alloc: Global, matches: &ArgMatches<'_>) -> Result<Option<Task>, AllocError>
+    ensures { IfOk result (λ t. option_map asked t ≡ asked_by (codes "prices") (rows_of (found_of matches.now))) }
+{
+    let election = path_of(alloc, matches, "election")?;
+    let certificate = path_of(alloc, matches, "certificate")?;
+    let outcome = path_of(alloc, matches, "outcome")?;
+    match (election, certificate) {
+        (Some(election), Some(certificate)) => Ok(Some(Task::Prices {
+            election,
+            certificate,
+            outcome,
+            mode: mode_of(matches),
+        })),
+        _ => Ok(None),
+    }
+}
+
+fn violation_task(alloc: Global, matches: &ArgMatches<'_>) -> Result<Option<Task>, AllocError>
+    ensures { IfOk result (λ t. option_map asked t ≡ asked_by (codes "violation") (rows_of (found_of matches.now))) }
+{
+    let election = path_of(alloc, matches, "election")?;
+    let certificate = path_of(alloc, matches, "certificate")?;
+    let outcome = path_of(alloc, matches, "outcome")?;
+    match (election, certificate) {
+        (Some(election), Some(certificate)) => Ok(Some(Task::Violation {
+            election,
+            certificate,
+            outcome,
+        })),
+        _ => Ok(None),
+    }
+}
+
+fn both_task(alloc: Global, matches: &ArgMatches<'_>) -> Result<Option<Task>, AllocError>
+    ensures { IfOk result (λ t. option_map asked t ≡ asked_by (codes "both") (rows_of (found_of matches.now))) }
+{
+    let election = path_of(alloc, matches, "election")?;
+    let prices = path_of(alloc, matches, "prices")?;
+    let violation = path_of(alloc, matches, "violation")?;
+    let outcome = path_of(alloc, matches, "outcome")?;
+    match (election, prices, violation) {
+        (Some(election), Some(prices), Some(violation)) => Ok(Some(Task::Both {
+            election,
+            prices,
+            violation,
+            outcome,
+            mode: mode_of(matches),
+        })),
+        _ => Ok(None),
+    }
+}
+
+fn margins_task(alloc: Global, matches: &ArgMatches<'_>) -> Result<Option<Task>, AllocError>
+    ensures { IfOk result (λ t. option_map asked t ≡ asked_by (codes "margins") (rows_of (found_of matches.now))) }
+{
+    let election = path_of(alloc, matches, "election")?;
+    let certificate = path_of(alloc, matches, "certificate")?;
+    let outcome = path_of(alloc, matches, "outcome")?;
+    match (election, certificate) {
+        (Some(election), Some(certificate)) => Ok(Some(Task::Margins {
+            election,
+            certificate,
+            outcome,
+        })),
+        _ => Ok(None),
+    }
+}
+
+fn tidy_task(alloc: Global, matches: &ArgMatches<'_>) -> Result<Option<Task>, AllocError>
+    ensures { IfOk result (λ t. option_map asked t ≡ asked_by (codes "tidy") (rows_of (found_of matches.now))) }
+{
+    let election = path_of(alloc, matches, "election")?;
+    let certificate = path_of(alloc, matches, "certificate")?;
+    match (election, certificate) {
+        (Some(election), Some(certificate)) => Ok(Some(Task::Tidy {
+            election,
+            certificate,
+        })),
+        _ => Ok(None),
+    }
+}
+
+fn folder_task(alloc: Global, matches: &ArgMatches<'_>) -> Result<Option<Task>, AllocError>
+    ensures { IfOk result (λ t. option_map asked t ≡ asked_by (codes "folder") (rows_of (found_of matches.now))) }
+{
+    match path_of(alloc, matches, "folder")? {
+        Some(folder) => Ok(Some(Task::Folder {
+            folder,
+            mode: mode_of(matches),
+        })),
+        None => Ok(None),
+    }
+}
+
+/// The path that the words give for the argument.
+fn path_of(alloc: Global, matches: &ArgMatches<'_>, id: &str) -> Result<Option<String>, AllocError>
+    ensures { IfOk result (λ o. option_map string_bytes o ≡ first_of id.now (rows_of (found_of matches.now))) }
+{
+    match matches.get_str(id) {
+        Some(path) => Ok(Some(String::from_str(alloc, path)?)),
+        None => Ok(None),
+    }
+}
+
+/// The mode that the switches choose: plain, with Exhaustive and without Cover where there is none.
+fn mode_of(matches: &ArgMatches<'_>) -> Mode
+    ensures { result ≡ mode_in (rows_of (found_of matches.now)) }
+{
+    Mode {
+        stable: is_given(matches, "stable"),
+        exhaustive: !is_given(matches, "no-exhaustive"),
+        cover: is_given(matches, "cover"),
+    }
+}
+
+/// Whether the switch is among the words.
+fn is_given(matches: &ArgMatches<'_>, id: &str) -> bool
+    ensures { result ≡ is_on (rows_of (found_of matches.now)) id.now }
+{
+    matches.get_one::<bool>(id).unwrap_or(false)
+}

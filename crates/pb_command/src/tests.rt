@@ -1,0 +1,2 @@
+//! Tests of what no contract says, and of each task.
+mod command_line;
