@@ -1,6 +1,6 @@
 //! What each test of a violation certificate comes to, also of those behind the first that fails.
 
-ghost use Rattle.std.specs.Prelude.{◌≡◌, ◌≤◌, ◌+◌, ◌^◌, if◌then◌else◌, Some, None, filter, is_some, length, max, nat_le, not, slice_get};
+ghost use Rattle.std.specs.Prelude.{◌≡◌, ◌≤◌, ◌+◌, ◌*◌, ◌^◌, if◌then◌else◌, Some, None, filter, is_some, length, max, nat_le, not, slice_get};
 ghost use Rattle.std.specs.Option.{option_or};
 ghost use Rattle.pb_election.specs.Instance.{IsVoter, approves};
 ghost use Rattle.pb_election.specs.Outcome.{Fits};
@@ -26,7 +26,8 @@ pub fn violation_findings<S: Satisfaction>(
 ) -> ViolationFindings
     requires outcome { Fits outcome.now election.now }
     requires violation { claim.Fits violation.now election.now }
-    ensures { result ≡ spec.violation_findings (S.meaning satisfaction.now election.now) election.now (outcome.now).marks (violation.now).group (violation.now).demand }
+    ensures value { result ≡ spec.violation_findings (S.meaning satisfaction.now election.now) election.now (outcome.now).marks (violation.now).group (violation.now).demand }
+    ensures small { result.cost ≤ 2 * 10 ^ 22 }
 {
     // Tells the proof that the counts fit.
     prove!(election.voters() <= 1_000_000);

@@ -1,0 +1,5 @@
+pub mod Amounts
+pub mod Rows
+pub mod PriceWords
+pub mod PriceTable
+pub mod ViolationTable
