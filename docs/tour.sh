@@ -1,11 +1,11 @@
 #!/usr/bin/env bash
 # Runs each command that the README and the documents show behind '$ ', at the repository's top, and compares what it writes
-# with the lines that stand under it there, up to the next blank line. The last line is 'N passed, M failed'.
+# with the lines that stand under it there, up to the end of the block. The last line is 'N passed, M failed'.
 set -euo pipefail
 cd "$(dirname "$0")/.."
 # Builds the program where that is needed, so that no command below tells of it.
 ./pbaudit --version > /dev/null
-passed=0 failed=0 command="" wanted=""
+passed=0 failed=0 command="" wanted="" blank=""
 
 compare() {
   [ -n "$command" ] || return 0
@@ -23,8 +23,9 @@ compare() {
 for page in README.md docs/*.md; do
   while IFS= read -r line; do
     case "$line" in
-      '    $ '*) compare; command=${line#'    $ '} wanted="" ;;
-      '    '*) wanted+="${line#'    '}"$'\n' ;;
+      '    $ '*) compare; command=${line#'    $ '} wanted="" blank="" ;;
+      '    '*) wanted+="$blank${line#'    '}"$'\n' blank="" ;;
+      '') blank=$'\n' ;;
       *) compare ;;
     esac
   done < "$page"

@@ -9,7 +9,7 @@ the program prints exactly what the reference says, ends with the status that it
 has to come.
 
 The cases are the same for the same seed. --later names what isn't compared yet, as a list with commas: cost (violations
-by cost), cover, both, folder, margins, explain (but not the words of its table); or 'all'. --keep writes the files of
+by cost), cover, both, folder, margins, explain; or 'all'. --keep writes the files of
 the cases that failed into a folder.
 """
 import argparse
@@ -29,14 +29,21 @@ from reference.answers import NAMES, answer
 
 LATER = ["cost", "cover", "both", "folder", "margins", "explain"]
 # What the program has of these by now; it is always compared.
-HAS = ["cost", "cover", "both", "folder", "margins"]
+HAS = ["cost", "cover", "both", "folder", "margins", "explain"]
 VERDICTS = [
     "read .. funded", "read .. no outcome", "note: num_projects", "note: num_votes", "note: selected",
     "supported priceable", "supported stable", "failed Feasible", "failed Exhaustive", "failed C1", "failed C2",
     "failed C3", "failed C4", "failed C5", "failed S5", "violation", "failed V1", "failed V2", "failed V3", "failed V4",
     "pb-prices,1",
 ]  # fmt: skip
-LATER_VERDICTS = {"cover": ["failed Cover"], "folder": ["total"], "margins": ["pb-margins,1"]}
+CONDITIONS = ["Feasible", "Exhaustive", "Cover", "C1", "C2", "C3", "C4", "C5", "S5", "V1", "V2", "V3", "V4"]
+LATER_VERDICTS = {
+    "cover": ["failed Cover"],
+    "folder": ["total"],
+    "margins": ["pb-margins,1"],
+    "explain": [f"{name} {answer}" for name in CONDITIONS for answer in ("holds", "fails")]
+    + [f"{name} not asked" for name in ("Exhaustive", "Cover", "C5", "S5")],
+}
 
 
 def wanted_kinds(later):
@@ -58,6 +65,7 @@ def kinds_of(text):
     for line in lines[:-1]:
         line = line.split(".pb: ")[-1].split(".csv: ")[-1]
         line = re.sub(r"^read .* (funded|no outcome)$", r"read .. \1", line)
+        line = re.sub(r"^(\w+) +(holds|fails|not asked)  .*$", r"\1 \2", line)
         kinds.append(re.sub(r"^(refused \w+ \d+ \w+|failed \w+|note: \w+|total) .*$", r"\1", line))
     return kinds
 
@@ -90,14 +98,7 @@ def run(program, case, room):
         done = subprocess.run([program, *case.words], input=case.stdin or b"", capture_output=True, cwd=room, timeout=120)
     except subprocess.TimeoutExpired:
         return Said(b"", -2, b"no answer in two minutes")
-    return Said(brief(done.stdout) if case.words[:1] == ["explain"] else done.stdout, done.returncode, done.stderr)
-
-
-def brief(text):
-    """Of an explained answer the first line, and which of the conditions asked for hold."""
-    first, *rows = text.splitlines(keepends=True)
-    found = [re.match(rb"(\w+) +(holds|fails)\b", row) for row in rows]
-    return first + b"".join(b"%s %s\n" % row.groups() for row in found if row)
+    return Said(done.stdout, done.returncode, done.stderr)
 
 
 def reference_says(case, room, later, answer=answer):

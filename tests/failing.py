@@ -47,6 +47,8 @@ COMMANDS = [
     ["violation", "unfair.pb", "unfair.violation.csv"], ["violation", DISTRICT, "district.violation.csv"],
     ["violation", DISTRICT, "district.wide.violation.csv", "--outcome", "district.other.outcome.csv"],
     ["violation", DISTRICT, "district.voter-id.violation.csv"], ["violation", SAMPLE, "sample.outcome.csv"],
+    ["explain", SAMPLE, "sample.prices.csv"], ["explain", SAMPLE, "sample.wrong.violation.csv"],
+    ["explain", DISTRICT, "district.short.prices.csv", "--stable"],
     ["margins", SAMPLE, "sample.prices.csv"], ["margins", SAMPLE, "sample.outcome.csv"],
     ["margins", DISTRICT, "district.prices.csv", "--outcome", "district.other.outcome.csv"],
     ["tidy", SAMPLE, "sample.untidy.prices.csv"], ["tidy", DISTRICT, "district.prices.csv"],

@@ -5,6 +5,7 @@ import stat
 from . import conditions, violations
 from .certificates import canonical, quoted, read_outcome, read_prices, read_violation, rows_of
 from .election import read_election
+from .explaining import price_lines, violation_lines
 from .records import MOST_BYTES, Refused
 
 YES, NO, REFUSED = 0, 1, 2
@@ -147,18 +148,18 @@ class Commands:
         return margins(conditions.Claim(election, funded, prices)), YES
 
     def explain(self, paths, mode, outcome):
-        """The line of 'prices' or 'violation', and whether each condition holds; of the words beside that nothing."""
+        """The line of 'prices' or 'violation', an empty line, and what each condition or test comes to."""
         election = take("election", read_election, paths[0])
         funded = take_outcome(election, outcome)
         if is_violation(take("certificate", bytes, paths[1])):
             violation = take("certificate", read_violation, paths[1], election, self.versions)
             text, status = verdict_on_violation(election, funded, violation)
-            answers = violations.answers(election, funded, violation)
+            lines = violation_lines(election, funded, violation)
         else:
             prices = take("certificate", read_prices, paths[1], election)
             text, status = verdict_on_prices(election, funded, prices, mode)
-            answers = conditions.answers(conditions.Claim(election, funded, prices), mode)
-        return text + b"".join(line(f"{name} {'holds' if holds else 'fails'}") for name, holds in answers), status
+            lines = price_lines(conditions.Claim(election, funded, prices), mode)
+        return text + b"\n" + b"".join(map(line, lines)), status
 
     def folder(self, paths, mode, outcome):
         try:

@@ -115,8 +115,3 @@ def first_failure(claim, mode):
         if culprits:
             return name, culprits[0]
     return None
-
-
-def answers(claim, mode):
-    """Each condition that a mode asks for, and whether it holds."""
-    return [(name, not culprits_of(claim)) for name, culprits_of in conditions_of(mode)]

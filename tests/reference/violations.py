@@ -40,8 +40,3 @@ def first_failure(*violation):
         if culprits:
             return name, culprits[0]
     return None
-
-
-def answers(*violation):
-    """Each test, and whether it is passed."""
-    return [(name, not culprits_of(*violation)) for name, culprits_of in TESTS]

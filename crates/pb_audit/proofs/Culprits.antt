@@ -86,19 +86,19 @@ budget-names m e p =
     all-if (Names e) m.cover (if nat_le (voters e * beta p) (budget_limit e p) then failure.Cover ∷ [] else []) []
     (all-if (Names e) (nat_le (voters e * beta p) (budget_limit e p)) (failure.Cover ∷ []) [] (tt, tt) tt) tt
 
+pub unapproved-name : (e : Instance) (p : Prices) → AllByRecursion (λ (q : ℕ × ℕ). IsProject e q.1) (culprits_of_C1 e p)
+unapproved-name e p =
+    all-flat_map (λ (q : ℕ × ℕ). IsProject e q.1) _ (all_voters e) (λ i. all-map (λ (q : ℕ × ℕ). IsProject e q.1) (λ c. (i, c)) _ (all-filter (IsProject e) _ (all_projects e) (projects-are e)))
+
 pub payment-names : (e : Instance) (w : List Bool) (p : Prices) → AllByRecursion (Names e) (failures_of_payments e w p)
 payment-names e w p =
     all-append (Names e) _ _
     (all-append (Names e) _ _
     (all-append (Names e) _ _
-    (all-map (Names e) (λ (q : ℕ × ℕ). failure.C1 q.0 q.1) (culprits_of_C1 e p) (not-approved e p))
+    (all-map (Names e) (λ (q : ℕ × ℕ). failure.C1 q.0 q.1) (culprits_of_C1 e p) (unapproved-name e p))
     (all-map (Names e) failure.C2 (culprits_of_C2 e p) (all-true (λ i. Names e (failure.C2 i)) (culprits_of_C2 e p) (λ i. tt))))
     (all-map (Names e) failure.C3 (culprits_of_C3 e w p) (among-projects e _ _)))
     (all-map (Names e) failure.C4 (culprits_of_C4 e w p) (among-projects e _ _))
-  where
-    not-approved : (e : Instance) (p : Prices) → AllByRecursion (λ (q : ℕ × ℕ). IsProject e q.1) (culprits_of_C1 e p)
-    not-approved e p =
-        all-flat_map (λ (q : ℕ × ℕ). IsProject e q.1) _ (all_voters e) (λ i. all-map (λ (q : ℕ × ℕ). IsProject e q.1) (λ c. (i, c)) _ (all-filter (IsProject e) _ (all_projects e) (projects-are e)))
 
 pub supporter-names : (m : Mode) (e : Instance) (w : List Bool) (p : Prices) → AllByRecursion (Names e) (failures_of_supporters m e w p)
 supporter-names m e w p =
@@ -126,22 +126,22 @@ prices_name_projects m e w p v is =
 abbrev pub NamesDemanded : Instance → ViolationFailure → Type 0
 NamesDemanded e f = NamesProject e (violation_failed f)
 
+pub missing-name : (e : Instance) (s t : List ℕ) → IsSet 1 (projects e) t → AllByRecursion (λ (q : ℕ × ℕ). IsProject e q.1) (culprits_of_V2 e s t)
+missing-name e s t set =
+    all-flat_map (λ (q : ℕ × ℕ). IsProject e q.1) _ s (λ i. all-map (λ (q : ℕ × ℕ). IsProject e q.1) (λ j. (i, j)) _ (all-filter (IsProject e) _ t demanded))
+  where
+    demanded : AllByRecursion (IsProject e) t
+    demanded = all-set (IsProject e) 1 (projects e) t set (λ j low high. (low, high))
+
 pub violation-names : (worth : ℕ → ℕ) (e : Instance) (w : List Bool) (s t : List ℕ) → IsSet 1 (projects e) t → AllByRecursion (NamesDemanded e) (violations.failures_of worth e w s t)
 violation-names worth e w s t set =
     all-append (NamesDemanded e) _ _
     (all-append (NamesDemanded e) _ _
     (all-append (NamesDemanded e) _ _
     (all-if (NamesDemanded e) (length s == 0) (violation_failure.V1 ∷ []) [] (tt, tt) tt)
-    (all-map (NamesDemanded e) (λ (q : ℕ × ℕ). violation_failure.V2 q.0 q.1) (culprits_of_V2 e s t) not-approved))
+    (all-map (NamesDemanded e) (λ (q : ℕ × ℕ). violation_failure.V2 q.0 q.1) (culprits_of_V2 e s t) (missing-name e s t set)))
     (all-if (NamesDemanded e) (nat_lt (length s * e.limit) (voters e * cost_of_all e t)) (violation_failure.V3 ∷ []) [] (tt, tt) tt))
     (all-map (NamesDemanded e) violation_failure.V4 (culprits_of_V4 worth e w s t) (all-true (λ i. NamesDemanded e (violation_failure.V4 i)) (culprits_of_V4 worth e w s t) (λ i. tt)))
-  where
-    demanded : AllByRecursion (IsProject e) t
-    demanded = all-set (IsProject e) 1 (projects e) t set (λ j low high. (low, high))
-
-    not-approved : AllByRecursion (λ (q : ℕ × ℕ). IsProject e q.1) (culprits_of_V2 e s t)
-    not-approved =
-        all-flat_map (λ (q : ℕ × ℕ). IsProject e q.1) _ s (λ i. all-map (λ (q : ℕ × ℕ). IsProject e q.1) (λ j. (i, j)) _ (all-filter (IsProject e) _ t demanded))
 
 first-demanded : (e : Instance) (o : Option ViolationFailure) → IfSome o (NamesDemanded e) → ViolationNamesProject e (violations.verdict_of o)
 first-demanded e None h = tt

@@ -7,6 +7,7 @@ pub mod OneAnswer
 pub mod Readers
 pub mod Both
 pub mod Margins
+pub mod Explained
 pub mod Loaded
 pub mod Reports
 pub mod Folders

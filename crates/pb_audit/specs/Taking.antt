@@ -13,7 +13,9 @@ use Rattle.pb_certificate.specs.declared.measure.Measure.{Measure}
 use Rattle.pb_certificate.specs.declared.refusal.CertFault.{CertFault}
 use Rattle.pb_certificate.specs.declared.refusal.CertFault.TheVariants as cert_fault
 use Rattle.pb_certificate.specs.Prices.{Prices}
+use Rattle.pb_price.specs.Findings.{findings}
 use Rattle.pb_price.specs.First.{First, verdict_of}
+use Rattle.pb_price.specs.declared.Findings.{Findings}
 use Rattle.pb_price.specs.declared.Mode.{Mode}
 use Rattle.pb_price.specs.declared.Verdict.{Verdict}
 use Rattle.pb_audit.specs.Answers.{Answer, Reply, answer_of, refused, tidy_answer, with_input}
@@ -120,3 +122,8 @@ TidiesPrices e certificate (Err r) = StatesPrices name.Certificate e certificate
 abbrev pub TablesMargins : Instance → List Bool → Delivery → Stated Answer → Type 0
 TablesMargins e w certificate (Ok answer) = (p : Prices) × (StatesPrices name.Certificate e certificate (Ok p) × (answer ≡ answer_of (margins_reply e w p)))
 TablesMargins e w certificate (Err r) = StatesPrices name.Certificate e certificate (Err r)
+
+-- what each condition comes to by the prices of a certificate
+abbrev pub FindsPrices : Instance → List Bool → Delivery → Stated Findings → Type 0
+FindsPrices e w certificate (Ok f) = (p : Prices) × (StatesPrices name.Certificate e certificate (Ok p) × (f ≡ findings e w p))
+FindsPrices e w certificate (Err r) = StatesPrices name.Certificate e certificate (Err r)

@@ -4,6 +4,7 @@
 
 mod answer;
 mod both_engine;
+mod explain_engine;
 mod folder;
 mod folder_report;
 mod found;
@@ -25,6 +26,7 @@ mod violation_engine;
 
 pub use answer::{Answer, Reply};
 pub use both_engine::{both_reply, run_both};
+pub use explain_engine::{explained_reply, run_explain};
 pub use folder::{Entry, folder_text};
 pub use folder_report::FolderReport;
 pub use loaded::Loaded;

@@ -11,6 +11,8 @@ use std::alloc::{AllocError, Global};
 /// `pb-violation,2`. What follows it is not looked at. Bytes without such a record begin as none, and so do those whose
 /// first such record is not UTF-8. The error is want of memory; it comes only where a growth was refused, which is tested
 /// and not proved.
+// The reader of records takes some 30 KB of stack, which a caller is to have back.
+#[inline(never)]
 pub fn is_violation(alloc: Global, bytes: &[u8]) -> Result<bool, AllocError>
     ensures { IfOk result (λ b. b ≡ begins_violation (certificate_records bytes.now)) }
 {

@@ -215,6 +215,12 @@ both_asks n met other rest e =
     three_some _ (first_of (codes "election") rows) (first_of (codes "prices") rows) (first_of (codes "violation") rows)
     (given_first (codes "election") s rest refl given.0) (given_first (codes "prices") s rest refl given.1.0) (given_first (codes "violation") s rest refl given.1.1)
 
+explain_asks : AsksByName (sub_of (codes "explain"))
+unfolding sub_of commands_written
+explain_asks n met other rest e =
+    let s = sub_of (codes "explain") in
+    pair_asks _ s rest refl refl (last_passes false false _ (level_check s [] rest e))
+
 margins_asks : AsksByName (sub_of (codes "margins"))
 unfolding sub_of commands_written
 margins_asks n met other rest e =
@@ -248,7 +254,7 @@ help_asks n met other rest e =
 
 all_ask : AllAsk (built pbaudit).subs
 unfolding sub_of commands_written
-all_ask = (read_asks, (prices_asks, (violation_asks, (both_asks, (margins_asks, (tidy_asks, (folder_asks, (help_asks, tt))))))))
+all_ask = (read_asks, (prices_asks, (violation_asks, (both_asks, (explain_asks, (margins_asks, (tidy_asks, (folder_asks, (help_asks, tt)))))))))
 
 stop_asks : (o : Option (Text × List Text)) → IsNotHelp o → entered_fault (built pbaudit) o ≡ [] → is_some (asked_in (entered (built pbaudit) o)) ≡ true
 unfolding asked_in

@@ -49,6 +49,11 @@ both_app = command_of (codes "both")
     (path_rule (codes "election") ∷ path_rule (codes "prices") ∷ path_rule (codes "violation")
     ∷ switch_rule (codes "stable") ∷ switch_rule (codes "no-exhaustive") ∷ switch_rule (codes "cover") ∷ outcome_rule ∷ [])
 
+-- `explain ELECTION CERTIFICATE [--stable] [--no-exhaustive] [--cover] [--outcome FILE]`
+unfoldable pub explain_app : App
+explain_app = command_of (codes "explain") (path_rule (codes "election") ∷ path_rule (codes "certificate")
+    ∷ switch_rule (codes "stable") ∷ switch_rule (codes "no-exhaustive") ∷ switch_rule (codes "cover") ∷ outcome_rule ∷ [])
+
 -- `margins ELECTION CERTIFICATE [--outcome FILE]`
 unfoldable pub margins_app : App
 margins_app = command_of (codes "margins")
@@ -66,4 +71,4 @@ folder_app = command_of (codes "folder")
 -- `pbaudit`, with its commands
 unfoldable pub pbaudit : App
 pbaudit = fold (λ a (s : App). with_subcommand a s.top) (with_version (new_app (codes "pbaudit")))
-    (read_app ∷ prices_app ∷ violation_app ∷ both_app ∷ margins_app ∷ tidy_app ∷ folder_app ∷ [])
+    (read_app ∷ prices_app ∷ violation_app ∷ both_app ∷ explain_app ∷ margins_app ∷ tidy_app ∷ folder_app ∷ [])

@@ -19,6 +19,7 @@ pub data Asked : Type 0 where
   prices : Text → Text → Option Text → Mode → Asked
   violation : Text → Text → Option Text → Asked
   both : Text → Text → Text → Option Text → Mode → Asked
+  explain : Text → Text → Option Text → Mode → Asked
   margins : Text → Text → Option Text → Asked
   tidy : Text → Text → Asked
   folder : Text → Mode → Asked
@@ -28,6 +29,7 @@ asked (task.Read e) = read (option_map string_bytes e)
 asked (task.Prices e c o m) = prices (string_bytes e) (string_bytes c) (option_map string_bytes o) m
 asked (task.Violation e c o) = violation (string_bytes e) (string_bytes c) (option_map string_bytes o)
 asked (task.Both e p v o m) = both (string_bytes e) (string_bytes p) (string_bytes v) (option_map string_bytes o) m
+asked (task.Explain e c o m) = explain (string_bytes e) (string_bytes c) (option_map string_bytes o) m
 asked (task.Margins e c o) = margins (string_bytes e) (string_bytes c) (option_map string_bytes o)
 asked (task.Tidy e c) = tidy (string_bytes e) (string_bytes c)
 asked (task.Folder f m) = folder (string_bytes f) m
@@ -66,10 +68,12 @@ asked_by name rows =
     else (if bytes_eq name (codes "violation") then from_both (λ e c. violation e c outcome) election certificate
     else (if bytes_eq name (codes "both")
     then from_three (λ e p v. both e p v outcome (mode_in rows)) election (first_of (codes "prices") rows) (first_of (codes "violation") rows)
+    else (if bytes_eq name (codes "explain")
+    then from_both (λ e c. explain e c outcome (mode_in rows)) election certificate
     else (if bytes_eq name (codes "margins") then from_both (λ e c. margins e c outcome) election certificate
     else (if bytes_eq name (codes "tidy") then from_both tidy election certificate
     else (if bytes_eq name (codes "folder") then option_map (λ f. folder f (mode_in rows)) (first_of (codes "folder") rows)
-    else None))))))
+    else None)))))))
 
 -- no command reads standard input
 unfoldable pub asked_in : Option (Text × List Row) → Option Asked

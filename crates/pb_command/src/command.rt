@@ -4,6 +4,7 @@ ghost use Rattle.clap.specs.Words.{rule_of};
 ghost use Rattle.pb_command.specs.Commands.{
   IsCommand,
   both_app,
+  explain_app,
   folder_app,
   margins_app,
   outcome_rule,
@@ -17,8 +18,8 @@ ghost use Rattle.pb_command.specs.Commands.{
 };
 
 use crate::help::{
-    BOTH_NOTES, FOLDER_NOTES, MARGINS_NOTES, PRICES_NOTES, PROGRAM_NOTES, READ_NOTES, TIDY_NOTES,
-    VIOLATION_NOTES,
+    BOTH_NOTES, EXPLAIN_NOTES, FOLDER_NOTES, MARGINS_NOTES, PRICES_NOTES, PROGRAM_NOTES,
+    READ_NOTES, TIDY_NOTES, VIOLATION_NOTES,
 };
 use clap::{Arg, ArgAction, Command};
 use std::alloc::{AllocError, Global};
@@ -37,6 +38,7 @@ pub(crate) fn pbaudit_command<'a>(alloc: Global) -> Result<Command<'a>, AllocErr
             .subcommand(prices_command(alloc)?)?
             .subcommand(violation_command(alloc)?)?
             .subcommand(both_command(alloc)?)?
+            .subcommand(explain_command(alloc)?)?
             .subcommand(margins_command(alloc)?)?
             .subcommand(tidy_command(alloc)?)?
             .subcommand(folder_command(alloc)?)?
@@ -113,6 +115,27 @@ fn both_command<'a>(alloc: Global) -> Result<Command<'a>, AllocError>
             .arg(cover_arg(alloc))?
             .arg(outcome_arg(alloc))?
             .after_help(BOTH_NOTES),
+    )
+}
+
+fn explain_command<'a>(alloc: Global) -> Result<Command<'a>, AllocError>
+    ensures { IfOk result (IsCommand explain_app) }
+{
+    Ok(
+        Command::new(alloc, "explain")
+            .about("Check a certificate and print what each condition or test comes to")
+            .arg(election_arg(alloc))?
+            .arg(path_arg(
+                alloc,
+                "certificate",
+                "CERTIFICATE",
+                "The price certificate or the violation certificate, a CSV file",
+            ))?
+            .arg(stable_arg(alloc))?
+            .arg(no_exhaustive_arg(alloc))?
+            .arg(cover_arg(alloc))?
+            .arg(outcome_arg(alloc))?
+            .after_help(EXPLAIN_NOTES),
     )
 }
 

@@ -20,6 +20,7 @@ Examples:
   pbaudit prices town.pb prices.csv --stable
   pbaudit violation town.pb violation.csv
   pbaudit both town.pb prices.csv violation.csv --stable --cover
+  pbaudit explain town.pb prices.csv --stable
   pbaudit margins town.pb prices.csv > margins.csv
   pbaudit tidy town.pb prices.csv > canonical.csv
   pbaudit folder elections";
@@ -143,6 +144,37 @@ Exit statuses: 0 supported and a violation, 1 a condition or a test failed,
 Examples:
   pbaudit both town.pb prices.csv violation.csv --stable --cover
   pbaudit both town.pb prices.csv violation.csv --outcome outcome.csv";
+
+/// What `explain` prints.
+pub(crate) const EXPLAIN_NOTES: &str = "\
+Prints the line of 'prices', or that of 'violation' for a certificate whose
+first record is pb-violation,1 or pb-violation,2. An empty line follows, and
+then a line for each condition or test, with the figures that it compares:
+  failed C5 project pool
+
+  Feasible    holds      the funded projects cost 12.00; the limit is 20.00
+  Exhaustive  holds      8.00 of the limit remains; the cheapest unfunded [...]
+Those behind the first that fails have their figures too, and so have those that
+are not asked for, each with how to ask for it.
+
+At a condition that fails the figures are those of the first culprit, which is
+the lowest voter or project, and the number of culprits follows in brackets. At
+one that holds they are those of the voter or project that comes closest, where
+that says something.
+
+All figures are exact: an amount is a decimal with two to six places where it is
+one, and else a whole number and a fraction, such as 12865 1/3.
+
+The switches count for prices alone. The outcome is as for 'prices', and so is
+what is printed where a file is refused.
+
+Exit statuses: 0 supported or a violation, 1 a condition or a test failed,
+2 refused, 3 usage, 4 fault.
+
+Examples:
+  pbaudit explain town.pb prices.csv
+  pbaudit explain town.pb prices.csv --stable --cover
+  pbaudit explain town.pb violation.csv --outcome outcome.csv";
 
 /// What `margins` prints.
 pub(crate) const MARGINS_NOTES: &str = "\

@@ -59,6 +59,17 @@ pub enum Task {
         /// Which conditions are asked for.
         mode: Mode,
     },
+    /// Check a certificate of either kind and write what each condition or test comes to, with the outcome as for prices.
+    Explain {
+        /// The election.
+        election: String,
+        /// The price certificate or the violation certificate.
+        certificate: String,
+        /// The outcome file.
+        outcome: Option<String>,
+        /// Which conditions on prices are asked for.
+        mode: Mode,
+    },
     /// Write the figures of each project by a price certificate, with the outcome as for prices.
     Margins {
         /// The election.
@@ -165,6 +176,7 @@ fn command_task(
         "prices" => prices_task(alloc, matches),
         "violation" => violation_task(alloc, matches),
         "both" => both_task(alloc, matches),
+        "explain" => explain_task(alloc, matches),
         "margins" => margins_task(alloc, matches),
         "tidy" => tidy_task(alloc, matches),
         "folder" => folder_task(alloc, matches),
@@ -226,6 +238,23 @@ fn both_task(alloc: Global, matches: &ArgMatches<'_>) -> Result<Option<Task>, Al
             election,
             prices,
             violation,
+            outcome,
+            mode: mode_of(matches),
+        })),
+        _ => Ok(None),
+    }
+}
+
+fn explain_task(alloc: Global, matches: &ArgMatches<'_>) -> Result<Option<Task>, AllocError>
+    ensures { IfOk result (λ t. option_map asked t ≡ asked_by (codes "explain") (rows_of (found_of matches.now))) }
+{
+    let election = path_of(alloc, matches, "election")?;
+    let certificate = path_of(alloc, matches, "certificate")?;
+    let outcome = path_of(alloc, matches, "outcome")?;
+    match (election, certificate) {
+        (Some(election), Some(certificate)) => Ok(Some(Task::Explain {
+            election,
+            certificate,
             outcome,
             mode: mode_of(matches),
         })),

@@ -1,9 +1,10 @@
 //! What people are told of a refusal beside its line.
 use crate::file::FileReader;
 use pb_audit::{Loaded, Task};
+use pb_certificate::is_violation;
 use pb_election::Input;
 use pb_hints::{Kind, Refusal, RefusedFile, hint};
-use std::alloc::AllocError;
+use std::alloc::{AllocError, Global};
 use std::io::Write;
 use std::{fs, io};
 
@@ -51,6 +52,10 @@ fn hint_on(
         Some(number) => Some(reason_of(rt, number)?),
         None => None,
     };
+    let kind = match &bytes {
+        Some(bytes) if explains_violation(alloc, task, refusal, bytes)? => Kind::Violation,
+        _ => kind,
+    };
     let file = RefusedFile {
         name: path.unwrap_or("standard input"),
         kind,
@@ -61,7 +66,20 @@ fn hint_on(
     hint(alloc, refusal, &file)
 }
 
-/// What an input of a task is to be, by its name in refusals, and its path; none for standard input.
+/// Whether the bytes of a refused input are a certificate that `explain` takes as that of a violation.
+fn explains_violation(
+    alloc: Global,
+    task: &Task,
+    refusal: &Refusal<'_>,
+    bytes: &[u8],
+) -> Result<bool, AllocError> {
+    match task {
+        Task::Explain { .. } if refusal.input == "certificate" => is_violation(alloc, bytes),
+        _ => Ok(false),
+    }
+}
+
+/// What an input of a task is to be, as far as the task tells, by its name in refusals, and its path; none for standard input.
 fn input_of<'a>(task: &'a Task, input: &str) -> Option<(Kind, Option<&'a str>)> {
     let (kind, path) = match (task, input) {
         (Task::Read(None), "election") => return Some((Kind::Election, None)),
@@ -69,16 +87,19 @@ fn input_of<'a>(task: &'a Task, input: &str) -> Option<(Kind, Option<&'a str>)> 
         (Task::Prices { election, .. }, "election") => (Kind::Election, election),
         (Task::Violation { election, .. }, "election") => (Kind::Election, election),
         (Task::Both { election, .. }, "election") => (Kind::Election, election),
+        (Task::Explain { election, .. }, "election") => (Kind::Election, election),
         (Task::Margins { election, .. }, "election") => (Kind::Election, election),
         (Task::Tidy { election, .. }, "election") => (Kind::Election, election),
         (Task::Prices { outcome, .. }, "outcome") => (Kind::Outcome, outcome.as_ref()?),
         (Task::Violation { outcome, .. }, "outcome") => (Kind::Outcome, outcome.as_ref()?),
         (Task::Both { outcome, .. }, "outcome") => (Kind::Outcome, outcome.as_ref()?),
+        (Task::Explain { outcome, .. }, "outcome") => (Kind::Outcome, outcome.as_ref()?),
         (Task::Margins { outcome, .. }, "outcome") => (Kind::Outcome, outcome.as_ref()?),
         (Task::Both { prices, .. }, "prices") => (Kind::Prices, prices),
         (Task::Both { violation, .. }, "violation") => (Kind::Violation, violation),
         (Task::Prices { certificate, .. }, "certificate") => (Kind::Prices, certificate),
         (Task::Violation { certificate, .. }, "certificate") => (Kind::Violation, certificate),
+        (Task::Explain { certificate, .. }, "certificate") => (Kind::Prices, certificate),
         (Task::Margins { certificate, .. }, "certificate") => (Kind::Prices, certificate),
         (Task::Tidy { certificate, .. }, "certificate") => (Kind::Prices, certificate),
         _ => return None,

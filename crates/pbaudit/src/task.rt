@@ -4,7 +4,8 @@ use crate::folder::run_folder;
 use crate::noted::{NotedReader, NotedWriter};
 use crate::refusals::tell_hint;
 use pb_audit::{
-    Fault, Status, Task, run_both, run_margins, run_prices, run_read, run_tidy, run_violation,
+    Fault, Status, Task, run_both, run_explain, run_margins, run_prices, run_read, run_tidy,
+    run_violation,
 };
 use pb_election::{Input, Output, Sink};
 use std::cell::Cell;
@@ -84,6 +85,19 @@ fn answer<I: Read, O: Sink, E: Write + IsTerminal>(
             &mut files.open_given(outcome),
             &mut files.open(prices),
             &mut files.open(violation),
+            *mode,
+            out,
+        ),
+        Task::Explain {
+            election,
+            certificate,
+            outcome,
+            mode,
+        } => run_explain(
+            alloc,
+            &mut files.open(election),
+            &mut files.open_given(outcome),
+            &mut files.open(certificate),
             *mode,
             out,
         ),

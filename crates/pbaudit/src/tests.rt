@@ -4,6 +4,7 @@ mod certificates;
 mod cuts;
 mod ends;
 mod engines;
+mod explained_answers;
 mod failing;
 mod fakes;
 mod folders;

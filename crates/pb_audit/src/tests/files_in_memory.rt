@@ -1,12 +1,15 @@
 //! The replies on files in memory.
 use super::samples::{ELECTION, PLAIN, PRICES, UNTIDY_PRICES, VIOLATION, without_outcome};
-use crate::{Reply, Status, both_reply, prices_reply, read_reply, tidy_answer, violation_reply};
+use crate::{
+    Reply, Status, both_reply, margins_answer, prices_reply, read_reply, tidy_answer,
+    violation_reply,
+};
 use pb_price::Mode;
 use std::process::Abort;
 use std::test::Fail;
 
 /// A reply has these lines and this status.
-fn expect(rt: &impl Abort, reply: &Reply, lines: &[&str], status: Status) {
+pub fn expect(rt: &impl Abort, reply: &Reply, lines: &[&str], status: Status) {
     assert!(rt; reply.lines.len() == lines.len());
     for (line, want) in reply.lines.iter().zip(lines) {
         assert!(rt; line.as_str() == *want, "{line}");
@@ -15,7 +18,7 @@ fn expect(rt: &impl Abort, reply: &Reply, lines: &[&str], status: Status) {
 }
 
 /// The bytes of a text, where one is given.
-fn bytes_of(text: Option<&str>) -> Option<&[u8]> {
+pub fn bytes_of(text: Option<&str>) -> Option<&[u8]> {
     match text {
         Some(text) => Some(text.as_bytes()),
         None => None,
@@ -198,6 +201,44 @@ fn both_certificates(rt: HostRuntime) -> Result<(), Fail> {
             covered,
         )?;
         expect(&rt, &reply, lines, status);
+    }
+    Ok(())
+}
+
+/// Voters 1, 2 and 3 have 0, 0 and 2 left. The largest payments of the supporters of the park are 2 and 4, and of the others 2
+/// each.
+#[test]
+fn tables_of_margins(rt: HostRuntime) -> Result<(), Fail> {
+    let alloc = rt.alloc();
+    for (outcome, certificate, want, status) in [
+        (
+            None,
+            PRICES,
+            "\
+pb-margins,1
+grains_per_unit,1000000
+project,funded,supporters,cost,paid,left,offer
+a,1,2,6000000,6000000,0,6000000
+b,1,2,4000000,4000000,2000000,4000000
+c,0,1,9000000,0,2000000,2000000
+",
+            Status::Yes,
+        ),
+        (
+            Some("pb-outcome,2\n"),
+            PRICES,
+            "refused outcome 21 BadHead record 1\n",
+            Status::Refused,
+        ),
+    ] {
+        let answer = margins_answer(
+            alloc,
+            ELECTION.as_bytes(),
+            bytes_of(outcome),
+            certificate.as_bytes(),
+        )?;
+        assert!(rt; answer.text.as_slice() == want.as_bytes());
+        assert!(rt; answer.status == status);
     }
     Ok(())
 }

@@ -1,6 +1,8 @@
 //! What the engines print on what readers give, and how they end.
 use super::fakes::FakeWriter;
-use pb_audit::{Status, run_both, run_margins, run_prices, run_read, run_tidy, run_violation};
+use pb_audit::{
+    Status, run_both, run_explain, run_margins, run_prices, run_read, run_tidy, run_violation,
+};
 use pb_election::{Input, Output};
 use pb_price::Mode;
 use std::alloc::Global;
@@ -84,6 +86,30 @@ pub fn both<E: Read, O: Read + Drop, P: Read, V: Read>(
         &mut outcome,
         &mut Input::new(prices),
         &mut Input::new(violation),
+        mode,
+        &mut Output::new(&mut writer),
+    )?;
+    Ok((String::from_utf8(writer.written)?, status))
+}
+
+/// On a certificate of either kind that is to be explained.
+pub fn explain<E: Read, O: Read + Drop, C: Read>(
+    alloc: Global,
+    election: &mut E,
+    outcome: Option<O>,
+    certificate: &mut C,
+    mode: Mode,
+) -> Result<(String, Status), Fail> {
+    let mut outcome = match outcome {
+        Some(reader) => Some(Input::new(reader)),
+        None => None,
+    };
+    let mut writer = FakeWriter::new(alloc);
+    let status = run_explain(
+        alloc,
+        &mut Input::new(election),
+        &mut outcome,
+        &mut Input::new(certificate),
         mode,
         &mut Output::new(&mut writer),
     )?;

@@ -1,9 +1,12 @@
 //! Each read and each write of each command, made to fail one after the other.
 use super::engines;
 use super::fakes::{InterruptedReader, Lapse, LapsingWriter};
-use super::samples::{ELECTION, MARGINS, PLAIN, PRICES, UNFAIR_ELECTION, UNTIDY_PRICES, VIOLATION};
+use super::samples::{
+    ELECTION, EXPLAINED, MARGINS, PLAIN, PRICES, UNFAIR_ELECTION, UNTIDY_PRICES, VIOLATION,
+};
 use pb_audit::{
-    Fault, Status, folder_text, run_margins, run_prices, run_read, run_tidy, run_violation,
+    Fault, Status, folder_text, run_explain, run_margins, run_prices, run_read, run_tidy,
+    run_violation,
 };
 use pb_certificate::{Prices, WriteFault};
 use pb_election::{Election, Input, Output};
@@ -24,6 +27,7 @@ enum Command {
     Read,
     Prices,
     Violation,
+    Explain,
     Margins,
     Tidy,
 }
@@ -35,6 +39,7 @@ impl Command {
             Command::Read => [ELECTION, "", ""],
             Command::Prices => [ELECTION, "pb-outcome,1\nproject,a\nproject,b\n", PRICES],
             Command::Violation => [UNFAIR_ELECTION, "pb-outcome,1\nproject,y\n", VIOLATION],
+            Command::Explain => [UNFAIR_ELECTION, "pb-outcome,1\nproject,y\n", VIOLATION],
             Command::Margins => [ELECTION, "pb-outcome,1\nproject,c\n", PRICES],
             Command::Tidy => [ELECTION, "", UNTIDY_PRICES],
         }
@@ -78,6 +83,13 @@ impl Command {
                 Some(&mut outcome),
                 &mut certificate,
             )?,
+            Command::Explain => engines::explain(
+                alloc,
+                &mut election,
+                Some(&mut outcome),
+                &mut certificate,
+                PLAIN,
+            )?,
             Command::Margins => engines::margins(
                 alloc,
                 &mut election,
@@ -99,6 +111,7 @@ fn each_read_fails_in_turn(rt: HostRuntime) -> Result<(), Fail> {
         Command::Read,
         Command::Prices,
         Command::Violation,
+        Command::Explain,
         Command::Margins,
         Command::Tidy,
     ] {
@@ -133,6 +146,7 @@ enum Written {
     Election,
     Prices,
     Violation,
+    Explain,
     Margins,
     Tidy,
     Folder,
@@ -146,6 +160,7 @@ impl Written {
             Written::Election => "read 3 voters 3 projects 2 funded\n",
             Written::Prices => "supported priceable\n",
             Written::Violation => "violation\n",
+            Written::Explain => EXPLAINED,
             Written::Margins => MARGINS,
             Written::Tidy | Written::Canonical => PRICES,
             Written::Folder => "total 0 elections 0 yes 0 no 0 refused\n",
@@ -175,6 +190,14 @@ impl Written {
                 &mut Input::new(VIOLATION.as_bytes()),
                 &mut out,
             ),
+            Written::Explain => run_explain(
+                alloc,
+                &mut election,
+                &mut none,
+                &mut prices,
+                PLAIN,
+                &mut out,
+            ),
             Written::Margins => {
                 run_margins(alloc, &mut election, &mut none, &mut prices, &mut out)
             }
@@ -197,10 +220,11 @@ impl Written {
     }
 }
 
-const WRITTEN: [Written; 7] = [
+const WRITTEN: [Written; 8] = [
     Written::Election,
     Written::Prices,
     Written::Violation,
+    Written::Explain,
     Written::Margins,
     Written::Tidy,
     Written::Folder,
