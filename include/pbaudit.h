@@ -63,6 +63,16 @@ uint8_t pbaudit_both(const uint8_t *election, size_t election_length,
                      bool stable, bool exhaustive, bool cover,
                      uint8_t *out, size_t room, size_t *needed);
 
+/* The verdict on a certificate of either kind, an empty line, and what each condition on prices, or each test of a
+ * violation, comes to: the table of `pbaudit explain`. A certificate that begins as a violation certificate is taken as
+ * one, and then the switches count for nothing; any other is taken as prices. The outcome and the switches are as for
+ * prices. 0, 1, 2 or 4. */
+uint8_t pbaudit_explain(const uint8_t *election, size_t election_length,
+                        const uint8_t *outcome, size_t outcome_length, bool has_outcome,
+                        const uint8_t *certificate, size_t certificate_length,
+                        bool stable, bool exhaustive, bool cover,
+                        uint8_t *out, size_t room, size_t *needed);
+
 /* What each project costs, is paid and could be offered by a price certificate: the table of `pbaudit margins`, as
  * comma-separated values. The outcome is as for prices. 0, 2 or 4. */
 uint8_t pbaudit_margins(const uint8_t *election, size_t election_length,

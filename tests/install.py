@@ -14,6 +14,8 @@ import sys
 import tempfile
 from pathlib import Path
 
+from score import Score
+
 TOP = Path(__file__).resolve().parent.parent
 EXAMPLES = TOP / "examples"
 FILES = {
@@ -28,20 +30,6 @@ FILES = {
     "share/fish/vendor_completions.d/pbaudit.fish": 0o644,
 }
 MAN, BASH, ZSH, FISH = list(FILES)[5:]
-
-
-class Score:
-    passed = failed = 0
-
-    def check(self, holds, told):
-        if holds:
-            self.passed += 1
-        else:
-            self.failed += 1
-            print(f"failed: {told}")
-
-    def same(self, wanted, found, told):
-        self.check(wanted == found, f"{told}\nwanted: {wanted}\nfound:  {found}")
 
 
 def ran(*words, **more):

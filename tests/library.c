@@ -68,6 +68,10 @@ static void call(void) {
         status = pbaudit_both(files[0].at, files[0].length, files[3].at, files[3].length, has_outcome, files[1].at,
                               files[1].length, files[2].at, files[2].length, strchr(switches, 's') != 0,
                               strchr(switches, 'e') != 0, strchr(switches, 'c') != 0, out, room, &needed);
+    else if (!strcmp(command, "explain"))
+        status = pbaudit_explain(files[0].at, files[0].length, files[2].at, files[2].length, has_outcome, files[1].at,
+                                 files[1].length, strchr(switches, 's') != 0, strchr(switches, 'e') != 0,
+                                 strchr(switches, 'c') != 0, out, room, &needed);
     else
         status = pbaudit_prices(files[0].at, files[0].length, files[2].at, files[2].length, has_outcome, files[1].at,
                                 files[1].length, strchr(switches, 's') != 0, strchr(switches, 'e') != 0,

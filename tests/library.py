@@ -19,6 +19,7 @@ import sys
 import tempfile
 
 import cases
+from score import Score
 
 HERE = os.path.dirname(os.path.abspath(__file__))
 TOP = os.path.dirname(HERE)
@@ -28,17 +29,6 @@ from pbaudit import _auditor  # noqa: E402
 
 SMALL_STACK = 128 * 1024
 SWITCHES = {"--stable": "s", "--cover": "c", "--no-exhaustive": "e"}
-
-
-class Score:
-    passed = failed = 0
-
-    def check(self, holds, told):
-        if holds:
-            self.passed += 1
-        else:
-            self.failed += 1
-            print(f"failed: {told}")
 
 
 def commands():
@@ -167,7 +157,7 @@ class Rooms(_auditor._Library):
 
 def try_damaged(score, folder, program, count, seed):
     cases.DAMAGED = 1.0
-    made = cases.random_cases(count, seed, ["cost", "cover", "both", "margins"])
+    made = cases.random_cases(count, seed, ["cost", "cover", "both", "explain", "margins"])
     with concurrent.futures.ThreadPoolExecutor(4) as threads:
         for holds, told in threads.map(lambda case: try_case(folder, program, case), made):
             score.check(holds, told)

@@ -2,11 +2,14 @@
 ghost use Rattle.std.specs.Prelude.{◌≡◌, IfOk, option_copied};
 ghost use Rattle.pb_audit.specs.Answers.{AnswersElectionFile, AnswersPriceFiles, AnswersViolationFiles};
 ghost use Rattle.pb_audit.specs.Both.{AnswersBothFiles};
+ghost use Rattle.pb_audit.specs.Explained.{AnswersExplainedFiles};
 ghost use Rattle.pb_audit.specs.Margins.{AnswersMarginFiles};
 ghost use Rattle.pb_audit.specs.Readers.{TellsReply};
 ghost use Rattle.pb_c.specs.Files.{given_file};
 
-use pb_audit::{Answer, both_reply, margins_answer, prices_reply, read_reply, violation_reply};
+use pb_audit::{
+    Answer, both_reply, explained_reply, margins_answer, prices_reply, read_reply, violation_reply,
+};
 use pb_price::Mode;
 use std::alloc::{AllocError, Global};
 
@@ -60,6 +63,21 @@ pub(crate) fn both_answer(
 {
     let outcome = optional_file(outcome, has_outcome);
     both_reply(alloc, election, outcome, prices, violation, mode)?.answer(alloc)
+}
+
+/// The answer with what each condition or test comes to.
+pub(crate) fn explained_answer(
+    alloc: Global,
+    election: &[u8],
+    outcome: &[u8],
+    has_outcome: bool,
+    certificate: &[u8],
+    mode: Mode,
+) -> Result<Answer, AllocError>
+    ensures { IfOk result (TellsReply (AnswersExplainedFiles mode election.now (given_file has_outcome outcome.now) certificate.now)) }
+{
+    let outcome = optional_file(outcome, has_outcome);
+    explained_reply(alloc, election, outcome, certificate, mode)?.answer(alloc)
 }
 
 /// The answer with the figures of each project.

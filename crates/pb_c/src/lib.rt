@@ -5,6 +5,7 @@
 ghost use Rattle.std.specs.Prelude.{◌≡◌, ◌≢◌};
 ghost use Rattle.pb_audit.specs.Answers.{AnswersElectionFile, AnswersPriceFiles, AnswersTidyFiles, AnswersViolationFiles};
 ghost use Rattle.pb_audit.specs.Both.{AnswersBothFiles};
+ghost use Rattle.pb_audit.specs.Explained.{AnswersExplainedFiles};
 ghost use Rattle.pb_audit.specs.Margins.{AnswersMarginFiles};
 ghost use Rattle.pb_audit.specs.Readers.{TellsReply};
 ghost use Rattle.pb_c.specs.Files.{given_file};
@@ -13,7 +14,9 @@ ghost use Rattle.pb_c.specs.Reports.{IsReported, memory_code};
 mod answers;
 mod report;
 
-use answers::{both_answer, figures_answer, prices_answer, read_answer, violation_answer};
+use answers::{
+    both_answer, explained_answer, figures_answer, prices_answer, read_answer, violation_answer,
+};
 use pb_audit::tidy_answer;
 use pb_price::Mode;
 use report::report;
@@ -135,6 +138,42 @@ pub extern "C" fn pbaudit_both(
         violation,
         mode,
     );
+    report(&answer, out, needed)
+}
+
+/// Explains the verdict on a certificate of either kind: its line, an empty line, and a line for each condition on prices
+/// or each test of a violation, with the figures that it compares. 0 where the prices support the outcome, or the group
+/// and its demand are a violation, 1 where they don't or aren't, 2 where a file is refused, and 4 where memory ran out. A
+/// certificate whose first record is the head of a violation certificate is taken as one, and then `stable`,
+/// `exhaustive` and `cover` count for nothing; any other is taken as prices. The outcome is as for `pbaudit_prices`, and
+/// the text and its length are given as by `pbaudit_read`.
+#[unsafe(no_mangle)]
+pub extern "C" fn pbaudit_explain(
+    alloc: Global,
+    election: &[u8],
+    outcome: &[u8],
+    has_outcome: bool,
+    certificate: &[u8],
+    stable: bool,
+    exhaustive: bool,
+    cover: bool,
+    out: &mut [u8],
+    needed: &mut usize,
+) -> u8
+    // The number, the text and its length are those of the reply on these bytes. Where no file is refused, the number
+    // is 0 exactly where the prices support the outcome, or the group and its demand are a violation.
+    ensures reported { result ≢ memory_code → IsReported (TellsReply (AnswersExplainedFiles (record { stable = stable; exhaustive = exhaustive; cover = cover }) election.now (given_file has_outcome outcome.now) certificate.now)) result out.old out.new needed.new }
+
+    // Where memory ran out, nothing was written.
+    ensures memory_out { result ≡ memory_code → out.new ≡ out.old }
+    ensures memory_needed { result ≡ memory_code → needed.new ≡ 0 }
+{
+    let mode = Mode {
+        stable,
+        exhaustive,
+        cover,
+    };
+    let answer = explained_answer(alloc, election, outcome, has_outcome, certificate, mode);
     report(&answer, out, needed)
 }
 
