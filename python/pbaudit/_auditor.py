@@ -43,8 +43,8 @@ class Question:
     mode: Mode = Mode()
 
 
-_WITH_OUTCOME = ("prices", "violation", "both", "margins")
-_WITH_MODE = ("prices", "both")
+_WITH_OUTCOME = ("prices", "violation", "both", "margins", "explain")
+_WITH_MODE = ("prices", "both", "explain")
 
 
 class _Library:
@@ -60,6 +60,7 @@ class _Library:
         "violation": _FILE + _OUTCOME + _FILE,
         "both": _FILE + _OUTCOME + _FILE + _FILE + _MODE,
         "margins": _FILE + _OUTCOME + _FILE,
+        "explain": _FILE + _OUTCOME + _FILE + _MODE,
         "tidy": _FILE + _FILE,
     }
 

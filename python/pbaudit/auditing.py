@@ -4,8 +4,6 @@ A `str` or `os.PathLike` is the path of a file, and `bytes` are a file's bytes. 
 OSError, and a file that isn't what it has to be is a Refusal. Both are exceptions, since neither is an answer to what
 was asked. That a condition fails is an answer, and so a value.
 """
-import csv
-import io
 import os
 import re
 from dataclasses import dataclass
@@ -13,6 +11,7 @@ from fractions import Fraction
 from typing import Optional, Tuple, Union
 
 from ._auditor import Mode, Question, ask
+from .reading import records
 
 File = Union[bytes, bytearray, memoryview, str, "os.PathLike[str]"]
 # A file of more bytes than this is refused, so no more than one byte more is ever read.
@@ -71,6 +70,29 @@ class Summary:
 
 
 @dataclass(frozen=True)
+class Finding:
+    """What a condition or test comes to: its name, as "C3"; "holds", "fails" or "not asked"; and a sentence with the
+    amounts that it compares."""
+
+    name: str
+    state: str
+    sentence: str
+
+
+@dataclass(frozen=True)
+class Explanation:
+    """What each condition comes to, in their order, with the answer to the audit itself. `str` is the text that the
+    program prints."""
+
+    verdict: Verdict
+    findings: Tuple[Finding, ...]
+    text: str
+
+    def __str__(self) -> str:
+        return self.text
+
+
+@dataclass(frozen=True)
 class ProjectMargins:
     """The figures of a project by a price certificate: its id, whether it is funded, how many voters approve it, and exact
     amounts in the currency of the election. `left` is what its supporters have left together, which may be less than 0, and
@@ -124,11 +146,25 @@ def margins(election: File, certificate: File, outcome: Optional[File] = None) -
     """What each project costs, is paid and could be offered by a price certificate, in the order of the election. The outcome
     is as for `audit_prices`. Raises Refusal, OSError and MemoryError."""
     text = _text(Question("margins", bytes_of(election), bytes_of(certificate), outcome=_given(outcome)))
-    _, (_, grains_per_unit), _, *rows = csv.reader(io.StringIO(text.decode("utf-8"), newline=""))
+    _, (_, grains_per_unit), _, *rows = records(text, b",")
     return tuple(
-        ProjectMargins(project, funded == "1", int(supporters), *(Fraction(int(grains), int(grains_per_unit)) for grains in amounts))
+        ProjectMargins(project.decode(), funded == b"1", int(supporters),
+                       *(Fraction(int(grains), int(grains_per_unit)) for grains in amounts))
         for project, funded, supporters, *amounts in rows
     )
+
+
+def explain(election: File, certificate: File, outcome: Optional[File] = None, *, stable: bool = False,
+            exhaustive: bool = True, cover: bool = False) -> Explanation:
+    """What each condition comes to by a price certificate, or each test by a violation certificate, with the verdict of
+    `audit_prices` or `audit_violation`. The outcome and the switches are as for `audit_prices`; a violation doesn't
+    depend on the switches. Raises Refusal, OSError and MemoryError."""
+    mode = Mode(bool(stable), bool(exhaustive), bool(cover))
+    text = _text(Question("explain", bytes_of(election), bytes_of(certificate), outcome=_given(outcome), mode=mode))
+    line, _, *rows = text.decode("utf-8").rstrip("\n").split("\n")
+    # Names stand in 12 columns and states in 11.
+    findings = tuple(Finding(row[:12].rstrip(), row[12:23].rstrip(), row[23:]) for row in rows)
+    return Explanation(_verdict(line), findings, text.decode("utf-8"))
 
 
 def tidy(election: File, certificate: File) -> bytes:

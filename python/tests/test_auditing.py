@@ -14,7 +14,7 @@ from pbaudit import Refusal, _auditor
 REPOSITORY = pathlib.Path(__file__).resolve().parents[2]
 EXAMPLES = REPOSITORY / "examples"
 PROGRAM = REPOSITORY / "crates" / "pbaudit" / "out" / "pbaudit"
-AUDITS = ("read", "prices", "violation", "both", "margins", "tidy")
+AUDITS = ("read", "prices", "violation", "both", "explain", "margins", "tidy")
 
 
 def wanted_answers():
@@ -131,6 +131,46 @@ class Audits(unittest.TestCase):
         self.assertEqual((third.funded, third.left), (True, Fraction(2, 3)))
         with self.assertRaises(Refusal):
             pbaudit.margins(*reversed(files))
+        odd = ["i" * 200_000, 'x,"y"', '"', "\u2028\u00a0"]
+        town = pbaudit.write_election(pbaudit.Instance([pbaudit.Project(name, 1) for name in odd], 9), [[]], odd[:1])
+        told = pbaudit.margins(town, pbaudit.write_prices(1, [{}]))
+        self.assertEqual([(each.project, each.funded) for each in told], [(name, name == odd[0]) for name in odd])
+
+    def test_explain(self):
+        files = EXAMPLES / "district.pb", EXAMPLES / "district.short.prices.csv"
+        told = pbaudit.explain(*files)
+        self.assertEqual(told.verdict, pbaudit.audit_prices(*files))
+        self.assertEqual([found.name for found in told.findings],
+                         ["Feasible", "Exhaustive", "Cover", "C1", "C2", "C3", "C4", "C5", "S5"])
+        self.assertEqual([found.name for found in told.findings if found.state == "fails"], ["C3"])
+        self.assertEqual([found.name for found in told.findings if found.state == "not asked"], ["Cover", "S5"])
+        self.assertIn("39599.99", told.findings[5].sentence)
+        told = pbaudit.explain(*files, stable=True, exhaustive=False, cover=True)
+        self.assertEqual([found.name for found in told.findings if found.state == "not asked"], ["Exhaustive", "C5"])
+        files = files[0], EXAMPLES / "district.violation.csv", EXAMPLES / "district.other.outcome.csv"
+        told = pbaudit.explain(*files)
+        self.assertEqual(told.verdict, pbaudit.audit_violation(*files))
+        self.assertEqual([found.name for found in told.findings if found.state == "holds"], ["V1", "V2", "V3", "V4"])
+        with self.assertRaises(Refusal):
+            pbaudit.explain(*reversed(files[:2]))
+
+    def test_explain(self):
+        files = EXAMPLES / "district.pb", EXAMPLES / "district.short.prices.csv"
+        told = pbaudit.explain(*files)
+        self.assertEqual(told.verdict, pbaudit.audit_prices(*files))
+        self.assertEqual([found.name for found in told.findings],
+                         ["Feasible", "Exhaustive", "Cover", "C1", "C2", "C3", "C4", "C5", "S5"])
+        self.assertEqual([found.name for found in told.findings if found.state == "fails"], ["C3"])
+        self.assertEqual([found.name for found in told.findings if found.state == "not asked"], ["Cover", "S5"])
+        self.assertIn("39599.99", told.findings[5].sentence)
+        told = pbaudit.explain(*files, stable=True, exhaustive=False, cover=True)
+        self.assertEqual([found.name for found in told.findings if found.state == "not asked"], ["Exhaustive", "C5"])
+        files = files[0], EXAMPLES / "district.violation.csv", EXAMPLES / "district.other.outcome.csv"
+        told = pbaudit.explain(*files)
+        self.assertEqual(told.verdict, pbaudit.audit_violation(*files))
+        self.assertEqual([found.name for found in told.findings if found.state == "holds"], ["V1", "V2", "V3", "V4"])
+        with self.assertRaises(Refusal):
+            pbaudit.explain(*reversed(files[:2]))
 
     def test_tidy(self):
         untidy = EXAMPLES / "sample.untidy.prices.csv"
