@@ -1,6 +1,7 @@
 -- One more row of a price certificate.
 use Rattle.std.proofs.Common.{◌≡◌, ◌∙◌, ◌≤◌, ℕ, Bool, true, false, List, [], ◌∷◌, ◌++◌, length, refl, sym, ap, subst, inl, inr, arith, Some, None, append_assoc, drop, take}
 use Rattle.std.specs.Prelude.{◌⊎◌, Ok, Err, filter_map, map}
+use Rattle.std.specs.Global.{Box}
 use Rattle.std.specs.List.{AllByRecursion}
 use Rattle.std.specs.List.Sorted.{IsNonDecreasing}
 use Rattle.std.proofs.lemmas.Bool.{false≢true}
@@ -32,13 +33,13 @@ use Rattle.pb_certificate.proofs.RowSteps.{voters_of}
 use Rattle.pb_certificate.proofs.Texts.{stated-length}
 
 -- whether a record comes, where that is known
-pub comes-record : (old new : Position) (b : Bool) → Comes old new (Ok b) → b ≡ true → MeetsRecord old new
-comes-record old new true c is = c
-comes-record old new false c is = absurd (false≢true is)
+pub comes-record : (old from new : Position) (b : Bool) → Comes from new (Ok b) → from ≡ old → b ≡ true → MeetsRecord old new
+comes-record old from new true c same is = subst (λ (x : Position). MeetsRecord x new) same c
+comes-record old from new false c same is = absurd (false≢true is)
 
-pub comes-end : (old new : Position) (b : Bool) → Comes old new (Ok b) → b ≡ false → MeetsEnd old new
-comes-end old new false c is = c
-comes-end old new true c is = absurd (false≢true (sym is))
+pub comes-end : (old from new : Position) (b : Bool) → Comes from new (Ok b) → from ≡ old → b ≡ false → MeetsEnd old new
+comes-end old from new false c same is = subst (λ (x : Position). MeetsEnd x new) same c
+comes-end old from new true c same is = absurd (false≢true (sym is))
 
 -- what a reader has given
 pub given-is : (r : RowReader) (h : IsReading r) → given (place_of r) ≡ h.payments
@@ -46,15 +47,15 @@ given-is r h =
     ap (λ (recs : List Rec). filter_map (payment_of r.election.now) (drop 4 recs)) h.stands.behind ∙ given-behind r.election.now r.denominator r.budget h.heads h.rows h.payments h.is_head h.each_row
 
 -- a row is given
-pub row-taken : (old : RowReader) (cursor : Position) (prior : PriorRows) (q : PriceRow) → IsReading old → MeetsRecord old.cursor cursor → TakesPayment old.election.now cursor.row old.prior prior q
+pub row-taken : (old : RowReader) (cursor : Box Position) (prior : PriorRows) (q : PriceRow) → IsReading old → MeetsRecord old.cursor.value cursor.value → TakesPayment old.election.now cursor.value.row old.prior prior q
     → length prior.last_payers.items ≡ length old.prior.last_payers.items → Advances old (record old { cursor = cursor; prior = prior }) (Ok (Some q))
 row-taken old cursor prior q h m t many =
     let e = old.election.now in
     let recs = certificate_records old.bytes.now in
-    let r = cursor.row in
+    let r = cursor.value.row in
     let admitted = t.admits h.payments h.remembers in
     let clear = form-of-payment e old.denominator old.budget h.heads h.rows h.payments r (as_payment q) h.is_head h.each_row m.is_utf8 t.no_fault t.states ∙ admitted.0 in
-    let stands = subst (StandsBehind (price_form e) recs cursor) (append_assoc h.heads h.rows (r ∷ [])) (goes-behind (price_form e) recs old.cursor cursor (h.heads ++ h.rows) h.stands m clear) in
+    let stands = subst (StandsBehind (price_form e) recs cursor.value) (append_assoc h.heads h.rows (r ∷ [])) (goes-behind (price_form e) recs old.cursor.value cursor.value (h.heads ++ h.rows) h.stands m clear) in
     let reading : IsReading (record old { cursor = cursor; prior = prior }) =
     record {
       heads = h.heads;
@@ -68,7 +69,7 @@ row-taken old cursor prior q h m t many =
     } in (
       record {
         record_of = r;
-        next = record { blanks = m.blanks; rest = cursor.left; are_blank = m.are_blank; is_full = m.is_full; cut = sym h.stands.left ∙ m.cut; at = m.at };
+        next = record { blanks = m.blanks; rest = cursor.value.left; are_blank = m.are_blank; is_full = m.is_full; cut = sym h.stands.left ∙ m.cut; at = m.at };
         states = t.states;
         same = refl;
         given_then = given-is (record old { cursor = cursor; prior = prior }) reading ∙ ap (λ (qs : List Payment). qs ++ (as_payment q ∷ [])) (sym (given-is old h));
@@ -89,21 +90,21 @@ row-form old r f h text why = elim why [
       form-of-payment old.election.now old.denominator old.budget h.heads h.rows h.payments r by_place.payment h.is_head h.each_row text by_place.no_fault by_place.states ∙ by_place.stops h.payments h.remembers
 ]
 
-pub row-refused : (old : RowReader) (new : Position) (f : CertFault) → IsReading old → MeetsRecord old.cursor new → (row_fault old.election.now new.row ≡ Some f) ⊎ RefusesPayment old.election.now new.row old.prior f
+pub row-refused : (old : RowReader) (new : Position) (f : CertFault) → IsReading old → MeetsRecord old.cursor.value new → (row_fault old.election.now new.row ≡ Some f) ⊎ RefusesPayment old.election.now new.row old.prior f
     → RefusesNext (place_of old) (record { fault = f; place = new.place })
 row-refused old new f h m why =
     let e = old.election.now in
     record {
       record_of = new.row;
       next = record { blanks = m.blanks; rest = new.left; are_blank = m.are_blank; is_full = m.is_full; cut = sym h.stands.left ∙ m.cut; at = m.at };
-      first = (refused-at (price_form e) (certificate_records old.bytes.now) old.cursor new (h.heads ++ h.rows) f h.stands m (row-form old new.row f h m.is_utf8 why)).first;
+      first = (refused-at (price_form e) (certificate_records old.bytes.now) old.cursor.value new (h.heads ++ h.rows) f h.stands m (row-form old new.row f h m.is_utf8 why)).first;
     }
 
 -- no record is met
-pub next-refused : (old : RowReader) (new : Position) (r : CertRefusal) → IsReading old → Comes old.cursor new (Err r) → (r ≡ no_memory) ⊎ RefusesNext (place_of old) r
+pub next-refused : (old : RowReader) (new : Position) (r : CertRefusal) → IsReading old → Comes old.cursor.value new (Err r) → (r ≡ no_memory) ⊎ RefusesNext (place_of old) r
 next-refused old new r h comes = elim comes [
   | inl memory ↦ inl memory
-  | inr bad ↦ elim (bytes-refused old.election.now (certificate_records old.bytes.now) (h.heads ++ h.rows) old.cursor new r h.stands (inr bad)) [
+  | inr bad ↦ elim (bytes-refused old.election.now (certificate_records old.bytes.now) (h.heads ++ h.rows) old.cursor.value new r h.stands (inr bad)) [
     | inl memory ↦ inl memory
     | inr refused ↦ inr (record {
       record_of = bad.2.bad;
@@ -127,11 +128,11 @@ rises low [] h = nil-rises
 rises low (x ∷ xs) h = cons-rises x xs (rise-low x xs h.1) (rises x xs h.1)
 
 -- the end
-pub none-left : (old : RowReader) (cursor : Position) → IsReading old → MeetsEnd old.cursor cursor → Advances old (record old { cursor = cursor }) (Ok None)
+pub none-left : (old : RowReader) (cursor : Box Position) → IsReading old → MeetsEnd old.cursor.value cursor.value → Advances old (record old { cursor = cursor }) (Ok None)
 none-left old cursor h m =
     let e = old.election.now in
     let recs = certificate_records old.bytes.now in
-    let end = at-end (price_form e) recs old.cursor cursor (h.heads ++ h.rows) h.stands m in
+    let end = at-end (price_form e) recs old.cursor.value cursor.value (h.heads ++ h.rows) h.stands m in
     let rows = stated-length (payment_of e) h.rows h.payments h.each_row in
     let most : length h.payments ≤ 10000000 = h.remembers.few in
     let reading : IsReading (record old { cursor = cursor }) =

@@ -15,7 +15,7 @@ use Rattle.pb_certificate.specs.declared.refusal.CertRefusal.{CertRefusal}
 -- where a reader stands
 abbrev pub place_of : RowReader → Rows
 place_of r =
-    record { election = r.election.now; records = certificate_records r.bytes.now; denominator = r.denominator; budget = r.budget; place = r.cursor.place }
+    record { election = r.election.now; records = certificate_records r.bytes.now; denominator = r.denominator; budget = r.budget; place = r.cursor.value.place }
 
 -- the head and some rows lie behind, no fault stands there, and the reader remembers what the rows state
 pub record IsReading (r : RowReader) : Type 0 where
@@ -24,7 +24,7 @@ pub record IsReading (r : RowReader) : Type 0 where
   pub payments : List Payment
   pub is_head : IsHead r.denominator r.budget heads
   pub each_row : map (payment_of r.election.now) rows ≡ map Some payments
-  pub stands : StandsBehind (price_form r.election.now) (certificate_records r.bytes.now) r.cursor (heads ++ rows)
+  pub stands : StandsBehind (price_form r.election.now) (certificate_records r.bytes.now) r.cursor.value (heads ++ rows)
   pub remembers : Remembers r.prior payments
   pub each_project : length r.prior.last_payers.items ≡ projects r.election.now
 

@@ -10,7 +10,7 @@ use pb_election::Election;
 use pb_records::Cursor;
 use std::alloc::Global;
 
-/// A place between the rows of a price certificate. It holds a cursor: what is moved keeps it in a `Box`.
+/// A place between the rows of a price certificate.
 #[derive(Drop)]
 pub struct RowReader<'a> {
     // The file: the proofs speak of all its records.
@@ -20,7 +20,7 @@ pub struct RowReader<'a> {
     pub denominator: u32,
     /// The numerator of the voters' budget that the head states.
     pub budget: u128,
-    cursor: Cursor<'a>,
+    cursor: Box<Cursor<'a>>,
     prior: PriorRows,
 }
 
@@ -43,7 +43,9 @@ impl<'a> RowReader<'a> {
         ensures refused { IfErr result (λ r. (r ≡ no_memory) ⊎ Refuses (price_form election.now) bytes.now r) }
         ensures in_head { IfErr result (λ r. IsInHead (certificate_records bytes.now) r) }
     {
-        let mut cursor = Cursor::open(alloc, bytes, b',');
+        let Ok(mut cursor) = Box::new(alloc, Cursor::open(alloc, bytes, b',')) else {
+            return Err(CertRefusal::NO_MEMORY);
+        };
         let PriceHead {
             denominator,
             budget,
