@@ -1,11 +1,8 @@
-use Rattle.std.proofs.Common.{◌≡◌, ◌∙◌, subst, sym}
+use Rattle.std.proofs.Common.{◌∙◌, subst, sym}
 use Rattle.std.specs.Prelude.{Ok}
 use Rattle.pb_explain.specs.PriceTable.{NameProjects}
-use Rattle.pb_price.specs.First.{First, verdict_of}
-use Rattle.pb_price.specs.Told.{first_told}
 use Rattle.pb_price.specs.declared.Findings.{Findings}
 use Rattle.pb_audit.specs.Loaded.{lent}
-use Rattle.pb_audit.specs.Named.{PricesNameProject}
 use Rattle.pb_audit.proofs.Explained.{denominator-low, findings_explain, findings_name_projects, told_names_project}
 use Rattle.pb_audit.proofs.explain_engine.prices_on.Goals as goal
 
