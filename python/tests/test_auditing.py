@@ -154,24 +154,6 @@ class Audits(unittest.TestCase):
         with self.assertRaises(Refusal):
             pbaudit.explain(*reversed(files[:2]))
 
-    def test_explain(self):
-        files = EXAMPLES / "district.pb", EXAMPLES / "district.short.prices.csv"
-        told = pbaudit.explain(*files)
-        self.assertEqual(told.verdict, pbaudit.audit_prices(*files))
-        self.assertEqual([found.name for found in told.findings],
-                         ["Feasible", "Exhaustive", "Cover", "C1", "C2", "C3", "C4", "C5", "S5"])
-        self.assertEqual([found.name for found in told.findings if found.state == "fails"], ["C3"])
-        self.assertEqual([found.name for found in told.findings if found.state == "not asked"], ["Cover", "S5"])
-        self.assertIn("39599.99", told.findings[5].sentence)
-        told = pbaudit.explain(*files, stable=True, exhaustive=False, cover=True)
-        self.assertEqual([found.name for found in told.findings if found.state == "not asked"], ["Exhaustive", "C5"])
-        files = files[0], EXAMPLES / "district.violation.csv", EXAMPLES / "district.other.outcome.csv"
-        told = pbaudit.explain(*files)
-        self.assertEqual(told.verdict, pbaudit.audit_violation(*files))
-        self.assertEqual([found.name for found in told.findings if found.state == "holds"], ["V1", "V2", "V3", "V4"])
-        with self.assertRaises(Refusal):
-            pbaudit.explain(*reversed(files[:2]))
-
     def test_tidy(self):
         untidy = EXAMPLES / "sample.untidy.prices.csv"
         self.assertEqual(pbaudit.tidy(EXAMPLES / "sample.pb", untidy), (EXAMPLES / "sample.prices.csv").read_bytes())

@@ -1,4 +1,4 @@
--- Each command has one answer on what is delivered of its inputs.
+-- Each command but `explain` has one answer on what is delivered of its inputs.
 use Rattle.std.proofs.Common.{◌≡◌, ◌∙◌, List, Option, ap, refl, subst, sym, Bool}
 use Rattle.std.specs.Prelude.{IfOk, Ok, Err}
 use Rattle.pb_election.specs.Instance.{Instance}

@@ -9,7 +9,7 @@ ghost use Rattle.pb_audit.specs.Margins.{AnswersMarginFiles, AnswersMargins};
 ghost use Rattle.pb_audit.specs.OneAnswer.{JustOne};
 ghost use Rattle.pb_audit.specs.Reports.{Files, ReportOf};
 
-/// Each command has just one answer on files in memory, in a given mode.
+/// Each command but `explain` has just one answer on files in memory, in a given mode.
 pub fn one_answer()
     ensures read { (election : List ℕ) → JustOne (AnswersElectionFile election) }
     ensures prices { (m : Mode) (election : List ℕ) (outcome : Option (List ℕ)) (certificate : List ℕ) → JustOne (AnswersPriceFiles m election outcome certificate) }
