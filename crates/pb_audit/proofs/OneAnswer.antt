@@ -1,4 +1,4 @@
--- Each command but `explain` has one answer on what is delivered of its inputs.
+-- Each command but `explain` has one answer on what is delivered of its inputs; `OneExplained` has that of `explain`.
 use Rattle.std.proofs.Common.{◌≡◌, ◌∙◌, List, Option, ap, refl, subst, sym, Bool}
 use Rattle.std.specs.Prelude.{IfOk, Ok, Err}
 use Rattle.pb_election.specs.Instance.{Instance}
@@ -102,7 +102,7 @@ audit-some {A} states one reply promise each election outcome certificate = by (
     by (Ok e) given = let w = outcome-some e outcome in with-outcome e given w.0 w.1
     by (Err r) given = (refused r, election_refused states reply promise election outcome certificate r given)
 
-audit-one : {A : Type 0} (states : Instance → Delivery → Stated A → Type 0) → ((e : Instance) (d : Delivery) → JustOne (states e d)) → (reply : Instance → List Bool → A → Reply) (promise : Status → Instance → List Bool → A → Type 0) → Promised reply promise
+pub audit-one : {A : Type 0} (states : Instance → Delivery → Stated A → Type 0) → ((e : Instance) (d : Delivery) → JustOne (states e d)) → (reply : Instance → List Bool → A → Reply) (promise : Status → Instance → List Bool → A → Type 0) → Promised reply promise
     → (election : Delivery) (outcome : Option Delivery) (certificate : Delivery) → JustOne (AnswersAudit states reply promise election outcome certificate)
 audit-one states one reply promise each election outcome certificate = record {
   one = audit-some states one reply promise each election outcome certificate;

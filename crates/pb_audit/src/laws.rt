@@ -5,16 +5,18 @@ ghost use Rattle.pb_records.specs.Loading.{Delivery};
 ghost use Rattle.pb_price.specs.declared.Mode.{Mode};
 ghost use Rattle.pb_audit.specs.Answers.{AnswersElection, AnswersElectionFile, AnswersPriceFiles, AnswersPrices, AnswersTidy, AnswersTidyFiles, AnswersViolation, AnswersViolationFiles};
 ghost use Rattle.pb_audit.specs.Both.{AnswersBoth, AnswersBothFiles};
+ghost use Rattle.pb_audit.specs.Explained.{AnswersExplained, AnswersExplainedFiles};
 ghost use Rattle.pb_audit.specs.Margins.{AnswersMarginFiles, AnswersMargins};
 ghost use Rattle.pb_audit.specs.OneAnswer.{JustOne};
 ghost use Rattle.pb_audit.specs.Reports.{Files, ReportOf};
 
-/// Each command but `explain` has just one answer on files in memory, in a given mode.
+/// Each command has just one answer on files in memory, in a given mode.
 pub fn one_answer()
     ensures read { (election : List ℕ) → JustOne (AnswersElectionFile election) }
     ensures prices { (m : Mode) (election : List ℕ) (outcome : Option (List ℕ)) (certificate : List ℕ) → JustOne (AnswersPriceFiles m election outcome certificate) }
     ensures violation { (election : List ℕ) (outcome : Option (List ℕ)) (certificate : List ℕ) → JustOne (AnswersViolationFiles election outcome certificate) }
     ensures both { (m : Mode) (election : List ℕ) (outcome : Option (List ℕ)) (prices violation : List ℕ) → JustOne (AnswersBothFiles m election outcome prices violation) }
+    ensures explain { (m : Mode) (election : List ℕ) (outcome : Option (List ℕ)) (certificate : List ℕ) → JustOne (AnswersExplainedFiles m election outcome certificate) }
     ensures margins { (election : List ℕ) (outcome : Option (List ℕ)) (certificate : List ℕ) → JustOne (AnswersMarginFiles election outcome certificate) }
     ensures tidy { (election certificate : List ℕ) → JustOne (AnswersTidyFiles election certificate) }
 {}
@@ -25,6 +27,7 @@ pub fn one_answer_on_deliveries()
     ensures prices { (m : Mode) (election : Delivery) (outcome : Option Delivery) (certificate : Delivery) → JustOne (AnswersPrices m election outcome certificate) }
     ensures violation { (election : Delivery) (outcome : Option Delivery) (certificate : Delivery) → JustOne (AnswersViolation election outcome certificate) }
     ensures both { (m : Mode) (election : Delivery) (outcome : Option Delivery) (prices violation : Delivery) → JustOne (AnswersBoth m election outcome prices violation) }
+    ensures explain { (m : Mode) (election : Delivery) (outcome : Option Delivery) (certificate : Delivery) → JustOne (AnswersExplained m election outcome certificate) }
     ensures margins { (election : Delivery) (outcome : Option Delivery) (certificate : Delivery) → JustOne (AnswersMargins election outcome certificate) }
     ensures tidy { (election certificate : Delivery) → JustOne (AnswersTidy election certificate) }
     ensures folder { (m : Mode) (entries : List Files) → JustOne (ReportOf m entries) }

@@ -1,4 +1,5 @@
 use Rattle.pb_audit.proofs.OneAnswer.{both-one, margins-one, price-reply-one, read-one, tidy-one, violation-reply-one}
+use Rattle.pb_audit.proofs.OneExplained.{explained-one}
 use Rattle.pb_audit.proofs.OneReport.{report-one}
 use Rattle.pb_audit.proofs.laws.one_answer_on_deliveries.Goals as goal
 
@@ -9,6 +10,7 @@ returns c =
       prices = price-reply-one;
       violation = violation-reply-one;
       both = both-one;
+      explain = explained-one;
       margins = margins-one;
       tidy = tidy-one;
       folder = report-one;
