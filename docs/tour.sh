@@ -1,6 +1,7 @@
 #!/usr/bin/env bash
-# Runs each command that the README and the documents show behind '$ ', at the repository's top, and compares what it writes
-# with the lines that stand under it there, up to the end of the block. The last line is 'N passed, M failed'.
+# Runs each command that README.md, TOUR.md and the other documents show behind '$ ', at the repository's top, and
+# compares what it writes with the lines that stand under it there, up to the end of the block. The last line counts
+# those of all pages together: 'N passed, M failed'.
 set -euo pipefail
 cd "$(dirname "$0")/.."
 # Builds the program where that is needed, so that no command below tells of it.

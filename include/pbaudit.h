@@ -5,7 +5,8 @@
  *   0  yes: the answer is yes, or what was asked for is given
  *   1  no: a condition or a test failed, which the text names
  *   2  refused: a file is not what it has to be; the text says which, and the first thing wrong
- *   4  memory ran out: *needed is 0 and out is as it was
+ *   4  memory ran out: *needed is 0 and out is as it was (that this comes only where a growth was refused is tested, and
+ *      not proved)
  * Else *needed is the length of the text in bytes, which ends in LF and has no NUL after it. If it is at most room,
  * the text stands at the front of out, and the rest of out is as it was. If it is more, out is as it was: call again
  * with as much room.

@@ -1,5 +1,5 @@
 //! The auditor for C: whole files in memory in, and the answer's text in memory out. `include/pbaudit.h` says the same
-//! in the words of C.
+//! in the words of C. That memory runs out only where a growth was refused is tested and not proved.
 #![tactic(auto)]
 
 ghost use Rattle.std.specs.Prelude.{◌≡◌, ◌≢◌};
