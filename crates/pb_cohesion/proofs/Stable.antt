@@ -4,14 +4,14 @@ use Rattle.std.specs.Prelude.{pos, ◌-ℤ◌, ◌≤ℤ◌, Contains, sum_by, i
 use Rattle.std.proofs.lemmas.Int.{ints}
 use Rattle.std.proofs.lemmas.List.Elements.{All-contains, All-filter, All-from_recursion, filter_passes, recursion_from_All}
 use Rattle.std.proofs.lemmas.Bool.{cases_Bool, cases_lt}
-use Rattle.pb_election.specs.Instance.{Instance, IsProject, IsVoter, projects, supporters, voters}
+use Rattle.pb_election.specs.Instance.{Instance, IsProject, IsVoter, all_projects, projects, supporters, voters}
 use Rattle.pb_certificate.specs.Prices.{Prices}
 use Rattle.pb_cohesion.specs.Amounts.{beta, cost, paid, pays, spent, top}
 use Rattle.pb_election.specs.Outcome.{has}
 use Rattle.pb_cohesion.specs.Outcome.{IsUnfunded, unfunded}
-use Rattle.pb_cohesion.specs.Conditions.{C2, C4, S5, culprits_of_S5, most_of, sum_ℤ}
+use Rattle.pb_cohesion.specs.Conditions.{C4, S5, culprits_of_S5, most_of, sum_ℤ}
 use Rattle.pb_cohesion.specs.Groups.{Blocks, IsGroupWithin, Offer}
-use Rattle.pb_cohesion.proofs.Sums.{sum-le}
+use Rattle.pb_cohesion.proofs.Sums.{range-le, sum-le, sum-zero}
 use Rattle.pb_cohesion.proofs.Sets.{all-every, all-weaker, largest-at, largest-reached, set-all, term-le}
 use Rattle.pb_cohesion.proofs.Amounts.{le-pos, lt-pos, max-is, pos-le, sum_ℤ-is}
 use Rattle.pb_cohesion.proofs.Plain.{group-le, left_ℕ, supporters-group, unfunded-all}
@@ -55,19 +55,34 @@ none_blocks e w p s c x stable b =
 pub pays-le : (e : Instance) (p : Prices) (i c : ℕ) → IsVoter e i → pays p i c ≤ paid e p c
 pays-le e p i c v = term-le (λ k. pays p k c) (voters e) 1 i v.0 (let high : i ≤ voters e = v.1 in omega arith)
 
--- the most that a voter can offer is an offer
-pub most-offer : (e : Instance) (w : List Bool) (p : Prices) (i : ℕ) → C2 e p → C4 e w p → IsVoter e i → Offer e w p i (most_ℕ e p i)
-most-offer e w p i within none_wasted v = elim (cases_lt (left_ℕ e p i) (top e p i)) [
+-- a voter whose largest payment is 0 spends nothing
+pub spends-none : (e : Instance) (p : Prices) (i : ℕ) → top e p i ≡ 0 → spent e p i ≡ 0
+spends-none e p i none =
+    let each : spent e p i ≤ sum_by (λ c. 0) (all_projects e) = range-le (λ c. pays p i c) (λ c. 0) 1 (projects e) nothing in
+    omega (arith, sum-zero (all_projects e))
+  where
+    nothing : (c : ℕ) → 1 ≤ c → c < 1 + projects e → pays p i c ≤ 0
+    nothing c low high = let most : pays p i c ≤ top e p i = largest-at (λ j. pays p i j) (projects e) 1 c low high in omega arith
+
+-- the most that a voter can offer is an offer, also of a voter that is over the budget
+pub most-offer : (e : Instance) (w : List Bool) (p : Prices) (i : ℕ) → C4 e w p → IsVoter e i → Offer e w p i (most_ℕ e p i)
+most-offer e w p i none_wasted v = elim (cases_lt (left_ℕ e p i) (top e p i)) [
   | inl less ↦
       elim (largest-reached (λ c. pays p i c) (projects e) 1) [
         | inl none ↦ absurd (let none_is : top e p i ≡ 0 = none in omega arith)
         | inr some ↦ by_payment less some
       ]
-  | inr more ↦ inl (from_left (top e p i) (beta p) (spent e p i) more (within i v))
+  | inr more ↦ inl (from_left (top e p i) (beta p) (spent e p i) more (within_budget more))
 ]
   where
     from_left : (t b s : ℕ) → t ≤ b - s → s ≤ b → pos (max t (b - s)) ≤ℤ (pos b -ℤ pos s)
     from_left t b s h k = omega (arith, ints)
+
+    within_budget : top e p i ≤ left_ℕ e p i → spent e p i ≤ beta p
+    within_budget more = elim (cases_lt (beta p) (spent e p i)) [
+      | inl over ↦ (let none : spent e p i ≡ 0 = spends-none e p i (omega arith) in absurd (omega arith))
+      | inr within ↦ within
+    ]
 
     by_payment : left_ℕ e p i < top e p i → (j : ℕ) × (1 ≤ j) × (j < 1 + projects e) × (pays p i j ≡ top e p i) → Offer e w p i (most_ℕ e p i)
     by_payment less some =
@@ -84,25 +99,25 @@ most-offer e w p i within none_wasted v = elim (cases_lt (left_ℕ e p i) (top e
         ]
 
 -- where the supporters can offer more than the cost, they block
-pub supporters_block : (e : Instance) (w : List Bool) (p : Prices) (c : ℕ) → C2 e p → C4 e w p → IsUnfunded e w c → cost e p c < sum_by (most_ℕ e p) (supporters e c) → Blocks e w p (supporters e c) c (most_ℕ e p)
-supporters_block e w p c within none_wasted unfunded more = record {
+pub supporters_block : (e : Instance) (w : List Bool) (p : Prices) (c : ℕ) → C4 e w p → IsUnfunded e w c → cost e p c < sum_by (most_ℕ e p) (supporters e c) → Blocks e w p (supporters e c) c (most_ℕ e p)
+supporters_block e w p c none_wasted unfunded more = record {
   unfunded = unfunded;
   group = supporters-group e c;
-  offers = All-from_recursion (λ i. Offer e w p i (most_ℕ e p i)) (supporters e c) (set-all (λ i. Offer e w p i (most_ℕ e p i)) 1 (voters e) (supporters e c) (supporters-group e c).0 (λ i low high. most-offer e w p i within none_wasted (low, high)));
+  offers = All-from_recursion (λ i. Offer e w p i (most_ℕ e p i)) (supporters e c) (set-all (λ i. Offer e w p i (most_ℕ e p i)) 1 (voters e) (supporters e c) (supporters-group e c).0 (λ i low high. most-offer e w p i none_wasted (low, high)));
   more = more;
 }
 
-pub stable_from_none : (e : Instance) (w : List Bool) (p : Prices) → C2 e p → C4 e w p → ((s : List ℕ) (c : ℕ) (x : ℕ → ℕ) → Blocks e w p s c x → ⊥) → S5 e w p
-stable_from_none e w p within none_wasted none c unfunded =
+pub stable_from_none : (e : Instance) (w : List Bool) (p : Prices) → C4 e w p → ((s : List ℕ) (c : ℕ) (x : ℕ → ℕ) → Blocks e w p s c x → ⊥) → S5 e w p
+stable_from_none e w p none_wasted none c unfunded =
     rw (most-is e p (supporters e c)) (elim (cases_lt (cost e p c) (sum_by (most_ℕ e p) (supporters e c))) [
-      | inl more ↦ absurd (none (supporters e c) c (most_ℕ e p) (supporters_block e w p c within none_wasted unfunded more))
+      | inl more ↦ absurd (none (supporters e c) c (most_ℕ e p) (supporters_block e w p c none_wasted unfunded more))
       | inr most ↦ le-pos _ _ most
     ])
 
 -- a culprit of the stable form is an unfunded project whose supporters can offer more than it costs
-pub after_S5 : (e : Instance) (w : List Bool) (p : Prices) (c : ℕ) → C2 e p → C4 e w p → Contains (culprits_of_S5 e w p) c → (x : ℕ → ℕ) × Blocks e w p (supporters e c) c x
-after_S5 e w p c within none_wasted found =
+pub after_S5 : (e : Instance) (w : List Bool) (p : Prices) (c : ℕ) → C4 e w p → Contains (culprits_of_S5 e w p) c → (x : ℕ → ℕ) × Blocks e w p (supporters e c) c x
+after_S5 e w p c none_wasted found =
     let test : ℕ → Bool = λ j. int_lt (pos (cost e p j)) (sum_ℤ (most_of e p) (supporters e j)) in
     let unfunded_is : IsUnfunded e w c = All-contains (IsUnfunded e w) (culprits_of_S5 e w p) c (All-filter test (IsUnfunded e w) (unfunded e w) (unfunded-all e w)) found in
     let more : int_lt (pos (cost e p c)) (sum_ℤ (most_of e p) (supporters e c)) ≡ true = All-contains (λ j. test j ≡ true) (culprits_of_S5 e w p) c (filter_passes test (unfunded e w)) found in
-    (most_ℕ e p, supporters_block e w p c within none_wasted unfunded_is (lt-pos _ _ (rw (most-is e p (supporters e c)) at more)))
+    (most_ℕ e p, supporters_block e w p c none_wasted unfunded_is (lt-pos _ _ (rw (most-is e p (supporters e c)) at more)))

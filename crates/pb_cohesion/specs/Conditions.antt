@@ -17,8 +17,8 @@ abbrev pub sum_ℤ : (ℕ → ℤ) → List ℕ → ℤ
 sum_ℤ f [] = pos 0
 sum_ℤ f (x ∷ xs) = f x +ℤ sum_ℤ f xs
 
--- the larger of what a voter has left and its largest payment; where nothing is paid for unfunded projects, a voter can offer
--- no more
+-- the larger of what a voter has left and its largest payment; a voter can offer no more, and, where nothing is paid for
+-- unfunded projects, as much
 abbrev pub most_of : Instance → Prices → ℕ → ℤ
 most_of e p i = int_max (pos (top e p i)) (left e p i)
 

@@ -13,9 +13,9 @@ ghost use Rattle.pb_cohesion.specs.Groups.{AreProjects, Blocks, IsGroup, IsGroup
 ghost use Rattle.pb_cohesion.specs.Outcome.{IsUnfunded, total};
 ghost use Rattle.pb_cohesion.specs.ViolationFindings.{TellWhatHolds, violation_findings};
 
-/// The total of an outcome for an election is what its funded projects cost.
+/// The total of an outcome is what its funded projects cost, where the instance is an election or the outcome fits it.
 pub fn outcomes_cost_their_projects()
-    ensures { (e : Instance) (w : List Bool) → IsElection e → Fits (funds w e) e → (funds w e).total ≡ total e w }
+    ensures { (e : Instance) (w : List Bool) → (IsElection e ⊎ Fits (funds w e) e) → (funds w e).total ≡ total e w }
 {}
 
 /// The sum over a part of a list is at most the sum over the list.
@@ -42,31 +42,31 @@ pub fn no_group_has_more_left()
     ensures at_culprit { (e : Instance) (w : List Bool) (p : Prices) (c : ℕ) → Contains (culprits_of_C5 e w p) c → SupportersHaveMoreLeft e p c }
 {}
 
-/// Under C1 to C4, S5 holds exactly where no group blocks.
+/// Under S5 no group blocks. Under C4, S5 holds exactly where no group blocks.
 pub fn stable_where_nothing_blocks()
-    ensures exactly { (e : Instance) (w : List Bool) (p : Prices) → C1 e p → C2 e p → C3 e w p → C4 e w p
-        → (S5 e w p ↔ NothingBlocks e w p) }
+    ensures nothing_blocks { (e : Instance) (w : List Bool) (p : Prices) → S5 e w p → NothingBlocks e w p }
+    ensures exactly { (e : Instance) (w : List Bool) (p : Prices) → C4 e w p → (S5 e w p ↔ NothingBlocks e w p) }
     // At a culprit the supporters together block.
-    ensures at_culprit { (e : Instance) (w : List Bool) (p : Prices) (c : ℕ) → C1 e p → C2 e p → C3 e w p → C4 e w p
-        → Contains (culprits_of_S5 e w p) c → SupportersBlock e w p c }
+    ensures at_culprit { (e : Instance) (w : List Bool) (p : Prices) (c : ℕ) → C4 e w p → Contains (culprits_of_S5 e w p) c → SupportersBlock e w p c }
 {}
 
-/// Under C1 to C4, and C5 or S5, the budgets of a group of supporters of an unfunded project come to at most its cost and
-/// that of the group's reach.
+/// Under C1, C3 and C4, and either C2 and C5 or S5, the budgets of a group of supporters of an unfunded project come to at
+/// most its cost and that of the group's reach.
 pub fn budgets_within_reach()
-    ensures { (e : Instance) (w : List Bool) (p : Prices) → C1 e p → C2 e p → C3 e w p → C4 e w p → (C5 e w p ⊎ S5 e w p) → BudgetsAreWithinReach e w p }
+    ensures { (e : Instance) (w : List Bool) (p : Prices) → C1 e p → C3 e w p → C4 e w p → ((C2 e p × C5 e w p) ⊎ S5 e w p) → BudgetsAreWithinReach e w p }
 {}
 
-/// Stable prices are fair: under C1 to C4 and S5, where the budgets of a group come to more than what a set of projects
-/// costs, and all members approve the set, some member approves at least as many funded projects.
+/// Stable prices are fair: under C1, C3, C4 and S5, where the budgets of a group come to more than what a set of projects
+/// costs, and all members approve the set, some member approves at least as many funded projects. Members may spend more
+/// than the budget.
 pub fn stable_prices_are_fair()
-    ensures { (e : Instance) (w : List Bool) (p : Prices) → C1 e p → C2 e p → C3 e w p → C4 e w p → S5 e w p → GroupsGetTheirShare e w p }
+    ensures { (e : Instance) (w : List Bool) (p : Prices) → C1 e p → C3 e w p → C4 e w p → S5 e w p → GroupsGetTheirShare e w p }
 {}
 
-/// Stable prices exclude violations: under C1 to C4 and S5, and Cover, no group and no demand are a violation by counting.
-/// Of violations by cost nothing is said.
+/// Stable prices exclude violations: under C1, C3, C4, S5 and Cover, no group and no demand are a violation by counting. Of
+/// violations by cost nothing is said.
 pub fn stable_prices_exclude_violations()
-    ensures { (e : Instance) (w : List Bool) (p : Prices) → C1 e p → C2 e p → C3 e w p → C4 e w p → S5 e w p → Cover e p → NoViolationByCounting e w }
+    ensures { (e : Instance) (w : List Bool) (p : Prices) → C1 e p → C3 e w p → C4 e w p → S5 e w p → Cover e p → NoViolationByCounting e w }
 {}
 
 /// Each condition holds exactly where it has no culprit.

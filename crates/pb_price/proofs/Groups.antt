@@ -4,7 +4,7 @@ use Rattle.std.specs.Prelude.{Ok, Option, Result, Some, None}
 use Rattle.std.proofs.lemmas.Bool.{cases_Bool}
 use Rattle.pb_election.specs.Instance.{Instance}
 use Rattle.pb_certificate.specs.Prices.{Prices}
-use Rattle.pb_cohesion.specs.Conditions.{C5, S5, Supports}
+use Rattle.pb_cohesion.specs.Conditions.{C2, C5, S5, Supports}
 use Rattle.pb_cohesion.specs.EveryGroup.{BudgetsAreWithinReach, GroupsGetTheirShare, NoGroupHasMoreLeft, NoViolationByCounting, NothingBlocks, SupportersBlock, SupportersHaveMoreLeft}
 use Rattle.pb_cohesion.proofs.Justified.{stable_has_no_violation, stable_is_fair}
 use Rattle.pb_cohesion.proofs.Plain as plain
@@ -35,16 +35,16 @@ stable-yes m e w p none is_stable s c x blocks =
 pub stable-no : (m : Mode) (e : Instance) (w : List Bool) (p : Prices) (c : ℕ) → First m e w p ≡ Some (failure.S5 c) → SupportersBlock e w p c
 stable-no m e w p c h =
     let found = after_S5 m e w p c h in
-    stable.after_S5 e w p c found.0 found.1 found.2
+    stable.after_S5 e w p c found.0 found.1
 
 pub budgets : (m : Mode) (e : Instance) (w : List Bool) (p : Prices) → First m e w p ≡ None → BudgetsAreWithinReach e w p
 budgets m e w p none s c unfunded group =
     let yes' : Supports m.stable m.exhaustive m.cover e w p = (supports-iff m e w p).0 none in
-    let form : C5 e w p ⊎ S5 e w p = elim (cases_Bool m.stable) [ inl k ↦ inr (yes'.stable_form k) | inr k ↦ inl (yes'.plain k) ] in
-    within_reach e w p s c yes'.approved yes'.within_budget yes'.paid_for yes'.none_wasted form unfunded group
+    let form : (C2 e p × C5 e w p) ⊎ S5 e w p = elim (cases_Bool m.stable) [ inl k ↦ inr (yes'.stable_form k) | inr k ↦ inl (yes'.within_budget, yes'.plain k) ] in
+    within_reach e w p s c yes'.approved yes'.paid_for yes'.none_wasted form unfunded group
 
 pub fair : (m : Mode) (e : Instance) (w : List Bool) (p : Prices) → First m e w p ≡ None → m.stable ≡ true → GroupsGetTheirShare e w p
-fair m e w p none is_stable s t group not_empty projects approve rich =
+fair m e w p none is_stable s t group projects approve rich =
     let yes' : Supports m.stable m.exhaustive m.cover e w p = (supports-iff m e w p).0 none in
     stable_is_fair e w p s t yes'.approved yes'.paid_for yes'.none_wasted (yes'.stable_form is_stable) group projects approve rich
 

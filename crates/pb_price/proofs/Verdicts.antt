@@ -156,8 +156,8 @@ last-S5 false xs ys c h = let found = first-map failure.C5 ys (failure.S5 c) h i
 pub after_C5 : (m : Mode) (e : Instance) (w : List Bool) (p : Prices) (c : ℕ) → First m e w p ≡ Some (failure.C5 c) → Contains (culprits_of_C5 e w p) c
 after_C5 m e w p c h = last-C5 m.stable (culprits_of_S5 e w p) (culprits_of_C5 e w p) c (after_last m e w p (failure.C5 c) refl h).1
 
-pub after_S5 : (m : Mode) (e : Instance) (w : List Bool) (p : Prices) (c : ℕ) → First m e w p ≡ Some (failure.S5 c) → C2 e p × C4 e w p × Contains (culprits_of_S5 e w p) c
+pub after_S5 : (m : Mode) (e : Instance) (w : List Bool) (p : Prices) (c : ℕ) → First m e w p ≡ Some (failure.S5 c) → C4 e w p × Contains (culprits_of_S5 e w p) c
 after_S5 m e w p c h =
     let found = after_last m e w p (failure.S5 c) refl h in
     let before : HoldBefore m e w p = found.0 in
-    (before.within_budget, before.none_wasted, last-S5 m.stable (culprits_of_S5 e w p) (culprits_of_C5 e w p) c found.1)
+    (before.none_wasted, last-S5 m.stable (culprits_of_S5 e w p) (culprits_of_C5 e w p) c found.1)
