@@ -2,8 +2,9 @@
 use Rattle.std.proofs.Common.{◌≡◌, ◌∙◌, ap, refl, subst, sym, Bool, Option, List, ℕ}
 use Rattle.std.specs.Prelude.{IfOk, IfSome, Result, Ok, Err, Some, None}
 use Rattle.pb_election.specs.Instance.{Instance, IsSet, projects}
-use Rattle.pb_records.specs.Loading.{Delivery, ReadCounts}
+use Rattle.pb_records.specs.Loading.{Delivery}
 use Rattle.pb_records.specs.Loading as delivery
+use Rattle.pb_records.specs.declared.loading.Source.{Ghosts as Source}
 use Rattle.pb_certificate.specs.Faults.{certificate_records}
 use Rattle.pb_certificate.specs.ViolationText.{IsViolationText}
 use Rattle.pb_certificate.specs.declared.measure.Measure.{Measure}
@@ -11,7 +12,7 @@ use Rattle.pb_certificate.proofs.Unique.{group-text-sets}
 use Rattle.pb_audit.specs.Answers.{Answer, AnswersAudit, AnswersTidy, Reply, refused, with_input}
 use Rattle.pb_audit.specs.Inputs.{InTurn, Stated, StatesElection, StatesOutcome, its_outcome, refusal_of}
 use Rattle.pb_audit.specs.Lines.{Refusal}
-use Rattle.pb_audit.specs.Readers.{Delivers, FileReading, IsUntouched, Reading, ReadsAudit, ReadsTidy, file_reading, reading}
+use Rattle.pb_audit.specs.Readers.{AuditReadings, Delivers, IsUntouched, Reading, ReadsAudit, ReadsTidy, file_reading, reading}
 use Rattle.pb_audit.specs.Taking.{AnswersCertificate, AuditsOutcome, Gives, IfTaken, ReadsOutcome, TidiesPrices, settled_answer, stopped}
 use Rattle.pb_audit.specs.declared.input.Stop.{Stop}
 use Rattle.pb_audit.specs.declared.input.Stop.TheVariants as stop
@@ -101,9 +102,9 @@ certificate_settled states reply promise each election outcome certificate e w (
 
 -- The same over readers.
 pub readers_stopped_at_election : {A : Type 0} (states : Instance → Delivery → Stated A → Type 0) (reply : Instance → List Bool → A → Reply) (promise : Status → Instance → List Bool → A → Type 0)
-    (election : Reading) (outcome : FileReading) (certificate : Reading) (why : Stop)
-    → IfTaken {A = Instance} (Err why) (Gives StatesElection election) → outcome.after ≡ outcome.before → IsUntouched certificate → IfSome (stopped why) (ReadsAudit states reply promise election outcome certificate)
-readers_stopped_at_election states reply promise election outcome certificate (stop.Refused input fault) given same untouched = record {
+    (inputs : AuditReadings) (why : Stop)
+    → IfTaken {A = Instance} (Err why) (Gives StatesElection inputs.election) → inputs.outcome.after ≡ inputs.outcome.before → IsUntouched inputs.certificate → IfSome (stopped why) (ReadsAudit states reply promise inputs)
+readers_stopped_at_election states reply promise inputs (stop.Refused input fault) given same untouched = record {
   of_election = given.delivery;
   of_outcome = None;
   of_certificate = delivery.Read;
@@ -112,34 +113,34 @@ readers_stopped_at_election states reply promise election outcome certificate (s
   outcome_delivered = same;
   certificate_delivered = untouched;
 }
-readers_stopped_at_election states reply promise election outcome certificate stop.Memory given same untouched = tt
+readers_stopped_at_election states reply promise inputs stop.Memory given same untouched = tt
 
 pub readers_stopped_at_outcome : {A : Type 0} (states : Instance → Delivery → Stated A → Type 0) (reply : Instance → List Bool → A → Reply) (promise : Status → Instance → List Bool → A → Type 0)
-    (election : Reading) (outcome : FileReading) (certificate : Reading) (e : Instance) (why : Stop)
-    → Gives StatesElection election (Ok e) → IfTaken {A = List Bool} (Err why) (ReadsOutcome e outcome) → IsUntouched certificate → IfSome (stopped why) (ReadsAudit states reply promise election outcome certificate)
-readers_stopped_at_outcome states reply promise election outcome certificate e (stop.Refused input fault) given taken untouched = record {
+    (inputs : AuditReadings) (e : Instance) (why : Stop)
+    → Gives StatesElection inputs.election (Ok e) → IfTaken {A = List Bool} (Err why) (ReadsOutcome e inputs.outcome) → IsUntouched inputs.certificate → IfSome (stopped why) (ReadsAudit states reply promise inputs)
+readers_stopped_at_outcome states reply promise inputs e (stop.Refused input fault) given taken untouched = record {
   of_election = given.delivery;
   of_outcome = taken.delivery;
   of_certificate = delivery.Read;
   answers = outcome_refused states reply promise given.delivery taken.delivery delivery.Read e (refusal_of input fault) given.stating taken.audits;
   election_delivered = given.delivered;
   outcome_delivered = taken.delivered;
-  certificate_delivered = subst (λ (o : Stated (List Bool)). InTurn o (λ w. Delivers certificate delivery.Read) (IsUntouched certificate)) taken.audits.is untouched;
+  certificate_delivered = subst (λ (o : Stated (List Bool)). InTurn o (λ w. Delivers inputs.certificate delivery.Read) (IsUntouched inputs.certificate)) taken.audits.is untouched;
 }
-readers_stopped_at_outcome states reply promise election outcome certificate e stop.Memory given taken untouched = tt
+readers_stopped_at_outcome states reply promise inputs e stop.Memory given taken untouched = tt
 
 pub readers_settled : {A : Type 0} (states : Instance → Delivery → Stated A → Type 0) (reply : Instance → List Bool → A → Reply) (promise : Status → Instance → List Bool → A → Type 0) → Promised reply promise
-    → (election : Reading) (outcome : FileReading) (certificate : Reading) (e : Instance) (w : List Bool) (d : Delivery) (work : Option Reply)
-    → Gives StatesElection election (Ok e) → ReadsOutcome e outcome (Ok w) → Delivers certificate d → IfSome work (AnswersCertificate states reply e w d) → IfSome work (ReadsAudit states reply promise election outcome certificate)
-readers_settled states reply promise each election outcome certificate e w d None given taken delivered answered = tt
-readers_settled states reply promise each election outcome certificate e w d (Some r) given taken delivered answered = record {
+    → (inputs : AuditReadings) (e : Instance) (w : List Bool) (d : Delivery) (work : Option Reply)
+    → Gives StatesElection inputs.election (Ok e) → ReadsOutcome e inputs.outcome (Ok w) → Delivers inputs.certificate d → IfSome work (AnswersCertificate states reply e w d) → IfSome work (ReadsAudit states reply promise inputs)
+readers_settled states reply promise each inputs e w d None given taken delivered answered = tt
+readers_settled states reply promise each inputs e w d (Some r) given taken delivered answered = record {
   of_election = given.delivery;
   of_outcome = taken.delivery;
   of_certificate = d;
   answers = certificate_answered states reply promise each given.delivery taken.delivery d e w r given.stating taken.audits answered;
   election_delivered = given.delivered;
   outcome_delivered = taken.delivered;
-  certificate_delivered = subst (λ (o : Stated (List Bool)). InTurn o (λ w. Delivers certificate d) (IsUntouched certificate)) taken.audits.is delivered;
+  certificate_delivered = subst (λ (o : Stated (List Bool)). InTurn o (λ w. Delivers inputs.certificate d) (IsUntouched inputs.certificate)) taken.audits.is delivered;
 }
 
 -- what is demanded is a set of projects
@@ -164,22 +165,22 @@ own_audited e outcome taken is states = subst (λ (o : Option Delivery). IfTaken
     go (Err stop.Memory) s = tt
 
 -- the same with a reader of the outcome file
-pub file_read : {R : Type 0} (left : R → Option (List ℕ)) (counts : R → ReadCounts) (e : Instance) (old : Option R) (file new : R) (taken : Result (List Bool) Stop) → old ≡ Some file
-    → IfTaken taken (Gives (StatesOutcome e) (reading left counts file new)) → IfTaken taken (ReadsOutcome e (file_reading left counts old (Some new)))
-file_read {R} left counts e old file new taken is from = subst (λ (o : Option R). IfTaken taken (ReadsOutcome e (file_reading left counts o (Some new)))) (sym is) (go taken from)
+pub file_read : {R : Type 0} (source : Source R) (e : Instance) (old : Option R) (file new : R) (taken : Result (List Bool) Stop) → old ≡ Some file
+    → IfTaken taken (Gives (StatesOutcome e) (reading source file new)) → IfTaken taken (ReadsOutcome e (file_reading source old (Some new)))
+file_read {R} source e old file new taken is from = subst (λ (o : Option R). IfTaken taken (ReadsOutcome e (file_reading source o (Some new)))) (sym is) (go taken from)
   where
-    go : (r : Result (List Bool) Stop) → IfTaken r (Gives (StatesOutcome e) (reading left counts file new)) → IfTaken r (ReadsOutcome e (file_reading left counts (Some file) (Some new)))
+    go : (r : Result (List Bool) Stop) → IfTaken r (Gives (StatesOutcome e) (reading source file new)) → IfTaken r (ReadsOutcome e (file_reading source (Some file) (Some new)))
     go (Ok marks) g = record { delivery = Some g.delivery; delivered = g.delivered; audits = record { file = Some (Ok marks); given = g.stating; is = refl } }
     go (Err (stop.Refused input why)) g = record { delivery = Some g.delivery; delivered = g.delivered; audits = record { file = Some (Err (refusal_of input why)); given = g.stating; is = refl } }
     go (Err stop.Memory) g = tt
 
-pub own_read : {R : Type 0} (left : R → Option (List ℕ)) (counts : R → ReadCounts) (e : Instance) (old new : Option R) (taken : Result (List Bool) Stop) → old ≡ None → new ≡ None
-    → IfTaken taken (λ stated. stated ≡ its_outcome e.selected) → IfTaken taken (ReadsOutcome e (file_reading left counts old new))
-own_read {R} left counts e old new taken is then from =
-    subst (λ (o : Option R). IfTaken taken (ReadsOutcome e (file_reading left counts o new))) (sym is)
-    (subst (λ (n : Option R). IfTaken taken (ReadsOutcome e (file_reading left counts None n))) (sym then) (go taken from))
+pub own_read : {R : Type 0} (source : Source R) (e : Instance) (old new : Option R) (taken : Result (List Bool) Stop) → old ≡ None → new ≡ None
+    → IfTaken taken (λ stated. stated ≡ its_outcome e.selected) → IfTaken taken (ReadsOutcome e (file_reading source old new))
+own_read {R} source e old new taken is then from =
+    subst (λ (o : Option R). IfTaken taken (ReadsOutcome e (file_reading source o new))) (sym is)
+    (subst (λ (n : Option R). IfTaken taken (ReadsOutcome e (file_reading source None n))) (sym then) (go taken from))
   where
-    go : (r : Result (List Bool) Stop) → IfTaken r (λ stated. stated ≡ its_outcome e.selected) → IfTaken r (ReadsOutcome e (file_reading left counts None None))
+    go : (r : Result (List Bool) Stop) → IfTaken r (λ stated. stated ≡ its_outcome e.selected) → IfTaken r (ReadsOutcome e (file_reading source None None))
     go (Ok marks) s = record { delivery = None; delivered = tt; audits = record { file = None; given = tt; is = s } }
     go (Err (stop.Refused input why)) s = record { delivery = None; delivered = tt; audits = record { file = None; given = tt; is = s } }
     go (Err stop.Memory) s = tt

@@ -12,11 +12,11 @@ use Rattle.pb_cohesion.specs.Groups.{AreProjects, IsGroup, Violates}
 use Rattle.pb_cohesion.specs.Satisfactions.{worth_by}
 use Rattle.pb_price.specs.declared.Mode.{Mode}
 use Rattle.pb_price.specs.declared.Verdict.{Verdict}
-use Rattle.pb_audit.specs.Answers.{Reply, price_reply, refused, verdict_reply, violation_reply, with_input}
-use Rattle.pb_audit.specs.Both.{AnswersBoth, BothPromise, Claim, ReadsBoth, both_on, joined, yes_where_both}
+use Rattle.pb_audit.specs.Answers.{Reply, price_reply, refused, violation_reply, with_input}
+use Rattle.pb_audit.specs.Both.{AnswersBoth, BothPromise, Claim, ReadsBoth, beside, both_on, yes_where_both}
 use Rattle.pb_audit.specs.Inputs.{InTurn, Stated, StatesElection, StatesPrices, StatesViolation, refusal_of}
 use Rattle.pb_audit.specs.Lines.{Refusal}
-use Rattle.pb_audit.specs.Readers.{Delivers, FileReading, IsUntouched, Reading}
+use Rattle.pb_audit.specs.Readers.{AuditReadings, Delivers, IsUntouched, Reading}
 use Rattle.pb_audit.specs.Taking.{AnswersCertificate, AuditsOutcome, Gives, IfTaken, JudgesPrices, ReadsOutcome, stopped}
 use Rattle.pb_audit.specs.declared.input.InputName.TheVariants as name
 use Rattle.pb_audit.specs.declared.input.Stop.{Stop}
@@ -50,10 +50,6 @@ claim_sets : (e : Instance) (d : Delivery) (claim : Claim) → StatesViolation n
 claim_sets e (delivery.Bytes bytes) claim states = group-text-sets (certificate_records bytes) e claim.0 claim.1 claim.2 states
 claim_sets e delivery.Read claim states = cc
 claim_sets e delivery.TooLong claim states = cc
-
--- the reply on a claim beside a verdict on prices
-abbrev pub Beside : Mode → Verdict → Instance → List Bool → Claim → Reply
-Beside m verdict e w claim = joined (verdict_reply m e verdict) (violation_reply e w claim)
 
 pub beside_promised : (m : Mode) (e : Instance) (w : List Bool) (p : Prices) (d : Delivery) (v : Stated Claim) (r : Reply) → StatesViolation name.Violation e d v
     → r ≡ with_input v (λ claim. both_on m e w p claim) → IfOk v (λ claim. BothPromise m r.status e w p claim)
@@ -115,11 +111,11 @@ prices_refused m election outcome prices violation e w r given taken states = re
 -- the prices are accepted, and the violation certificate is answered beside the verdict on them
 abbrev pub both_answered : (m : Mode) (election : Delivery) (outcome : Option Delivery) (prices violation : Delivery) (e : Instance) (w : List Bool) (verdict : Verdict) (r : Reply)
     → StatesElection election (Ok e) → AuditsOutcome e outcome (Ok w) → JudgesPrices name.Prices m e w prices (Ok verdict)
-    → AnswersCertificate (StatesViolation name.Violation) (Beside m verdict) e w violation r → AnswersBoth m election outcome prices violation r
+    → AnswersCertificate (StatesViolation name.Violation) (beside m verdict) e w violation r → AnswersBoth m election outcome prices violation r
 both_answered m election outcome prices violation e w verdict r given taken judged answered =
     let p = judged.0 in
     let v = answered.c in
-    let is : r ≡ with_input v (λ claim. both_on m e w p claim) = answered.out ∙ ap (λ (found : Verdict). with_input v (λ claim. Beside m found e w claim)) judged.1.1 in
+    let is : r ≡ with_input v (λ claim. both_on m e w p claim) = answered.out ∙ ap (λ (found : Verdict). with_input v (λ claim. beside m found e w claim)) judged.1.1 in
     record {
       e = Ok e;
       o = taken.file;
@@ -158,16 +154,16 @@ stopped_at_prices m election outcome prices violation e w stop.Memory given take
 
 pub both_settled : (m : Mode) (election : Delivery) (outcome : Option Delivery) (prices violation : Delivery) (e : Instance) (w : List Bool) (verdict : Verdict) (work : Option Reply)
     → StatesElection election (Ok e) → AuditsOutcome e outcome (Ok w) → JudgesPrices name.Prices m e w prices (Ok verdict)
-    → IfSome work (AnswersCertificate (StatesViolation name.Violation) (Beside m verdict) e w violation) → IfSome work (AnswersBoth m election outcome prices violation)
+    → IfSome work (AnswersCertificate (StatesViolation name.Violation) (beside m verdict) e w violation) → IfSome work (AnswersBoth m election outcome prices violation)
 both_settled m election outcome prices violation e w verdict None given taken judged answered = tt
 both_settled m election outcome prices violation e w verdict (Some r) given taken judged answered =
     both_answered m election outcome prices violation e w verdict r given taken judged answered
 
 -- The same over readers.
-pub readers_stopped_at_election : (m : Mode) (election : Reading) (outcome : FileReading) (prices violation : Reading) (why : Stop)
-    → IfTaken {A = Instance} (Err why) (Gives StatesElection election) → outcome.after ≡ outcome.before → IsUntouched prices → IsUntouched violation
-    → IfSome (stopped why) (ReadsBoth m election outcome prices violation)
-readers_stopped_at_election m election outcome prices violation (stop.Refused input fault) given same prices_same violation_same = record {
+pub readers_stopped_at_election : (m : Mode) (inputs : AuditReadings) (violation : Reading) (why : Stop)
+    → IfTaken {A = Instance} (Err why) (Gives StatesElection inputs.election) → inputs.outcome.after ≡ inputs.outcome.before → IsUntouched inputs.certificate → IsUntouched violation
+    → IfSome (stopped why) (ReadsBoth m inputs violation)
+readers_stopped_at_election m inputs violation (stop.Refused input fault) given same prices_same violation_same = record {
   of_election = given.delivery;
   of_outcome = None;
   of_prices = delivery.Read;
@@ -178,12 +174,12 @@ readers_stopped_at_election m election outcome prices violation (stop.Refused in
   prices_delivered = prices_same;
   violation_delivered = violation_same;
 }
-readers_stopped_at_election m election outcome prices violation stop.Memory given same prices_same violation_same = tt
+readers_stopped_at_election m inputs violation stop.Memory given same prices_same violation_same = tt
 
-pub readers_stopped_at_outcome : (m : Mode) (election : Reading) (outcome : FileReading) (prices violation : Reading) (e : Instance) (why : Stop)
-    → Gives StatesElection election (Ok e) → IfTaken {A = List Bool} (Err why) (ReadsOutcome e outcome) → IsUntouched prices → IsUntouched violation
-    → IfSome (stopped why) (ReadsBoth m election outcome prices violation)
-readers_stopped_at_outcome m election outcome prices violation e (stop.Refused input fault) given taken prices_same violation_same = record {
+pub readers_stopped_at_outcome : (m : Mode) (inputs : AuditReadings) (violation : Reading) (e : Instance) (why : Stop)
+    → Gives StatesElection inputs.election (Ok e) → IfTaken {A = List Bool} (Err why) (ReadsOutcome e inputs.outcome) → IsUntouched inputs.certificate → IsUntouched violation
+    → IfSome (stopped why) (ReadsBoth m inputs violation)
+readers_stopped_at_outcome m inputs violation e (stop.Refused input fault) given taken prices_same violation_same = record {
   of_election = given.delivery;
   of_outcome = taken.delivery;
   of_prices = delivery.Read;
@@ -191,15 +187,15 @@ readers_stopped_at_outcome m election outcome prices violation e (stop.Refused i
   answers = outcome_refused m given.delivery taken.delivery delivery.Read delivery.Read e (refusal_of input fault) given.stating taken.audits;
   election_delivered = given.delivered;
   outcome_delivered = taken.delivered;
-  prices_delivered = subst (λ (o : Stated (List Bool)). InTurn o (λ w. Delivers prices delivery.Read) (IsUntouched prices)) taken.audits.is prices_same;
+  prices_delivered = subst (λ (o : Stated (List Bool)). InTurn o (λ w. Delivers inputs.certificate delivery.Read) (IsUntouched inputs.certificate)) taken.audits.is prices_same;
   violation_delivered = subst (λ (o : Stated (List Bool)). InTurn o (λ w. IsUntouched violation) (IsUntouched violation)) taken.audits.is violation_same;
 }
-readers_stopped_at_outcome m election outcome prices violation e stop.Memory given taken prices_same violation_same = tt
+readers_stopped_at_outcome m inputs violation e stop.Memory given taken prices_same violation_same = tt
 
-pub readers_stopped_at_prices : (m : Mode) (election : Reading) (outcome : FileReading) (prices violation : Reading) (e : Instance) (w : List Bool) (why : Stop)
-    → Gives StatesElection election (Ok e) → ReadsOutcome e outcome (Ok w) → IfTaken {A = Verdict} (Err why) (Gives (JudgesPrices name.Prices m e w) prices) → IsUntouched violation
-    → IfSome (stopped why) (ReadsBoth m election outcome prices violation)
-readers_stopped_at_prices m election outcome prices violation e w (stop.Refused input fault) given taken judged same = record {
+pub readers_stopped_at_prices : (m : Mode) (inputs : AuditReadings) (violation : Reading) (e : Instance) (w : List Bool) (why : Stop)
+    → Gives StatesElection inputs.election (Ok e) → ReadsOutcome e inputs.outcome (Ok w) → IfTaken {A = Verdict} (Err why) (Gives (JudgesPrices name.Prices m e w) inputs.certificate) → IsUntouched violation
+    → IfSome (stopped why) (ReadsBoth m inputs violation)
+readers_stopped_at_prices m inputs violation e w (stop.Refused input fault) given taken judged same = record {
   of_election = given.delivery;
   of_outcome = taken.delivery;
   of_prices = judged.delivery;
@@ -207,16 +203,16 @@ readers_stopped_at_prices m election outcome prices violation e w (stop.Refused 
   answers = prices_refused m given.delivery taken.delivery judged.delivery delivery.Read e w (refusal_of input fault) given.stating taken.audits judged.stating;
   election_delivered = given.delivered;
   outcome_delivered = taken.delivered;
-  prices_delivered = subst (λ (o : Stated (List Bool)). InTurn o (λ w. Delivers prices judged.delivery) (IsUntouched prices)) taken.audits.is judged.delivered;
+  prices_delivered = subst (λ (o : Stated (List Bool)). InTurn o (λ w. Delivers inputs.certificate judged.delivery) (IsUntouched inputs.certificate)) taken.audits.is judged.delivered;
   violation_delivered = subst (λ (o : Stated (List Bool)). InTurn o (λ w. IsUntouched violation) (IsUntouched violation)) taken.audits.is same;
 }
-readers_stopped_at_prices m election outcome prices violation e w stop.Memory given taken judged same = tt
+readers_stopped_at_prices m inputs violation e w stop.Memory given taken judged same = tt
 
-pub readers_settled : (m : Mode) (election : Reading) (outcome : FileReading) (prices violation : Reading) (e : Instance) (w : List Bool) (verdict : Verdict) (d : Delivery) (work : Option Reply)
-    → Gives StatesElection election (Ok e) → ReadsOutcome e outcome (Ok w) → Gives (JudgesPrices name.Prices m e w) prices (Ok verdict) → Delivers violation d
-    → IfSome work (AnswersCertificate (StatesViolation name.Violation) (Beside m verdict) e w d) → IfSome work (ReadsBoth m election outcome prices violation)
-readers_settled m election outcome prices violation e w verdict d None given taken judged delivered answered = tt
-readers_settled m election outcome prices violation e w verdict d (Some r) given taken judged delivered answered = record {
+pub readers_settled : (m : Mode) (inputs : AuditReadings) (violation : Reading) (e : Instance) (w : List Bool) (verdict : Verdict) (d : Delivery) (work : Option Reply)
+    → Gives StatesElection inputs.election (Ok e) → ReadsOutcome e inputs.outcome (Ok w) → Gives (JudgesPrices name.Prices m e w) inputs.certificate (Ok verdict) → Delivers violation d
+    → IfSome work (AnswersCertificate (StatesViolation name.Violation) (beside m verdict) e w d) → IfSome work (ReadsBoth m inputs violation)
+readers_settled m inputs violation e w verdict d None given taken judged delivered answered = tt
+readers_settled m inputs violation e w verdict d (Some r) given taken judged delivered answered = record {
   of_election = given.delivery;
   of_outcome = taken.delivery;
   of_prices = judged.delivery;
@@ -224,6 +220,6 @@ readers_settled m election outcome prices violation e w verdict d (Some r) given
   answers = both_answered m given.delivery taken.delivery judged.delivery d e w verdict r given.stating taken.audits judged.stating answered;
   election_delivered = given.delivered;
   outcome_delivered = taken.delivered;
-  prices_delivered = subst (λ (o : Stated (List Bool)). InTurn o (λ w. Delivers prices judged.delivery) (IsUntouched prices)) taken.audits.is judged.delivered;
+  prices_delivered = subst (λ (o : Stated (List Bool)). InTurn o (λ w. Delivers inputs.certificate judged.delivery) (IsUntouched inputs.certificate)) taken.audits.is judged.delivered;
   violation_delivered = subst (λ (o : Stated (List Bool)). InTurn o (λ w. Delivers violation d) (IsUntouched violation)) taken.audits.is delivered;
 }

@@ -22,7 +22,7 @@ use Rattle.pb_audit.specs.Answers.{Answer, Reply, answer_of, refused, text_of}
 use Rattle.pb_audit.specs.Inputs.{StatesElection, StatesPrices, refusal_of}
 use Rattle.pb_audit.specs.Lines.{Text}
 use Rattle.pb_audit.specs.Margins.{AlwaysYes, AnswersMargins, ReadsMargins, flag_of, head_records, margins_reply, record_line, row_of, rows_of, table_of}
-use Rattle.pb_audit.specs.Readers.{Delivers, FileReading, Reading, TellsReply}
+use Rattle.pb_audit.specs.Readers.{AuditReadings, Delivers, TellsReply}
 use Rattle.pb_audit.specs.Taking.{AnswersCertificate, AuditsOutcome, Gives, IfTaken, ReadsOutcome, TablesMargins, settled_answer, stopped}
 use Rattle.pb_audit.specs.declared.input.InputName.TheVariants.{Certificate}
 use Rattle.pb_audit.specs.declared.status.Status.TheVariants.{Yes}
@@ -154,7 +154,7 @@ pub margins_answered : (election : Delivery) (outcome : Option Delivery) (certif
 margins_answered election outcome certificate e w work given taken tables =
     work_told _ e w certificate work tables (λ r answered. certificate_answered (StatesPrices Certificate) margins_reply AlwaysYes always_yes election outcome certificate e w r given taken answered)
 
-pub margins_read : (election : Reading) (outcome : FileReading) (certificate : Reading) (e : Instance) (w : List Bool) (d : Delivery) (work : Result Answer Stop)
-    → Gives StatesElection election (Ok e) → ReadsOutcome e outcome (Ok w) → Delivers certificate d → IfTaken work (TablesMargins e w d) → IfSome (settled_answer work) (ReadsMargins election outcome certificate)
-margins_read election outcome certificate e w d work given taken delivered tables =
-    work_told _ e w d work tables (λ r answered. readers_settled (StatesPrices Certificate) margins_reply AlwaysYes always_yes election outcome certificate e w d (Some r) given taken delivered answered)
+pub margins_read : (inputs : AuditReadings) (e : Instance) (w : List Bool) (d : Delivery) (work : Result Answer Stop)
+    → Gives StatesElection inputs.election (Ok e) → ReadsOutcome e inputs.outcome (Ok w) → Delivers inputs.certificate d → IfTaken work (TablesMargins e w d) → IfSome (settled_answer work) (ReadsMargins inputs)
+margins_read inputs e w d work given taken delivered tables =
+    work_told _ e w d work tables (λ r answered. readers_settled (StatesPrices Certificate) margins_reply AlwaysYes always_yes inputs e w d (Some r) given taken delivered answered)

@@ -7,7 +7,7 @@ use Rattle.pb_certificate.specs.Prices.{Prices}
 use Rattle.pb_price.specs.First.{First, verdict_of}
 use Rattle.pb_price.specs.declared.Mode.{Mode}
 use Rattle.pb_audit.specs.Answers.{Answer, AnswersAudit, AnswersElection, AnswersPrices, AnswersTidy, AnswersViolation, FilesState, OfAccepted, Reply, answer_of, audit_reply, price_reply, read_reply, refused, tidy_answer, violation_reply, with_input}
-use Rattle.pb_audit.specs.Both.{AnswersBoth, Claim, both_on, both_reply}
+use Rattle.pb_audit.specs.Both.{AnswersBoth, Claim, beside, both_on, both_reply}
 use Rattle.pb_audit.specs.Inputs.{Stated, StatesElection, StatesOutcome, StatesPrices, StatesViolation, audited}
 use Rattle.pb_audit.specs.Margins.{AlwaysYes, AnswersMargins, margins_reply}
 use Rattle.pb_audit.specs.OneAnswer.{JustOne}
@@ -18,7 +18,7 @@ use Rattle.pb_audit.specs.declared.input.InputName.TheVariants as name
 use Rattle.pb_audit.specs.declared.status.Status.{Status}
 use Rattle.pb_audit.proofs.Audits.{Promised, certificate_answered, election_refused, outcome_refused}
 use Rattle.pb_audit.proofs.Boths as boths
-use Rattle.pb_audit.proofs.Boths.{Beside, both_answered, prices_refused}
+use Rattle.pb_audit.proofs.Boths.{both_answered, prices_refused}
 use Rattle.pb_audit.proofs.OneStated.{election-one, file-one, outcome-one, prices-one, violation-one}
 use Rattle.pb_audit.proofs.Promises.{prices_promise, violation_promises}
 
@@ -140,7 +140,7 @@ both-some m election outcome prices violation = by (election-one election).one.0
     with-prices e w given taken (Ok p) states =
         let v = (violation-one name.Violation e violation).one in
         let verdict = verdict_of (First m e w p) in
-        let r = with_input v.0 (λ claim. Beside m verdict e w claim) in
+        let r = with_input v.0 (λ claim. beside m verdict e w claim) in
         (r, both_answered m election outcome prices violation e w verdict r given taken (p, (states, refl)) (record { c = v.0; given = v.1; out = refl }))
     with-prices e w given taken (Err r) states = (refused r, prices_refused m election outcome prices violation e w r given taken states)
 

@@ -1,9 +1,9 @@
 -- Texts that are made line by line.
-use Rattle.std.proofs.Common.{◌≡◌, ◌∙◌, ap, subst, sym, List, [], ◌∷◌, ◌++◌, append_assoc, ℕ}
+use Rattle.std.proofs.Common.{◌≡◌, ◌∙◌, ap, subst, sym, List, [], ◌∷◌, ◌++◌, append_assoc}
 use Rattle.std.proofs.lemmas.List.Concat.{flat_map-append}
 use Rattle.std.specs.Prelude.{Option, Result, codes}
 use Rattle.std.proofs.lemmas.Result.{IfOk-weaker}
-use Rattle.pb_records.specs.Loading.{WriteCounts}
+use Rattle.pb_records.specs.declared.loading.Sink.{Ghosts as Sink}
 use Rattle.pb_audit.specs.Answers.{Answer, Reply, answer_of, text_of}
 use Rattle.pb_audit.specs.Readers.{TellsReply}
 use Rattle.pb_audit.specs.Writing.{Writes}
@@ -17,9 +17,9 @@ pub text_after : (a b : List Text) (old middle new : Text) → middle ≡ old ++
 text_after a b old middle new first then = then ∙ (ap (λ (t : Text). t ++ text_of b) first ∙ (append_assoc old (text_of a) (text_of b) ∙ ap (λ (t : Text). old ++ t) (sym (flat_map-append _ a b))))
 
 -- a written reply of a kind is an answer of that kind
-pub reply_told : {W : Type 0} (holds : W → Option (List ℕ)) (counts : W → WriteCounts) (is_reply : Reply → Type 0) (reply : Reply) (result : Result Status Fault) (old new : W)
-    → is_reply reply → Writes holds counts (λ answer. answer ≡ answer_of reply) result old new → Writes holds counts (TellsReply is_reply) result old new
-reply_told holds counts is_reply reply result old new of written = record {
+pub reply_told : {W : Type 0} (sink : Sink W) (is_reply : Reply → Type 0) (reply : Reply) (result : Result Status Fault) (old new : W)
+    → is_reply reply → Writes sink (λ answer. answer ≡ answer_of reply) result old new → Writes sink (TellsReply is_reply) result old new
+reply_told sink is_reply reply result old new of written = record {
   written = IfOk-weaker result _ _
       (λ status h. record { answer = h.answer; of_inputs = told h.answer h.of_inputs; text = h.text; ends = h.ends; flushed = h.flushed; calm = h.calm }) written.written;
   cut_short = λ fails. let h = written.cut_short fails in record { answer = h.answer; of_inputs = told h.answer h.of_inputs; front = h.front; failed = h.failed };

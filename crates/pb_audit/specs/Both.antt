@@ -10,10 +10,11 @@ use Rattle.pb_cohesion.specs.Conditions.{Supports}
 use Rattle.pb_cohesion.specs.Groups.{Violates}
 use Rattle.pb_cohesion.specs.Satisfactions.{worth_by}
 use Rattle.pb_price.specs.declared.Mode.{Mode}
-use Rattle.pb_audit.specs.Answers.{FilesState, OfAccepted, Reply, audit_reply, price_reply, violation_reply, with_input}
+use Rattle.pb_price.specs.declared.Verdict.{Verdict}
+use Rattle.pb_audit.specs.Answers.{FilesState, OfAccepted, Reply, audit_reply, price_reply, verdict_reply, violation_reply, with_input}
 use Rattle.pb_audit.specs.Inputs.{InTurn, Stated, StatesPrices, StatesViolation, audited, in_memory}
 use Rattle.pb_audit.specs.Promises.{PricesPromise, ViolationPromises}
-use Rattle.pb_audit.specs.Readers.{Delivers, DeliversFile, FileReading, IsUntouched, Reading}
+use Rattle.pb_audit.specs.Readers.{AfterOutcome, AuditReadings, Delivers, DeliversFile, IsUntouched, Reading}
 use Rattle.pb_audit.specs.declared.input.InputName.TheVariants as name
 use Rattle.pb_audit.specs.declared.status.Status.{Status}
 use Rattle.pb_audit.specs.declared.status.Status.TheVariants.{Yes, No, Refused}
@@ -34,6 +35,10 @@ joined first second = record { lines = first.lines ++ second.lines; status = yes
 -- the verdict on the prices, and then that on the group and its demand
 abbrev pub both_on : Mode → Instance → List Bool → Prices → Claim → Reply
 both_on m e w p claim = joined (price_reply m e w p) (violation_reply e w claim)
+
+-- the verdict on a group and its demand below a verdict on prices
+abbrev pub beside : Mode → Verdict → Instance → List Bool → Claim → Reply
+beside m verdict e w claim = joined (verdict_reply m e verdict) (violation_reply e w claim)
 
 -- the reply on an election, an outcome and both certificates
 abbrev pub both_reply : Mode → Stated Instance → Option (Stated (List Bool)) → Stated Prices → Stated Claim → Reply
@@ -71,14 +76,15 @@ abbrev pub AfterPrices : {A : Type 0} → Stated Instance → Option (Stated (Li
 AfterPrices election outcome prices taken untouched =
     InTurn election (λ e. InTurn (audited e outcome) (λ w. InTurn prices (λ p. taken) untouched) untouched) untouched
 
--- The reply on what readers delivered.
-pub record ReadsBoth (m : Mode) (election : Reading) (outcome : FileReading) (prices violation : Reading) (r : Reply) : Type 0 where
+-- The reply on what readers delivered, the prices as the certificate of an audit, with one more reader for the violation
+-- certificate.
+pub record ReadsBoth (m : Mode) (inputs : AuditReadings) (violation : Reading) (r : Reply) : Type 0 where
   pub of_election : Delivery
   pub of_outcome : Option Delivery
   pub of_prices : Delivery
   pub of_violation : Delivery
   pub answers : AnswersBoth m of_election of_outcome of_prices of_violation r
-  pub election_delivered : Delivers election of_election
-  pub outcome_delivered : InTurn answers.e (λ instance. DeliversFile outcome.before outcome.after of_outcome) (outcome.after ≡ outcome.before)
-  pub prices_delivered : InTurn answers.e (λ instance. InTurn (audited instance answers.o) (λ w. Delivers prices of_prices) (IsUntouched prices)) (IsUntouched prices)
+  pub election_delivered : Delivers inputs.election of_election
+  pub outcome_delivered : InTurn answers.e (λ instance. DeliversFile inputs.outcome.before inputs.outcome.after of_outcome) (inputs.outcome.after ≡ inputs.outcome.before)
+  pub prices_delivered : AfterOutcome answers.e answers.o (Delivers inputs.certificate of_prices) (IsUntouched inputs.certificate)
   pub violation_delivered : AfterPrices answers.e answers.o answers.p (Delivers violation of_violation) (IsUntouched violation)

@@ -18,7 +18,7 @@ use Rattle.pb_audit.specs.Answers.{AnswersAudit, Reply, price_reply, violation_r
 use Rattle.pb_audit.specs.Inputs.{Stated, StatesPrices, StatesViolation, in_memory}
 use Rattle.pb_audit.specs.Lines.{Text}
 use Rattle.pb_audit.specs.Promises.{PricesPromise, ViolationPromises}
-use Rattle.pb_audit.specs.Readers.{FileReading, Reading, ReadsAudit}
+use Rattle.pb_audit.specs.Readers.{AuditReadings, ReadsAudit}
 use Rattle.pb_audit.specs.declared.input.InputName.TheVariants as name
 use Rattle.pb_audit.specs.declared.status.Status.{Status}
 
@@ -71,5 +71,5 @@ AnswersExplainedFiles m election outcome certificate r =
     AnswersExplained m (in_memory election) (option_map in_memory outcome) (in_memory certificate) r
 
 -- the same on what readers delivered
-abbrev pub ReadsExplained : Mode → Reading → FileReading → Reading → Reply → Type 0
-ReadsExplained m election outcome certificate r = ReadsAudit StatesCertificate (explained_reply m) (ExplainedPromise m) election outcome certificate r
+abbrev pub ReadsExplained : Mode → AuditReadings → Reply → Type 0
+ReadsExplained m inputs r = ReadsAudit StatesCertificate (explained_reply m) (ExplainedPromise m) inputs r

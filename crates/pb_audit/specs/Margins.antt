@@ -13,7 +13,7 @@ use Rattle.pb_price.specs.declared.ProjectMargins.{ProjectMargins}
 use Rattle.pb_audit.specs.Answers.{Answer, AnswersAudit, Reply}
 use Rattle.pb_audit.specs.Inputs.{StatesPrices, in_memory}
 use Rattle.pb_audit.specs.Lines.{Text}
-use Rattle.pb_audit.specs.Readers.{FileReading, Reading, ReadsAudit, TellsReply}
+use Rattle.pb_audit.specs.Readers.{AuditReadings, ReadsAudit, TellsReply}
 use Rattle.pb_audit.specs.declared.input.InputName.TheVariants as name
 use Rattle.pb_audit.specs.declared.status.Status.{Status}
 use Rattle.pb_audit.specs.declared.status.Status.TheVariants.{Yes}
@@ -66,6 +66,5 @@ AnswersMarginFiles election outcome certificate answer =
     AnswersMargins (in_memory election) (option_map in_memory outcome) (in_memory certificate) answer
 
 -- the same on what readers delivered
-abbrev pub ReadsMargins : Reading → FileReading → Reading → Answer → Type 0
-ReadsMargins election outcome certificate answer =
-    TellsReply (ReadsAudit (StatesPrices name.Certificate) margins_reply AlwaysYes election outcome certificate) answer
+abbrev pub ReadsMargins : AuditReadings → Answer → Type 0
+ReadsMargins inputs answer = TellsReply (ReadsAudit (StatesPrices name.Certificate) margins_reply AlwaysYes inputs) answer

@@ -1,8 +1,11 @@
--- How a call that writes ends.
+-- How a call that writes ends. Here `Sink W` is what the trait says of writers of a type W: the bytes that they hold, and the
+-- counts.
 use Rattle.std.specs.Prelude.{◌≡◌, ℕ, List, Option, Result, IfOk, IsErrOf}
 use Rattle.std.specs.Io.KnownBytes.{Appends}
 use Rattle.pb_records.specs.Loading.{AppendsFront, IsFlushed, Rises, WriteCounts}
-use Rattle.pb_audit.specs.Answers.{Answer}
+use Rattle.pb_records.specs.declared.loading.Sink.{Ghosts as Sink}
+use Rattle.pb_audit.specs.Answers.{Answer, Reply}
+use Rattle.pb_audit.specs.Readers.{TellsReply}
 use Rattle.pb_audit.specs.declared.status.Fault.{Fault}
 use Rattle.pb_audit.specs.declared.status.Fault.TheVariants as fault
 use Rattle.pb_audit.specs.declared.status.Status.{Status}
@@ -29,12 +32,16 @@ pub record IsCutShort (is_answer : Answer → Type 0) (old new : Writer) : Type 
   pub front : AppendsFront old.holds new.holds answer.text
   pub failed : Rises old.counts.failures new.counts.failures
 
-abbrev pub writer : {W : Type 0} → (W → Option (List ℕ)) → (W → WriteCounts) → W → Writer
-writer holds counts w = record { holds = holds w; counts = counts w }
+abbrev pub writer : {W : Type 0} → Sink W → W → Writer
+writer sink w = record { holds = sink.holds w; counts = sink.counts w }
 
 -- How a call ends that writes one of these answers: it is written, or it is cut short, or memory was wanted and the writer
 -- is as it was.
-pub record Writes {W : Type 0} (holds : W → Option (List ℕ)) (counts : W → WriteCounts) (is_answer : Answer → Type 0) (result : Result Status Fault) (old new : W) : Type 0 where
-  pub written : IfOk result (λ status. IsWritten is_answer status (writer holds counts old) (writer holds counts new))
-  pub cut_short : IsErrOf result fault.Write → IsCutShort is_answer (writer holds counts old) (writer holds counts new)
+pub record Writes {W : Type 0} (sink : Sink W) (is_answer : Answer → Type 0) (result : Result Status Fault) (old new : W) : Type 0 where
+  pub written : IfOk result (λ status. IsWritten is_answer status (writer sink old) (writer sink new))
+  pub cut_short : IsErrOf result fault.Write → IsCutShort is_answer (writer sink old) (writer sink new)
   pub untouched : IsErrOf result fault.Memory → new ≡ old
+
+-- the same where the answer is the text of one of these replies
+abbrev pub WritesReply : {W : Type 0} → Sink W → (Reply → Type 0) → Result Status Fault → W → W → Type 0
+WritesReply sink is_reply result old new = Writes sink (TellsReply is_reply) result old new

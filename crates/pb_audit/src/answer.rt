@@ -73,7 +73,7 @@ impl Model for Answer {
 impl Answer {
     /// Writes the text, the whole of which is there, and flushes.
     pub fn write<W: Sink>(&self, out: &mut W) -> Result<Status, Fault>
-        ensures { Writes W.holds W.counts (λ answer. answer ≡ self.now) result out.old out.new }
+        ensures { Writes W.Sink (λ answer. answer ≡ self.now) result out.old out.new }
     {
         put(&self.text, out)?;
         Ok(self.status)
@@ -86,7 +86,7 @@ pub(crate) fn write_reply<W: Sink>(
     reply: &Reply,
     out: &mut W,
 ) -> Result<Status, Fault>
-    ensures { Writes W.holds W.counts (λ answer. answer ≡ answer_of reply.now) result out.old out.new }
+    ensures { Writes W.Sink (λ answer. answer ≡ answer_of reply.now) result out.old out.new }
 {
     reply.answer(alloc)?.write(out)
 }

@@ -1,15 +1,13 @@
 //! Auditing prices and a violation for one outcome.
 ghost use Rattle.std.specs.Prelude.{◌≡◌, IfOk, IfSome, option_copied, option_map};
-ghost use Rattle.pb_audit.specs.Answers.{violation_reply};
-ghost use Rattle.pb_audit.specs.Answers as answers;
 ghost use Rattle.pb_audit.specs.Both.{AnswersBoth, AnswersBothFiles, ReadsBoth};
 ghost use Rattle.pb_audit.specs.Both as spec;
 ghost use Rattle.pb_audit.specs.Inputs.{StatesViolation};
 ghost use Rattle.pb_audit.specs.Loaded.{lent};
 ghost use Rattle.pb_audit.specs.Named.{PricesNameProject};
-ghost use Rattle.pb_audit.specs.Readers.{TellsReply, file_reading, reading};
+ghost use Rattle.pb_audit.specs.Readers.{audit_readings, reading};
 ghost use Rattle.pb_audit.specs.Taking.{AnswersCertificate, Gives, IfTaken, JudgesPrices, settled};
-ghost use Rattle.pb_audit.specs.Writing.{Writes};
+ghost use Rattle.pb_audit.specs.Writing.{WritesReply};
 ghost use Rattle.pb_election.specs.Outcome.{Fits};
 
 use crate::answer::{Reply, settled, write_reply};
@@ -66,7 +64,7 @@ pub fn run_both<E: Source, O: Source, P: Source, V: Source, W: Sink>(
 ) -> Result<Status, Fault>
     // The text of the reply on what the readers delivered is written, or a front of it where the writer failed. The reply is
     // that of `both_reply`, with what its status promises.
-    ensures { Writes W.holds W.counts (TellsReply (ReadsBoth mode (reading E.left E.counts election.old election.new) (file_reading O.left O.counts outcome.old outcome.new) (reading P.left P.counts prices.old prices.new) (reading V.left V.counts violation.old violation.new))) result out.old out.new }
+    ensures { WritesReply W.Sink (ReadsBoth mode (audit_readings E.Source election.old election.new O.Source outcome.old outcome.new P.Source prices.old prices.new) (reading V.Source violation.old violation.new)) result out.old out.new }
 {
     let work = take_work(alloc, election, outcome, prices, violation, mode);
     let reply = settled(alloc, work)?;
@@ -99,7 +97,7 @@ fn take_work<E: Source, O: Source, P: Source, V: Source>(
     violation: &mut V,
     mode: Mode,
 ) -> Result<Reply, Stop>
-    ensures { IfSome (settled result) (ReadsBoth mode (reading E.left E.counts election.old election.new) (file_reading O.left O.counts outcome.old outcome.new) (reading P.left P.counts prices.old prices.new) (reading V.left V.counts violation.old violation.new)) }
+    ensures { IfSome (settled result) (ReadsBoth mode (audit_readings E.Source election.old election.new O.Source outcome.old outcome.new P.Source prices.old prices.new) (reading V.Source violation.old violation.new)) }
 {
     let election = take_election(alloc, election)?;
     let outcome = take_outcome(alloc, outcome, &election)?;
@@ -117,7 +115,7 @@ fn take_verdict<P: Source>(
     mode: Mode,
 ) -> Result<Verdict, Stop>
     requires { Fits outcome.now election.now }
-    ensures verdict { IfTaken result (Gives (JudgesPrices InputName.Prices mode election.now (outcome.now).marks) (reading P.left P.counts prices.old prices.new)) }
+    ensures verdict { IfTaken result (Gives (JudgesPrices InputName.Prices mode election.now (outcome.now).marks) (reading P.Source prices.old prices.new)) }
     ensures projects { IfOk result (PricesNameProject election.now) }
 {
     let loaded = Loaded::load(alloc, prices)?;
@@ -142,7 +140,7 @@ fn beside(
 ) -> Result<Reply, Stop>
     requires outcome { Fits outcome.now election.now }
     requires projects { PricesNameProject election.now verdict }
-    ensures { IfSome (settled result) (AnswersCertificate (StatesViolation InputName.Violation) (λ e w claim. spec.joined (answers.verdict_reply mode e verdict) (violation_reply e w claim)) election.now (outcome.now).marks (lent violation.entry)) }
+    ensures { IfSome (settled result) (AnswersCertificate (StatesViolation InputName.Violation) (spec.beside mode verdict) election.now (outcome.now).marks (lent violation.entry)) }
 {
     let violation = violation_of(alloc, InputName::Violation, violation, election)?;
     let first = verdict_reply(alloc, election, verdict, mode)?;

@@ -5,9 +5,9 @@ ghost use Rattle.pb_audit.specs.Explained.{AnswersExplained, AnswersExplainedFil
 ghost use Rattle.pb_audit.specs.Inputs.{StatesPrices, StatesViolation};
 ghost use Rattle.pb_audit.specs.Loaded.{lent};
 ghost use Rattle.pb_audit.specs.Named.{PricesNameProject};
-ghost use Rattle.pb_audit.specs.Readers.{TellsReply, file_reading, reading};
+ghost use Rattle.pb_audit.specs.Readers.{audit_readings};
 ghost use Rattle.pb_audit.specs.Taking.{AnswersCertificate, FindsPrices, IfTaken, settled};
-ghost use Rattle.pb_audit.specs.Writing.{Writes};
+ghost use Rattle.pb_audit.specs.Writing.{WritesReply};
 ghost use Rattle.pb_certificate.specs.Claim as claims;
 ghost use Rattle.pb_election.specs.Instance.{IsSet, projects};
 ghost use Rattle.pb_election.specs.Outcome.{Fits};
@@ -69,7 +69,7 @@ pub fn run_explain<E: Source, O: Source, C: Source, W: Sink>(
 ) -> Result<Status, Fault>
     // The text of the reply on what the readers delivered is written, or a front of it where the writer failed. The reply is
     // that of `explained_reply`, with what its status promises.
-    ensures { Writes W.holds W.counts (TellsReply (ReadsExplained mode (reading E.left E.counts election.old election.new) (file_reading O.left O.counts outcome.old outcome.new) (reading C.left C.counts certificate.old certificate.new))) result out.old out.new }
+    ensures { WritesReply W.Sink (ReadsExplained mode (audit_readings E.Source election.old election.new O.Source outcome.old outcome.new C.Source certificate.old certificate.new)) result out.old out.new }
 {
     let work = take_work(alloc, election, outcome, certificate, mode);
     let reply = settled(alloc, work)?;
@@ -99,7 +99,7 @@ fn take_work<E: Source, O: Source, C: Source>(
     certificate: &mut C,
     mode: Mode,
 ) -> Result<Reply, Stop>
-    ensures { IfSome (settled result) (ReadsExplained mode (reading E.left E.counts election.old election.new) (file_reading O.left O.counts outcome.old outcome.new) (reading C.left C.counts certificate.old certificate.new)) }
+    ensures { IfSome (settled result) (ReadsExplained mode (audit_readings E.Source election.old election.new O.Source outcome.old outcome.new C.Source certificate.old certificate.new)) }
 {
     let election = take_election(alloc, election)?;
     let outcome = take_outcome(alloc, outcome, &election)?;

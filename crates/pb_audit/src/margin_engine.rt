@@ -2,7 +2,7 @@
 ghost use Rattle.std.specs.Prelude.{◌≡◌, IfOk, IfSome, option_copied, option_map};
 ghost use Rattle.pb_audit.specs.Loaded.{lent};
 ghost use Rattle.pb_audit.specs.Margins.{AnswersMarginFiles, AnswersMargins, ReadsMargins};
-ghost use Rattle.pb_audit.specs.Readers.{file_reading, reading};
+ghost use Rattle.pb_audit.specs.Readers.{audit_readings};
 ghost use Rattle.pb_audit.specs.Taking.{IfTaken, TablesMargins, settled_answer};
 ghost use Rattle.pb_audit.specs.Writing.{Writes};
 ghost use Rattle.pb_election.specs.Outcome.{Fits};
@@ -52,7 +52,7 @@ pub fn run_margins<E: Source, O: Source, C: Source, W: Sink>(
     out: &mut W,
 ) -> Result<Status, Fault>
     // The text of the answer on what the readers delivered is written, or a front of it where the writer failed.
-    ensures { Writes W.holds W.counts (ReadsMargins (reading E.left E.counts election.old election.new) (file_reading O.left O.counts outcome.old outcome.new) (reading C.left C.counts certificate.old certificate.new)) result out.old out.new }
+    ensures { Writes W.Sink (ReadsMargins (audit_readings E.Source election.old election.new O.Source outcome.old outcome.new C.Source certificate.old certificate.new)) result out.old out.new }
 {
     let work = take_work(alloc, election, outcome, certificate);
     settled_answer(alloc, work)?.write(out)
@@ -79,7 +79,7 @@ fn take_work<E: Source, O: Source, C: Source>(
     outcome: &mut Option<O>,
     certificate: &mut C,
 ) -> Result<Answer, Stop>
-    ensures { IfSome (settled_answer result) (ReadsMargins (reading E.left E.counts election.old election.new) (file_reading O.left O.counts outcome.old outcome.new) (reading C.left C.counts certificate.old certificate.new)) }
+    ensures { IfSome (settled_answer result) (ReadsMargins (audit_readings E.Source election.old election.new O.Source outcome.old outcome.new C.Source certificate.old certificate.new)) }
 {
     let election = take_election(alloc, election)?;
     let outcome = take_outcome(alloc, outcome, &election)?;

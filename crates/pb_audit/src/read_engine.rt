@@ -3,9 +3,9 @@ ghost use Rattle.std.specs.Prelude.{◌≡◌, IfOk, IfSome};
 ghost use Rattle.pb_audit.specs.Answers.{AnswersElection, AnswersElectionFile, read_reply};
 ghost use Rattle.pb_audit.specs.Lines as spec;
 ghost use Rattle.pb_audit.specs.Loaded.{lent};
-ghost use Rattle.pb_audit.specs.Readers.{ReadsElection, TellsReply, reading};
+ghost use Rattle.pb_audit.specs.Readers.{ReadsElection, reading};
 ghost use Rattle.pb_audit.specs.Taking.{settled};
-ghost use Rattle.pb_audit.specs.Writing.{Writes};
+ghost use Rattle.pb_audit.specs.Writing.{WritesReply};
 
 use crate::answer::{Reply, settled, write_reply};
 use crate::input::Stop;
@@ -34,7 +34,7 @@ pub fn run_read<R: Source, W: Sink>(
     out: &mut W,
 ) -> Result<Status, Fault>
     // The text of the reply on what the reader delivered is written, or a front of it where the writer failed.
-    ensures { Writes W.holds W.counts (TellsReply (ReadsElection (reading R.left R.counts election.old election.new))) result out.old out.new }
+    ensures { WritesReply W.Sink (ReadsElection (reading R.Source election.old election.new)) result out.old out.new }
 {
     let work = take_work(alloc, election);
     let reply = settled(alloc, work)?;
@@ -51,7 +51,7 @@ fn read_work(alloc: Global, election: File<'_>) -> Result<Reply, Stop>
 
 /// The reply on an election that a reader delivers.
 fn take_work<R: Source>(alloc: Global, election: &mut R) -> Result<Reply, Stop>
-    ensures { IfSome (settled result) (ReadsElection (reading R.left R.counts election.old election.new)) }
+    ensures { IfSome (settled result) (ReadsElection (reading R.Source election.old election.new)) }
 {
     let election = take_election(alloc, election)?;
     Ok(election_reply(alloc, &election)?)

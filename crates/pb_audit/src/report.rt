@@ -27,7 +27,7 @@ impl Model for Report {
 impl Report {
     /// Writes the text, the whole of which is there, and flushes.
     pub fn write<W: Sink>(&self, out: &mut W) -> Result<Status, Fault>
-        ensures { Writes W.holds W.counts (λ report. report ≡ self.now) result out.old out.new }
+        ensures { Writes W.Sink (λ report. report ≡ self.now) result out.old out.new }
     {
         put(self.text.as_bytes(), out)?;
         Ok(self.status)

@@ -84,7 +84,7 @@ pub(crate) fn own_outcome(alloc: Global, election: &Election) -> Result<Outcome,
 
 /// The election that a reader delivers. Its bytes are let go.
 pub(crate) fn take_election<R: Source>(alloc: Global, source: &mut R) -> Result<Election, Stop>
-    ensures { IfTaken result (Gives StatesElection (reading R.left R.counts source.old source.new)) }
+    ensures { IfTaken result (Gives StatesElection (reading R.Source source.old source.new)) }
 {
     let loaded = Loaded::load(alloc, source)?;
     election_of(alloc, loaded.lend())
@@ -96,7 +96,7 @@ pub(crate) fn take_outcome<R: Source>(
     source: &mut Option<R>,
     election: &Election,
 ) -> Result<Outcome, Stop>
-    ensures taken { IfTaken (marked result) (ReadsOutcome election.now (file_reading R.left R.counts source.old source.new)) }
+    ensures taken { IfTaken (marked result) (ReadsOutcome election.now (file_reading R.Source source.old source.new)) }
     ensures fits { IfOk result (λ outcome. outcomes.Fits outcome election.now) }
 {
     match source {
@@ -111,7 +111,7 @@ fn take_outcome_file<R: Source>(
     source: &mut R,
     election: &Election,
 ) -> Result<Outcome, Stop>
-    ensures taken { IfTaken (marked result) (Gives (StatesOutcome election.now) (reading R.left R.counts source.old source.new)) }
+    ensures taken { IfTaken (marked result) (Gives (StatesOutcome election.now) (reading R.Source source.old source.new)) }
     ensures fits { IfOk result (λ outcome. outcomes.Fits outcome election.now) }
 {
     let loaded = Loaded::load(alloc, source)?;

@@ -39,7 +39,7 @@ pub fn run_tidy<E: Source, C: Source, W: Sink>(
     out: &mut W,
 ) -> Result<Status, Fault>
     // The text of the answer on what the readers delivered is written, or a front of it where the writer failed.
-    ensures { Writes W.holds W.counts (ReadsTidy (reading E.left E.counts election.old election.new) (reading C.left C.counts certificate.old certificate.new)) result out.old out.new }
+    ensures { Writes W.Sink (ReadsTidy (reading E.Source election.old election.new) (reading C.Source certificate.old certificate.new)) result out.old out.new }
 {
     let work = take_work(alloc, election, certificate);
     settled_answer(alloc, work)?.write(out)
@@ -59,7 +59,7 @@ fn take_work<E: Source, C: Source>(
     election: &mut E,
     certificate: &mut C,
 ) -> Result<Answer, Stop>
-    ensures { IfSome (settled_answer result) (ReadsTidy (reading E.left E.counts election.old election.new) (reading C.left C.counts certificate.old certificate.new)) }
+    ensures { IfSome (settled_answer result) (ReadsTidy (reading E.Source election.old election.new) (reading C.Source certificate.old certificate.new)) }
 {
     let election = take_election(alloc, election)?;
     let certificate = Loaded::load(alloc, certificate)?;

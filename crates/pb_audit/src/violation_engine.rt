@@ -3,9 +3,9 @@ ghost use Rattle.std.specs.Prelude.{◌≡◌, IfOk, IfSome, Ok, option_copied, 
 ghost use Rattle.pb_audit.specs.Answers.{AnswersViolation, AnswersViolationFiles, violation_reply};
 ghost use Rattle.pb_audit.specs.Inputs.{StatesElection, StatesViolation};
 ghost use Rattle.pb_audit.specs.Loaded.{lent};
-ghost use Rattle.pb_audit.specs.Readers.{ReadsViolation, TellsReply, file_reading, reading};
+ghost use Rattle.pb_audit.specs.Readers.{ReadsViolation, audit_readings};
 ghost use Rattle.pb_audit.specs.Taking.{AnswersCertificate, settled};
-ghost use Rattle.pb_audit.specs.Writing.{Writes};
+ghost use Rattle.pb_audit.specs.Writing.{WritesReply};
 ghost use Rattle.pb_certificate.specs.Claim as claims;
 ghost use Rattle.pb_election.specs.Instance.{IsSet, projects};
 ghost use Rattle.pb_election.specs.Outcome as outcomes;
@@ -58,7 +58,7 @@ pub fn run_violation<E: Source, O: Source, C: Source, W: Sink>(
 ) -> Result<Status, Fault>
     // The text of the reply on what the readers delivered is written, or a front of it where the writer failed. The reply is
     // that of `violation_reply`, with what its status promises.
-    ensures { Writes W.holds W.counts (TellsReply (ReadsViolation (reading E.left E.counts election.old election.new) (file_reading O.left O.counts outcome.old outcome.new) (reading C.left C.counts certificate.old certificate.new))) result out.old out.new }
+    ensures { WritesReply W.Sink (ReadsViolation (audit_readings E.Source election.old election.new O.Source outcome.old outcome.new C.Source certificate.old certificate.new)) result out.old out.new }
 {
     let work = take_work(alloc, election, outcome, certificate);
     let reply = settled(alloc, work)?;
@@ -98,7 +98,7 @@ fn take_work<E: Source, O: Source, C: Source>(
     outcome: &mut Option<O>,
     certificate: &mut C,
 ) -> Result<Reply, Stop>
-    ensures { IfSome (settled result) (ReadsViolation (reading E.left E.counts election.old election.new) (file_reading O.left O.counts outcome.old outcome.new) (reading C.left C.counts certificate.old certificate.new)) }
+    ensures { IfSome (settled result) (ReadsViolation (audit_readings E.Source election.old election.new O.Source outcome.old outcome.new C.Source certificate.old certificate.new)) }
 {
     let election = take_election(alloc, election)?;
     let outcome = take_outcome(alloc, outcome, &election)?;

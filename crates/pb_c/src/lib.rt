@@ -8,7 +8,7 @@ ghost use Rattle.pb_audit.specs.Both.{AnswersBothFiles};
 ghost use Rattle.pb_audit.specs.Explained.{AnswersExplainedFiles};
 ghost use Rattle.pb_audit.specs.Margins.{AnswersMarginFiles};
 ghost use Rattle.pb_audit.specs.Readers.{TellsReply};
-ghost use Rattle.pb_c.specs.Files.{given_file};
+ghost use Rattle.pb_c.specs.Files.{given_file, given_mode};
 ghost use Rattle.pb_c.specs.Reports.{IsReported, memory_code};
 
 mod answers;
@@ -59,7 +59,7 @@ pub extern "C" fn pbaudit_prices(
 ) -> u8
     // The number, the text and its length are those of the reply on these bytes. Where no file is refused, the number
     // is 0 exactly where the prices support the outcome.
-    ensures reported { result ≢ memory_code → IsReported (TellsReply (AnswersPriceFiles (record { stable = stable; exhaustive = exhaustive; cover = cover }) election.now (given_file has_outcome outcome.now) certificate.now)) result out.old out.new needed.new }
+    ensures reported { result ≢ memory_code → IsReported (TellsReply (AnswersPriceFiles (given_mode stable exhaustive cover) election.now (given_file has_outcome outcome.now) certificate.now)) result out.old out.new needed.new }
 
     // Where memory ran out, nothing was written.
     ensures memory_out { result ≡ memory_code → out.new ≡ out.old }
@@ -118,7 +118,7 @@ pub extern "C" fn pbaudit_both(
 ) -> u8
     // The number, the text and its length are those of the reply on these bytes. Where no file is refused, the number is 0
     // exactly where the prices support the outcome and the group and its demand are a violation.
-    ensures reported { result ≢ memory_code → IsReported (TellsReply (AnswersBothFiles (record { stable = stable; exhaustive = exhaustive; cover = cover }) election.now (given_file has_outcome outcome.now) prices.now violation.now)) result out.old out.new needed.new }
+    ensures reported { result ≢ memory_code → IsReported (TellsReply (AnswersBothFiles (given_mode stable exhaustive cover) election.now (given_file has_outcome outcome.now) prices.now violation.now)) result out.old out.new needed.new }
 
     // Where memory ran out, nothing was written.
     ensures memory_out { result ≡ memory_code → out.new ≡ out.old }
@@ -162,7 +162,7 @@ pub extern "C" fn pbaudit_explain(
 ) -> u8
     // The number, the text and its length are those of the reply on these bytes. Where no file is refused, the number
     // is 0 exactly where the prices support the outcome, or the group and its demand are a violation.
-    ensures reported { result ≢ memory_code → IsReported (TellsReply (AnswersExplainedFiles (record { stable = stable; exhaustive = exhaustive; cover = cover }) election.now (given_file has_outcome outcome.now) certificate.now)) result out.old out.new needed.new }
+    ensures reported { result ≢ memory_code → IsReported (TellsReply (AnswersExplainedFiles (given_mode stable exhaustive cover) election.now (given_file has_outcome outcome.now) certificate.now)) result out.old out.new needed.new }
 
     // Where memory ran out, nothing was written.
     ensures memory_out { result ≡ memory_code → out.new ≡ out.old }

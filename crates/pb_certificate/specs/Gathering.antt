@@ -1,7 +1,7 @@
 -- What is remembered of the rows of a price certificate while their payments are gathered by voter. No claim on a file rests
 -- on this.
-use Rattle.std.specs.Prelude.{◌≡◌, ◌≤◌, ◌+◌, ◌^◌, ◌==◌, ◌&&◌, nat_lt, if◌then◌else◌, ℕ, List, filter_map, length, map, Some, None, sum_by}
-use Rattle.std.specs.List.{AllByRecursion, IsDistinct, range_with_len}
+use Rattle.std.specs.Prelude.{◌≡◌, ◌≤◌, ◌<◌, ◌+◌, ◌^◌, ◌==◌, ◌&&◌, nat_lt, if◌then◌else◌, false, ℕ, List, filter_map, length, map, Some, None, sum_by}
+use Rattle.std.specs.List.{AllByRecursion, IsDistinct, list_any, range_with_len}
 use Rattle.pb_election.specs.Instance.{Instance, projects, voters}
 use Rattle.pb_certificate.specs.Prices.{Prices}
 use Rattle.pb_certificate.specs.Rows.{Rows, given, prices_given}
@@ -36,6 +36,11 @@ pub record Holds (has : Instance → Prices → Type 0) (s : Rows) (qs : List Pa
   pub small : AllByRecursion (λ q. q.numerator ≤ 10 ^ 21) qs
   pub total : sum_by length (prices_up_to s qs t.done).payments + length t.payments.items ≤ length qs
   pub few : length qs ≤ 10000000
+
+-- this holds where one more payment may come behind others: for a project that there is, of a pair that has none, and
+-- within the limit
+abbrev pub WhereNew : Rows → List Payment → Payment → Type 0 → Type 0
+WhereNew s qs q holds = q.project ≤ projects s.election → list_any (same_pair q) qs ≡ false → length qs < 10000000 → holds
 
 -- they are those of some rows
 abbrev pub HoldSome : (Instance → Prices → Type 0) → Turn → Type 0

@@ -1,10 +1,12 @@
 -- Sample elections, price systems and records.
-use Rattle.std.specs.Prelude.{◌+◌, ◌*◌, ℕ, Bool, true, false, List, [], ◌∷◌, map, length, filter_map, slice_get, codes, Option, Some, None, option_map}
+use Rattle.std.specs.Prelude.{◌+◌, ◌*◌, ℕ, Bool, true, false, List, [], ◌∷◌, ◌++◌, map, length, filter_map, slice_get, codes, Option, Some, None, option_map}
 use Rattle.std.specs.List.{range_with_len}
 use Rattle.pb_election.specs.Instance.{Instance}
 use Rattle.pb_records.specs.Records.{Field, Rec}
 use Rattle.pb_records.specs.FirstFault.{Form, fault_at}
 use Rattle.pb_certificate.specs.declared.refusal.CertFault.{CertFault}
+use Rattle.pb_certificate.specs.Canon.{line_end}
+use Rattle.pb_certificate.specs.PriceText.{Payment}
 use Rattle.pb_certificate.specs.Prices.{Prices}
 
 -- amounts in whole units, of which an election counts millionths
@@ -40,6 +42,28 @@ sample_election = sample_with_costs 6 4 9
 
 abbrev pub sample_prices : Prices
 sample_prices = record { projects = 3; denominator = 1; budget = 4; payments = ((1, 2) ∷ (2, 2) ∷ []) ∷ ((1, 4) ∷ []) ∷ ((2, 2) ∷ []) ∷ [] }
+
+-- their canonical text
+abbrev pub sample_text : List ℕ
+sample_text =
+    codes "pb-prices,1" ++ (line_end ∷ [])
+    ++ codes "denominator,1" ++ (line_end ∷ [])
+    ++ codes "voter_budget,4" ++ (line_end ∷ [])
+    ++ codes "voter,project,payment" ++ (line_end ∷ [])
+    ++ codes "1,a,2" ++ (line_end ∷ [])
+    ++ codes "1,b,2" ++ (line_end ∷ [])
+    ++ codes "2,a,4" ++ (line_end ∷ [])
+    ++ codes "3,b,2" ++ (line_end ∷ [])
+
+-- their payments and one of 0, in another order
+abbrev pub unordered_payments : List Payment
+unordered_payments =
+    record { voter = 2; project = 1; numerator = 4 }
+    ∷ record { voter = 1; project = 2; numerator = 2 }
+    ∷ record { voter = 3; project = 2; numerator = 2 }
+    ∷ record { voter = 1; project = 1; numerator = 2 }
+    ∷ record { voter = 2; project = 2; numerator = 0 }
+    ∷ []
 
 -- the same budget, with other payments
 abbrev pub sample_prices_with : List (List (ℕ × ℕ)) → Prices
@@ -79,6 +103,10 @@ unfair_with_ballot ballot = unfair_with_ballots (1 ∷ 2 ∷ []) ballot
 abbrev pub unfair_election : Instance
 unfair_election = unfair_with_ballot (1 ∷ 2 ∷ [])
 
+-- where voters 1 and 2 want y too
+abbrev pub all_want_y : Instance
+all_want_y = unfair_with_ballots (1 ∷ 2 ∷ 3 ∷ []) (1 ∷ 2 ∷ 3 ∷ [])
+
 -- two voters want a cheap project, which is funded, and one of them wants a dear one too
 abbrev pub dear_outcome : List Bool
 dear_outcome = true ∷ false ∷ []
@@ -116,6 +144,19 @@ row_2a = three (codes "2") (codes "a") (codes "4")
 
 abbrev pub row_3b : Rec
 row_3b = three (codes "3") (codes "b") (codes "2")
+
+-- a price certificate with blanks, a blank record, zeros in front of numbers, and empty fields at the end of a row
+abbrev pub lenient_records : List Rec
+lenient_records =
+    two (codes "pb-prices") (codes " 1")
+    ∷ two (codes "denominator") (codes "1")
+    ∷ two (codes "voter_budget") (codes "04")
+    ∷ (codes "  " ∷ [])
+    ∷ price_columns
+    ∷ row_1b
+    ∷ three (codes "1") (codes "a") (codes "002")
+    ∷ (row_2a ++ ([] ∷ [] ∷ []))
+    ∷ []
 
 -- a violation certificate with these rows
 abbrev pub violation_records : List Rec → List Rec

@@ -1,13 +1,11 @@
 //! The payments of a price certificate, gathered by voter as its rows come.
-ghost use Rattle.std.specs.Prelude.{◌≡◌, ◌≤◌, ◌<◌, ◌+◌, ◌-◌, ◌^◌, ◌⊎◌, ◌++◌, ◌∷◌, List, [], length, false, IfErr, OnOk};
-ghost use Rattle.std.specs.List.{list_any};
+ghost use Rattle.std.specs.Prelude.{◌≡◌, ◌≤◌, ◌<◌, ◌+◌, ◌-◌, ◌^◌, ◌⊎◌, ◌++◌, ◌∷◌, List, [], IfErr, OnOk};
 ghost use Rattle.pb_election.specs.Instance as spec;
-ghost use Rattle.pb_election.specs.Instance.{projects};
 ghost use Rattle.pb_records.specs.FirstFault.{IsFirstFault};
 ghost use Rattle.pb_certificate.specs.Faults.{no_memory, price_form};
-ghost use Rattle.pb_certificate.specs.Gathering.{GathersAll, HoldSome, Holds, HoldsAll, prices_up_to};
+ghost use Rattle.pb_certificate.specs.Gathering.{GathersAll, HoldSome, Holds, HoldsAll, WhereNew, prices_up_to};
 ghost use Rattle.pb_certificate.specs.PriceRows.{as_payment};
-ghost use Rattle.pb_certificate.specs.PriceText.{Payment, same_pair};
+ghost use Rattle.pb_certificate.specs.PriceText.{Payment};
 ghost use Rattle.pb_certificate.specs.Rows.{given, Rows as Place};
 
 use crate::ledger::Ledger;
@@ -58,8 +56,7 @@ impl Turn {
         requires done { self.old.done ≤ row.voter - 1 }
         requires project { 1 ≤ row.project }
         requires small { row.payment ≤ 10 ^ 21 }
-        ensures holds { (s : Place) (qs : List Payment) → Holds (L.Has ledger.old) s qs self.old → row.project ≤ projects s.election → list_any (same_pair (as_payment row)) qs ≡ false → length qs < 10000000
-            → OnOk result (Holds (L.Has ledger.new) s (qs ++ as_payment row ∷ []) self.new) }
+        ensures holds { (s : Place) (qs : List Payment) → Holds (L.Has ledger.old) s qs self.old → WhereNew s qs (as_payment row) (OnOk result (Holds (L.Has ledger.new) s (qs ++ as_payment row ∷ []) self.new)) }
         ensures done { OnOk result (self.new.done ≡ row.voter - 1) }
     {
         self.close_up_to(ledger, row.voter - 1)?;

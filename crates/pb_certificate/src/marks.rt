@@ -1,5 +1,5 @@
 //! Marks: which of the numbers from 1 on the rows of a file have named.
-ghost use Rattle.std.specs.Prelude.{◌≡◌, ◌≤◌, ◌<◌, ◌^◌, not, IfOk, IsTrue, MatchResult, length, Ok, Err};
+ghost use Rattle.std.specs.Prelude.{◌≡◌, ◌≤◌, ◌<◌, ◌^◌, not, IfOk, IsTrue, length};
 ghost use Rattle.pb_certificate.specs.Marks as spec;
 
 use crate::CertFault;
@@ -24,7 +24,7 @@ fn mark(marks: &mut [bool], number: u32) -> bool
 /// Marks the project that has this id. A project that has its mark already is `Repeated`.
 #[tactic(auto, unfolding(crate::specs::Marks::marks_after))]
 pub fn mark_project(marks: &mut [bool], id: &str, election: &Election) -> Result<(), CertFault>
-    ensures { MatchResult result (λ done. spec.project_after election.now id.now marks.old ≡ Ok marks.new) (λ fault. spec.project_after election.now id.now marks.old ≡ Err fault) }
+    ensures { spec.EndsAs (spec.project_after election.now id.now marks.old) result marks.new }
 {
     let Some(project) = election.find(id) else {
         return Err(CertFault::UnknownProject);
@@ -38,7 +38,7 @@ pub fn mark_project(marks: &mut [bool], id: &str, election: &Election) -> Result
 /// Marks the voter that a field names by its number. A voter that has its mark already is `Repeated`.
 #[tactic(auto, unfolding(crate::specs::Marks::marks_after))]
 pub fn mark_voter(marks: &mut [bool], number: &str, election: &Election) -> Result<(), CertFault>
-    ensures { MatchResult result (λ done. spec.voter_after election.now number.now marks.old ≡ Ok marks.new) (λ fault. spec.voter_after election.now number.now marks.old ≡ Err fault) }
+    ensures { spec.EndsAs (spec.voter_after election.now number.now marks.old) result marks.new }
 {
     let Some(voter) = voter_in(number, election)? else {
         return Err(CertFault::UnknownVoter);

@@ -1,6 +1,7 @@
 //! An outcome file, as far as it has been read.
-ghost use Rattle.std.specs.Prelude.{◌≡◌, [], IfOk, MatchResult, Ok, Err};
+ghost use Rattle.std.specs.Prelude.{◌≡◌, [], IfOk};
 ghost use Rattle.csv.specs.Records.{fields_of};
+ghost use Rattle.pb_certificate.specs.Marks.{EndsAs};
 ghost use Rattle.pb_certificate.specs.OutcomeDrafts.{OutcomeTaken, after_outcome_row};
 
 use crate::CertFault;
@@ -33,7 +34,7 @@ impl OutcomeDraft {
     }
 
     fn take_row(&mut self, election: &Election, row: &StringRecord) -> Result<(), CertFault>
-        ensures marks { MatchResult result (λ done. after_outcome_row election.now self.old.marks.items (fields_of row.now) ≡ Ok self.new.marks.items) (λ fault. after_outcome_row election.now self.old.marks.items (fields_of row.now) ≡ Err fault) }
+        ensures marks { EndsAs (after_outcome_row election.now self.old.marks.items (fields_of row.now)) result self.new.marks.items }
         ensures begun { self.new.begun ≡ self.old.begun }
     {
         if width(row) != 2 || cell(row, 0) != "project" {

@@ -10,7 +10,7 @@ ghost use Rattle.pb_certificate.specs.NamedRows.Named.{Voter};
 ghost use Rattle.pb_certificate.specs.ViolationText.{IsViolationText};
 ghost use Rattle.pb_certificate.specs.OutcomeText.{IsOutcomeText};
 ghost use Rattle.pb_certificate.specs.PriceText.{IsPriceText, payment_of, payments_stated};
-ghost use Rattle.pb_certificate.specs.Samples.{demand_x1, demand_x2, first_refusal, measured_records, member_1, outcome_records, price_columns, price_records, row_1a, row_1b, row_2a, row_3b, sample_election, sample_prices, three, two, unfair_election, violation_records};
+ghost use Rattle.pb_certificate.specs.Samples.{demand_x1, demand_x2, first_refusal, lenient_records, measured_records, member_1, outcome_records, price_records, row_1a, row_1b, row_2a, row_3b, sample_election, sample_prices, sample_text, three, two, unfair_election, unordered_payments, violation_records};
 
 use crate::{CertFault, Measure};
 
@@ -18,10 +18,8 @@ use crate::{CertFault, Measure};
 pub fn sample_certificate()
     ensures accepted { first_refusal (price_form sample_election) (price_records (row_1a ∷ row_1b ∷ row_2a ∷ row_3b ∷ [])) ≡ None }
     ensures payment { payment_of sample_election row_1b ≡ Some (record { voter = 1; project = 2; numerator = 2 }) }
-    ensures payments { map (payments_stated sample_election (record { voter = 2; project = 1; numerator = 4 } ∷ record { voter = 1; project = 2; numerator = 2 } ∷ record { voter = 3; project = 2; numerator = 2 }
-        ∷ record { voter = 1; project = 1; numerator = 2 } ∷ record { voter = 2; project = 2; numerator = 0 } ∷ [])) (all_voters sample_election) ≡ sample_prices.payments }
-    ensures canonical { Canon sample_election sample_prices ≡ codes "pb-prices,1" ++ (line_end ∷ []) ++ codes "denominator,1" ++ (line_end ∷ []) ++ codes "voter_budget,4" ++ (line_end ∷ [])
-        ++ codes "voter,project,payment" ++ (line_end ∷ []) ++ codes "1,a,2" ++ (line_end ∷ []) ++ codes "1,b,2" ++ (line_end ∷ []) ++ codes "2,a,4" ++ (line_end ∷ []) ++ codes "3,b,2" ++ (line_end ∷ []) }
+    ensures payments { map (payments_stated sample_election unordered_payments) (all_voters sample_election) ≡ sample_prices.payments }
+    ensures canonical { Canon sample_election sample_prices ≡ sample_text }
     // An id with a quote.
     ensures quoted { line (codes "1" ∷ (97 ∷ 34 ∷ 49 ∷ []) ∷ codes "2" ∷ []) ≡ codes "1," ++ (34 ∷ 97 ∷ 34 ∷ 34 ∷ 49 ∷ 34 ∷ []) ++ codes ",2" ++ (line_end ∷ []) }
 {}
@@ -50,8 +48,7 @@ pub fn faults_of_price_rows()
     ensures voter_4 { first_refusal (price_form sample_election) (price_records (three (codes "4") (codes "a") (codes "2") ∷ row_1b ∷ [])) ≡ Some (CertFault.UnknownVoter, 5) }
     ensures too_large { first_refusal (price_form sample_election) (price_records (three (codes "1") (codes "a") (codes "1000000000000000000001") ∷ [])) ≡ Some (CertFault.BadNumber, 5) }
     // Blanks, and empty fields at the end, don't count.
-    ensures lenient { first_refusal (price_form sample_election) (two (codes "pb-prices") (codes " 1") ∷ two (codes "denominator") (codes "1") ∷ two (codes "voter_budget") (codes "04") ∷ (codes "  " ∷ []) ∷ price_columns
-        ∷ row_1b ∷ three (codes "1") (codes "a") (codes "002") ∷ (row_2a ++ ([] ∷ [] ∷ [])) ∷ []) ≡ None }
+    ensures lenient { first_refusal (price_form sample_election) lenient_records ≡ None }
 {}
 
 /// Violation certificates.

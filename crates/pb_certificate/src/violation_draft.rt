@@ -1,8 +1,9 @@
 //! A violation certificate, as far as it has been read.
-ghost use Rattle.std.specs.Prelude.{◌≡◌, [], true, IfOk, MatchResult, Ok, Err};
+ghost use Rattle.std.specs.Prelude.{◌≡◌, [], true, IfOk};
 ghost use Rattle.csv.specs.Records.{fields_of};
 ghost use Rattle.pb_election.specs.Instance.{Instance};
 ghost use Rattle.pb_records.specs.Cells.{is_text};
+ghost use Rattle.pb_certificate.specs.Marks.{EndsAs};
 ghost use Rattle.pb_certificate.specs.ViolationDrafts.{Took, ViolationTaken, after_violation_row, reading};
 
 use crate::fields::{is_pair, width};
@@ -101,7 +102,7 @@ impl ViolationDraft {
 
     // Marks what a row names.
     fn mark_row(&mut self, election: &Election, row: &StringRecord) -> Result<(), CertFault>
-        ensures marks { MatchResult result (λ done. after_violation_row election.now self.old.group.items self.old.demand.items (fields_of row.now) ≡ Ok (self.new.group.items, self.new.demand.items)) (λ fault. after_violation_row election.now self.old.group.items self.old.demand.items (fields_of row.now) ≡ Err fault) }
+        ensures marks { EndsAs (after_violation_row election.now self.old.group.items self.old.demand.items (fields_of row.now)) result (self.new.group.items, self.new.demand.items) }
         ensures awaited { self.new.awaited ≡ self.old.awaited }
         ensures measure { self.new.measure ≡ self.old.measure }
     {

@@ -1,5 +1,5 @@
 -- What each test of a violation of EJR by a group s that demands the projects t comes to.
-use Rattle.std.specs.Prelude.{◌≡◌, ◌≢◌, ◌↔◌, ◌<◌, ◌≤◌, ◌*◌, ℕ, All, Bool, List, [], Option, Some, None, length, slice_get}
+use Rattle.std.specs.Prelude.{◌≡◌, ◌≢◌, ◌↔◌, ◌<◌, ◌≤◌, ◌*◌, ℕ, All, Bool, List, [], Option, Some, None, filter, length, nat_le, slice_get}
 use Rattle.pb_election.specs.Instance.{Approves, Instance, cost_of_all, voters}
 use Rattle.pb_cohesion.specs.Amounts.{largest_by}
 use Rattle.pb_cohesion.specs.FirstV.{culprits_of_V2, culprits_of_V4}
@@ -20,6 +20,17 @@ satisfied_members culprits = record { first = slice_get culprits 0; count = leng
 abbrev pub shown_worth : Option ℕ → (ℕ → ℕ) → List ℕ → ℕ
 shown_worth (Some i) f s = f i
 shown_worth None f s = largest_by f s
+
+-- Where f says what each of a group gets: the members that get at least so much, and what is shown by them.
+abbrev pub satisfied_by : ℕ → (ℕ → ℕ) → List ℕ → List ℕ
+satisfied_by enough f s = filter (λ i. nat_le enough (f i)) s
+
+abbrev pub shown_by : ℕ → (ℕ → ℕ) → List ℕ → ℕ
+shown_by enough f s = shown_worth (slice_get (satisfied_by enough f s) 0) f s
+
+-- what a voter gets is worth
+abbrev pub worth_to : (ℕ → ℕ) → Instance → List Bool → ℕ → ℕ
+worth_to worth e w i = sat worth (gets e w i)
 
 -- the findings
 abbrev pub violation_findings : (ℕ → ℕ) → Instance → List Bool → List ℕ → List ℕ → ViolationFindings

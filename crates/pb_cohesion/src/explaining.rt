@@ -1,13 +1,13 @@
 //! What each test of a violation certificate comes to, also of those behind the first that fails.
 
-ghost use Rattle.std.specs.Prelude.{◌≡◌, ◌≤◌, ◌+◌, ◌*◌, ◌^◌, if◌then◌else◌, Some, None, filter, is_some, length, max, nat_le, not, slice_get};
+ghost use Rattle.std.specs.Prelude.{◌≡◌, ◌≤◌, ◌+◌, ◌*◌, ◌^◌, if◌then◌else◌, Some, None, filter, is_some, length, max, not};
 ghost use Rattle.std.specs.Option.{option_or};
 ghost use Rattle.pb_election.specs.Instance.{IsVoter, approves};
 ghost use Rattle.pb_election.specs.Outcome.{Fits};
 ghost use Rattle.pb_election.specs.Text.{IsElection};
 ghost use Rattle.pb_certificate.specs.Claim as claim;
 ghost use Rattle.pb_cohesion.specs.FirstV.{culprits_of_V2};
-ghost use Rattle.pb_cohesion.specs.Groups.{AreProjects, IsGroup, gets, sat};
+ghost use Rattle.pb_cohesion.specs.Groups.{AreProjects, IsGroup};
 ghost use Rattle.pb_cohesion.specs.ViolationFindings as spec;
 
 use crate::violations::first_not_approved;
@@ -90,8 +90,8 @@ fn satisfied_members<S: Satisfaction>(
     requires sound { IsElection election.now }
     requires outcome { Fits outcome.now election.now }
     requires group { IsGroup election.now group.now }
-    ensures members { result.0 ≡ spec.satisfied_members (filter (λ i. nat_le demanded (sat (S.meaning satisfaction.now election.now) (gets election.now (outcome.now).marks i))) group.now) }
-    ensures shown { result.1 ≡ spec.shown_worth (slice_get (filter (λ i. nat_le demanded (sat (S.meaning satisfaction.now election.now) (gets election.now (outcome.now).marks i))) group.now) 0) (λ i. sat (S.meaning satisfaction.now election.now) (gets election.now (outcome.now).marks i)) group.now }
+    ensures members { result.0 ≡ spec.satisfied_members (spec.satisfied_by demanded (spec.worth_to (S.meaning satisfaction.now election.now) election.now (outcome.now).marks) group.now) }
+    ensures shown { result.1 ≡ spec.shown_by demanded (spec.worth_to (S.meaning satisfaction.now election.now) election.now (outcome.now).marks) group.now }
 {
     let mut satisfied = SatisfiedMembers {
         first: None,

@@ -1,7 +1,7 @@
 //! The conditions on a price system, read off the sums of its payments: the first that is false, with its first culprit.
 //! Each pass over the projects counts a step for each project that it looks at.
 
-ghost use Rattle.std.specs.Prelude.{◌≡◌, ◌≤◌, ◌+◌, ◌*◌, ◌^◌, ◌++◌, ◌&&◌, not, nat_le, Bool, filter, length, map, slice_get};
+ghost use Rattle.std.specs.Prelude.{◌≡◌, ◌≤◌, ◌+◌, ◌*◌, ◌^◌, ◌&&◌, not, nat_le, Bool, filter, length, slice_get};
 ghost use Rattle.pb_election.specs.Instance.{IsProject, all_projects, cost_of, projects};
 ghost use Rattle.pb_election.specs.Outcome as outcomes;
 ghost use Rattle.pb_election.specs.Outcome.{has};
@@ -10,7 +10,7 @@ ghost use Rattle.pb_cohesion.specs.Amounts.{beta};
 ghost use Rattle.pb_cohesion.specs.Conditions.{culprits_of_Exhaustive};
 ghost use Rattle.pb_cohesion.specs.Outcome.{total};
 ghost use Rattle.pb_price.specs.First.{First, failures_of_budgets, failures_of_outcome, failures_of_payments, failures_of_supporters};
-ghost use Rattle.pb_price.specs.Tallies.{AreSums, IsTallyOf, has_more, in_vain, not_exactly};
+ghost use Rattle.pb_price.specs.Tallies.{AreSums, IsTallyOf, has_more, in_vain, not_exactly, paid_wrongly};
 
 use crate::tally::{ProjectSums, Tally, first_where};
 use crate::{Failure, Mode};
@@ -186,7 +186,7 @@ fn first_paid_wrongly(
     requires high { denominator ≤ 10 ^ 9 }
     requires sums { length sums.now ≡ projects election.now }
     requires steps { steps.old ≤ 2 ^ 62 + 2 * projects election.now }
-    ensures first { result ≡ slice_get (map Failure.C3 (filter (not_exactly election.now (outcome.now).marks denominator sums.now) (all_projects election.now)) ++ map Failure.C4 (filter (in_vain (outcome.now).marks sums.now) (all_projects election.now))) 0 }
+    ensures first { result ≡ slice_get (paid_wrongly election.now (outcome.now).marks denominator sums.now) 0 }
     ensures fewest { steps.old ≤ steps.new }
     ensures most { steps.new ≤ steps.old + projects election.now }
 {

@@ -3,7 +3,7 @@ use Rattle.std.specs.Prelude.{Err}
 use Rattle.pb_records.specs.Loading.{Delivery}
 use Rattle.pb_audit.specs.Inputs.{StatesPrices}
 use Rattle.pb_audit.specs.Margins.{AlwaysYes, margins_reply}
-use Rattle.pb_audit.specs.Readers.{file_reading, reading}
+use Rattle.pb_audit.specs.Readers.{audit_readings}
 use Rattle.pb_audit.specs.Taking.{IfTaken, TablesMargins}
 use Rattle.pb_audit.specs.declared.input.InputName.TheVariants.{Certificate}
 use Rattle.pb_audit.proofs.Audits.{readers_stopped_at_election, readers_stopped_at_outcome}
@@ -16,9 +16,7 @@ returns-in_err-election g c =
     rw is (
     stop_told _ c.in_err-election.field-0.0
     (readers_stopped_at_election (StatesPrices Certificate) margins_reply AlwaysYes
-    (reading g.E.Source.left g.E.Source.counts c.args.election.now c.take_election.new.source)
-    (file_reading g.O.Source.left g.O.Source.counts c.args.outcome.now c.args.outcome.now)
-    (reading g.C.Source.left g.C.Source.counts c.args.certificate.now c.args.certificate.now)
+    (audit_readings g.E.Source c.args.election.now c.take_election.new.source g.O.Source c.args.outcome.now c.args.outcome.now g.C.Source c.args.certificate.now c.args.certificate.now)
     c.in_err-election.field-0.0 c.in_err-election.ensures refl refl)
     )
 
@@ -28,13 +26,11 @@ returns-in_err-outcome g c =
     rw is (
     stop_told _ c.in_err-outcome.field-0.0
     (readers_stopped_at_outcome (StatesPrices Certificate) margins_reply AlwaysYes
-    (reading g.E.Source.left g.E.Source.counts c.args.election.now c.take_election.new.source)
-    (file_reading g.O.Source.left g.O.Source.counts c.args.outcome.now c.take_outcome.new.source)
-    (reading g.C.Source.left g.C.Source.counts c.args.certificate.now c.args.certificate.now)
+    (audit_readings g.E.Source c.args.election.now c.take_election.new.source g.O.Source c.args.outcome.now c.take_outcome.new.source g.C.Source c.args.certificate.now c.args.certificate.now)
     c.in_ok-election.election c.in_err-outcome.field-0.0 c.in_ok-election.ensures c.in_err-outcome.ensures.taken refl)
     )
 
 pub returns : goal.returns
 returns g c =
-    margins_read _ _ _ _ _ _ _ c.in_ok-election.ensures c.in_ok-outcome.ensures.taken c.in_ok-certificate.ensures
+    margins_read _ _ _ _ _ c.in_ok-election.ensures c.in_ok-outcome.ensures.taken c.in_ok-certificate.ensures
     (subst (λ (d : Delivery). IfTaken c.margins_on.result (TablesMargins c.in_ok-election.election c.in_ok-outcome.outcome.marks d)) c.lend.ensures c.margins_on.ensures)

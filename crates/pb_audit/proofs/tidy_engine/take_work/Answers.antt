@@ -11,8 +11,8 @@ returns-in_err-election g c =
     let is : c.from_residual.result ≡ Err c.in_err-election.field-0.0 = search rules in
     rw is (
     readers_tidy_stopped
-    (reading g.E.Source.left g.E.Source.counts c.args.election.now c.take_election.new.source)
-    (reading g.C.Source.left g.C.Source.counts c.args.certificate.now c.args.certificate.now)
+    (reading g.E.Source c.args.election.now c.take_election.new.source)
+    (reading g.C.Source c.args.certificate.now c.args.certificate.now)
     c.in_err-election.field-0.0 c.in_err-election.ensures refl
     )
 
