@@ -4,4 +4,5 @@ mod kinds;
 mod outcomes;
 mod prices;
 mod rows;
+mod samples;
 mod violations;

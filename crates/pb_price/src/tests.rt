@@ -29,6 +29,26 @@ const SAMPLE: &[u8] =
 const SAMPLE_PRICES: &[u8] =
     b"pb-prices,1\ndenominator,1\nvoter_budget,4\nvoter,project,payment\n1,a,2\n1,b,2\n2,a,4\n3,b,2\n";
 
+/// The same prices, but voter 2 pays 6 for the park, and so 2 more than its budget.
+const OVERSPENT: &[u8] =
+    b"pb-prices,1\ndenominator,1\nvoter_budget,4\nvoter,project,payment\n1,a,2\n1,b,2\n2,a,6\n3,b,2\n";
+
+/// The sample prices with their last row twice, and what they are refused for.
+const REPEATED: &[u8] =
+    b"pb-prices,1\ndenominator,1\nvoter_budget,4\nvoter,project,payment\n1,a,2\n1,b,2\n2,a,4\n3,b,2\n3,b,2\n";
+
+const LAST_ROW: CertRefusal = CertRefusal {
+    fault: CertFault::Repeated,
+    place: 9,
+};
+
+/// The sample with a pool that costs 2, and prices for it by which voter 3 alone pays for the library.
+const CHEAP_POOL: &[u8] =
+    b"META\nkey;value\nbudget;10\nvote_type;approval\nPROJECTS\nproject_id;cost;name;selected\na;6;Park;1\nb;4;Library;1\nc;2;Pool;0\nVOTES\nvoter_id;vote\n1;a,b\n2;a\n3;b,c\n";
+
+const LONE_PRICES: &[u8] =
+    b"pb-prices,1\ndenominator,1\nvoter_budget,4\nvoter,project,payment\n1,a,2\n2,a,4\n3,b,4\n";
+
 /// What both calls answer for the prices of a certificate.
 fn both(
     rt: &HostRuntime,
@@ -44,20 +64,14 @@ fn both(
     Ok((verdict, checked))
 }
 
-const ELECTION: &[u8] =
-    b"META\nkey;value\nbudget;10\nvote_type;approval\nPROJECTS\nproject_id;cost;name;selected\na;6;Park;1\nb;4;Library;1\nc;2;Pool;0\nVOTES\nvoter_id;vote\n1;a,b\n2;a\n3;b,c\n";
-
-const PRICES: &[u8] =
-    b"pb-prices,1\ndenominator,1\nvoter_budget,4\nvoter,project,payment\n1,a,2\n2,a,4\n3,b,4\n";
-
 /// The pool has one supporter, voter 3, and so two groups of supporters. The empty one offers nothing. Voter 3 offers
 /// what it pays for the library, which is more than the pool costs. So the stable form fails there, and the plain one
 /// does not.
 #[test]
 fn one_group_blocks_for_the_pool(rt: HostRuntime) -> Result<(), Fail> {
-    let election = Election::read(rt.alloc(), ELECTION)?;
+    let election = Election::read(rt.alloc(), CHEAP_POOL)?;
     let outcome = Outcome::selected(rt.alloc(), &election)?;
-    let prices = Prices::read(rt.alloc(), PRICES, &election)?;
+    let prices = Prices::read(rt.alloc(), LONE_PRICES, &election)?;
     assert!(rt; election.voters() == 3 && election.projects() == 3);
     assert!(rt; outcome.fits(&election) && prices.fits(&election));
     let (library, pool) = (2, 3);
@@ -99,17 +113,13 @@ fn the_sample_is_supported_within_its_steps(rt: HostRuntime) -> Result<(), Fail>
 fn a_bad_last_row_is_refused_before_any_verdict(rt: HostRuntime) -> Result<(), Fail> {
     let election = Election::read(rt.alloc(), SAMPLE)?;
     let outcome = Outcome::selected(rt.alloc(), &election)?;
-    let refusal = CertRefusal {
-        fault: CertFault::Repeated,
-        place: 9,
-    };
     let certificates: [&[u8]; 2] = [
-        b"pb-prices,1\ndenominator,1\nvoter_budget,4\nvoter,project,payment\n1,a,2\n1,b,2\n2,a,4\n3,b,2\n3,b,2\n",
+        REPEATED,
         b"pb-prices,1\ndenominator,1\nvoter_budget,4\nvoter,project,payment\n1,c,2\n1,b,2\n2,a,4\n3,b,2\n3,b,2\n",
     ];
     for certificate in certificates {
         let answer = check_rows(rt.alloc(), &election, &outcome, certificate, PLAIN);
-        assert_eq!(rt; answer.err(), Some(refusal));
+        assert_eq!(rt; answer.err(), Some(LAST_ROW));
     }
     Ok(())
 }
@@ -216,8 +226,6 @@ fn margins(rt: &HostRuntime, election: &[u8], certificate: &[u8]) -> Result<Marg
 /// approves the pool.
 #[test]
 fn margins_of_a_voter_over_its_budget(rt: HostRuntime) -> Result<(), Fail> {
-    let certificate =
-        b"pb-prices,1\ndenominator,1\nvoter_budget,4\nvoter,project,payment\n1,a,2\n1,b,2\n2,a,6\n3,b,2\n";
     let park = ProjectMargins {
         funded: true,
         supporters: 2,
@@ -242,7 +250,7 @@ fn margins_of_a_voter_over_its_budget(rt: HostRuntime) -> Result<(), Fail> {
         left: 2_000_000,
         offer: 2_000_000,
     };
-    let margins = margins(&rt, SAMPLE, certificate)?;
+    let margins = margins(&rt, SAMPLE, OVERSPENT)?;
     assert_eq!(rt; margins.grains_per_unit, 1_000_000);
     assert_eq!(rt; margins.projects.len(), 3);
     for (project, expected) in margins.projects.iter().zip([park, library, pool].iter()) {
@@ -251,13 +259,16 @@ fn margins_of_a_voter_over_its_budget(rt: HostRuntime) -> Result<(), Fail> {
     Ok(())
 }
 
-/// Thirds are exact. Each of three voters has 2/3 and pays 1/3 for x, which costs 1; voter 2 also approves y, which costs 1/2.
+/// Each of three voters has 2/3 and pays 1/3 for x, which costs 1. Voter 2 also approves y and voter 3 also z, which cost
+/// 1/2 each.
+const THIRDS: &[u8] =
+    b"META\nkey;value\nbudget;1\nvote_type;approval\nPROJECTS\nproject_id;cost;selected\nx;1;1\ny;0,5;0\nz;0,5;0\nVOTES\nvoter_id;vote\n1;x\n2;x,y\n3;x,z\n";
+
+const THIRDS_PRICES: &[u8] =
+    b"pb-prices,1\ndenominator,3\nvoter_budget,2\nvoter,project,payment\n1,x,1\n2,x,1\n3,x,1\n";
+
 #[test]
-fn margins_over_a_denominator(rt: HostRuntime) -> Result<(), Fail> {
-    let election =
-        b"META\nkey;value\nbudget;1\nvote_type;approval\nPROJECTS\nproject_id;cost;selected\nx;1;1\ny;0,5;0\nVOTES\nvoter_id;vote\n1;x\n2;x,y\n3;x\n";
-    let certificate =
-        b"pb-prices,1\ndenominator,3\nvoter_budget,2\nvoter,project,payment\n1,x,1\n2,x,1\n3,x,1\n";
+fn margins_in_thirds_are_exact(rt: HostRuntime) -> Result<(), Fail> {
     let x = ProjectMargins {
         funded: true,
         supporters: 3,
@@ -266,7 +277,7 @@ fn margins_over_a_denominator(rt: HostRuntime) -> Result<(), Fail> {
         left: 3_000_000,
         offer: 3_000_000,
     };
-    let y = ProjectMargins {
+    let y_or_z = ProjectMargins {
         funded: false,
         supporters: 1,
         cost: 1_500_000,
@@ -274,10 +285,10 @@ fn margins_over_a_denominator(rt: HostRuntime) -> Result<(), Fail> {
         left: 1_000_000,
         offer: 1_000_000,
     };
-    let margins = margins(&rt, election, certificate)?;
+    let margins = margins(&rt, THIRDS, THIRDS_PRICES)?;
     assert_eq!(rt; margins.grains_per_unit, 3_000_000);
-    assert_eq!(rt; margins.projects.len(), 2);
-    for (project, expected) in margins.projects.iter().zip([x, y].iter()) {
+    assert_eq!(rt; margins.projects.len(), 3);
+    for (project, expected) in margins.projects.iter().zip([x, y_or_z, y_or_z].iter()) {
         assert_eq!(rt; *project, *expected);
     }
     Ok(())
@@ -288,14 +299,8 @@ fn margins_over_a_denominator(rt: HostRuntime) -> Result<(), Fail> {
 fn no_margins_of_a_bad_last_row(rt: HostRuntime) -> Result<(), Fail> {
     let election = Election::read(rt.alloc(), SAMPLE)?;
     let outcome = Outcome::selected(rt.alloc(), &election)?;
-    let certificate =
-        b"pb-prices,1\ndenominator,1\nvoter_budget,4\nvoter,project,payment\n1,a,2\n1,b,2\n2,a,4\n3,b,2\n3,b,2\n";
-    let refusal = CertRefusal {
-        fault: CertFault::Repeated,
-        place: 9,
-    };
-    let answer = margins_of(rt.alloc(), &election, &outcome, certificate);
-    assert_eq!(rt; answer.err(), Some(refusal));
+    let answer = margins_of(rt.alloc(), &election, &outcome, REPEATED);
+    assert_eq!(rt; answer.err(), Some(LAST_ROW));
     Ok(())
 }
 
@@ -338,8 +343,6 @@ fn payments(first: Option<(u32, u32)>, count: u64) -> PaymentFinding {
 /// funded projects cost all of the limit. Voter 3 alone approves the pool; it has 2 left, and offers 2.
 #[test]
 fn findings_of_a_voter_over_its_budget(rt: HostRuntime) -> Result<(), Fail> {
-    let certificate =
-        b"pb-prices,1\ndenominator,1\nvoter_budget,4\nvoter,project,payment\n1,a,2\n1,b,2\n2,a,6\n3,b,2\n";
     let expected = Findings {
         grains_per_unit: 1_000_000,
         total: 10_000_000,
@@ -354,7 +357,7 @@ fn findings_of_a_voter_over_its_budget(rt: HostRuntime) -> Result<(), Fail> {
         c5: holds(compared(3, 9_000_000, 2_000_000)),
         s5: holds(compared(3, 9_000_000, 2_000_000)),
     };
-    assert_eq!(rt; findings(&rt, SAMPLE, certificate)?, expected);
+    assert_eq!(rt; findings(&rt, SAMPLE, OVERSPENT)?, expected);
     Ok(())
 }
 
@@ -362,13 +365,15 @@ fn findings_of_a_voter_over_its_budget(rt: HostRuntime) -> Result<(), Fail> {
 const SEVEN: &[u8] =
     b"META\nkey;value\nbudget;20\nvote_type;approval\nPROJECTS\nproject_id;cost;selected\na;3;1\nb;2;1\nc;4;1\nd;12;0\ne;10;0\nf;11;0\ng;30;0\nVOTES\nvoter_id;vote\n1;a,d,e\n2;b,d,f\n3;c,f,g\n";
 
+/// Prices by which one funded project is paid for exactly, one too little and one too much.
+const SEVEN_PRICES: &[u8] =
+    b"pb-prices,1\ndenominator,1\nvoter_budget,8\nvoter,project,payment\n1,a,3\n2,b,1\n2,d,1\n3,c,5\n";
+
 /// Of the 11 that remain e and f could be paid, each alone. For b 1 too little is paid and for c 1 too much, and 1 for d, which
 /// is unfunded. The voters spend 3, 2 and 5, have 5, 6 and 3 left, and offer 5, 6 and 5. So what is left is closest at d, which lacks 1 of 12,
 /// and what is offered at f, which lacks nothing of 11.
 #[test]
 fn findings_count_from_the_first_culprit(rt: HostRuntime) -> Result<(), Fail> {
-    let certificate =
-        b"pb-prices,1\ndenominator,1\nvoter_budget,8\nvoter,project,payment\n1,a,3\n2,b,1\n2,d,1\n3,c,5\n";
     let expected = Findings {
         grains_per_unit: 1_000_000,
         total: 9_000_000,
@@ -383,7 +388,7 @@ fn findings_count_from_the_first_culprit(rt: HostRuntime) -> Result<(), Fail> {
         c5: holds(compared(4, 12_000_000, 11_000_000)),
         s5: holds(compared(6, 11_000_000, 11_000_000)),
     };
-    assert_eq!(rt; findings(&rt, SEVEN, certificate)?, expected);
+    assert_eq!(rt; findings(&rt, SEVEN, SEVEN_PRICES)?, expected);
     Ok(())
 }
 
@@ -403,7 +408,7 @@ fn findings_show_the_first_culprit_though_another_is_worse(rt: HostRuntime) -> R
 /// Voter 1 pays for g, voter 2 for c and voter 3 for b, which they do not approve; what voter 2 pays for g is 0. The voters
 /// have 2 each, and spend 4, 2 and 9.
 #[test]
-fn findings_on_voters(rt: HostRuntime) -> Result<(), Fail> {
+fn findings_count_unapproved_payments_and_voters_over_budget(rt: HostRuntime) -> Result<(), Fail> {
     let certificate =
         b"pb-prices,1\ndenominator,1\nvoter_budget,2\nvoter,project,payment\n1,g,1\n1,a,3\n2,g,0\n2,b,1\n2,c,1\n3,b,4\n3,c,5\n";
     let found = findings(&rt, SEVEN, certificate)?;
@@ -413,14 +418,9 @@ fn findings_on_voters(rt: HostRuntime) -> Result<(), Fail> {
     Ok(())
 }
 
-/// Thirds are exact, and of two projects that come as close the first is shown. Each of three voters has 2/3 and pays 1/3 for
-/// x, which costs 1. Voter 2 also approves y and voter 3 also z, which cost 1/2 each. So 1/6 is missing at y and at z.
+/// At y and at z 1/6 is missing. Of two projects that come as close the first is shown.
 #[test]
-fn findings_over_a_denominator(rt: HostRuntime) -> Result<(), Fail> {
-    let election =
-        b"META\nkey;value\nbudget;1\nvote_type;approval\nPROJECTS\nproject_id;cost;selected\nx;1;1\ny;0,5;0\nz;0,5;0\nVOTES\nvoter_id;vote\n1;x\n2;x,y\n3;x,z\n";
-    let certificate =
-        b"pb-prices,1\ndenominator,3\nvoter_budget,2\nvoter,project,payment\n1,x,1\n2,x,1\n3,x,1\n";
+fn findings_in_thirds_are_exact_and_show_the_first_of_equals(rt: HostRuntime) -> Result<(), Fail> {
     let at_budget = Some(Comparison {
         at: 1,
         bound: 2_000_000,
@@ -445,7 +445,7 @@ fn findings_over_a_denominator(rt: HostRuntime) -> Result<(), Fail> {
         c5: holds(Some(at_y(1_000_000))),
         s5: holds(Some(at_y(1_000_000))),
     };
-    assert_eq!(rt; findings(&rt, election, certificate)?, expected);
+    assert_eq!(rt; findings(&rt, THIRDS, THIRDS_PRICES)?, expected);
     Ok(())
 }
 
@@ -469,13 +469,7 @@ fn findings_without_unfunded_projects(rt: HostRuntime) -> Result<(), Fail> {
 fn no_findings_of_a_bad_last_row(rt: HostRuntime) -> Result<(), Fail> {
     let election = Election::read(rt.alloc(), SAMPLE)?;
     let outcome = Outcome::selected(rt.alloc(), &election)?;
-    let certificate =
-        b"pb-prices,1\ndenominator,1\nvoter_budget,4\nvoter,project,payment\n1,a,2\n1,b,2\n2,a,4\n3,b,2\n3,b,2\n";
-    let refusal = CertRefusal {
-        fault: CertFault::Repeated,
-        place: 9,
-    };
-    let answer = findings_of(rt.alloc(), &election, &outcome, certificate);
-    assert_eq!(rt; answer.err(), Some(refusal));
+    let answer = findings_of(rt.alloc(), &election, &outcome, REPEATED);
+    assert_eq!(rt; answer.err(), Some(LAST_ROW));
     Ok(())
 }

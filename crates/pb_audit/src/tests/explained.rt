@@ -1,13 +1,15 @@
 //! The replies that explain a certificate, over files in memory.
 use super::files_in_memory::{bytes_of, expect};
-use super::samples::{ELECTION, PLAIN, PRICES, VIOLATION, without_outcome};
+use super::samples::{
+    ELECTION, PLAIN, POOL_OUTCOME, POOL_PRICES, PRICES, VIOLATION, without_outcome,
+};
 use crate::{Status, explained_reply};
 use pb_price::Mode;
 use std::test::Fail;
 
 /// All that is asked for holds. Voters 1 and 2 spend all that they have, and voter 3, who alone approves the pool, half of it.
 #[test]
-fn prices_that_support(rt: HostRuntime) -> Result<(), Fail> {
+fn table_of_prices_that_support(rt: HostRuntime) -> Result<(), Fail> {
     let alloc = rt.alloc();
     let reply = explained_reply(alloc, ELECTION.as_bytes(), None, PRICES.as_bytes(), PLAIN)?;
     expect(
@@ -34,7 +36,7 @@ fn prices_that_support(rt: HostRuntime) -> Result<(), Fail> {
 /// Voter 2 pays all of its budget for the park, for which 2 is paid by voter 1, and so 1/3 too much. Voter 3 pays 7/3 for the
 /// library and 1/3 for the pool, and has 5/3 left.
 #[test]
-fn prices_that_fail(rt: HostRuntime) -> Result<(), Fail> {
+fn each_failure_has_its_figures_and_thirds_are_fractions(rt: HostRuntime) -> Result<(), Fail> {
     let alloc = rt.alloc();
     let certificate =
         "pb-prices,1\ndenominator,3\nvoter_budget,13\nvoter,project,payment\n1,a,6\n1,b,5\n2,a,13\n3,b,7\n3,c,1\n";
@@ -73,9 +75,8 @@ fn prices_that_fail(rt: HostRuntime) -> Result<(), Fail> {
 /// By another outcome only the pool is funded, and voter 3 pays all of its 9 for it. Voters 1 and 2, who approve the park, have
 /// 18 left. Of the supporters of the library voter 1 has 9 left; voter 3 has nothing left, and offers 9.
 #[test]
-fn prices_for_another_outcome(rt: HostRuntime) -> Result<(), Fail> {
+fn outcome_file_says_what_is_funded(rt: HostRuntime) -> Result<(), Fail> {
     let alloc = rt.alloc();
-    let certificate = "pb-prices,1\ndenominator,1\nvoter_budget,9\nvoter,project,payment\n3,c,9\n";
     let mode = Mode {
         exhaustive: false,
         ..PLAIN
@@ -83,8 +84,8 @@ fn prices_for_another_outcome(rt: HostRuntime) -> Result<(), Fail> {
     let reply = explained_reply(
         alloc,
         ELECTION.as_bytes(),
-        Some(b"pb-outcome,1\nproject,c\n"),
-        certificate.as_bytes(),
+        Some(POOL_OUTCOME.as_bytes()),
+        POOL_PRICES.as_bytes(),
         mode,
     )?;
     expect(
@@ -112,7 +113,7 @@ fn prices_for_another_outcome(rt: HostRuntime) -> Result<(), Fail> {
 /// nothing; by the election's own outcome voter 1 gets the park for 6 and the library, and voter 3 the library. The mode is
 /// not that of prices.
 #[test]
-fn violations(rt: HostRuntime) -> Result<(), Fail> {
+fn violation_is_explained_by_its_measure_and_the_outcome(rt: HostRuntime) -> Result<(), Fail> {
     let alloc = rt.alloc();
     let by_cost = "pb-violation,2\nsatisfaction,cost\nproject,b\nvoter,3\nvoter,1\n";
     for (outcome, certificate, verdict, satisfied, status) in [
@@ -164,7 +165,7 @@ fn violations(rt: HostRuntime) -> Result<(), Fail> {
 
 /// A file that is no certificate of either kind is refused as a price certificate.
 #[test]
-fn refusals(rt: HostRuntime) -> Result<(), Fail> {
+fn file_of_neither_kind_is_refused_as_prices(rt: HostRuntime) -> Result<(), Fail> {
     let alloc = rt.alloc();
     let no_outcome = without_outcome(alloc)?;
     for (election, outcome, certificate, want) in [
@@ -196,7 +197,7 @@ fn refusals(rt: HostRuntime) -> Result<(), Fail> {
         (
             ELECTION,
             None,
-            "pb-outcome,1\nproject,c\n",
+            POOL_OUTCOME,
             "refused certificate 21 BadHead record 1",
         ),
         (

@@ -1,5 +1,7 @@
 //! The replies on files in memory.
-use super::samples::{ELECTION, PLAIN, PRICES, UNTIDY_PRICES, VIOLATION, without_outcome};
+use super::samples::{
+    ELECTION, PLAIN, POOL_OUTCOME, POOL_PRICES, PRICES, UNTIDY_PRICES, VIOLATION, without_outcome,
+};
 use crate::{
     Reply, Status, both_reply, margins_answer, prices_reply, read_reply, tidy_answer,
     violation_reply,
@@ -26,7 +28,7 @@ pub fn bytes_of(text: Option<&str>) -> Option<&[u8]> {
 }
 
 #[test]
-fn elections(rt: HostRuntime) -> Result<(), Fail> {
+fn counts_that_differ_are_noted(rt: HostRuntime) -> Result<(), Fail> {
     let alloc = rt.alloc();
     let reply = read_reply(alloc, ELECTION.as_bytes())?;
     expect(
@@ -63,7 +65,7 @@ fn elections(rt: HostRuntime) -> Result<(), Fail> {
 }
 
 #[test]
-fn prices(rt: HostRuntime) -> Result<(), Fail> {
+fn mode_and_outcome_decide_on_prices(rt: HostRuntime) -> Result<(), Fail> {
     let alloc = rt.alloc();
     let no_outcome = without_outcome(alloc)?;
     let stable = Mode::STABLE;
@@ -86,8 +88,8 @@ fn prices(rt: HostRuntime) -> Result<(), Fail> {
         ),
         (
             ELECTION,
-            Some("pb-outcome,1\nproject,c\n"),
-            "pb-prices,1\ndenominator,1\nvoter_budget,9\nvoter,project,payment\n3,c,9\n",
+            Some(POOL_OUTCOME),
+            POOL_PRICES,
             PLAIN,
             "failed C5 project a",
             Status::No,
@@ -138,15 +140,11 @@ fn prices(rt: HostRuntime) -> Result<(), Fail> {
 }
 
 #[test]
-fn violations(rt: HostRuntime) -> Result<(), Fail> {
+fn outcome_decides_on_a_violation(rt: HostRuntime) -> Result<(), Fail> {
     let alloc = rt.alloc();
     for (outcome, want, status) in [
         (None, "failed V4 voter 1", Status::No),
-        (
-            Some("pb-outcome,1\nproject,c\n"),
-            "failed V4 voter 3",
-            Status::No,
-        ),
+        (Some(POOL_OUTCOME), "failed V4 voter 3", Status::No),
         (Some("pb-outcome,1\n"), "violation", Status::Yes),
     ] {
         let reply = violation_reply(
@@ -161,7 +159,7 @@ fn violations(rt: HostRuntime) -> Result<(), Fail> {
 }
 
 #[test]
-fn both_certificates(rt: HostRuntime) -> Result<(), Fail> {
+fn both_are_answered_where_no_input_is_refused(rt: HostRuntime) -> Result<(), Fail> {
     let alloc = rt.alloc();
     let covered = Mode {
         cover: true,
@@ -208,7 +206,7 @@ fn both_certificates(rt: HostRuntime) -> Result<(), Fail> {
 /// Voters 1, 2 and 3 have 0, 0 and 2 left. The largest payments of the supporters of the park are 2 and 4, and of the others 2
 /// each.
 #[test]
-fn tables_of_margins(rt: HostRuntime) -> Result<(), Fail> {
+fn table_of_margins_has_the_sums_of_each_project(rt: HostRuntime) -> Result<(), Fail> {
     let alloc = rt.alloc();
     for (outcome, certificate, want, status) in [
         (
@@ -244,7 +242,7 @@ c,0,1,9000000,0,2000000,2000000
 }
 
 #[test]
-fn canonical_texts(rt: HostRuntime) -> Result<(), Fail> {
+fn untidy_prices_are_put_in_canonical_form(rt: HostRuntime) -> Result<(), Fail> {
     let alloc = rt.alloc();
     for (election, certificate, want, status) in [
         (ELECTION, UNTIDY_PRICES, PRICES, Status::Yes),

@@ -46,7 +46,9 @@ fn expect(
 }
 
 #[test]
-fn certificates_of_both_kinds_and_a_refused_election(rt: HostRuntime) -> Result<(), Fail> {
+fn certificates_are_told_behind_their_election_and_all_counted(
+    rt: HostRuntime,
+) -> Result<(), Fail> {
     let alloc = rt.alloc();
     let mut one = entry(alloc, "one", file(alloc, ELECTION)?)?;
     one.prices = Some(file(alloc, PRICES)?);
@@ -69,14 +71,14 @@ total 2 elections 1 yes 1 no 1 refused
 }
 
 #[test]
-fn no_entries(rt: HostRuntime) -> Result<(), Fail> {
+fn total_of_no_entries_is_a_yes(rt: HostRuntime) -> Result<(), Fail> {
     let alloc = rt.alloc();
     let want = "total 0 elections 0 yes 0 no 0 refused\n";
     expect(&rt, alloc, &[], want, Status::Yes)
 }
 
 #[test]
-fn selected_column_missing(rt: HostRuntime) -> Result<(), Fail> {
+fn certificate_without_an_outcome_is_refused_unread(rt: HostRuntime) -> Result<(), Fail> {
     let alloc = rt.alloc();
     let text = without_outcome(alloc)?;
     let mut three = entry(alloc, "three", file(alloc, &text)?)?;
@@ -96,7 +98,7 @@ total 1 elections 0 yes 0 no 1 refused
 }
 
 #[test]
-fn certificate_too_long(rt: HostRuntime) -> Result<(), Fail> {
+fn certificate_that_is_too_long_is_refused_as_such(rt: HostRuntime) -> Result<(), Fail> {
     let alloc = rt.alloc();
     let mut four = entry(alloc, "four", file(alloc, ELECTION)?)?;
     four.prices = Some(Loaded::TooLong);
@@ -115,7 +117,7 @@ total 1 elections 0 yes 0 no 1 refused
 }
 
 #[test]
-fn election_unread(rt: HostRuntime) -> Result<(), Fail> {
+fn certificate_of_a_refused_election_is_left_out(rt: HostRuntime) -> Result<(), Fail> {
     let alloc = rt.alloc();
     let mut five = entry(alloc, "five", Loaded::Unread)?;
     five.prices = Some(file(alloc, PRICES)?);

@@ -59,15 +59,18 @@ voter,3
 voter,1
 ";
 
+/// An outcome file for it that funds c alone, and a price certificate by which voter 3 pays for it.
+pub const POOL_OUTCOME: &str = "pb-outcome,1\nproject,c\n";
+
+pub const POOL_PRICES: &str = "\
+pb-prices,1
+denominator,1
+voter_budget,9
+voter,project,payment
+3,c,9
+";
+
 /// The election without its column `selected`.
 pub fn without_outcome(alloc: Global) -> Result<String, AllocError> {
-    let mut text = String::new(alloc);
-    for line in ELECTION.lines() {
-        match line {
-            "project_id;cost;name;selected" => text.push_str("project_id;cost;name")?,
-            _ => text.push_str(line)?,
-        }
-        text.push('\n')?;
-    }
-    Ok(text)
+    ELECTION.replace(alloc, "name;selected", "name")
 }

@@ -3,7 +3,7 @@ use crate::is_violation;
 use std::test::Fail;
 
 #[test]
-fn tells_violations(rt: HostRuntime) -> Result<(), Fail> {
+fn violation_is_told_by_its_head_alone(rt: HostRuntime) -> Result<(), Fail> {
     let samples: [(&[u8], bool); 16] = [
         (b"pb-violation,1\nproject,x1\nvoter,1\n", true),
         (b"pb-violation,2\nsatisfaction,cost\n", true),

@@ -1,13 +1,11 @@
 //! Outcome files for three voters and the projects a, b and c.
+use super::samples::SAMPLE;
 use crate::read_outcome;
 use pb_election::Election;
 use std::test::Fail;
 
-const SAMPLE: &[u8] =
-    b"META\nkey;value\ndescription;Sample\nnum_projects;3\nnum_votes;3\nbudget;10\nvote_type;approval\nPROJECTS\nproject_id;cost;name;selected\na;6;Park;1\nb;4;Library;1\nc;9;Pool;0\nVOTES\nvoter_id;vote\n1;a,b\n2;a\n3;b,c\n";
-
 #[test]
-fn reads_outcomes(rt: HostRuntime) -> Result<(), Fail> {
+fn outcome_is_read_in_any_order_with_its_cost(rt: HostRuntime) -> Result<(), Fail> {
     let election = Election::read(rt.alloc(), SAMPLE)?;
     // As it should be, and with blanks, an empty line and an empty field at the end.
     for text in [
@@ -27,7 +25,7 @@ fn reads_outcomes(rt: HostRuntime) -> Result<(), Fail> {
 }
 
 #[test]
-fn refuses_outcomes(rt: HostRuntime) -> Result<(), Fail> {
+fn first_fault_of_an_outcome_file_is_told_with_its_record(rt: HostRuntime) -> Result<(), Fail> {
     let election = Election::read(rt.alloc(), SAMPLE)?;
     let samples = [
         ("", 21, 1),

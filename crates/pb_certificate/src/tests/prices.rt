@@ -1,31 +1,20 @@
 //! Price certificates of sample elections.
+use super::samples::{HEAD, LENIENT, ROWS, SAMPLE};
 use crate::{CertFault, CertRefusal, Prices};
 use pb_election::Election;
 use std::alloc::Global;
 use std::process::Abort;
 use std::test::Fail;
 
-/// Three voters, and the projects a, b and c.
-pub const SAMPLE: &[u8] =
-    b"META\nkey;value\ndescription;Sample\nnum_projects;3\nnum_votes;3\nbudget;10\nvote_type;approval\nPROJECTS\nproject_id;cost;name;selected\na;6;Park;1\nb;4;Library;1\nc;9;Pool;0\nVOTES\nvoter_id;vote\n1;a,b\n2;a\n3;b,c\n";
-
 /// One voter and one project of the greatest cost.
 const RICH: &[u8] =
     b"META\nkey;value\nbudget;1000000000000\nvote_type;approval\nPROJECTS\nproject_id;cost;selected\nx;1000000000000;1\nVOTES\nvoter_id;vote\n1;x\n";
 
-/// The head records of the sample prices, and their rows.
-pub const HEAD: &str = "pb-prices,1\ndenominator,1\nvoter_budget,4\nvoter,project,payment\n";
-
-pub const ROWS: &str = "1,a,2\n1,b,2\n2,a,4\n3,b,2\n";
-
 #[test]
-fn reads_prices(rt: HostRuntime) -> Result<(), Fail> {
+fn prices_are_read_in_any_spelling(rt: HostRuntime) -> Result<(), Fail> {
     let election = Election::read(rt.alloc(), SAMPLE)?;
     let plain = format!(in rt.alloc(); "{HEAD}{ROWS}")?;
-    // Blanks, leading zeros, an empty line, empty fields at the end, the order within a voter, and a payment of 0.
-    let lenient =
-        "pb-prices, 1\ndenominator,1\nvoter_budget,04\n\nvoter,project,payment\n1,b,2\n1,a,002\n2,a,4,,\n2,b,0\n3,b,2\n";
-    for text in [plain.as_str(), lenient] {
+    for text in [plain.as_str(), LENIENT] {
         let prices = Prices::read(rt.alloc(), text.as_bytes(), &election)?;
         expect_sample_prices(&rt, &election, &prices);
     }
@@ -44,7 +33,7 @@ fn expect_sample_prices(rt: &impl Abort, election: &Election, prices: &Prices) {
 }
 
 #[test]
-fn reads_the_greatest_amounts(rt: HostRuntime) -> Result<(), Fail> {
+fn greatest_amounts_are_read_and_one_more_is_refused(rt: HostRuntime) -> Result<(), Fail> {
     let election = Election::read(rt.alloc(), RICH)?;
     let head =
         "pb-prices,1\ndenominator,1000000000\nvoter_budget,1000000000000000000000\nvoter,project,payment\n";
@@ -58,7 +47,7 @@ fn reads_the_greatest_amounts(rt: HostRuntime) -> Result<(), Fail> {
 }
 
 #[test]
-fn refuses_heads(rt: HostRuntime) -> Result<(), Fail> {
+fn first_fault_of_a_head_is_told_with_its_record(rt: HostRuntime) -> Result<(), Fail> {
     let election = Election::read(rt.alloc(), SAMPLE)?;
     let samples = [
         ("", 21, 1),
@@ -74,7 +63,7 @@ fn refuses_heads(rt: HostRuntime) -> Result<(), Fail> {
 }
 
 #[test]
-fn refuses_rows(rt: HostRuntime) -> Result<(), Fail> {
+fn first_fault_of_a_row_is_told_with_its_record(rt: HostRuntime) -> Result<(), Fail> {
     let election = Election::read(rt.alloc(), SAMPLE)?;
     let samples = [
         ("1,a\n", 22, 5),
@@ -116,7 +105,7 @@ fn expect_refusal(
 }
 
 #[test]
-fn names_faults(rt: HostRuntime) {
+fn each_fault_has_its_own_name(rt: HostRuntime) {
     let samples = [
         (CertFault::NotUtf8, "NotUtf8"),
         (CertFault::BadHead, "BadHead"),

@@ -1,12 +1,12 @@
 //! The rows of price certificates of a sample election.
-use super::prices::{HEAD, ROWS, SAMPLE};
+use super::samples::{HEAD, ROWS, SAMPLE};
 use crate::{CertFault, CertRefusal, PriceRow, Prices, Rows};
 use pb_election::Election;
 use std::alloc::Global;
 use std::test::Fail;
 
 #[test]
-fn gives_the_rows_of_the_sample(rt: HostRuntime) -> Result<(), Fail> {
+fn rows_are_given_in_order_and_then_none(rt: HostRuntime) -> Result<(), Fail> {
     let election = Election::read(rt.alloc(), SAMPLE)?;
     let text = format!(in rt.alloc(); "{HEAD}{ROWS}")?;
     let mut rows = Rows::open(rt.alloc(), text.as_bytes(), &election)?;
@@ -75,7 +75,7 @@ fn outcome_of(alloc: Global, text: &[u8], election: &Election) -> (u32, Option<C
 }
 
 #[test]
-fn refuses_at_each_head_record(rt: HostRuntime) -> Result<(), Fail> {
+fn first_fault_of_a_head_is_told_before_any_row(rt: HostRuntime) -> Result<(), Fail> {
     let election = Election::read(rt.alloc(), SAMPLE)?;
     let samples = [
         ("", CertFault::BadHead, 1),
@@ -120,7 +120,7 @@ fn refuses_at_each_head_record(rt: HostRuntime) -> Result<(), Fail> {
 }
 
 #[test]
-fn refuses_at_a_row_after_those_before_it(rt: HostRuntime) -> Result<(), Fail> {
+fn first_fault_of_a_row_is_told_after_those_before_it(rt: HostRuntime) -> Result<(), Fail> {
     let election = Election::read(rt.alloc(), SAMPLE)?;
     let samples = [
         ("1,a\n", 0, CertFault::BadRow, 5),

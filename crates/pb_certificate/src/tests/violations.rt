@@ -1,14 +1,12 @@
 //! Violation certificates for four voters and the projects x1, x2 and y.
+use super::samples::UNFAIR;
 use crate::{Measure, Violation};
 use pb_election::Election;
 use std::test::Fail;
 
-const SAMPLE: &[u8] =
-    b"META\nkey;value\nbudget;8\nvote_type;approval\nPROJECTS\nproject_id;cost;selected\nx1;2;0\nx2;2;0\ny;8;1\nVOTES\nvoter_id;vote\n1;x1,x2\n2;x1,x2\n3;y\n4;y\n";
-
 #[test]
-fn reads_violations(rt: HostRuntime) -> Result<(), Fail> {
-    let election = Election::read(rt.alloc(), SAMPLE)?;
+fn violation_is_read_in_any_order_with_its_measure(rt: HostRuntime) -> Result<(), Fail> {
+    let election = Election::read(rt.alloc(), UNFAIR)?;
     // As it should be, and in another order, with blanks, a leading zero and an empty field at the end.
     let samples = [
         (
@@ -39,8 +37,8 @@ fn reads_violations(rt: HostRuntime) -> Result<(), Fail> {
 }
 
 #[test]
-fn refuses_violations(rt: HostRuntime) -> Result<(), Fail> {
-    let election = Election::read(rt.alloc(), SAMPLE)?;
+fn first_fault_of_a_violation_is_told_with_its_record(rt: HostRuntime) -> Result<(), Fail> {
+    let election = Election::read(rt.alloc(), UNFAIR)?;
     let samples = [
         ("", 21, 1),
         ("pb-violation,3\n", 21, 1),
@@ -71,8 +69,8 @@ fn refuses_violations(rt: HostRuntime) -> Result<(), Fail> {
 
 // Version 2 has a second head record, of these two forms alone, and version 1 has none.
 #[test]
-fn refuses_measures(rt: HostRuntime) -> Result<(), Fail> {
-    let election = Election::read(rt.alloc(), SAMPLE)?;
+fn measure_is_wanted_in_version_2_alone(rt: HostRuntime) -> Result<(), Fail> {
+    let election = Election::read(rt.alloc(), UNFAIR)?;
     let samples = [
         ("pb-violation,2\n", 21, 2),
         ("pb-violation,2\n\n \n", 21, 3),

@@ -37,7 +37,7 @@ fn explained(
 
 /// Voters 1 and 2 demand a and b. Voter 1 gets c, and voter 2 gets d, which costs more.
 #[test]
-fn explains_a_violation(rt: HostRuntime) -> Result<(), Fail> {
+fn findings_of_a_violation_by_each_measure(rt: HostRuntime) -> Result<(), Fail> {
     let counted = ViolationFindings {
         members: 2,
         cost: 6_000_000,
@@ -68,7 +68,7 @@ fn explains_a_violation(rt: HostRuntime) -> Result<(), Fail> {
 
 /// Nobody demands a.
 #[test]
-fn explains_an_empty_group(rt: HostRuntime) -> Result<(), Fail> {
+fn empty_group_fails_v1(rt: HostRuntime) -> Result<(), Fail> {
     let expected = ViolationFindings {
         members: 0,
         cost: 3_000_000,
@@ -85,7 +85,7 @@ fn explains_an_empty_group(rt: HostRuntime) -> Result<(), Fail> {
 
 /// All voters demand a and b. Voter 3 does not approve b, and voter 4 approves neither. Voter 3 alone gets both c and d.
 #[test]
-fn explains_missing_approvals(rt: HostRuntime) -> Result<(), Fail> {
+fn missing_approvals_are_counted_from_the_first(rt: HostRuntime) -> Result<(), Fail> {
     let expected = ViolationFindings {
         members: 4,
         cost: 6_000_000,
@@ -114,7 +114,7 @@ fn explains_missing_approvals(rt: HostRuntime) -> Result<(), Fail> {
 
 /// The share of voter 1 is 3, and it demands a and b for 6.
 #[test]
-fn explains_a_group_that_is_too_small(rt: HostRuntime) -> Result<(), Fail> {
+fn group_with_too_small_a_share_fails_v3(rt: HostRuntime) -> Result<(), Fail> {
     let expected = ViolationFindings {
         members: 1,
         cost: 6_000_000,
@@ -132,7 +132,7 @@ fn explains_a_group_that_is_too_small(rt: HostRuntime) -> Result<(), Fail> {
 /// Voters 1, 2 and 3 demand a, which costs 3. By cost voter 1 gets 2.5, voter 2 gets 4 and voter 3 gets 6.5, and by
 /// counting they get 1, 1 and 2.
 #[test]
-fn explains_satisfied_members(rt: HostRuntime) -> Result<(), Fail> {
+fn satisfied_members_are_counted_by_each_measure(rt: HostRuntime) -> Result<(), Fail> {
     let by_cost = ViolationFindings {
         members: 3,
         cost: 3_000_000,

@@ -15,7 +15,7 @@ const DEAR: &[u8] =
 const FAILED_V4: ViolationVerdict = ViolationVerdict::Failed(ViolationFailure::V4(1));
 
 #[test]
-fn checks_by_the_stated_measure(rt: HostRuntime) -> Result<(), Fail> {
+fn stated_measure_decides(rt: HostRuntime) -> Result<(), Fail> {
     let samples = [
         (
             SHARED,
@@ -54,7 +54,7 @@ fn checks_by_the_stated_measure(rt: HostRuntime) -> Result<(), Fail> {
 }
 
 #[test]
-fn checks_by_another_measure(rt: HostRuntime) -> Result<(), Fail> {
+fn caller_may_check_by_another_measure(rt: HostRuntime) -> Result<(), Fail> {
     let election = Election::read(rt.alloc(), DEAR)?;
     let outcome = Outcome::selected(rt.alloc(), &election)?;
     let text = "pb-violation,1\nproject,t\nvoter,1\n";
@@ -67,7 +67,7 @@ fn checks_by_another_measure(rt: HostRuntime) -> Result<(), Fail> {
 }
 
 #[test]
-fn tells_worths(rt: HostRuntime) -> Result<(), Fail> {
+fn project_is_worth_one_or_its_cost(rt: HostRuntime) -> Result<(), Fail> {
     let election = Election::read(rt.alloc(), DEAR)?;
     assert_eq!(rt; election.projects(), 2);
     assert_eq!(rt; Count.worth(&election, 2), 1);

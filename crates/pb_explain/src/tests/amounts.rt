@@ -8,7 +8,7 @@ const SIXTHS: u64 = 6_000_000;
 
 /// Decimals have from two to six places, whatever a grain is, and fractions are in lowest terms.
 #[test]
-fn amounts(rt: HostRuntime) -> Result<(), Fail> {
+fn amounts_are_decimals_or_fractions_in_lowest_terms(rt: HostRuntime) -> Result<(), Fail> {
     for (grains_per_unit, grains, want) in [
         (1_000_000, 0, "0.00"),
         (1_000_000, 2_600_000_000, "2600.00"),
@@ -43,7 +43,7 @@ fn amounts(rt: HostRuntime) -> Result<(), Fail> {
 
 /// Those below 0 have their sign in front, of a fraction too.
 #[test]
-fn balances(rt: HostRuntime) -> Result<(), Fail> {
+fn sign_stands_in_front_of_what_is_below_0(rt: HostRuntime) -> Result<(), Fail> {
     for (grains_per_unit, grains, want) in [
         (1_000_000, 0, "0.00"),
         (1_000_000, 12_500_000, "12.50"),

@@ -65,7 +65,7 @@ const NOTHING_SHOWN: Finding = Finding {
 
 /// The funded projects cost exactly the limit. What is left falls below 0, and no sum that is compared is above its bound.
 #[test]
-fn all_hold(rt: HostRuntime) -> Result<(), Fail> {
+fn each_condition_that_holds_has_its_words(rt: HostRuntime) -> Result<(), Fail> {
     let election = Election::read(rt.alloc(), SAMPLE)?;
     assert!(rt; election.projects() == 3);
     let findings = Findings {
@@ -126,7 +126,7 @@ fn all_hold(rt: HostRuntime) -> Result<(), Fail> {
 /// No outcome fails both Feasible and Exhaustive. Each line has figures of its own, some of them thirds; the voter budgets come to
 /// the limit and no more.
 #[test]
-fn all_fail(rt: HostRuntime) -> Result<(), Fail> {
+fn each_condition_that_fails_has_its_words_and_figures(rt: HostRuntime) -> Result<(), Fail> {
     let election = Election::read(rt.alloc(), SAMPLE)?;
     assert!(rt; election.projects() == 3);
     let findings = Findings {
@@ -186,7 +186,7 @@ fn all_fail(rt: HostRuntime) -> Result<(), Fail> {
 
 /// Without voters and projects there are no sums to compare but those of the outcome and of the budgets.
 #[test]
-fn nothing_to_compare(rt: HostRuntime) -> Result<(), Fail> {
+fn no_sums_are_told_without_voters_and_projects(rt: HostRuntime) -> Result<(), Fail> {
     let election = Election::read(
         rt.alloc(),
         b"META\nkey;value\nbudget;10\nvote_type;approval\nPROJECTS\nproject_id;cost;selected\nVOTES\nvoter_id;vote\n",

@@ -41,7 +41,7 @@ const NOBODY: SatisfiedMembers = SatisfiedMembers {
 
 /// Two of three voters have a share of 6 2/3 in the limit of 10.
 #[test]
-fn all_hold(rt: HostRuntime) -> Result<(), Fail> {
+fn each_test_that_holds_has_its_words(rt: HostRuntime) -> Result<(), Fail> {
     let election = Election::read(rt.alloc(), SAMPLE)?;
     let counted = ViolationFindings {
         members: 2,
@@ -86,7 +86,7 @@ fn all_hold(rt: HostRuntime) -> Result<(), Fail> {
 
 /// No group fails all four tests at once. Each line has figures of its own.
 #[test]
-fn all_fail(rt: HostRuntime) -> Result<(), Fail> {
+fn each_test_that_fails_has_its_words_and_figures(rt: HostRuntime) -> Result<(), Fail> {
     let election = Election::read(rt.alloc(), SAMPLE)?;
     assert!(rt; election.projects() == 3);
     let counted = ViolationFindings {
@@ -138,7 +138,7 @@ fn all_fail(rt: HostRuntime) -> Result<(), Fail> {
 
 /// Without voters nobody has a share.
 #[test]
-fn no_voters(rt: HostRuntime) -> Result<(), Fail> {
+fn no_share_is_told_without_voters(rt: HostRuntime) -> Result<(), Fail> {
     let election = Election::read(
         rt.alloc(),
         b"META\nkey;value\nbudget;10\nvote_type;approval\nPROJECTS\nproject_id;cost;selected\na;6;1\nVOTES\nvoter_id;vote\n",

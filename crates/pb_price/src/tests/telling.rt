@@ -1,5 +1,5 @@
 //! The verdict that findings tell, in each mode.
-use super::{PLAIN, PLAIN_ALONE, SAMPLE, SEVEN, STABLE, findings};
+use super::{OVERSPENT, PLAIN, PLAIN_ALONE, SAMPLE, SEVEN, SEVEN_PRICES, STABLE, findings};
 use crate::{Comparison, Failure, Finding, Findings, Mode, PaymentFinding, Verdict};
 use std::test::Fail;
 
@@ -111,13 +111,9 @@ fn tells_what_the_mode_asks_for(rt: HostRuntime) -> Result<(), Fail> {
 /// project 2 is paid for too little, and 24 of budgets are more than the limit of 20.
 #[test]
 fn tells_the_verdict_on_certificates(rt: HostRuntime) -> Result<(), Fail> {
-    let certificate =
-        b"pb-prices,1\ndenominator,1\nvoter_budget,4\nvoter,project,payment\n1,a,2\n1,b,2\n2,a,6\n3,b,2\n";
-    let found = findings(&rt, SAMPLE, certificate)?;
+    let found = findings(&rt, SAMPLE, OVERSPENT)?;
     assert_eq!(rt; found.verdict(PLAIN), Verdict::Failed(Failure::C2(2)));
-    let certificate =
-        b"pb-prices,1\ndenominator,1\nvoter_budget,8\nvoter,project,payment\n1,a,3\n2,b,1\n2,d,1\n3,c,5\n";
-    let found = findings(&rt, SEVEN, certificate)?;
+    let found = findings(&rt, SEVEN, SEVEN_PRICES)?;
     assert_eq!(rt;
         found.verdict(STABLE),
         Verdict::Failed(Failure::Exhaustive(5))

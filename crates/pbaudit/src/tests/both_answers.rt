@@ -2,8 +2,8 @@
 use super::engines;
 use super::fakes::{FakeWriter, InterruptedReader, WhenFull};
 use super::samples::{
-    COVER, ELECTION, EVEN_PRICES, FAIR_VIOLATION, PLAIN, PRICES, SMALL_SHARE_ELECTION, STABLE,
-    STABLE_AND_COVERED, VIOLATION, with_lines,
+    COVER, ELECTION, EVEN_PRICES, FAIR_VIOLATION, OUTCOME, PLAIN, PRICES, SMALL_SHARE_ELECTION,
+    STABLE, STABLE_AND_COVERED, VIOLATION, with_lines,
 };
 use pb_audit::{Fault, Status, run_both};
 use pb_election::{Input, Output};
@@ -31,7 +31,7 @@ fn audit(
 }
 
 #[test]
-fn stable_prices_beside_no_violation(rt: HostRuntime) -> Result<(), Fail> {
+fn one_no_of_two_is_a_no(rt: HostRuntime) -> Result<(), Fail> {
     let (printed, status) = audit(
         rt.alloc(),
         ELECTION.as_bytes(),
@@ -49,7 +49,7 @@ fn stable_prices_beside_no_violation(rt: HostRuntime) -> Result<(), Fail> {
 
 // The budgets of the voters come to the limit and no more, so that Cover fails.
 #[test]
-fn prices_beside_a_violation(rt: HostRuntime) -> Result<(), Fail> {
+fn mode_counts_for_the_prices_alone(rt: HostRuntime) -> Result<(), Fail> {
     for (mode, want, wanted) in [
         (PLAIN, "supported priceable\nviolation\n", Status::Yes),
         (STABLE, "failed S5 project x1\nviolation\n", Status::No),
@@ -130,7 +130,6 @@ fn first_refused_input_is_named(rt: HostRuntime) -> Result<(), Fail> {
 #[test]
 fn each_input_is_read_in_its_turn(rt: HostRuntime) -> Result<(), Fail> {
     let alloc = rt.alloc();
-    let outcome_text = "pb-outcome,1\nproject,a\nproject,b\n";
     for (broken, line) in [
         (0, "refused election 18 Read record 0\n"),
         (1, "refused outcome 18 Read record 0\n"),
@@ -141,7 +140,7 @@ fn each_input_is_read_in_its_turn(rt: HostRuntime) -> Result<(), Fail> {
         for at in 1..=2 {
             let at_of = |input: u32| if input == broken { at } else { 0 };
             let mut election = InterruptedReader::new(ELECTION, usize::MAX, at_of(0));
-            let mut outcome = InterruptedReader::new(outcome_text, usize::MAX, at_of(1));
+            let mut outcome = InterruptedReader::new(OUTCOME, usize::MAX, at_of(1));
             let mut prices = InterruptedReader::new(PRICES, usize::MAX, at_of(2));
             let mut violation = InterruptedReader::new(FAIR_VIOLATION, usize::MAX, at_of(3));
             let (printed, _) = engines::both(
@@ -163,7 +162,7 @@ fn each_input_is_read_in_its_turn(rt: HostRuntime) -> Result<(), Fail> {
 }
 
 #[test]
-fn writer_that_fails_has_a_front(rt: HostRuntime) -> Result<(), Fail> {
+fn writer_that_fails_has_a_front_of_both_lines(rt: HostRuntime) -> Result<(), Fail> {
     let alloc = rt.alloc();
     let whole = "supported priceable\nfailed V4 voter 1\n";
     for (room, flush_fails, want, written) in [

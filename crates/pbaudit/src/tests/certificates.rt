@@ -1,6 +1,7 @@
 //! The calls of the library on certificates and outcome files.
 use super::samples::{
-    ELECTION, PLAIN, PRICES, STABLE, UNFAIR_ELECTION, UNTIDY_PRICES, VIOLATION, with_lines,
+    ELECTION, NO_MONEY, OUTCOME, PLAIN, PRICES, STABLE, UNFAIR_ELECTION, UNTIDY_PRICES, VIOLATION,
+    without_outcome,
 };
 use pb_certificate::{Prices, Violation, read_outcome};
 use pb_cohesion::{Count, ViolationVerdict, check_violation};
@@ -25,10 +26,8 @@ fn sample_prices_support_the_sample_outcome(rt: HostRuntime) -> Result<(), Fail>
 #[test]
 fn prices_support_the_outcome_of_a_file(rt: HostRuntime) -> Result<(), Fail> {
     let alloc = rt.alloc();
-    let file = with_lines(alloc, ELECTION, 8, 1, b"project_id;cost;name\n")?;
-    let election = Election::read(alloc, &file)?;
-    let text = b"pb-outcome,1\nproject,a\nproject,b\n";
-    let outcome = read_outcome(alloc, text, &election)?;
+    let election = Election::read(alloc, &without_outcome(alloc)?)?;
+    let outcome = read_outcome(alloc, OUTCOME.as_bytes(), &election)?;
     let prices = Prices::read(alloc, PRICES.as_bytes(), &election)?;
     assert!(rt; outcome.fits(&election) && prices.fits(&election));
     let verdict = check(alloc, &election, &outcome, &prices, PLAIN)?;
@@ -37,7 +36,7 @@ fn prices_support_the_outcome_of_a_file(rt: HostRuntime) -> Result<(), Fail> {
 }
 
 #[test]
-fn prices_are_written_in_one_way(rt: HostRuntime) -> Result<(), Fail> {
+fn prices_of_any_spelling_are_written_in_one_way(rt: HostRuntime) -> Result<(), Fail> {
     let alloc = rt.alloc();
     let election = Election::read(alloc, ELECTION.as_bytes())?;
     for text in [PRICES, UNTIDY_PRICES] {
@@ -52,7 +51,7 @@ fn prices_are_written_in_one_way(rt: HostRuntime) -> Result<(), Fail> {
 }
 
 #[test]
-fn sample_violation_is_one(rt: HostRuntime) -> Result<(), Fail> {
+fn group_and_demand_are_read_and_make_a_violation(rt: HostRuntime) -> Result<(), Fail> {
     let alloc = rt.alloc();
     let election = Election::read(alloc, UNFAIR_ELECTION.as_bytes())?;
     let outcome = Outcome::selected(alloc, &election)?;
@@ -80,10 +79,10 @@ fn empty_ballots_cost_a_step_each(rt: HostRuntime) -> Result<(), Fail> {
     for _ in 0..1_000_000u32 {
         text.push_str("v;\n")?;
     }
-    let prices = b"pb-prices,1\ndenominator,1\nvoter_budget,0\nvoter,project,payment\n";
     let election = Election::read(alloc, text.as_bytes())?;
     let outcome = Outcome::selected(alloc, &election)?;
     assert!(rt; outcome.fits(&election));
+    let prices = NO_MONEY.as_bytes();
     let checked = check_rows(alloc, &election, &outcome, prices, PLAIN)?;
     assert_eq!(rt; checked.verdict, Verdict::Supported);
     assert!(rt; checked.steps >= 1_000_000 && checked.steps <= 1_080_000);

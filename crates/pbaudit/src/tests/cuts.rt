@@ -63,7 +63,7 @@ fn answer_on_lines(alloc: Global, lines: usize) -> Result<String, AllocError> {
 /// A part of the lines before the rows of VOTES is refused, but for `vote`, which is a header too. A row of VOTES that
 /// was begun is a voter, and so whatever else is left is answered as whole lines are.
 #[test]
-fn election_that_is_cut_short(rt: HostRuntime) -> Result<(), Fail> {
+fn cut_election_is_answered_by_its_lines(rt: HostRuntime) -> Result<(), Fail> {
     let alloc = rt.alloc();
     let fronts = fronts(alloc, ELECTION)?;
     assert!(rt; fronts.len() == ELECTION.len() + 1);
@@ -90,7 +90,7 @@ fn election_that_is_cut_short(rt: HostRuntime) -> Result<(), Fail> {
 
 /// A part of a line is no head record, or no row. Whole rows that are missing are payments that are missing.
 #[test]
-fn prices_that_are_cut_short(rt: HostRuntime) -> Result<(), Fail> {
+fn cut_row_of_prices_is_refused(rt: HostRuntime) -> Result<(), Fail> {
     let alloc = rt.alloc();
     let fronts = fronts(alloc, PRICES)?;
     assert!(rt; fronts.len() == PRICES.len() + 1);

@@ -1,8 +1,8 @@
 //! What is printed of a certificate that is explained.
 use super::engines;
 use super::samples::{
-    ELECTION, EXPLAINED, FAIR_VIOLATION, NO_VOTERS, PLAIN, PRICES, STABLE_AND_COVERED,
-    UNFAIR_ELECTION, VIOLATION, with_lines,
+    ELECTION, EXPLAINED, FAIR_VIOLATION, NO_VOTERS, PLAIN, POOL_OUTCOME, PRICES,
+    STABLE_AND_COVERED, UNFAIR_ELECTION, VIOLATION, with_lines,
 };
 use pb_audit::Status;
 use pb_price::Mode;
@@ -21,7 +21,7 @@ fn explain(
 }
 
 #[test]
-fn supported_prices(rt: HostRuntime) -> Result<(), Fail> {
+fn table_of_prices_that_support(rt: HostRuntime) -> Result<(), Fail> {
     let alloc = rt.alloc();
     let (printed, status) = explain(alloc, ELECTION.as_bytes(), None, PRICES.as_bytes(), PLAIN)?;
     assert!(rt; printed.as_str() == EXPLAINED, "{printed}");
@@ -31,7 +31,7 @@ fn supported_prices(rt: HostRuntime) -> Result<(), Fail> {
 
 /// Amounts are halves, and what lies behind the first failure is told too.
 #[test]
-fn prices_that_fail(rt: HostRuntime) -> Result<(), Fail> {
+fn all_that_fails_is_told_in_exact_halves(rt: HostRuntime) -> Result<(), Fail> {
     let alloc = rt.alloc();
     let certificate = with_lines(alloc, PRICES, 1, 2, b"denominator,2\nvoter_budget,1\n")?;
     let (printed, status) = explain(alloc, ELECTION.as_bytes(), None, &certificate, PLAIN)?;
@@ -59,13 +59,15 @@ S5          not asked  with --stable it holds: closest: project c costs 9.00, an
 /// With c funded alone a and b are paid for in vain, each of them fits no more, and voter 3 pays nothing for c. Thirds are no
 /// decimals.
 #[test]
-fn another_outcome_in_another_mode(rt: HostRuntime) -> Result<(), Fail> {
+fn outcome_and_mode_turn_what_is_asked_and_thirds_are_fractions(
+    rt: HostRuntime,
+) -> Result<(), Fail> {
     let alloc = rt.alloc();
     let mode = Mode {
         exhaustive: false,
         ..STABLE_AND_COVERED
     };
-    let outcome: Option<&[u8]> = Some(b"pb-outcome,1\nproject,c\n");
+    let outcome = Some(POOL_OUTCOME.as_bytes());
     let certificate = with_lines(alloc, PRICES, 1, 1, b"denominator,3\n")?;
     let (printed, status) = explain(alloc, ELECTION.as_bytes(), outcome, &certificate, mode)?;
     assert!(rt;
@@ -91,7 +93,7 @@ S5          holds      closest: project b costs 4.00, and its supporters' offers
 
 /// Where there are no voters and every project is funded there is nothing to compare.
 #[test]
-fn nothing_to_compare(rt: HostRuntime) -> Result<(), Fail> {
+fn nothing_is_compared_where_there_are_no_voters(rt: HostRuntime) -> Result<(), Fail> {
     let alloc = rt.alloc();
     let certificate =
         b"pb-prices,1\ndenominator,1\nvoter_budget,7\nvoter,project,payment\n".as_slice();
@@ -118,7 +120,7 @@ S5          not asked  with --stable it holds: every project is funded
 }
 
 #[test]
-fn violations(rt: HostRuntime) -> Result<(), Fail> {
+fn table_of_a_violation_by_each_measure(rt: HostRuntime) -> Result<(), Fail> {
     let alloc = rt.alloc();
     for (election, certificate, want, ends) in [
         (
@@ -176,7 +178,7 @@ V4          holds      by cost the demanded projects are worth 15.00, and each m
 
 /// The mode counts for nothing where a violation is explained.
 #[test]
-fn violations_have_no_mode(rt: HostRuntime) -> Result<(), Fail> {
+fn mode_counts_for_nothing_on_a_violation(rt: HostRuntime) -> Result<(), Fail> {
     let alloc = rt.alloc();
     let election = UNFAIR_ELECTION.as_bytes();
     let (plain, _) = explain(alloc, election, None, VIOLATION.as_bytes(), PLAIN)?;
@@ -192,7 +194,7 @@ fn violations_have_no_mode(rt: HostRuntime) -> Result<(), Fail> {
 }
 
 #[test]
-fn refusals(rt: HostRuntime) -> Result<(), Fail> {
+fn file_of_neither_kind_is_refused_as_prices(rt: HostRuntime) -> Result<(), Fail> {
     let alloc = rt.alloc();
     for (election, certificate, want) in [
         ("", PRICES, "refused election 2 NoMeta record 1\n"),

@@ -8,7 +8,7 @@ use pb_election::{Input, LoadFault, Output, PutFault, load, put};
 use std::test::Fail;
 
 #[test]
-fn reader_fails_after_five_bytes(rt: HostRuntime) -> Result<(), Fail> {
+fn reader_that_fails_is_refused_though_it_gave_bytes(rt: HostRuntime) -> Result<(), Fail> {
     let alloc = rt.alloc();
     let reader = FakeReader {
         rest: b"META\n",
@@ -27,7 +27,7 @@ fn reader_fails_after_five_bytes(rt: HostRuntime) -> Result<(), Fail> {
 }
 
 #[test]
-fn reader_gives_one_byte_at_a_time(rt: HostRuntime) -> Result<(), Fail> {
+fn short_reads_are_no_end(rt: HostRuntime) -> Result<(), Fail> {
     let alloc = rt.alloc();
     let reader = FakeReader {
         rest: ELECTION.as_bytes(),
@@ -46,7 +46,7 @@ fn reader_gives_one_byte_at_a_time(rt: HostRuntime) -> Result<(), Fail> {
 }
 
 #[test]
-fn reader_never_ends(rt: HostRuntime) -> Result<(), Fail> {
+fn endless_reader_is_given_up_at_the_limit(rt: HostRuntime) -> Result<(), Fail> {
     let mut reader = EndlessReader { reads: 0 };
     let loaded = load(rt.alloc(), &mut Input::new(&mut reader), 1000);
     assert!(rt; matches!(loaded, Err(LoadFault::TooLong)));
@@ -55,7 +55,7 @@ fn reader_never_ends(rt: HostRuntime) -> Result<(), Fail> {
 }
 
 #[test]
-fn writer_fails(rt: HostRuntime) -> Result<(), Fail> {
+fn writer_that_fails_has_a_front_of_the_answer(rt: HostRuntime) -> Result<(), Fail> {
     let alloc = rt.alloc();
     let line = "read 3 voters 3 projects 2 funded\n";
     for (room, most, when_full, flush_fails, want, written) in [
@@ -88,7 +88,7 @@ fn writer_fails(rt: HostRuntime) -> Result<(), Fail> {
 }
 
 #[test]
-fn faults_as_text(rt: HostRuntime) -> Result<(), Fail> {
+fn each_fault_has_its_own_text(rt: HostRuntime) -> Result<(), Fail> {
     let alloc = rt.alloc();
     for (fault, want) in [
         (Fault::Memory, "fault memory"),
@@ -112,7 +112,7 @@ fn interrupted_read_is_a_failure(rt: HostRuntime) -> Result<(), Fail> {
 }
 
 #[test]
-fn writer_that_fails_once_has_failed(rt: HostRuntime) -> Result<(), Fail> {
+fn put_tries_no_failed_write_again(rt: HostRuntime) -> Result<(), Fail> {
     let alloc = rt.alloc();
     for (lapse, written, writes, flushes) in [
         (Lapse::TakesNone(1), "", 1, 0),
@@ -127,20 +127,13 @@ fn writer_that_fails_once_has_failed(rt: HostRuntime) -> Result<(), Fail> {
         ),
     ] {
         let mut writer = LapsingWriter::new(alloc, 4, lapse);
-        let mut election = ELECTION.as_bytes();
-        let mut input = Input::new(&mut election);
-        let got = run_read(alloc, &mut input, &mut Output::new(&mut writer));
-        assert!(rt; got == Err(Fault::Write), "{written}");
+        let line = b"read 3 voters 3 projects 2 funded\n";
+        let got = put(line, &mut Output::new(&mut writer));
+        assert!(rt; got == Err(PutFault::Write), "{written}");
         assert!(rt;
             writer.written.as_slice() == written.as_bytes(),
             "{written}"
         );
-        assert!(rt; writer.writes == writes, "{written}");
-        assert!(rt; writer.flushes == flushes, "{written}");
-        let mut writer = LapsingWriter::new(alloc, 4, lapse);
-        let line = b"read 3 voters 3 projects 2 funded\n";
-        let got = put(line, &mut Output::new(&mut writer));
-        assert!(rt; got == Err(PutFault::Write), "{written}");
         assert!(rt;
             writer.writes == writes && writer.flushes == flushes,
             "{written}"

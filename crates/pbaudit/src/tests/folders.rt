@@ -2,7 +2,9 @@
 use super::fakes::{FakeTerminal, FakeWriter};
 use super::room::Room;
 use super::runs::{command, expect, expect_line, told};
-use super::samples::{ELECTION, PLAIN, PRICES, SPLIT_ELECTION, with_lines};
+use super::samples::{
+    ELECTION, FAIR_VIOLATION, LONE_PRICES, PLAIN, PRICES, SPLIT_ELECTION, SPLIT_PRICES, with_pool,
+};
 use crate::folder::report;
 use crate::listing::{ListFault, Listing};
 use crate::progress::Progress;
@@ -17,15 +19,12 @@ const READ: &str = "read 3 voters 3 projects 2 funded";
 
 const REFUSED: &str = "refused election 2 NoMeta record 1";
 
-/// A violation certificate that isn't one of the sample election.
-const GROUP: &[u8] = b"pb-violation,1\nproject,b\nvoter,3\nvoter,1\n";
-
 #[test]
-fn folder_of_two_elections(rt: HostRuntime) -> Result<(), Fail> {
+fn entries_are_told_in_order_and_a_refusal_decides_the_status(rt: HostRuntime) -> Result<(), Fail> {
     let room = Room::new(&rt, "two")?;
     room.write("two.pb", b"")?;
     room.write("one.pb", ELECTION.as_bytes())?;
-    room.write("one.violation.csv", GROUP)?;
+    room.write("one.violation.csv", FAIR_VIOLATION.as_bytes())?;
     room.write("one.prices.csv", PRICES.as_bytes())?;
     let folder = room.path()?;
     let line = format!(in rt.alloc(); "folder {folder}")?;
@@ -45,13 +44,10 @@ fn folder_of_two_elections(rt: HostRuntime) -> Result<(), Fail> {
 fn mode_of_a_folder_is_that_of_the_words(rt: HostRuntime) -> Result<(), Fail> {
     let alloc = rt.alloc();
     let room = Room::new(&rt, "folder-mode")?;
-    let cheap = with_lines(alloc, ELECTION, 11, 1, b"c;2;Pool;0\n")?;
-    let dear = with_lines(alloc, PRICES, 4, 4, b"1,a,2\n2,a,4\n3,b,4\n")?;
-    room.write("a.pb", &cheap)?;
-    room.write("a.prices.csv", &dear)?;
+    room.write("a.pb", &with_pool(alloc, 2)?)?;
+    room.write("a.prices.csv", LONE_PRICES.as_bytes())?;
     room.write("b.pb", SPLIT_ELECTION.as_bytes())?;
-    let half = b"pb-prices,1\ndenominator,1\nvoter_budget,5\nvoter,project,payment\n1,a,5\n";
-    room.write("b.prices.csv", half)?;
+    room.write("b.prices.csv", SPLIT_PRICES.as_bytes())?;
     for (switch, first, second, total, status) in [
         (
             "",

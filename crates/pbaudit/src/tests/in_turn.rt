@@ -2,7 +2,8 @@
 use super::engines;
 use super::fakes::{InterruptedReader, Lapse, LapsingWriter};
 use super::samples::{
-    ELECTION, EXPLAINED, MARGINS, PLAIN, PRICES, UNFAIR_ELECTION, UNTIDY_PRICES, VIOLATION,
+    ELECTION, EXPLAINED, MARGINS, OUTCOME, PLAIN, POOL_OUTCOME, PRICES, UNFAIR_ELECTION,
+    UNTIDY_PRICES, VIOLATION,
 };
 use pb_audit::{
     Fault, Status, folder_text, run_explain, run_margins, run_prices, run_read, run_tidy,
@@ -37,10 +38,10 @@ impl Command {
     fn texts(self) -> [&'static str; 3] {
         match self {
             Command::Read => [ELECTION, "", ""],
-            Command::Prices => [ELECTION, "pb-outcome,1\nproject,a\nproject,b\n", PRICES],
+            Command::Prices => [ELECTION, OUTCOME, PRICES],
             Command::Violation => [UNFAIR_ELECTION, "pb-outcome,1\nproject,y\n", VIOLATION],
             Command::Explain => [UNFAIR_ELECTION, "pb-outcome,1\nproject,y\n", VIOLATION],
-            Command::Margins => [ELECTION, "pb-outcome,1\nproject,c\n", PRICES],
+            Command::Margins => [ELECTION, POOL_OUTCOME, PRICES],
             Command::Tidy => [ELECTION, "", UNTIDY_PRICES],
         }
     }

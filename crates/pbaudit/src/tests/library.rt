@@ -1,10 +1,10 @@
 //! The calls of the library on elections.
-use super::samples::{ELECTION, with_lines};
+use super::samples::{ELECTION, with_lines, without_outcome};
 use pb_election::{Election, ElectionFault, Outcome, Refusal};
 use std::test::Fail;
 
 #[test]
-fn sample_election(rt: HostRuntime) -> Result<(), Fail> {
+fn election_is_read_as_its_file_states_it(rt: HostRuntime) -> Result<(), Fail> {
     let election = Election::read(rt.alloc(), ELECTION.as_bytes())?;
     assert!(rt; election.projects() == 3);
     assert!(rt; election.voters() == 3);
@@ -27,7 +27,7 @@ fn sample_election(rt: HostRuntime) -> Result<(), Fail> {
 }
 
 #[test]
-fn outcomes_of_an_election(rt: HostRuntime) -> Result<(), Fail> {
+fn outcome_has_what_is_marked_and_its_cost(rt: HostRuntime) -> Result<(), Fail> {
     let alloc = rt.alloc();
     let file = with_lines(alloc, ELECTION, 5, 1, b"budget;10,5\n")?;
     let election = Election::read(alloc, &file)?;
@@ -47,10 +47,9 @@ fn outcomes_of_an_election(rt: HostRuntime) -> Result<(), Fail> {
 }
 
 #[test]
-fn election_without_an_outcome(rt: HostRuntime) -> Result<(), Fail> {
+fn outcome_wants_the_column_selected(rt: HostRuntime) -> Result<(), Fail> {
     let alloc = rt.alloc();
-    let file = with_lines(alloc, ELECTION, 8, 1, b"project_id;cost;name\n")?;
-    let election = Election::read(alloc, &file)?;
+    let election = Election::read(alloc, &without_outcome(alloc)?)?;
     assert!(rt; !election.has_selected());
     let want = Refusal {
         fault: ElectionFault::NoOutcome,
@@ -66,7 +65,7 @@ fn election_without_an_outcome(rt: HostRuntime) -> Result<(), Fail> {
 }
 
 #[test]
-fn ballots_are_sets(rt: HostRuntime) -> Result<(), Fail> {
+fn ballots_are_put_in_order_once_each(rt: HostRuntime) -> Result<(), Fail> {
     let alloc = rt.alloc();
     let file = with_lines(alloc, ELECTION, 14, 3, b"1;a, a,,b \n2;\n3;b,c,c\n")?;
     let election = Election::read(alloc, &file)?;

@@ -1,7 +1,10 @@
 //! Numbers at their limits and one past them, and files of some length. All of them are answered, since memory is ample.
 //! The largest files are made by tests/limits.py.
 use super::engines;
-use super::samples::{ELECTION, LARGEST_ELECTION, NO_VOTERS, PLAIN, PRICES, with_lines};
+use super::samples::{
+    BARE_PROJECTS, ELECTION, LARGEST_ELECTION, NO_MONEY, NO_VOTERS, PLAIN, PRICES, certificate,
+    too_many_projects, with_lines,
+};
 use pb_audit::Status;
 use std::alloc::{AllocError, Global};
 use std::test::Fail;
@@ -51,7 +54,7 @@ fn expect_prices(
 }
 
 #[test]
-fn many_projects_and_voters(rt: HostRuntime) -> Result<(), Fail> {
+fn all_of_many_projects_and_voters_are_counted(rt: HostRuntime) -> Result<(), Fail> {
     let alloc = rt.alloc();
     let mut text = election(alloc, 600, 5_000, "p1,p20,p300,p600")?;
     assert!(rt; text.len() > 100_000);
@@ -64,23 +67,17 @@ fn many_projects_and_voters(rt: HostRuntime) -> Result<(), Fail> {
     )
 }
 
-const FREE_PROJECTS: &str =
-    "META\nkey;value\nbudget;1\nvote_type;approval\nPROJECTS\nproject_id;cost\n";
-
 #[test]
-fn one_project_too_many(rt: HostRuntime) -> Result<(), Fail> {
-    let alloc = rt.alloc();
-    let mut text = String::from_str(alloc, FREE_PROJECTS)?;
-    for project in 1..=20_001u32 {
-        writeln!(text, "p{project};0")?;
-    }
-    expect_read(alloc, &text, "refused election 15 TooMany record 20007")
+fn project_past_the_limit_is_refused_at_its_record(rt: HostRuntime) -> Result<(), Fail> {
+    let text = too_many_projects(rt.alloc())?;
+    let line = "refused election 15 TooMany record 20007";
+    expect_read(rt.alloc(), &text, line)
 }
 
 #[test]
-fn one_voter_too_many(rt: HostRuntime) -> Result<(), Fail> {
+fn voter_past_the_limit_is_refused_at_its_record(rt: HostRuntime) -> Result<(), Fail> {
     let alloc = rt.alloc();
-    let mut text = String::from_str(alloc, FREE_PROJECTS)?;
+    let mut text = String::from_str(alloc, BARE_PROJECTS)?;
     text.push_str("VOTES\nvoter_id;vote\n")?;
     for _ in 0..1_000_001u32 {
         text.push_str("v;\n")?;
@@ -89,11 +86,10 @@ fn one_voter_too_many(rt: HostRuntime) -> Result<(), Fail> {
 }
 
 #[test]
-fn many_rows_of_certificates(rt: HostRuntime) -> Result<(), Fail> {
+fn repeated_row_is_found_behind_many_others(rt: HostRuntime) -> Result<(), Fail> {
     let alloc = rt.alloc();
     let election = election(alloc, 600, 600, "p1")?;
-    let head = "pb-prices,1\ndenominator,1\nvoter_budget,0\nvoter,project,payment\n";
-    let mut prices = String::from_str(alloc, head)?;
+    let mut prices = String::from_str(alloc, NO_MONEY)?;
     let mut violation = String::from_str(alloc, "pb-violation,1\n")?;
     let mut outcome = String::from_str(alloc, "pb-outcome,1\n")?;
     for number in 1..=600 {
@@ -103,7 +99,7 @@ fn many_rows_of_certificates(rt: HostRuntime) -> Result<(), Fail> {
     }
     let (mut file, mut certificate) = (election.as_bytes(), prices.as_bytes());
     let (printed, _) = engines::tidy(alloc, &mut file, &mut certificate)?;
-    assert!(rt; printed.as_str() == head);
+    assert!(rt; printed.as_str() == NO_MONEY);
     let (mut file, mut funded) = (election.as_bytes(), outcome.as_bytes());
     let mut certificate = violation.as_bytes();
     let answer = engines::violation(alloc, &mut file, Some(&mut funded), &mut certificate)?;
@@ -124,18 +120,19 @@ fn many_rows_of_certificates(rt: HostRuntime) -> Result<(), Fail> {
 }
 
 #[test]
-fn neither_projects_nor_voters(rt: HostRuntime) -> Result<(), Fail> {
+fn empty_election_is_answered_by_each_command(rt: HostRuntime) -> Result<(), Fail> {
     let alloc = rt.alloc();
     let text = election(alloc, 0, 0, "")?;
     expect_read(alloc, &text, "read 0 voters 0 projects 0 funded")?;
-    let head = "pb-prices,1\ndenominator,1\nvoter_budget,0\nvoter,project,payment\n";
-    let none: Option<&mut &[u8]> = None;
-    let (mut file, mut certificate) = (text.as_bytes(), head.as_bytes());
-    let answer = engines::prices(alloc, &mut file, none, &mut certificate, PLAIN)?;
-    expect(answer, "supported priceable")?;
-    let (mut file, mut certificate) = (text.as_bytes(), head.as_bytes());
+    expect_prices(
+        alloc,
+        text.as_bytes(),
+        NO_MONEY.as_bytes(),
+        "supported priceable",
+    )?;
+    let (mut file, mut certificate) = (text.as_bytes(), NO_MONEY.as_bytes());
     let (printed, _) = engines::tidy(alloc, &mut file, &mut certificate)?;
-    assert!(rt; printed.as_str() == head);
+    assert!(rt; printed.as_str() == NO_MONEY);
     let (mut file, mut outcome) = (text.as_bytes(), b"pb-outcome,1\n".as_slice());
     let mut certificate = b"pb-violation,1\n".as_slice();
     let answer = engines::violation(alloc, &mut file, Some(&mut outcome), &mut certificate)?;
@@ -147,7 +144,7 @@ fn neither_projects_nor_voters(rt: HostRuntime) -> Result<(), Fail> {
 }
 
 #[test]
-fn amounts(rt: HostRuntime) -> Result<(), Fail> {
+fn amounts_are_taken_up_to_the_limit_in_any_spelling(rt: HostRuntime) -> Result<(), Fail> {
     let alloc = rt.alloc();
     for (line_before, row, line) in [
         (
@@ -195,7 +192,7 @@ fn amounts(rt: HostRuntime) -> Result<(), Fail> {
 }
 
 #[test]
-fn zeros_in_front(rt: HostRuntime) -> Result<(), Fail> {
+fn zeros_in_front_change_no_number(rt: HostRuntime) -> Result<(), Fail> {
     let alloc = rt.alloc();
     let mut zeros = String::new(alloc);
     for _ in 0..1_000 {
@@ -224,7 +221,9 @@ fn zeros_in_front(rt: HostRuntime) -> Result<(), Fail> {
 }
 
 #[test]
-fn one_past_the_greatest_limit_and_voter_budget(rt: HostRuntime) -> Result<(), Fail> {
+fn prices_are_refused_past_the_greatest_limit_and_voter_budget(
+    rt: HostRuntime,
+) -> Result<(), Fail> {
     let alloc = rt.alloc();
     let row = b"budget;1000000000000.000001\n";
     let election = with_lines(alloc, ELECTION, 5, 1, row)?;
@@ -237,7 +236,7 @@ fn one_past_the_greatest_limit_and_voter_budget(rt: HostRuntime) -> Result<(), F
 }
 
 #[test]
-fn greatest_payment_out_of_an_empty_budget(rt: HostRuntime) -> Result<(), Fail> {
+fn greatest_debt_is_told_and_not_lost(rt: HostRuntime) -> Result<(), Fail> {
     let prices =
         b"pb-prices,1\ndenominator,1000000000\nvoter_budget,0\nvoter,project,payment\n1,x,1000000000000000000000\n";
     let election = LARGEST_ELECTION.as_bytes();
@@ -245,7 +244,7 @@ fn greatest_payment_out_of_an_empty_budget(rt: HostRuntime) -> Result<(), Fail> 
 }
 
 #[test]
-fn declared_counts(rt: HostRuntime) -> Result<(), Fail> {
+fn declared_count_past_its_limit_is_no_note(rt: HostRuntime) -> Result<(), Fail> {
     let alloc = rt.alloc();
     for (count, notes) in [
         (
@@ -264,7 +263,7 @@ fn declared_counts(rt: HostRuntime) -> Result<(), Fail> {
 }
 
 #[test]
-fn numbers_of_prices(rt: HostRuntime) -> Result<(), Fail> {
+fn numbers_of_prices_are_taken_up_to_their_limits(rt: HostRuntime) -> Result<(), Fail> {
     let alloc = rt.alloc();
     let greatest = "1000000000000000000000";
     for (denominator, budget, payment, line) in [
@@ -294,9 +293,8 @@ fn numbers_of_prices(rt: HostRuntime) -> Result<(), Fail> {
             "refused certificate 23 BadNumber record 5\n",
         ),
     ] {
-        let text = format!(in alloc;
-            "pb-prices,1\ndenominator,{denominator}\nvoter_budget,{budget}\nvoter,project,payment\n1,a,{payment}\n"
-        )?;
+        let row = format!(in alloc; "1,a,{payment}\n")?;
+        let text = certificate(alloc, denominator, budget, &row)?;
         let (mut file, mut certificate) = (ELECTION.as_bytes(), text.as_bytes());
         let (printed, _) = engines::tidy(alloc, &mut file, &mut certificate)?;
         let want = if line.is_empty() { text.as_str() } else { line };

@@ -2,7 +2,8 @@
 use super::engines;
 use super::fakes::EndlessReader;
 use super::samples::{
-    ELECTION, MARGINS, NO_VOTERS, PRICES, QUOTED_ELECTION, QUOTED_PRICES, UNTIDY_PRICES, with_lines,
+    ELECTION, MARGINS, NO_VOTERS, POOL_OUTCOME, PRICES, QUOTED_ELECTION, QUOTED_PRICES,
+    UNTIDY_PRICES, with_lines, without_outcome,
 };
 use pb_audit::Status;
 use std::alloc::Global;
@@ -19,7 +20,7 @@ fn margins(
 }
 
 #[test]
-fn tables(rt: HostRuntime) -> Result<(), Fail> {
+fn table_has_each_project_with_its_margins(rt: HostRuntime) -> Result<(), Fail> {
     let alloc = rt.alloc();
     for (election, certificate, want) in [
         (ELECTION, PRICES, MARGINS),
@@ -57,7 +58,7 @@ x,1,0,0,0,0,0
 /// Amounts are over the denominator, and voters who pay more than their budget have less than nothing left. The status is yes
 /// though these prices support nothing.
 #[test]
-fn halves_and_debts(rt: HostRuntime) -> Result<(), Fail> {
+fn debts_are_below_0_in_grains_of_the_denominator(rt: HostRuntime) -> Result<(), Fail> {
     let alloc = rt.alloc();
     let certificate = with_lines(alloc, PRICES, 1, 2, b"denominator,2\nvoter_budget,1\n")?;
     let (printed, status) = margins(alloc, ELECTION.as_bytes(), None, &certificate)?;
@@ -83,7 +84,7 @@ fn outcome_file_says_what_is_funded(rt: HostRuntime) -> Result<(), Fail> {
     let (printed, status) = margins(
         alloc,
         ELECTION.as_bytes(),
-        Some(b"pb-outcome,1\nproject,c\n"),
+        Some(POOL_OUTCOME.as_bytes()),
         PRICES.as_bytes(),
     )?;
     assert!(rt;
@@ -103,15 +104,9 @@ c,1,1,9000000,0,2000000,2000000
 }
 
 #[test]
-fn refusals(rt: HostRuntime) -> Result<(), Fail> {
+fn first_refused_input_is_named(rt: HostRuntime) -> Result<(), Fail> {
     let alloc = rt.alloc();
-    let no_outcome = with_lines(
-        alloc,
-        ELECTION,
-        8,
-        4,
-        b"project_id;cost;name\na;6;Park\nb;4;Library\nc;9;Pool\n",
-    )?;
+    let no_outcome = without_outcome(alloc)?;
     let outcome: Option<&[u8]> = Some(b"pb-outcome,1\nproject,d\n");
     for (election, outcome, certificate, want) in [
         (

@@ -1,12 +1,12 @@
 //! What is printed on price certificates.
 use super::engines;
-use super::fakes::{EndlessReader, FakeWriter, WhenFull};
+use super::fakes::EndlessReader;
 use super::samples::{
-    COVER, ELECTION, LARGEST_ELECTION, NO_VOTERS, NOT_EXHAUSTIVE, PLAIN, PRICES, SHARED_ELECTION,
-    SPLIT_ELECTION, STABLE, with_lines,
+    COVER, ELECTION, LARGEST_ELECTION, LONE_PRICES, NO_MONEY, NO_VOTERS, NOT_EXHAUSTIVE, OUTCOME,
+    PLAIN, POOL_OUTCOME, POOL_PRICES, PRICES, SHARED_ELECTION, SPLIT_ELECTION, SPLIT_PRICES,
+    STABLE, certificate, with_lines, with_pool, without_outcome,
 };
-use pb_audit::{Fault, Status, run_prices};
-use pb_election::{Input, Output};
+use pb_audit::Status;
 use pb_price::Mode;
 use std::alloc::Global;
 use std::process::Abort;
@@ -28,14 +28,6 @@ fn audit(
         &mut certificate,
         mode,
     )
-}
-
-/// The text of a price certificate.
-fn certificate(alloc: Global, denominator: &str, budget: &str, rows: &str) -> Result<String, Fail> {
-    let text = format!(in alloc;
-        "pb-prices,1\ndenominator,{denominator}\nvoter_budget,{budget}\nvoter,project,payment\n{rows}"
-    )?;
-    Ok(text)
 }
 
 /// How an answer ends that has this line.
@@ -86,41 +78,30 @@ fn sample_prices_are_supported_in_both_forms(rt: HostRuntime) -> Result<(), Fail
 }
 
 #[test]
-fn what_is_left_is_compared_with_the_cost(rt: HostRuntime) -> Result<(), Fail> {
-    for (pool, mode, want) in [
-        ("c;2;Pool;0\n", PLAIN, "supported priceable\n"),
-        ("c;2;Pool;0\n", STABLE, "supported stable\n"),
-        ("c;1;Pool;0\n", PLAIN, "failed C5 project c\n"),
+fn supporters_may_have_just_the_cost_left(rt: HostRuntime) -> Result<(), Fail> {
+    for (cost, mode, want) in [
+        (2, PLAIN, "supported priceable\n"),
+        (2, STABLE, "supported stable\n"),
+        (1, PLAIN, "failed C5 project c\n"),
     ] {
-        let election = with_lines(rt.alloc(), ELECTION, 11, 1, pool.as_bytes())?;
+        let election = with_pool(rt.alloc(), cost)?;
         expect(&rt, rt.alloc(), &election, PRICES, mode, want)?;
     }
     let cheap = with_lines(rt.alloc(), SPLIT_ELECTION, 7, 1, b"c;4;0\n")?;
-    let prices = certificate(rt.alloc(), "1", "5", "1,a,5\n")?;
     let want = "failed C5 project c\n";
-    expect(&rt, rt.alloc(), &cheap, &prices, NOT_EXHAUSTIVE, want)
+    expect(&rt, rt.alloc(), &cheap, SPLIT_PRICES, NOT_EXHAUSTIVE, want)
 }
 
 #[test]
 fn stable_form_asks_for_more(rt: HostRuntime) -> Result<(), Fail> {
-    let election = with_lines(rt.alloc(), ELECTION, 11, 1, b"c;2;Pool;0\n")?;
-    let prices = certificate(rt.alloc(), "1", "4", "1,a,2\n2,a,4\n3,b,4\n")?;
-    expect(
-        &rt,
-        rt.alloc(),
-        &election,
-        &prices,
-        PLAIN,
-        "supported priceable\n",
-    )?;
-    expect(
-        &rt,
-        rt.alloc(),
-        &election,
-        &prices,
-        STABLE,
-        "failed S5 project c\n",
-    )
+    let election = with_pool(rt.alloc(), 2)?;
+    for (mode, want) in [
+        (PLAIN, "supported priceable\n"),
+        (STABLE, "failed S5 project c\n"),
+    ] {
+        expect(&rt, rt.alloc(), &election, LONE_PRICES, mode, want)?;
+    }
+    Ok(())
 }
 
 #[test]
@@ -139,11 +120,10 @@ fn outcome_is_within_the_limit_and_uses_it_up(rt: HostRuntime) -> Result<(), Fai
     let over = with_lines(rt.alloc(), ELECTION, 9, 1, b"a;7;Park;1\n")?;
     expect(&rt, rt.alloc(), &over, PRICES, PLAIN, "failed Feasible\n")?;
     let split = SPLIT_ELECTION.as_bytes();
-    let prices = certificate(rt.alloc(), "1", "5", "1,a,5\n")?;
     let want = "failed Exhaustive project c\n";
-    expect(&rt, rt.alloc(), split, &prices, PLAIN, want)?;
+    expect(&rt, rt.alloc(), split, SPLIT_PRICES, PLAIN, want)?;
     let want = "supported priceable\n";
-    expect(&rt, rt.alloc(), split, &prices, NOT_EXHAUSTIVE, want)
+    expect(&rt, rt.alloc(), split, SPLIT_PRICES, NOT_EXHAUSTIVE, want)
 }
 
 /// Three voters with 10/3 each have just the limit of 10, and not more.
@@ -153,8 +133,6 @@ fn budgets_cover_the_limit(rt: HostRuntime) -> Result<(), Fail> {
     let sample = ELECTION.as_bytes();
     let split = SPLIT_ELECTION.as_bytes();
     let even = certificate(alloc, "3", "10", "")?;
-    let room = certificate(alloc, "1", "5", "1,a,5\n")?;
-    let nothing = certificate(alloc, "1", "0", "")?;
     let stable = Mode {
         stable: true,
         ..COVER
@@ -168,14 +146,9 @@ fn budgets_cover_the_limit(rt: HostRuntime) -> Result<(), Fail> {
         (sample, PRICES, stable, "supported stable\n"),
         (sample, even.as_str(), COVER, "failed Cover\n"),
         (sample, even.as_str(), PLAIN, "failed C3 project a\n"),
-        (split, room.as_str(), COVER, "failed Exhaustive project c\n"),
-        (split, room.as_str(), not_exhaustive, "failed Cover\n"),
-        (
-            NO_VOTERS.as_bytes(),
-            nothing.as_str(),
-            COVER,
-            "failed Cover\n",
-        ),
+        (split, SPLIT_PRICES, COVER, "failed Exhaustive project c\n"),
+        (split, SPLIT_PRICES, not_exhaustive, "failed Cover\n"),
+        (NO_VOTERS.as_bytes(), NO_MONEY, COVER, "failed Cover\n"),
     ] {
         expect(&rt, alloc, election, prices, mode, want)?;
     }
@@ -183,7 +156,7 @@ fn budgets_cover_the_limit(rt: HostRuntime) -> Result<(), Fail> {
 }
 
 #[test]
-fn payments_that_fail(rt: HostRuntime) -> Result<(), Fail> {
+fn first_condition_that_fails_is_told_with_its_first_culprit(rt: HostRuntime) -> Result<(), Fail> {
     for (rows, want) in [
         ("1,a,5\n3,a,1\n3,c,1\n", "failed C1 voter 3 project a\n"),
         ("2,c,1\n2,b,1\n", "failed C1 voter 2 project b\n"),
@@ -239,31 +212,18 @@ fn thirds_are_exact_and_rounded_ones_are_not(rt: HostRuntime) -> Result<(), Fail
 }
 
 #[test]
-fn elections_without_voters(rt: HostRuntime) -> Result<(), Fail> {
-    let prices = certificate(rt.alloc(), "1", "0", "")?;
+fn nobody_pays_where_there_are_no_voters(rt: HostRuntime) -> Result<(), Fail> {
     let free = NO_VOTERS.as_bytes();
-    expect(
-        &rt,
-        rt.alloc(),
-        free,
-        &prices,
-        PLAIN,
-        "supported priceable\n",
-    )?;
+    let want = "supported priceable\n";
+    expect(&rt, rt.alloc(), free, NO_MONEY, PLAIN, want)?;
     let new = "budget;1\nvote_type;approval\nPROJECTS\nproject_id;cost;selected\nx;1;1\n";
     let costly = with_lines(rt.alloc(), NO_VOTERS, 2, 5, new.as_bytes())?;
-    expect(
-        &rt,
-        rt.alloc(),
-        &costly,
-        &prices,
-        PLAIN,
-        "failed C3 project x\n",
-    )
+    let want = "failed C3 project x\n";
+    expect(&rt, rt.alloc(), &costly, NO_MONEY, PLAIN, want)
 }
 
 #[test]
-fn greatest_amounts(rt: HostRuntime) -> Result<(), Fail> {
+fn greatest_amounts_are_compared_and_one_more_is_refused(rt: HostRuntime) -> Result<(), Fail> {
     for (row, want) in [
         ("1,x,1000000000000000000000\n", "supported priceable\n"),
         (
@@ -285,7 +245,7 @@ fn greatest_amounts(rt: HostRuntime) -> Result<(), Fail> {
 }
 
 #[test]
-fn rows_that_are_refused(rt: HostRuntime) -> Result<(), Fail> {
+fn refused_row_is_told_before_any_verdict(rt: HostRuntime) -> Result<(), Fail> {
     for (rows, want) in [
         (
             "1,a,2\n1,a,2\n1,b,2\n2,a,4\n3,b,2\n",
@@ -315,11 +275,11 @@ fn open_quotes_hold_the_rest_of_a_file(rt: HostRuntime) -> Result<(), Fail> {
 }
 
 #[test]
-fn election_without_an_outcome(rt: HostRuntime) -> Result<(), Fail> {
-    let election = with_lines(rt.alloc(), ELECTION, 8, 1, b"project_id;cost;name\n")?;
+fn outcome_is_wanted_and_a_file_can_give_it(rt: HostRuntime) -> Result<(), Fail> {
+    let election = without_outcome(rt.alloc())?;
     let want = "refused election 17 NoOutcome record 0\n";
     expect(&rt, rt.alloc(), &election, PRICES, PLAIN, want)?;
-    let outcome = Some("pb-outcome,1\nproject,a\nproject,b\n");
+    let outcome = Some(OUTCOME);
     let (printed, status) = audit(rt.alloc(), &election, outcome, PRICES.as_bytes(), PLAIN)?;
     assert!(rt; printed.as_str() == "supported priceable\n", "{printed}");
     assert!(rt; status == Status::Yes);
@@ -329,47 +289,20 @@ fn election_without_an_outcome(rt: HostRuntime) -> Result<(), Fail> {
 #[test]
 fn outcome_file_is_taken_for_the_column(rt: HostRuntime) -> Result<(), Fail> {
     let election = ELECTION.as_bytes();
-    let prices = certificate(rt.alloc(), "1", "9", "3,c,9\n")?;
     for (outcome, want) in [
-        ("pb-outcome,1\nproject,c\n", "failed C5 project a\n"),
+        (POOL_OUTCOME, "failed C5 project a\n"),
         ("pb-outcome,2\n", "refused outcome 21 BadHead record 1\n"),
     ] {
         let (printed, status) = audit(
             rt.alloc(),
             election,
             Some(outcome),
-            prices.as_bytes(),
+            POOL_PRICES.as_bytes(),
             PLAIN,
         )?;
         assert!(rt; printed.as_str() == want, "{outcome}: {printed}");
         assert!(rt; status == status_of(want), "{outcome}: {printed}");
     }
-    Ok(())
-}
-
-#[test]
-fn writer_fails(rt: HostRuntime) -> Result<(), Fail> {
-    let alloc = rt.alloc();
-    let mut election = ELECTION.as_bytes();
-    let mut outcome: Option<Input<&[u8]>> = None;
-    let mut prices = PRICES.as_bytes();
-    let mut writer = FakeWriter {
-        written: Vec::new(alloc),
-        room: 5,
-        most: 5,
-        when_full: WhenFull::Fails,
-        flush_fails: false,
-    };
-    let got = run_prices(
-        alloc,
-        &mut Input::new(&mut election),
-        &mut outcome,
-        &mut Input::new(&mut prices),
-        PLAIN,
-        &mut Output::new(&mut writer),
-    );
-    assert!(rt; got == Err(Fault::Write));
-    assert!(rt; writer.written.as_slice() == b"suppo".as_slice());
     Ok(())
 }
 

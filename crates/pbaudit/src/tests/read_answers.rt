@@ -11,7 +11,7 @@ fn read(alloc: Global, mut file: &[u8]) -> Result<(String, Status), Fail> {
 }
 
 #[test]
-fn whole_files(rt: HostRuntime) -> Result<(), Fail> {
+fn marks_line_ends_and_filled_lines_change_no_count(rt: HostRuntime) -> Result<(), Fail> {
     let alloc = rt.alloc();
     for (file, want) in [
         (ELECTION, "read 3 voters 3 projects 2 funded\n"),
@@ -26,7 +26,7 @@ fn whole_files(rt: HostRuntime) -> Result<(), Fail> {
 }
 
 #[test]
-fn changed_lines(rt: HostRuntime) -> Result<(), Fail> {
+fn counts_that_differ_are_noted(rt: HostRuntime) -> Result<(), Fail> {
     let alloc = rt.alloc();
     for (kept, removed, new, want) in [
         (
@@ -63,7 +63,7 @@ fn changed_lines(rt: HostRuntime) -> Result<(), Fail> {
 }
 
 #[test]
-fn one_change_one_refusal(rt: HostRuntime) -> Result<(), Fail> {
+fn first_fault_of_an_election_is_told_with_its_record(rt: HostRuntime) -> Result<(), Fail> {
     let alloc = rt.alloc();
     for (kept, removed, new, want) in [
         (0, 17, "", "2 NoMeta record 1"),
@@ -108,7 +108,7 @@ fn one_change_one_refusal(rt: HostRuntime) -> Result<(), Fail> {
 }
 
 #[test]
-fn not_utf8(rt: HostRuntime) -> Result<(), Fail> {
+fn project_that_is_not_utf8_is_refused_at_its_record(rt: HostRuntime) -> Result<(), Fail> {
     let alloc = rt.alloc();
     let file = with_lines(alloc, ELECTION, 9, 1, b"a;6;P\xFFrk;1\n")?;
     let (printed, status) = read(alloc, &file)?;

@@ -4,7 +4,7 @@ use pb_records::{Cursor, Input, LoadFault, Next, Output, cell, clean, is_blank, 
 use std::test::Fail;
 
 #[test]
-fn loads_up_to_the_limit(rt: HostRuntime) -> Result<(), Fail> {
+fn load_takes_the_limit_and_no_byte_more(rt: HostRuntime) -> Result<(), Fail> {
     let alloc = rt.alloc();
     let loaded = load(alloc, &mut Input::new(b"abc".as_slice()), 3)?;
     assert!(rt; loaded.as_slice() == b"abc".as_slice());
@@ -14,7 +14,7 @@ fn loads_up_to_the_limit(rt: HostRuntime) -> Result<(), Fail> {
 }
 
 #[test]
-fn puts_all_bytes(rt: HostRuntime) -> Result<(), Fail> {
+fn put_writes_all_bytes(rt: HostRuntime) -> Result<(), Fail> {
     let mut bytes = Vec::new(rt.alloc());
     put(b"abc", &mut Output::new(&mut bytes))?;
     assert!(rt; bytes.as_slice() == b"abc".as_slice());
@@ -22,7 +22,7 @@ fn puts_all_bytes(rt: HostRuntime) -> Result<(), Fail> {
 }
 
 #[test]
-fn cleaned_texts(rt: HostRuntime) -> Result<(), Fail> {
+fn cleaning_takes_off_ascii_blanks_alone(rt: HostRuntime) -> Result<(), Fail> {
     for (text, want) in [
         ("\t\n\u{b}\u{c}\r a b \t\n\u{b}\u{c}\r ", "a b"),
         ("\u{a0}a\u{a0}", "\u{a0}a\u{a0}"),
@@ -40,7 +40,7 @@ fn cleaned_texts(rt: HostRuntime) -> Result<(), Fail> {
 }
 
 #[test]
-fn records_that_are_not_blank(rt: HostRuntime) -> Result<(), Fail> {
+fn cursor_skips_blank_records_and_counts_them(rt: HostRuntime) -> Result<(), Fail> {
     let file = b"\xEF\xBB\xBFa,1\r\n\n ,\n\"b\nc\",\"\"\"2\"\"\"\n,,\n".as_slice();
     let mut cursor = Cursor::open(rt.alloc(), file, b',');
     assert!(rt; cursor.place() == 0);
@@ -61,7 +61,7 @@ fn records_that_are_not_blank(rt: HostRuntime) -> Result<(), Fail> {
 }
 
 #[test]
-fn record_that_is_not_utf8(rt: HostRuntime) -> Result<(), Fail> {
+fn record_that_is_not_utf8_is_told_and_passed(rt: HostRuntime) -> Result<(), Fail> {
     let mut cursor = Cursor::open(rt.alloc(), b";\na;\xFF\nb\n".as_slice(), b';');
     assert!(rt; cursor.advance()? == Next::NotText);
     assert!(rt; cursor.place() == 2);

@@ -2,8 +2,9 @@
 use super::fakes::{FakeWriter, WhenFull};
 use super::room::Room;
 use super::samples::{
-    ELECTION, EVEN_PRICES, NO_VOTERS, PRICES, SMALL_SHARE_ELECTION, SPLIT_ELECTION,
-    UNFAIR_ELECTION, UNTIDY_PRICES, VIOLATION, with_lines,
+    ELECTION, EVEN_PRICES, LONE_PRICES, NO_VOTERS, POOL_OUTCOME, POOL_PRICES, PRICES,
+    SMALL_SHARE_ELECTION, SPLIT_ELECTION, SPLIT_PRICES, UNFAIR_ELECTION, UNTIDY_PRICES, VIOLATION,
+    with_pool,
 };
 use crate::run;
 use std::alloc::{AllocError, Global};
@@ -99,19 +100,15 @@ fn takes_the_files_of_prices_in_their_places(rt: HostRuntime) -> Result<(), Fail
 
 #[test]
 fn mode_of_prices_is_that_of_the_words(rt: HostRuntime) -> Result<(), Fail> {
-    let alloc = rt.alloc();
     let room = Room::new(&rt, "mode")?;
-    let cheap = with_lines(alloc, ELECTION, 11, 1, b"c;2;Pool;0\n")?;
-    let cheap = room.write("cheap.pb", &cheap)?;
-    let dear = with_lines(alloc, PRICES, 4, 4, b"1,a,2\n2,a,4\n3,b,4\n")?;
-    let dear = room.write("dear.csv", &dear)?;
-    let (cheap, dear) = (cheap.as_str(), dear.as_str());
-    expect(&rt, &["prices", cheap, dear], 0, "supported priceable\n")?;
-    let stable = ["prices", cheap, dear, "--stable"];
+    let cheap = room.write("cheap.pb", &with_pool(rt.alloc(), 2)?)?;
+    let lone = room.write("lone.csv", LONE_PRICES.as_bytes())?;
+    let (cheap, lone) = (cheap.as_str(), lone.as_str());
+    expect(&rt, &["prices", cheap, lone], 0, "supported priceable\n")?;
+    let stable = ["prices", cheap, lone, "--stable"];
     expect(&rt, &stable, 1, "failed S5 project c\n")?;
     let split = room.write("split.pb", SPLIT_ELECTION.as_bytes())?;
-    let half = "pb-prices,1\ndenominator,1\nvoter_budget,5\nvoter,project,payment\n1,a,5\n";
-    let half = room.write("half.csv", half.as_bytes())?;
+    let half = room.write("half.csv", SPLIT_PRICES.as_bytes())?;
     let (split, half) = (split.as_str(), half.as_str());
     expect(
         &rt,
@@ -127,9 +124,8 @@ fn mode_of_prices_is_that_of_the_words(rt: HostRuntime) -> Result<(), Fail> {
 fn outcome_of_prices_is_that_of_the_words(rt: HostRuntime) -> Result<(), Fail> {
     let room = Room::new(&rt, "prices-outcome")?;
     let election = room.write("e.pb", ELECTION.as_bytes())?;
-    let rows = "pb-prices,1\ndenominator,1\nvoter_budget,9\nvoter,project,payment\n3,c,9\n";
-    let prices = room.write("p.csv", rows.as_bytes())?;
-    let outcome = room.write("o.csv", b"pb-outcome,1\nproject,c\n")?;
+    let prices = room.write("p.csv", POOL_PRICES.as_bytes())?;
+    let outcome = room.write("o.csv", POOL_OUTCOME.as_bytes())?;
     let (election, prices, outcome) = (election.as_str(), prices.as_str(), outcome.as_str());
     let own = ["prices", election, prices];
     expect(&rt, &own, 1, "failed C3 project a\n")?;

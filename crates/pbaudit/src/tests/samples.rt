@@ -88,7 +88,40 @@ voter,project,payment
 3,b,2
 ";
 
-/// The same prices with blanks, leading zeros, an empty line, empty fields at the end, a payment of 0, and a voter's
+/// An outcome file that funds what the sample election funds.
+pub const OUTCOME: &str = "pb-outcome,1\nproject,a\nproject,b\n";
+
+/// An outcome file for the sample election that funds c alone, and a price certificate by which voter 3 pays for it.
+pub const POOL_OUTCOME: &str = "pb-outcome,1\nproject,c\n";
+
+pub const POOL_PRICES: &str = "\
+pb-prices,1
+denominator,1
+voter_budget,9
+voter,project,payment
+3,c,9
+";
+
+/// A price certificate for the sample election by which voter 3 alone pays for b. It is not stable where c is cheap.
+pub const LONE_PRICES: &str = "\
+pb-prices,1
+denominator,1
+voter_budget,4
+voter,project,payment
+1,a,2
+2,a,4
+3,b,4
+";
+
+/// A price certificate for any election, by which the voters have nothing.
+pub const NO_MONEY: &str = "\
+pb-prices,1
+denominator,1
+voter_budget,0
+voter,project,payment
+";
+
+/// The sample prices with blanks, leading zeros, an empty line, empty fields at the end, a payment of 0, and a voter's
 /// rows in another order.
 pub const UNTIDY_PRICES: &str = "\
 pb-prices, 1
@@ -101,6 +134,14 @@ voter,project,payment
 2,a,4,,
 2,b,0
 3,b,2
+";
+
+/// A violation certificate for the sample election that shows none.
+pub const FAIR_VIOLATION: &str = "\
+pb-violation,1
+project,b
+voter,3
+voter,1
 ";
 
 /// The sample prices explained. Each voter has 4. Voter 1 pays 2 and 2, voter 2 pays 4, and voter 3 pays 2 and has 2 left.
@@ -129,7 +170,7 @@ b,1,2,4000000,4000000,2000000,4000000
 c,0,1,9000000,0,2000000,2000000
 ";
 
-/// The sample election and its price certificate with the id a"1 in place of a.
+/// The sample election and its price certificate where a is named a"1.
 pub const QUOTED_ELECTION: &str = "\
 META
 key;value
@@ -177,7 +218,8 @@ voter_id;vote
 3;x
 ";
 
-/// An election of two projects, each with one supporter.
+/// An election of two projects, each with one supporter, and a price certificate for it by which the funded one is paid
+/// for. The other would fit too.
 pub const SPLIT_ELECTION: &str = "\
 META
 key;value
@@ -191,6 +233,14 @@ VOTES
 voter_id;vote
 1;a
 2;c
+";
+
+pub const SPLIT_PRICES: &str = "\
+pb-prices,1
+denominator,1
+voter_budget,5
+voter,project,payment
+1,a,5
 ";
 
 /// An election in which half of the voters get nothing.
@@ -221,16 +271,8 @@ voter,1
 voter,2
 ";
 
-/// A violation certificate for the sample election that shows none.
-pub const FAIR_VIOLATION: &str = "\
-pb-violation,1
-project,b
-voter,3
-voter,1
-";
-
-/// The election in which half of the voters get less than they deserve, and a price certificate for it by which all
-/// four voters pay for the one project that is funded.
+/// The same election where voters 1 and 2 approve y too, and so get something, but less than they deserve; and a price
+/// certificate for it by which all four voters pay for y.
 pub const SMALL_SHARE_ELECTION: &str = "\
 META
 key;value
@@ -289,6 +331,42 @@ VOTES
 voter_id;vote
 1;x
 ";
+
+/// The sample election with an unfunded project c of this cost.
+pub fn with_pool(alloc: Global, cost: u32) -> Result<Vec<u8>, AllocError> {
+    let row = format!(in alloc; "c;{cost};Pool;0\n")?;
+    with_lines(alloc, ELECTION, 11, 1, row.as_bytes())
+}
+
+/// The sample election without its column `selected`.
+pub fn without_outcome(alloc: Global) -> Result<Vec<u8>, AllocError> {
+    with_lines(alloc, ELECTION, 8, 1, b"project_id;cost;name\n")
+}
+
+/// The META and the header of PROJECTS of an election without a column `selected`.
+pub const BARE_PROJECTS: &str =
+    "META\nkey;value\nbudget;1\nvote_type;approval\nPROJECTS\nproject_id;cost\n";
+
+/// An election of one project more than there may be, at record 20007.
+pub fn too_many_projects(alloc: Global) -> Result<String, AllocError> {
+    let mut text = String::from_str(alloc, BARE_PROJECTS)?;
+    for project in 1..=20_001u32 {
+        writeln!(text, "p{project};0")?;
+    }
+    Ok(text)
+}
+
+/// The text of a price certificate.
+pub fn certificate(
+    alloc: Global,
+    denominator: &str,
+    budget: &str,
+    rows: &str,
+) -> Result<String, AllocError> {
+    format!(in alloc;
+        "pb-prices,1\ndenominator,{denominator}\nvoter_budget,{budget}\nvoter,project,payment\n{rows}"
+    )
+}
 
 /// A text whose first `kept` lines are kept, with `new` in place of the next `removed` lines.
 pub fn with_lines(

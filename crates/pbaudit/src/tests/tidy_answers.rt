@@ -16,7 +16,7 @@ fn tidy(
 }
 
 #[test]
-fn canonical_texts(rt: HostRuntime) -> Result<(), Fail> {
+fn untidy_prices_are_put_in_order_and_quotes_kept(rt: HostRuntime) -> Result<(), Fail> {
     let alloc = rt.alloc();
     for (election, certificate, want) in [
         (ELECTION, UNTIDY_PRICES, PRICES),
@@ -30,7 +30,7 @@ fn canonical_texts(rt: HostRuntime) -> Result<(), Fail> {
 }
 
 #[test]
-fn one_change_one_refusal(rt: HostRuntime) -> Result<(), Fail> {
+fn first_fault_of_prices_is_told_with_its_record(rt: HostRuntime) -> Result<(), Fail> {
     let alloc = rt.alloc();
     for (kept, removed, new, want) in [
         (0, 8, "", "21 BadHead record 1"),
@@ -64,7 +64,7 @@ fn one_change_one_refusal(rt: HostRuntime) -> Result<(), Fail> {
 }
 
 #[test]
-fn not_utf8(rt: HostRuntime) -> Result<(), Fail> {
+fn row_that_is_not_utf8_is_refused_at_its_record(rt: HostRuntime) -> Result<(), Fail> {
     let alloc = rt.alloc();
     let certificate = with_lines(alloc, PRICES, 4, 1, b"1,\xFF,2\n")?;
     let (printed, status) = tidy(alloc, ELECTION.as_bytes(), &certificate)?;

@@ -1,6 +1,6 @@
 //! What is printed on violation certificates.
 use super::engines;
-use super::samples::{DEAR_ELECTION, UNFAIR_ELECTION, VIOLATION, with_lines};
+use super::samples::{DEAR_ELECTION, SMALL_SHARE_ELECTION, UNFAIR_ELECTION, VIOLATION, with_lines};
 use pb_audit::Status;
 use std::alloc::Global;
 use std::test::Fail;
@@ -16,7 +16,7 @@ fn audit(
 }
 
 #[test]
-fn verdicts(rt: HostRuntime) -> Result<(), Fail> {
+fn first_test_that_fails_is_told(rt: HostRuntime) -> Result<(), Fail> {
     let alloc = rt.alloc();
     for (kept, removed, new, want) in [
         (5, 0, "", "violation\n"),
@@ -44,7 +44,7 @@ fn verdicts(rt: HostRuntime) -> Result<(), Fail> {
 }
 
 #[test]
-fn member_that_gets_enough(rt: HostRuntime) -> Result<(), Fail> {
+fn member_that_gets_as_much_is_told(rt: HostRuntime) -> Result<(), Fail> {
     let alloc = rt.alloc();
     let election = with_lines(alloc, UNFAIR_ELECTION, 12, 1, b"2;x1,x2,y\n")?;
     let certificate = with_lines(alloc, VIOLATION, 2, 1, b"")?;
@@ -56,9 +56,9 @@ fn member_that_gets_enough(rt: HostRuntime) -> Result<(), Fail> {
 
 // Voters 1 and 2 approve two cheap projects, which they demand, and a dear one, which is funded.
 #[test]
-fn fewer_but_dearer_projects(rt: HostRuntime) -> Result<(), Fail> {
+fn one_dear_project_is_enough_by_cost_alone(rt: HostRuntime) -> Result<(), Fail> {
     let alloc = rt.alloc();
-    let election = with_lines(alloc, UNFAIR_ELECTION, 11, 2, b"1;x1,x2,y\n2;x1,x2,y\n")?;
+    let election = SMALL_SHARE_ELECTION.as_bytes();
     for (head, want, wanted) in [
         ("pb-violation,1\n", "violation\n", Status::Yes),
         (
@@ -73,7 +73,7 @@ fn fewer_but_dearer_projects(rt: HostRuntime) -> Result<(), Fail> {
         ),
     ] {
         let certificate = with_lines(alloc, VIOLATION, 0, 1, head.as_bytes())?;
-        let (printed, status) = audit(alloc, &election, &certificate)?;
+        let (printed, status) = audit(alloc, election, &certificate)?;
         assert!(rt; printed.as_str() == want, "{head}: {printed}");
         assert!(rt; status == wanted, "{head}: {printed}");
     }
@@ -81,7 +81,7 @@ fn fewer_but_dearer_projects(rt: HostRuntime) -> Result<(), Fail> {
 }
 
 #[test]
-fn as_many_but_cheaper_projects(rt: HostRuntime) -> Result<(), Fail> {
+fn one_cheap_project_is_enough_by_count_alone(rt: HostRuntime) -> Result<(), Fail> {
     let alloc = rt.alloc();
     for (certificate, want, wanted) in [
         (
@@ -103,7 +103,7 @@ fn as_many_but_cheaper_projects(rt: HostRuntime) -> Result<(), Fail> {
 }
 
 #[test]
-fn one_change_one_refusal(rt: HostRuntime) -> Result<(), Fail> {
+fn first_fault_of_a_violation_is_told_with_its_record(rt: HostRuntime) -> Result<(), Fail> {
     let alloc = rt.alloc();
     for (kept, removed, new, want) in [
         (5, 0, "voter,1\n", "27 Repeated record 6"),
