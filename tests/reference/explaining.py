@@ -93,16 +93,16 @@ class PriceTable:
     def s5(self, culprits):
         return self.supporters(culprits, self.claim.offer_of_supporters, "offers")
 
-    def supporters(self, culprits, sum_of, have):
-        def figures(project):
+    def supporters(self, culprits, sum_of, name):
+        def figures(project, remark=""):
             cost, sum_ = amount(self.claim.cost(project)), amount(sum_of(project))
-            return f"project {self.id(project)} costs {cost}, and its supporters' {have} come to {sum_}"
+            return f"project {self.id(project)}{remark} costs {cost}, and its supporters' {name} come to {sum_}"
 
         if culprits:
             end = how_many("unfunded projects where that is more than the cost", culprits)
             return figures(culprits[0][0]) + end
         project = closest(self.claim.unfunded(), lambda project: sum_of(project) - self.claim.cost(project))
-        return "every project is funded" if project is None else "closest: " + figures(project)
+        return "every project is funded" if project is None else figures(project, ", the closest,")
 
 
 def price_lines(claim, mode):

@@ -65,8 +65,8 @@ c4_line e f =
 
 -- what the supporters of unfunded projects have left or can offer
 abbrev pub supporters_told : Instance → ℕ → Text → Finding → Text
-supporters_told e unit have f =
-    told (codes "every project is funded") (words.closest e unit have) (words.richer e unit have f.count) (holds f) f.shown
+supporters_told e unit sums_of f =
+    told (codes "every project is funded") (words.closest e unit sums_of) (words.richer e unit sums_of f.count) (holds f) f.shown
 
 abbrev pub c5_line : Bool → Instance → Findings → Text
 c5_line asked e f =

@@ -55,16 +55,16 @@ in_vain e unit count m =
     balance unit m.amount ++ codes " is paid for project " ++ id_of e m.at ++ codes ", which isn't funded"
     ++ how_many (codes "unfunded projects that are paid for") count
 
--- C5 and S5: the leftovers or the offers of the supporters of an unfunded project, at the project that comes closest, and
--- where they are more than it costs
-unfoldable pub supporters : Instance → ℕ → Text → Comparison → Text
-supporters e unit have m =
-    codes "project " ++ id_of e m.at ++ codes " costs " ++ amount unit m.bound ++ codes ", and its supporters' " ++ have
-    ++ codes " come to " ++ balance unit m.amount
+-- C5 and S5: what an unfunded project costs, and the leftovers or the offers of its supporters, at the project that comes
+-- closest, and where they are more than it costs
+unfoldable pub cost_and_sum : ℕ → Text → Comparison → Text
+cost_and_sum unit sums_of m =
+    codes " costs " ++ amount unit m.bound ++ codes ", and its supporters' " ++ sums_of ++ codes " come to " ++ balance unit m.amount
 
 unfoldable pub closest : Instance → ℕ → Text → Comparison → Text
-closest e unit have m = codes "closest: " ++ supporters e unit have m
+closest e unit sums_of m = codes "project " ++ id_of e m.at ++ codes ", the closest," ++ cost_and_sum unit sums_of m
 
 unfoldable pub richer : Instance → ℕ → Text → ℕ → Comparison → Text
-richer e unit have count m =
-    supporters e unit have m ++ how_many (codes "unfunded projects where that is more than the cost") count
+richer e unit sums_of count m =
+    codes "project " ++ id_of e m.at ++ cost_and_sum unit sums_of m
+    ++ how_many (codes "unfunded projects where that is more than the cost") count

@@ -5,8 +5,8 @@ ghost use Rattle.pb_explain.specs.Amounts as spec;
 use crate::rows::push_number;
 use std::alloc::AllocError;
 
-// How many millionths a unit of the currency has.
-const MILLION: u64 = 1_000_000;
+/// How many millionths a unit of the currency has.
+pub(crate) const MILLION: u64 = 1_000_000;
 
 /// Adds an amount in grains, of which one unit of the currency has so many.
 #[tactic(auto, unfolding(crate::specs::Amounts::amount))]

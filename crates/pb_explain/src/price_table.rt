@@ -12,8 +12,9 @@ use std::alloc::{AllocError, Global};
 
 /// Adds a line for each condition on prices, in their order: its name, whether it holds, and the figures that it compares.
 /// A condition that the mode leaves out is told too, with how to ask for it. Amounts are told in units of the currency, and
-/// exactly; voters by their numbers, from 1, and projects by their ids. The findings are to be of this election. The error
-/// is want of memory, after which some of the lines may have been added.
+/// exactly where a unit has a multiple of 10^6 grains, as it has in all that `findings_of` answers; voters by their
+/// numbers, from 1, and projects by their ids. The findings are to be of this election. The error is want of memory, after
+/// which some of the lines may have been added.
 pub fn push_price_table(
     alloc: Global,
     lines: &mut Vec<String>,
@@ -290,16 +291,16 @@ fn push_supporters(
     line: &mut String,
     election: &Election,
     unit: u64,
-    have: &str,
+    sums_of: &str,
     found: &Finding,
 ) -> Result<(), AllocError>
     requires unit { 10 ^ 6 ≤ unit }
     requires project { NamesProject election.now found.now }
-    ensures { OnOk result (string_bytes line.new ≡ string_bytes line.old ++ spec.supporters_told election.now unit have.now found.now) }
+    ensures { OnOk result (string_bytes line.new ≡ string_bytes line.old ++ spec.supporters_told election.now unit sums_of.now found.now) }
 {
     match found.shown {
         None => line.push_str("every project is funded"),
-        Some(here) if found.count == 0 => words::push_closest(line, election, unit, have, &here),
-        Some(here) => words::push_richer(line, election, unit, have, &here, u64::from(found.count)),
+        Some(here) if found.count == 0 => words::push_closest(line, election, unit, sums_of, &here),
+        Some(here) => words::push_richer(line, election, unit, sums_of, &here, u64::from(found.count)),
     }
 }

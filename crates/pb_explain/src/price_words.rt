@@ -182,44 +182,23 @@ pub(crate) fn push_in_vain(
     push_how_many(line, "unfunded projects that are paid for", count)
 }
 
-/// Adds what the supporters of an unfunded project have, against its cost, and `have` says in which way.
-#[tactic(auto, unfolding(crate::specs::PriceWords::supporters))]
-pub(crate) fn push_supporters(
-    line: &mut String,
-    election: &Election,
-    unit: u64,
-    have: &str,
-    here: &Comparison,
-) -> Result<(), AllocError>
-    requires unit { 10 ^ 6 ≤ unit }
-    requires project { IsProject election.now (here.now).at }
-    ensures { OnOk result (string_bytes line.new ≡ string_bytes line.old ++ spec.supporters election.now unit have.now here.now) }
-{
-    line.push_str("project ")?;
-    push_id(line, election, here.at)?;
-    line.push_str(" costs ")?;
-    push_amount(line, unit, here.bound)?;
-    line.push_str(", and its supporters' ")?;
-    line.push_str(have)?;
-    line.push_str(" come to ")?;
-    push_sum(line, unit, here)
-}
-
-/// Adds the same of the project that comes closest.
+/// Adds what the project that comes closest costs, and what its supporters have; `sums_of` says what of it.
 #[tactic(auto, unfolding(crate::specs::PriceWords::closest))]
 pub(crate) fn push_closest(
     line: &mut String,
     election: &Election,
     unit: u64,
-    have: &str,
+    sums_of: &str,
     here: &Comparison,
 ) -> Result<(), AllocError>
     requires unit { 10 ^ 6 ≤ unit }
     requires project { IsProject election.now (here.now).at }
-    ensures { OnOk result (string_bytes line.new ≡ string_bytes line.old ++ spec.closest election.now unit have.now here.now) }
+    ensures { OnOk result (string_bytes line.new ≡ string_bytes line.old ++ spec.closest election.now unit sums_of.now here.now) }
 {
-    line.push_str("closest: ")?;
-    push_supporters(line, election, unit, have, here)
+    line.push_str("project ")?;
+    push_id(line, election, here.at)?;
+    line.push_str(", the closest,")?;
+    push_cost_and_sum(line, unit, sums_of, here)
 }
 
 /// Adds the same of a project whose supporters have more than its cost.
@@ -228,20 +207,41 @@ pub(crate) fn push_richer(
     line: &mut String,
     election: &Election,
     unit: u64,
-    have: &str,
+    sums_of: &str,
     here: &Comparison,
     count: u64,
 ) -> Result<(), AllocError>
     requires unit { 10 ^ 6 ≤ unit }
     requires project { IsProject election.now (here.now).at }
-    ensures { OnOk result (string_bytes line.new ≡ string_bytes line.old ++ spec.richer election.now unit have.now count here.now) }
+    ensures { OnOk result (string_bytes line.new ≡ string_bytes line.old ++ spec.richer election.now unit sums_of.now count here.now) }
 {
-    push_supporters(line, election, unit, have, here)?;
+    line.push_str("project ")?;
+    push_id(line, election, here.at)?;
+    push_cost_and_sum(line, unit, sums_of, here)?;
     push_how_many(
         line,
         "unfunded projects where that is more than the cost",
         count,
     )
+}
+
+// Adds what a project costs, and what its supporters have.
+#[tactic(auto, unfolding(crate::specs::PriceWords::cost_and_sum))]
+fn push_cost_and_sum(
+    line: &mut String,
+    unit: u64,
+    sums_of: &str,
+    here: &Comparison,
+) -> Result<(), AllocError>
+    requires unit { 10 ^ 6 ≤ unit }
+    ensures { OnOk result (string_bytes line.new ≡ string_bytes line.old ++ spec.cost_and_sum unit sums_of.now here.now) }
+{
+    line.push_str(" costs ")?;
+    push_amount(line, unit, here.bound)?;
+    line.push_str(", and its supporters' ")?;
+    line.push_str(sums_of)?;
+    line.push_str(" come to ")?;
+    push_sum(line, unit, here)
 }
 
 // Adds the sum that is compared.

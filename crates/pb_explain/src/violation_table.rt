@@ -3,15 +3,12 @@ ghost use Rattle.std.specs.Prelude.{◌≡◌, ◌≤◌, ◌*◌, ◌^◌, ◌+
 ghost use Rattle.pb_election.specs.Instance.{IsProject};
 ghost use Rattle.pb_explain.specs.ViolationTable as spec;
 
-use crate::amounts::push_amount;
+use crate::amounts::{MILLION, push_amount};
 use crate::rows::{opened, push_how_many, push_id, push_line, push_number, push_voter};
 use pb_certificate::Measure;
 use pb_cohesion::{MissingApprovals, ViolationFindings};
 use pb_election::Election;
 use std::alloc::{AllocError, Global};
-
-// How many millionths a unit of the currency has.
-const MILLION: u64 = 1_000_000;
 
 /// Adds a line for each test of a violation, in their order: its name, whether it holds, and the figures that it compares,
 /// with what projects are worth by this measure. Amounts are told in units of the currency, and exactly; voters by their

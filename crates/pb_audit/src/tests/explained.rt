@@ -25,8 +25,8 @@ fn table_of_prices_that_support(rt: HostRuntime) -> Result<(), Fail> {
             "C2          holds      voter 1 spends most, 4.00 of its budget of 4.00",
             "C3          holds      each funded project is paid for exactly",
             "C4          holds      nothing is paid for an unfunded project",
-            "C5          holds      closest: project c costs 9.00, and its supporters' leftovers come to 2.00",
-            "S5          not asked  with --stable it holds: closest: project c costs 9.00, and its supporters' offers come to 2.00",
+            "C5          holds      project c, the closest, costs 9.00, and its supporters' leftovers come to 2.00",
+            "S5          not asked  with --stable it holds: project c, the closest, costs 9.00, and its supporters' offers come to 2.00",
         ],
         Status::Yes,
     );
@@ -64,8 +64,8 @@ fn each_failure_has_its_figures_and_thirds_are_fractions(rt: HostRuntime) -> Res
             "C2          holds      voter 2 spends most, 4 1/3 of its budget of 4 1/3",
             "C3          fails      project a costs 6.00, and 6 1/3 is paid for it (funded projects not paid exactly: 1)",
             "C4          fails      1/3 is paid for project c, which isn't funded (unfunded projects that are paid for: 1)",
-            "C5          not asked  without --stable it holds: closest: project c costs 9.00, and its supporters' leftovers come to 1 2/3",
-            "S5          holds      closest: project c costs 9.00, and its supporters' offers come to 2 1/3",
+            "C5          not asked  without --stable it holds: project c, the closest, costs 9.00, and its supporters' leftovers come to 1 2/3",
+            "S5          holds      project c, the closest, costs 9.00, and its supporters' offers come to 2 1/3",
         ],
         Status::No,
     );

@@ -99,8 +99,8 @@ fn each_condition_that_holds_has_its_words(rt: HostRuntime) -> Result<(), Fail> 
             "C2          holds      voter 1 spends most, 3.75 of its budget of 4.00",
             "C3          holds      each funded project is paid for exactly",
             "C4          holds      nothing is paid for an unfunded project",
-            "C5          holds      closest: project b costs 8.00, and its supporters' leftovers come to -0.50",
-            "S5          not asked  with --stable it holds: closest: project c costs 9.00, and its supporters' offers come to 2.00",
+            "C5          holds      project b, the closest, costs 8.00, and its supporters' leftovers come to -0.50",
+            "S5          not asked  with --stable it holds: project c, the closest, costs 9.00, and its supporters' offers come to 2.00",
         ],
     )?;
     tells(
@@ -117,8 +117,8 @@ fn each_condition_that_holds_has_its_words(rt: HostRuntime) -> Result<(), Fail> 
             "C2          holds      voter 1 spends most, 3.75 of its budget of 4.00",
             "C3          holds      each funded project is paid for exactly",
             "C4          holds      nothing is paid for an unfunded project",
-            "C5          not asked  without --stable it holds: closest: project b costs 8.00, and its supporters' leftovers come to -0.50",
-            "S5          holds      closest: project c costs 9.00, and its supporters' offers come to 2.00",
+            "C5          not asked  without --stable it holds: project b, the closest, costs 8.00, and its supporters' leftovers come to -0.50",
+            "S5          holds      project c, the closest, costs 9.00, and its supporters' offers come to 2.00",
         ],
     )
 }

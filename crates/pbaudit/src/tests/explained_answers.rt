@@ -47,8 +47,8 @@ C1          holds      no voter pays for a project that isn't on its ballot
 C2          fails      voter 1 spends 2.00 and has a budget of 0.50 (voters who spend more than that: 3)
 C3          fails      project a costs 6.00, and 3.00 is paid for it (funded projects not paid exactly: 2)
 C4          holds      nothing is paid for an unfunded project
-C5          holds      closest: project c costs 9.00, and its supporters' leftovers come to -0.50
-S5          not asked  with --stable it holds: closest: project c costs 9.00, and its supporters' offers come to 1.00
+C5          holds      project c, the closest, costs 9.00, and its supporters' leftovers come to -0.50
+S5          not asked  with --stable it holds: project c, the closest, costs 9.00, and its supporters' offers come to 1.00
 ",
         "{printed}"
     );
@@ -82,8 +82,8 @@ C1          holds      no voter pays for a project that isn't on its ballot
 C2          holds      voter 1 spends most, 1 1/3 of its budget of 1 1/3
 C3          fails      project c costs 9.00, and 0.00 is paid for it (funded projects not paid exactly: 1)
 C4          fails      2.00 is paid for project a, which isn't funded (unfunded projects that are paid for: 2)
-C5          not asked  without --stable it holds: closest: project b costs 4.00, and its supporters' leftovers come to 2/3
-S5          holds      closest: project b costs 4.00, and its supporters' offers come to 1 1/3
+C5          not asked  without --stable it holds: project b, the closest, costs 4.00, and its supporters' leftovers come to 2/3
+S5          holds      project b, the closest, costs 4.00, and its supporters' offers come to 1 1/3
 ",
         "{printed}"
     );

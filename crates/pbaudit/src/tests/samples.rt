@@ -155,8 +155,8 @@ C1          holds      no voter pays for a project that isn't on its ballot
 C2          holds      voter 1 spends most, 4.00 of its budget of 4.00
 C3          holds      each funded project is paid for exactly
 C4          holds      nothing is paid for an unfunded project
-C5          holds      closest: project c costs 9.00, and its supporters' leftovers come to 2.00
-S5          not asked  with --stable it holds: closest: project c costs 9.00, and its supporters' offers come to 2.00
+C5          holds      project c, the closest, costs 9.00, and its supporters' leftovers come to 2.00
+S5          not asked  with --stable it holds: project c, the closest, costs 9.00, and its supporters' offers come to 2.00
 ";
 
 /// The table of margins by these prices. Each voter has 4. Voter 1 pays 2 and 2, voter 2 pays 4, and
