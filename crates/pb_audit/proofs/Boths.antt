@@ -13,7 +13,7 @@ use Rattle.pb_cohesion.specs.Satisfactions.{worth_by}
 use Rattle.pb_price.specs.declared.Mode.{Mode}
 use Rattle.pb_price.specs.declared.Verdict.{Verdict}
 use Rattle.pb_audit.specs.Answers.{Reply, price_reply, refused, violation_reply, with_input}
-use Rattle.pb_audit.specs.Both.{AnswersBoth, BothPromise, Claim, ReadsBoth, beside, both_on, yes_where_both}
+use Rattle.pb_audit.specs.Both.{AnswersBoth, BothPromise, GroupAndDemand, ReadsBoth, beside, both_on, yes_where_both}
 use Rattle.pb_audit.specs.Inputs.{InTurn, Stated, StatesElection, StatesPrices, StatesViolation, refusal_of}
 use Rattle.pb_audit.specs.Lines.{Refusal}
 use Rattle.pb_audit.specs.Readers.{AuditReadings, Delivers, IsUntouched, Reading}
@@ -31,7 +31,7 @@ both_yes No second = (λ h. no-yes h, λ h. no-yes h.0)
 both_yes Refused second = (λ h. cc, λ h. let no : Refused ≡ Yes = h.0 in cc)
 
 -- what the reply on prices and a claim of sets promises
-both_promise : (m : Mode) (e : Instance) (w : List Bool) (p : Prices) (claim : Claim) → IsGroup e claim.1 → AreProjects e claim.2
+both_promise : (m : Mode) (e : Instance) (w : List Bool) (p : Prices) (claim : GroupAndDemand) → IsGroup e claim.1 → AreProjects e claim.2
     → BothPromise m (both_on m e w p claim).status e w p claim
 both_promise m e w p claim group demand =
     let on_prices = prices_promise m e w p in
@@ -46,12 +46,12 @@ both_promise m e w p claim group demand =
     }
 
 -- a claim that is stated is one of sets
-claim_sets : (e : Instance) (d : Delivery) (claim : Claim) → StatesViolation name.Violation e d (Ok claim) → IsGroup e claim.1 × AreProjects e claim.2
+claim_sets : (e : Instance) (d : Delivery) (claim : GroupAndDemand) → StatesViolation name.Violation e d (Ok claim) → IsGroup e claim.1 × AreProjects e claim.2
 claim_sets e (delivery.Bytes bytes) claim states = group-text-sets (certificate_records bytes) e claim.0 claim.1 claim.2 states
 claim_sets e delivery.Read claim states = cc
 claim_sets e delivery.TooLong claim states = cc
 
-pub beside_promised : (m : Mode) (e : Instance) (w : List Bool) (p : Prices) (d : Delivery) (v : Stated Claim) (r : Reply) → StatesViolation name.Violation e d v
+pub beside_promised : (m : Mode) (e : Instance) (w : List Bool) (p : Prices) (d : Delivery) (v : Stated GroupAndDemand) (r : Reply) → StatesViolation name.Violation e d v
     → r ≡ with_input v (λ claim. both_on m e w p claim) → IfOk v (λ claim. BothPromise m r.status e w p claim)
 beside_promised m e w p d (Ok claim) r states is =
     let sets = claim_sets e d claim states in

@@ -6,8 +6,7 @@ use Rattle.pb_election.specs.Instance.{Instance, IsProject, IsSet, all_projects,
 use Rattle.pb_certificate.specs.Prices.{Prices}
 use Rattle.pb_cohesion.specs.Amounts.{beta, budget_limit}
 use Rattle.pb_cohesion.specs.Conditions.{culprits_of_C1, culprits_of_C2, culprits_of_C3, culprits_of_C4, culprits_of_C5, culprits_of_Exhaustive, culprits_of_S5}
-use Rattle.pb_cohesion.specs.FirstV.{FirstV, culprits_of_V2, culprits_of_V4}
-use Rattle.pb_cohesion.specs.FirstV as violations
+use Rattle.pb_cohesion.specs.FirstV.{FirstV, culprits_of_V2, culprits_of_V4, violation_failures_of, violation_verdict_of}
 use Rattle.pb_cohesion.specs.Outcome.{total}
 use Rattle.pb_cohesion.specs.declared.ViolationFailure.{ViolationFailure}
 use Rattle.pb_cohesion.specs.declared.ViolationFailure.TheVariants as violation_failure
@@ -133,7 +132,7 @@ missing-name e s t set =
     demanded : AllByRecursion (IsProject e) t
     demanded = all-set (IsProject e) 1 (projects e) t set (λ j low high. (low, high))
 
-pub violation-names : (worth : ℕ → ℕ) (e : Instance) (w : List Bool) (s t : List ℕ) → IsSet 1 (projects e) t → AllByRecursion (NamesDemanded e) (violations.failures_of worth e w s t)
+pub violation-names : (worth : ℕ → ℕ) (e : Instance) (w : List Bool) (s t : List ℕ) → IsSet 1 (projects e) t → AllByRecursion (NamesDemanded e) (violation_failures_of worth e w s t)
 violation-names worth e w s t set =
     all-append (NamesDemanded e) _ _
     (all-append (NamesDemanded e) _ _
@@ -143,10 +142,10 @@ violation-names worth e w s t set =
     (all-if (NamesDemanded e) (nat_lt (length s * e.limit) (voters e * cost_of_all e t)) (violation_failure.V3 ∷ []) [] (tt, tt) tt))
     (all-map (NamesDemanded e) violation_failure.V4 (culprits_of_V4 worth e w s t) (all-true (λ i. NamesDemanded e (violation_failure.V4 i)) (culprits_of_V4 worth e w s t) (λ i. tt)))
 
-first-demanded : (e : Instance) (o : Option ViolationFailure) → IfSome o (NamesDemanded e) → ViolationNamesProject e (violations.verdict_of o)
+first-demanded : (e : Instance) (o : Option ViolationFailure) → IfSome o (NamesDemanded e) → ViolationNamesProject e (violation_verdict_of o)
 first-demanded e None h = tt
 first-demanded e (Some f) h = h
 
-pub violation_names_projects : (worth : ℕ → ℕ) (e : Instance) (w : List Bool) (s t : List ℕ) (v : ViolationVerdict) → v ≡ violations.verdict_of (FirstV worth e w s t) → IsSet 1 (projects e) t → ViolationNamesProject e v
+pub violation_names_projects : (worth : ℕ → ℕ) (e : Instance) (w : List Bool) (s t : List ℕ) (v : ViolationVerdict) → v ≡ violation_verdict_of (FirstV worth e w s t) → IsSet 1 (projects e) t → ViolationNamesProject e v
 violation_names_projects worth e w s t v is set =
-    subst (λ (u : ViolationVerdict). ViolationNamesProject e u) (sym is) (first-demanded e (FirstV worth e w s t) (all-first (NamesDemanded e) (violations.failures_of worth e w s t) (violation-names worth e w s t set)))
+    subst (λ (u : ViolationVerdict). ViolationNamesProject e u) (sym is) (first-demanded e (FirstV worth e w s t) (all-first (NamesDemanded e) (violation_failures_of worth e w s t) (violation-names worth e w s t set)))

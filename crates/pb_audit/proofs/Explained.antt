@@ -21,7 +21,7 @@ use Rattle.pb_price.specs.declared.Failure.{Failure}
 use Rattle.pb_price.specs.declared.Findings.{Findings}
 use Rattle.pb_price.specs.declared.Mode.{Mode}
 use Rattle.pb_price.proofs.Told.{tell-first}
-use Rattle.pb_explain.specs.PriceTable.{NameProjects, NamesProject, price_table}
+use Rattle.pb_explain.specs.PriceTable.{NameProjects, ShowsProject, price_table}
 use Rattle.pb_audit.specs.Answers.{Reply, verdict_reply, with_input}
 use Rattle.pb_audit.specs.Explained.{ExplainedPromise, OfPrices, OfViolation, StatesCertificate, explained_prices, explained_reply, explained_violation, is_violation, with_table}
 use Rattle.pb_audit.specs.Inputs.{Stated, StatesPrices, StatesViolation}
@@ -65,7 +65,7 @@ named-either e None r h k = k
 named-either e (Some x) r h k = h
 
 names-project : (e : Instance) (culprits candidates : List ℕ) (bound : ℕ → ℕ) (amount : ℕ → ℤ) → AllByRecursion (IsProject e) culprits → AllByRecursion (IsProject e) candidates
-    → NamesProject e (finding culprits candidates bound amount)
+    → ShowsProject e (finding culprits candidates bound amount)
 names-project e culprits candidates bound amount of_culprits of_candidates =
     named-first e bound amount (option_or (slice_get culprits 0) (closest candidates (λ x. excess (comparison bound amount x))))
     (named-either e (slice_get culprits 0) (closest candidates (λ x. excess (comparison bound amount x)))

@@ -18,10 +18,10 @@ use Rattle.pb_certificate.proofs.Written.{range-push}
 use Rattle.pb_price.specs.Margins.{AreMargins, margins_of_project}
 use Rattle.pb_price.specs.declared.Margins.{Margins}
 use Rattle.pb_price.specs.declared.ProjectMargins.{ProjectMargins}
+use Rattle.pb_explain.specs.Amounts.{Text}
 use Rattle.pb_audit.specs.Answers.{Answer, Reply, answer_of, refused, text_of}
 use Rattle.pb_audit.specs.Inputs.{StatesElection, StatesPrices, refusal_of}
-use Rattle.pb_audit.specs.Lines.{Text}
-use Rattle.pb_audit.specs.Margins.{AlwaysYes, AnswersMargins, ReadsMargins, flag_of, head_records, margins_reply, record_line, row_of, rows_of, table_of}
+use Rattle.pb_audit.specs.Margins.{AlwaysYes, AnswersMargins, ReadsMargins, flag_of, margin_head, margin_rows, margins_reply, record_line, row_of, table_of}
 use Rattle.pb_audit.specs.Readers.{AuditReadings, Delivers, TellsReply}
 use Rattle.pb_audit.specs.Taking.{AnswersCertificate, AuditsOutcome, Gives, IfTaken, ReadsOutcome, TablesMargins, settled_answer, stopped}
 use Rattle.pb_audit.specs.declared.input.InputName.TheVariants.{Certificate}
@@ -60,7 +60,7 @@ pub head_written : (g : ℕ) (h0 h1 h2 h3 : Text) → g < 10 ^ 64
     → h1 ≡ h0 ++ row_text default_writer (codes "pb-margins" ∷ codes "1" ∷ [])
     → h2 ≡ h1 ++ row_text default_writer (codes "grains_per_unit" ∷ decimal g ∷ [])
     → h3 ≡ h2 ++ row_text default_writer (codes "project" ∷ codes "funded" ∷ codes "supporters" ∷ codes "cost" ∷ codes "paid" ∷ codes "left" ∷ codes "offer" ∷ [])
-    → h3 ≡ h0 ++ lines (head_records g)
+    → h3 ≡ h0 ++ lines (margin_head g)
 head_written g h0 h1 h2 h3 small e1 e2 e3 =
     let name = row-line (codes "pb-margins") (codes "1") [] (refl, (refl, tt)) in
     let grains = row-line (codes "grains_per_unit") (decimal g) [] (refl, (decimal-plain g small, tt)) in
@@ -95,28 +95,28 @@ as_many_rows e w p m are = ap length are.projects ∙ as_many (margins_of_projec
 
 -- one more row, that of project c
 pub row_pushed : (e : Instance) (w : List Bool) (p : Prices) (m : Margins) (c : ℕ) (d : ProjectMargins) (before after : Text) → AreMargins e w p m → 1 ≤ c → c ≤ projects e
-    → before ≡ lines (head_records m.grains_per_unit ++ rows_of e w p (range_with_len 1 (c - 1)))
+    → before ≡ lines (margin_head m.grains_per_unit ++ margin_rows e w p (range_with_len 1 (c - 1)))
     → after ≡ before ++ line (row_of (id_of e c) (get_or m.projects.items (c - 1) d))
-    → after ≡ lines (head_records m.grains_per_unit ++ rows_of e w p (range_with_len 1 c))
+    → after ≡ lines (margin_head m.grains_per_unit ++ margin_rows e w p (range_with_len 1 c))
 row_pushed e w p m c d before after are low high b a =
     let past : suc (c - 1) ≡ c = omega arith in
     let here : 1 + (c - 1) ≡ c = omega arith in
     let row : ℕ → Rec = λ j. row_of (id_of e j) (margins_of_project e w p j) in
     let figures : get_or m.projects.items (c - 1) d ≡ margins_of_project e w p c =
     ap (λ (ms : List ProjectMargins). get_or ms (c - 1) d) are.projects ∙ (at_place (margins_of_project e w p) 1 (projects e) (c - 1) d (omega arith) ∙ ap (margins_of_project e w p) here) in
-    let head : List Rec = head_records m.grains_per_unit in
-    let others : List Rec = rows_of e w p (range_with_len 1 (c - 1)) in
+    let head : List Rec = margin_head m.grains_per_unit in
+    let others : List Rec = margin_rows e w p (range_with_len 1 (c - 1)) in
     let range : range_with_len 1 c ≡ range_with_len 1 (c - 1) ++ (c ∷ []) =
     ap (range_with_len 1) (sym past) ∙ (range-push 1 (c - 1) ∙ ap (λ (j : ℕ). range_with_len 1 (c - 1) ++ (j ∷ [])) here) in
-    let rows : rows_of e w p (range_with_len 1 c) ≡ others ++ (row c ∷ []) = ap (rows_of e w p) range ∙ map-append row (range_with_len 1 (c - 1)) (c ∷ []) in
+    let rows : margin_rows e w p (range_with_len 1 c) ≡ others ++ (row c ∷ []) = ap (margin_rows e w p) range ∙ map-append row (range_with_len 1 (c - 1)) (c ∷ []) in
     a ∙ (ap (λ (x : Text). x ++ line (row_of (id_of e c) (get_or m.projects.items (c - 1) d))) b ∙ (ap (λ (f : ProjectMargins). lines (head ++ others) ++ line (row_of (id_of e c) f)) figures
     ∙ (sym (lines_push (head ++ others) (row c)) ∙ ap lines (append_assoc head others (row c ∷ []) ∙ ap (λ (x : List Rec). head ++ x) (sym rows)))))
 
 -- all rows
 pub table_written : (e : Instance) (w : List Bool) (p : Prices) (m : Margins) (c : ℕ) (text : Text) → AreMargins e w p m → c ≡ projects e
-    → text ≡ lines (head_records m.grains_per_unit ++ rows_of e w p (range_with_len 1 c)) → text ≡ lines (table_of e w p)
+    → text ≡ lines (margin_head m.grains_per_unit ++ margin_rows e w p (range_with_len 1 c)) → text ≡ lines (table_of e w p)
 table_written e w p m c text are all is =
-    is ∙ (ap (λ (g : ℕ). lines (head_records g ++ rows_of e w p (range_with_len 1 c))) are.grains_per_unit ∙ ap (λ (n : ℕ). lines (head_records (10 ^ 6 * p.denominator) ++ rows_of e w p (range_with_len 1 n))) all)
+    is ∙ (ap (λ (g : ℕ). lines (margin_head g ++ margin_rows e w p (range_with_len 1 c))) are.grains_per_unit ∙ ap (λ (n : ℕ). lines (margin_head (10 ^ 6 * p.denominator) ++ margin_rows e w p (range_with_len 1 n))) all)
 
 -- The answers.
 

@@ -7,7 +7,7 @@ use Rattle.pb_certificate.specs.Prices.{Prices}
 use Rattle.pb_price.specs.First.{First, verdict_of}
 use Rattle.pb_price.specs.declared.Mode.{Mode}
 use Rattle.pb_audit.specs.Answers.{Answer, AnswersAudit, AnswersElection, AnswersPrices, AnswersTidy, AnswersViolation, FilesState, OfAccepted, Reply, answer_of, audit_reply, price_reply, read_reply, refused, tidy_answer, violation_reply, with_input}
-use Rattle.pb_audit.specs.Both.{AnswersBoth, Claim, beside, both_on, both_reply}
+use Rattle.pb_audit.specs.Both.{AnswersBoth, GroupAndDemand, beside, both_on, both_reply}
 use Rattle.pb_audit.specs.Inputs.{Stated, StatesElection, StatesOutcome, StatesPrices, StatesViolation, audited}
 use Rattle.pb_audit.specs.Margins.{AlwaysYes, AnswersMargins, margins_reply}
 use Rattle.pb_audit.specs.OneAnswer.{JustOne}
@@ -153,16 +153,16 @@ both-some m election outcome prices violation = by (election-one election).one.0
     by (Err r) given = (refused r, boths.election_refused m election outcome prices violation r given)
 
 -- what each of the inputs states, in turn
-record BothState (election : Delivery) (outcome : Option Delivery) (prices violation : Delivery) (e : Stated Instance) (o : Option (Stated (List Bool))) (p : Stated Prices) (v : Stated Claim) : Type 0 where
+record BothState (election : Delivery) (outcome : Option Delivery) (prices violation : Delivery) (e : Stated Instance) (o : Option (Stated (List Bool))) (p : Stated Prices) (v : Stated GroupAndDemand) : Type 0 where
   files : FilesState (StatesPrices name.Prices) election outcome prices e o p
   claim : OfAccepted (λ i w q. StatesViolation name.Violation i violation v) e o p
 
-claims-answered : (m : Mode) (violation : Delivery) (e : Instance) (w : List Bool) (p : Stated Prices) (u v : Stated Claim) → IfOk p (λ q. StatesViolation name.Violation e violation u) → IfOk p (λ q. StatesViolation name.Violation e violation v)
+claims-answered : (m : Mode) (violation : Delivery) (e : Instance) (w : List Bool) (p : Stated Prices) (u v : Stated GroupAndDemand) → IfOk p (λ q. StatesViolation name.Violation e violation u) → IfOk p (λ q. StatesViolation name.Violation e violation v)
     → with_input p (λ q. with_input u (λ claim. both_on m e w q claim)) ≡ with_input p (λ q. with_input v (λ claim. both_on m e w q claim))
-claims-answered m violation e w (Ok p) u v h k = ap (λ (x : Stated Claim). with_input x (λ claim. both_on m e w p claim)) ((violation-one name.Violation e violation).no_other u v h k)
+claims-answered m violation e w (Ok p) u v h k = ap (λ (x : Stated GroupAndDemand). with_input x (λ claim. both_on m e w p claim)) ((violation-one name.Violation e violation).no_other u v h k)
 claims-answered m violation e w (Err r) u v h k = refl
 
-prices-answered : (m : Mode) (prices violation : Delivery) (e : Instance) (w : Stated (List Bool)) (p q : Stated Prices) (u v : Stated Claim)
+prices-answered : (m : Mode) (prices violation : Delivery) (e : Instance) (w : Stated (List Bool)) (p q : Stated Prices) (u v : Stated GroupAndDemand)
     → IfOk w (λ marks. StatesPrices name.Prices e prices p) → IfOk w (λ marks. StatesPrices name.Prices e prices q)
     → IfOk w (λ marks. IfOk p (λ x. StatesViolation name.Violation e violation u)) → IfOk w (λ marks. IfOk q (λ x. StatesViolation name.Violation e violation v))
     → with_input w (λ marks. with_input p (λ x. with_input u (λ claim. both_on m e marks x claim))) ≡ with_input w (λ marks. with_input q (λ x. with_input v (λ claim. both_on m e marks x claim)))
@@ -172,7 +172,7 @@ prices-answered m prices violation e (Ok w) p q u v h k i j =
     let given = subst (λ (s : Stated Prices). IfOk s (λ x. StatesViolation name.Violation e violation v)) same j in
     claims-answered m violation e w p u v i given ∙ ap (λ (s : Stated Prices). with_input s (λ x. with_input v (λ claim. both_on m e w x claim))) (sym same)
 
-both-state-same : (m : Mode) (election : Delivery) (outcome : Option Delivery) (prices violation : Delivery) (e : Stated Instance) (o n : Option (Stated (List Bool))) (p q : Stated Prices) (u v : Stated Claim)
+both-state-same : (m : Mode) (election : Delivery) (outcome : Option Delivery) (prices violation : Delivery) (e : Stated Instance) (o n : Option (Stated (List Bool))) (p q : Stated Prices) (u v : Stated GroupAndDemand)
     → BothState election outcome prices violation e o p u → BothState election outcome prices violation e n q v → both_reply m e o p u ≡ both_reply m e n q v
 both-state-same m election outcome prices violation (Err r) o n p q u v f g = refl
 both-state-same m election outcome prices violation (Ok e) o n p q u v f g =

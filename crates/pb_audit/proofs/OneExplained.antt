@@ -5,7 +5,7 @@ use Rattle.pb_election.specs.Instance.{Instance}
 use Rattle.pb_records.specs.Loading.{Delivery}
 use Rattle.pb_certificate.specs.Prices.{Prices}
 use Rattle.pb_price.specs.declared.Mode.{Mode}
-use Rattle.pb_audit.specs.Both.{Claim}
+use Rattle.pb_audit.specs.Both.{GroupAndDemand}
 use Rattle.pb_audit.specs.Explained.{AnswersExplained, Certificate, ExplainedPromise, OfPrices, OfViolation, StatesCertificate, explained_reply, is_violation}
 use Rattle.pb_audit.specs.Inputs.{Stated, StatesPrices, StatesViolation}
 use Rattle.pb_audit.specs.OneAnswer.{JustOne}
@@ -19,7 +19,7 @@ abbrev of-prices : Stated Prices → Stated Certificate
 of-prices (Ok p) = Ok (OfPrices p)
 of-prices (Err r) = Err r
 
-abbrev of-violation : Stated Claim → Stated Certificate
+abbrev of-violation : Stated GroupAndDemand → Stated Certificate
 of-violation (Ok v) = Ok (OfViolation v)
 of-violation (Err r) = Err r
 
@@ -30,7 +30,7 @@ as-prices e d is (Ok (OfViolation v)) h = cc
 as-prices e d is (Err r) (inl h) = (Err r, h.1, refl)
 as-prices e d is (Err r) (inr h) = cc
 
-as-violation : (e : Instance) (d : Delivery) → is_violation d ≡ true → (s : Stated Certificate) → StatesCertificate e d s → (v : Stated Claim) × StatesViolation name.Certificate e d v × (s ≡ of-violation v)
+as-violation : (e : Instance) (d : Delivery) → is_violation d ≡ true → (s : Stated Certificate) → StatesCertificate e d s → (v : Stated GroupAndDemand) × StatesViolation name.Certificate e d v × (s ≡ of-violation v)
 as-violation e d is (Ok (OfPrices p)) h = cc
 as-violation e d is (Ok (OfViolation v)) h = (Ok v, h.1, refl)
 as-violation e d is (Err r) (inl h) = cc
@@ -50,7 +50,7 @@ from-prices : (e : Instance) (d : Delivery) → is_violation d ≡ false → (p 
 from-prices e d is (Ok p) h = (is, h)
 from-prices e d is (Err r) h = inl (is, h)
 
-from-violation : (e : Instance) (d : Delivery) → is_violation d ≡ true → (v : Stated Claim) → StatesViolation name.Certificate e d v → StatesCertificate e d (of-violation v)
+from-violation : (e : Instance) (d : Delivery) → is_violation d ≡ true → (v : Stated GroupAndDemand) → StatesViolation name.Certificate e d v → StatesCertificate e d (of-violation v)
 from-violation e d is (Ok v) h = (is, h)
 from-violation e d is (Err r) h = inr (is, h)
 

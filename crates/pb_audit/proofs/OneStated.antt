@@ -27,7 +27,7 @@ use Rattle.pb_certificate.proofs.OutcomeClear.{outcome-clear}
 use Rattle.pb_certificate.proofs.PriceAnswered.{price-answered}
 use Rattle.pb_certificate.proofs.PriceClear.{price-clear}
 use Rattle.pb_certificate.proofs.Unique.{group-text-same, outcome-text-same, price-text-same}
-use Rattle.pb_audit.specs.Both.{Claim}
+use Rattle.pb_audit.specs.Both.{GroupAndDemand}
 use Rattle.pb_audit.specs.Inputs.{IsRefusedElection, IsRefusedFile, Stated, States, StatesElection, StatesFile, StatesOutcome, StatesPrices, StatesViolation, refusal_of}
 use Rattle.pb_audit.specs.Lines.{Refusal}
 use Rattle.pb_audit.specs.OneAnswer.{JustOne}
@@ -108,7 +108,7 @@ prices-one input e = states-one input (λ bytes p. IsPriceText (certificate_reco
 })
 
 -- the three parts of a claim are the claim
-claims-same : (a b : Claim) → (a.0 ≡ b.0) × (a.1 ≡ b.1) × (a.2 ≡ b.2) → a ≡ b
+claims-same : (a b : GroupAndDemand) → (a.0 ≡ b.0) × (a.1 ≡ b.1) × (a.2 ≡ b.2) → a ≡ b
 claims-same a b h = λ i. (h.0 i, h.1 i, h.2 i)
 
 pub violation-one : (input : InputName) (e : Instance) (d : Delivery) → JustOne (StatesViolation input e d)

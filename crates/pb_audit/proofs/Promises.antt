@@ -3,8 +3,7 @@ use Rattle.std.proofs.Common.{◌≡◌, refl, Bool, List, Option, ℕ}
 use Rattle.std.specs.Prelude.{None, Some}
 use Rattle.pb_election.specs.Instance.{Instance}
 use Rattle.pb_certificate.specs.Prices.{Prices}
-use Rattle.pb_cohesion.specs.FirstV.{FirstV}
-use Rattle.pb_cohesion.specs.FirstV as violations
+use Rattle.pb_cohesion.specs.FirstV.{FirstV, violation_verdict_of}
 use Rattle.pb_cohesion.specs.Satisfactions.{worth_by}
 use Rattle.pb_certificate.specs.declared.measure.Measure.{Measure}
 use Rattle.pb_cohesion.specs.declared.ViolationFailure.{ViolationFailure}
@@ -51,6 +50,6 @@ prices_promise m e w p = by_first (First m e w p) refl
 pub violation_promises : (e : Instance) (w : List Bool) (claim : Measure × List ℕ × List ℕ) → ViolationPromises (violation_reply e w claim).status e w claim
 violation_promises e w claim = by_first (FirstV (worth_by claim.0 e) e w claim.1 claim.2) refl
   where
-    by_first : (f : Option ViolationFailure) → FirstV (worth_by claim.0 e) e w claim.1 claim.2 ≡ f → ViolationPromises (violation_status (violations.verdict_of f)) e w claim
+    by_first : (f : Option ViolationFailure) → FirstV (worth_by claim.0 e) e w claim.1 claim.2 ≡ f → ViolationPromises (violation_status (violation_verdict_of f)) e w claim
     by_first None is = (λ yes'. (violates-iff (worth_by claim.0 e) e w claim.1 claim.2).0 is, λ v. refl)
     by_first (Some f) is = (λ yes'. no-yes yes', λ v. let none : FirstV (worth_by claim.0 e) e w claim.1 claim.2 ≡ None = (violates-iff (worth_by claim.0 e) e w claim.1 claim.2).1 v in cc)

@@ -6,8 +6,7 @@ use Rattle.pb_records.specs.Loading.{Delivery}
 use Rattle.pb_certificate.specs.Canon.{Canon, line_end}
 use Rattle.pb_certificate.specs.Prices.{Prices}
 use Rattle.pb_certificate.specs.declared.measure.Measure.{Measure}
-use Rattle.pb_cohesion.specs.FirstV.{FirstV}
-use Rattle.pb_cohesion.specs.FirstV as violations
+use Rattle.pb_cohesion.specs.FirstV.{FirstV, violation_verdict_of}
 use Rattle.pb_cohesion.specs.Satisfactions.{worth_by}
 use Rattle.pb_cohesion.specs.declared.ViolationVerdict.{ViolationVerdict}
 use Rattle.pb_cohesion.specs.declared.ViolationVerdict.TheVariants as violation_verdict
@@ -15,8 +14,9 @@ use Rattle.pb_price.specs.First.{First, verdict_of}
 use Rattle.pb_price.specs.declared.Mode.{Mode}
 use Rattle.pb_price.specs.declared.Verdict.{Verdict}
 use Rattle.pb_price.specs.declared.Verdict.TheVariants as verdict
+use Rattle.pb_explain.specs.Amounts.{Text}
 use Rattle.pb_audit.specs.Inputs.{Stated, StatesElection, StatesFile, StatesOutcome, StatesPrices, StatesViolation, audited, in_memory}
-use Rattle.pb_audit.specs.Lines.{Refusal, Text, notes, price_line, read_line, refusal_line, violation_line}
+use Rattle.pb_audit.specs.Lines.{Refusal, notes, price_line, read_line, refusal_line, violation_line}
 use Rattle.pb_audit.specs.Promises.{PricesPromise, ViolationPromises}
 use Rattle.pb_audit.specs.declared.input.InputName.TheVariants as name
 use Rattle.pb_audit.specs.declared.status.Status.{Status}
@@ -75,7 +75,7 @@ price_reply m e w p = verdict_reply m e (verdict_of (First m e w p))
 
 -- the verdict on a group and its demand, by the measure that the certificate states
 abbrev pub violation_reply : Instance → List Bool → Measure × List ℕ × List ℕ → Reply
-violation_reply e w v = let found = violations.verdict_of (FirstV (worth_by v.0 e) e w v.1 v.2) in record { lines = violation_line e found ∷ []; status = violation_status found }
+violation_reply e w v = let found = violation_verdict_of (FirstV (worth_by v.0 e) e w v.1 v.2) in record { lines = violation_line e found ∷ []; status = violation_status found }
 
 -- the reply on an election, an outcome and a certificate
 abbrev pub audit_reply : {A : Type 0} → (Instance → List Bool → A → Reply) → Stated Instance → Option (Stated (List Bool)) → Stated A → Reply

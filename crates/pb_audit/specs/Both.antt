@@ -20,8 +20,8 @@ use Rattle.pb_audit.specs.declared.status.Status.{Status}
 use Rattle.pb_audit.specs.declared.status.Status.TheVariants.{Yes, No, Refused}
 
 -- what a violation certificate states: its measure, a group and what it demands
-abbrev pub Claim : Type 0
-Claim = Measure × List ℕ × List ℕ
+abbrev pub GroupAndDemand : Type 0
+GroupAndDemand = Measure × List ℕ × List ℕ
 
 -- the lines of both, and yes where both are a yes
 abbrev pub yes_where_both : Status → Status → Status
@@ -33,22 +33,22 @@ abbrev pub joined : Reply → Reply → Reply
 joined first second = record { lines = first.lines ++ second.lines; status = yes_where_both first.status second.status }
 
 -- the verdict on the prices, and then that on the group and its demand
-abbrev pub both_on : Mode → Instance → List Bool → Prices → Claim → Reply
+abbrev pub both_on : Mode → Instance → List Bool → Prices → GroupAndDemand → Reply
 both_on m e w p claim = joined (price_reply m e w p) (violation_reply e w claim)
 
 -- the verdict on a group and its demand below a verdict on prices
-abbrev pub beside : Mode → Verdict → Instance → List Bool → Claim → Reply
+abbrev pub beside : Mode → Verdict → Instance → List Bool → GroupAndDemand → Reply
 beside m verdict e w claim = joined (verdict_reply m e verdict) (violation_reply e w claim)
 
 -- the reply on an election, an outcome and both certificates
-abbrev pub both_reply : Mode → Stated Instance → Option (Stated (List Bool)) → Stated Prices → Stated Claim → Reply
+abbrev pub both_reply : Mode → Stated Instance → Option (Stated (List Bool)) → Stated Prices → Stated GroupAndDemand → Reply
 both_reply m election outcome prices violation =
     audit_reply (λ e w p. with_input violation (λ claim. both_on m e w p claim)) election outcome prices
 
 -- The status is yes exactly where the prices support the outcome and the group and its demand are a violation. Each line
 -- promises what it promises alone. What is more, where the stable form and Cover are asked for, prices that support the
 -- outcome never stand beside a violation by counting.
-pub record BothPromise (m : Mode) (status : Status) (e : Instance) (w : List Bool) (p : Prices) (claim : Claim) : Type 0 where
+pub record BothPromise (m : Mode) (status : Status) (e : Instance) (w : List Bool) (p : Prices) (claim : GroupAndDemand) : Type 0 where
   pub exactly : (status ≡ Yes) ↔ (Supports m.stable m.exhaustive m.cover e w p × Violates (worth_by claim.0 e) e w claim.1 claim.2)
   pub prices : PricesPromise m (price_reply m e w p).status e w p
   pub violation : ViolationPromises (violation_reply e w claim).status e w claim
@@ -60,7 +60,7 @@ pub record AnswersBoth (m : Mode) (election : Delivery) (outcome : Option Delive
   pub e : Stated Instance
   pub o : Option (Stated (List Bool))
   pub p : Stated Prices
-  pub v : Stated Claim
+  pub v : Stated GroupAndDemand
   pub given : FilesState (StatesPrices name.Prices) election outcome prices e o p
   pub violation_states : OfAccepted (λ instance w prices'. StatesViolation name.Violation instance violation v) e o p
   pub out : r ≡ both_reply m e o p v

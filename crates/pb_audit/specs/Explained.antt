@@ -14,9 +14,9 @@ use Rattle.pb_price.specs.Findings.{findings}
 use Rattle.pb_price.specs.declared.Mode.{Mode}
 use Rattle.pb_explain.specs.PriceTable.{price_table}
 use Rattle.pb_explain.specs.ViolationTable.{violation_table}
+use Rattle.pb_explain.specs.Amounts.{Text}
 use Rattle.pb_audit.specs.Answers.{AnswersAudit, Reply, price_reply, violation_reply}
 use Rattle.pb_audit.specs.Inputs.{Stated, StatesPrices, StatesViolation, in_memory}
-use Rattle.pb_audit.specs.Lines.{Text}
 use Rattle.pb_audit.specs.Promises.{PricesPromise, ViolationPromises}
 use Rattle.pb_audit.specs.Readers.{AuditReadings, ReadsAudit}
 use Rattle.pb_audit.specs.declared.input.InputName.TheVariants as name

@@ -17,7 +17,8 @@ use Rattle.pb_certificate.specs.PriceText.{IsPriceText}
 use Rattle.pb_certificate.specs.declared.measure.Measure.{Measure}
 use Rattle.pb_certificate.specs.declared.refusal.CertFault.{CertFault}
 use Rattle.pb_certificate.specs.declared.refusal.CertRefusal.{CertRefusal}
-use Rattle.pb_audit.specs.Lines.{Refusal, Text}
+use Rattle.pb_explain.specs.Amounts.{Text}
+use Rattle.pb_audit.specs.Lines.{Refusal}
 use Rattle.pb_audit.specs.declared.input.InputFault.{InputFault}
 use Rattle.pb_audit.specs.declared.input.InputFault.TheVariants as fault
 use Rattle.pb_audit.specs.declared.input.InputName.{InputName}

@@ -10,13 +10,11 @@ use Rattle.pb_price.specs.declared.Failure.{Failure}
 use Rattle.pb_price.specs.declared.Failure.TheVariants as failure
 use Rattle.pb_price.specs.declared.Verdict.{Verdict}
 use Rattle.pb_price.specs.declared.Verdict.TheVariants as verdict
-
-abbrev pub Text : Type 0
-Text = List ℕ
+use Rattle.pb_explain.specs.Amounts.{Text}
 
 -- how many projects are funded, where the election says which
-abbrev pub funded : Instance → Option ℕ
-funded e = option_map (count_by (λ mark. mark)) e.selected
+abbrev pub number_of_funded : Instance → Option ℕ
+number_of_funded e = option_map (count_by (λ mark. mark)) e.selected
 
 abbrev pub outcome_words : Option ℕ → Text
 outcome_words None = codes "no outcome"
@@ -24,7 +22,7 @@ outcome_words (Some count) = decimal count ++ codes " funded"
 
 -- the line on an election that was read
 abbrev pub read_line : Instance → Text
-read_line e = codes "read " ++ decimal (voters e) ++ codes " voters " ++ decimal (projects e) ++ codes " projects " ++ outcome_words (funded e)
+read_line e = codes "read " ++ decimal (voters e) ++ codes " voters " ++ decimal (projects e) ++ codes " projects " ++ outcome_words (number_of_funded e)
 
 -- the notes on an election, in their order: a declared count is not the counted one, and some fields of the column
 -- `selected` are neither 0 nor 1

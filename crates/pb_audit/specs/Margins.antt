@@ -10,17 +10,17 @@ use Rattle.pb_certificate.specs.Canon.{comma, written}
 use Rattle.pb_certificate.specs.Prices.{Prices}
 use Rattle.pb_price.specs.Margins.{margins_of_project}
 use Rattle.pb_price.specs.declared.ProjectMargins.{ProjectMargins}
+use Rattle.pb_explain.specs.Amounts.{Text}
 use Rattle.pb_audit.specs.Answers.{Answer, AnswersAudit, Reply}
 use Rattle.pb_audit.specs.Inputs.{StatesPrices, in_memory}
-use Rattle.pb_audit.specs.Lines.{Text}
 use Rattle.pb_audit.specs.Readers.{AuditReadings, ReadsAudit, TellsReply}
 use Rattle.pb_audit.specs.declared.input.InputName.TheVariants as name
 use Rattle.pb_audit.specs.declared.status.Status.{Status}
 use Rattle.pb_audit.specs.declared.status.Status.TheVariants.{Yes}
 
 -- the head: the name of the format and its version, how many grains one unit of the currency has, and the columns
-abbrev pub head_records : ℕ → List Rec
-head_records grains_per_unit =
+abbrev pub margin_head : ℕ → List Rec
+margin_head grains_per_unit =
     (codes "pb-margins" ∷ codes "1" ∷ [])
     ∷ (codes "grains_per_unit" ∷ decimal grains_per_unit ∷ [])
     ∷ (codes "project" ∷ codes "funded" ∷ codes "supporters" ∷ codes "cost" ∷ codes "paid" ∷ codes "left" ∷ codes "offer" ∷ [])
@@ -35,12 +35,12 @@ row_of id m =
     id ∷ flag_of m.funded ∷ decimal m.supporters ∷ decimal m.cost ∷ decimal m.paid ∷ signed_decimal m.left ∷ signed_decimal m.offer ∷ []
 
 -- the rows of some projects by a price system
-abbrev pub rows_of : Instance → List Bool → Prices → List ℕ → List Rec
-rows_of e w p cs = map (λ c. row_of (id_of e c) (margins_of_project e w p c)) cs
+abbrev pub margin_rows : Instance → List Bool → Prices → List ℕ → List Rec
+margin_rows e w p cs = map (λ c. row_of (id_of e c) (margins_of_project e w p c)) cs
 
 -- the table: the head, and then a row for each project in the order of the election
 abbrev pub table_of : Instance → List Bool → Prices → List Rec
-table_of e w p = head_records (10 ^ 6 * p.denominator) ++ rows_of e w p (all_projects e)
+table_of e w p = margin_head (10 ^ 6 * p.denominator) ++ margin_rows e w p (all_projects e)
 
 -- a record as a line of comma-separated values, without its end
 abbrev pub record_line : Rec → Text

@@ -61,9 +61,9 @@ abbrev pub stop_at : InputName → InputFault → Stop
 stop_at input why = if wants_memory why then stop.Memory else stop.Refused input why
 
 -- an outcome that was taken as its marks, and a claim as its measure, its group and its demand
-abbrev pub marked : Result Funding Stop → Result (List Bool) Stop
-marked (Ok w) = Ok w.marks
-marked (Err why) = Err why
+abbrev pub as_marks : Result Funding Stop → Result (List Bool) Stop
+as_marks (Ok w) = Ok w.marks
+as_marks (Err why) = Err why
 
 abbrev pub claimed : Result Claim Stop → Result (Measure × List ℕ × List ℕ) Stop
 claimed (Ok v) = Ok (v.measure, v.group, v.demand)

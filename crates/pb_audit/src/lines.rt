@@ -31,7 +31,7 @@ pub(crate) fn read_line(
     election: &Election,
     funded: Option<u32>,
 ) -> Result<String, AllocError>
-    requires { funded ≡ spec.funded election.now }
+    requires { funded ≡ spec.number_of_funded election.now }
     ensures { IfOk result (λ line. string_bytes line ≡ spec.read_line election.now) }
 {
     let mut line = String::from_str(alloc, "read ")?;

@@ -9,7 +9,7 @@ ghost use Rattle.pb_certificate.specs.Canon.{line, lines};
 ghost use Rattle.pb_certificate.specs.Prices.{Prices};
 ghost use Rattle.pb_certificate.specs.RecordWriter.{IsOpen, held};
 ghost use Rattle.pb_price.specs.Margins.{AreMargins};
-ghost use Rattle.pb_audit.specs.Margins.{flag_of, head_records, row_of, table_of};
+ghost use Rattle.pb_audit.specs.Margins.{flag_of, margin_head, row_of, table_of};
 
 use csv::Writer;
 use itoa::Buffer;
@@ -40,7 +40,7 @@ pub(crate) fn table_text(
 fn add_head(writer: &mut Writer<Vec<u8>>, grains_per_unit: u64) -> Result<(), AllocError>
     requires { IsOpen writer.old }
     ensures open { OnOk result (IsOpen writer.new) }
-    ensures text { OnOk result (held writer.new ≡ held writer.old ++ lines (head_records grains_per_unit)) }
+    ensures text { OnOk result (held writer.new ≡ held writer.old ++ lines (margin_head grains_per_unit)) }
 {
     let mut digits = Buffer::new();
     record_writer::add_pair(writer, "pb-margins", "1")?;

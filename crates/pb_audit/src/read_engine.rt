@@ -73,7 +73,7 @@ pub(crate) fn election_reply(alloc: Global, election: &Election) -> Result<Reply
 
 /// How many projects the election's own outcome funds, where it states one.
 fn funded_count(alloc: Global, election: &Election) -> Result<Option<u32>, AllocError>
-    ensures { IfOk result (λ count. count ≡ spec.funded election.now) }
+    ensures { IfOk result (λ count. count ≡ spec.number_of_funded election.now) }
 {
     if !election.has_selected() {
         return Ok(None);

@@ -6,7 +6,7 @@ ghost use Rattle.pb_certificate.specs.Claim as claims;
 ghost use Rattle.pb_audit.specs.Inputs.{StatesElection, StatesOutcome, StatesViolation, its_outcome};
 ghost use Rattle.pb_audit.specs.Loaded.{lent};
 ghost use Rattle.pb_audit.specs.Readers.{file_reading, reading};
-ghost use Rattle.pb_audit.specs.Taking.{AuditsOutcome, Gives, IfTaken, ReadsOutcome, claimed, marked};
+ghost use Rattle.pb_audit.specs.Taking.{AuditsOutcome, Gives, IfTaken, ReadsOutcome, as_marks, claimed};
 
 use crate::input::{InputFault, InputName, Stop, stop_at};
 use crate::loaded::{File, Loaded, bytes_of};
@@ -50,7 +50,7 @@ pub(crate) fn outcome_of(
     file: Option<File<'_>>,
     election: &Election,
 ) -> Result<Outcome, Stop>
-    ensures taken { IfTaken (marked result) (AuditsOutcome election.now (option_map lent file.entry)) }
+    ensures taken { IfTaken (as_marks result) (AuditsOutcome election.now (option_map lent file.entry)) }
     ensures fits { IfOk result (λ outcome. outcomes.Fits outcome election.now) }
 {
     match file {
@@ -61,7 +61,7 @@ pub(crate) fn outcome_of(
 
 /// The outcome that an outcome file states.
 fn outcome_in(alloc: Global, file: File<'_>, election: &Election) -> Result<Outcome, Stop>
-    ensures taken { IfTaken (marked result) (StatesOutcome election.now (lent file.entry)) }
+    ensures taken { IfTaken (as_marks result) (StatesOutcome election.now (lent file.entry)) }
     ensures fits { IfOk result (λ outcome. outcomes.Fits outcome election.now) }
 {
     let bytes = bytes_of(InputName::Outcome, file)?;
@@ -73,7 +73,7 @@ fn outcome_in(alloc: Global, file: File<'_>, election: &Election) -> Result<Outc
 
 /// The outcome that the election itself states.
 pub(crate) fn own_outcome(alloc: Global, election: &Election) -> Result<Outcome, Stop>
-    ensures taken { IfTaken (marked result) (λ stated. stated ≡ its_outcome (election.now).selected) }
+    ensures taken { IfTaken (as_marks result) (λ stated. stated ≡ its_outcome (election.now).selected) }
     ensures fits { IfOk result (λ outcome. outcomes.Fits outcome election.now) }
 {
     match Outcome::selected(alloc, election) {
@@ -96,7 +96,7 @@ pub(crate) fn take_outcome<R: Source>(
     source: &mut Option<R>,
     election: &Election,
 ) -> Result<Outcome, Stop>
-    ensures taken { IfTaken (marked result) (ReadsOutcome election.now (file_reading R.Source source.old source.new)) }
+    ensures taken { IfTaken (as_marks result) (ReadsOutcome election.now (file_reading R.Source source.old source.new)) }
     ensures fits { IfOk result (λ outcome. outcomes.Fits outcome election.now) }
 {
     match source {
@@ -111,7 +111,7 @@ fn take_outcome_file<R: Source>(
     source: &mut R,
     election: &Election,
 ) -> Result<Outcome, Stop>
-    ensures taken { IfTaken (marked result) (Gives (StatesOutcome election.now) (reading R.Source source.old source.new)) }
+    ensures taken { IfTaken (as_marks result) (Gives (StatesOutcome election.now) (reading R.Source source.old source.new)) }
     ensures fits { IfOk result (λ outcome. outcomes.Fits outcome election.now) }
 {
     let loaded = Loaded::load(alloc, source)?;

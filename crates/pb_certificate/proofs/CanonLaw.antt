@@ -12,7 +12,7 @@ use Rattle.pb_election.specs.Instance.{Instance, all_projects, all_voters, proje
 use Rattle.pb_records.specs.Records.{Rec}
 use Rattle.pb_records.specs.Cells.{is_text}
 use Rattle.pb_election.specs.Text.{IsElection}
-use Rattle.pb_certificate.specs.Canon.{Canon, canonical_records, head_records, payment_rows, rows_of}
+use Rattle.pb_certificate.specs.Canon.{Canon, canonical_records, head_records, payment_rows, rows_of_voter}
 use Rattle.pb_certificate.specs.Faults.{certificate_records}
 use Rattle.pb_certificate.specs.Prices.{ArePrices, Prices, payments_of}
 use Rattle.pb_certificate.specs.PriceText.{IsPriceText, Payment, above_0, payment_of, payments_stated}
@@ -96,7 +96,7 @@ by-voter e p a =
 abbrev paid : Instance → Prices → List Payment
 paid e p = of_voters (payments_of p) 1 (voters e)
 
-voter-states : (e : Instance) (i : ℕ) (qs : List (ℕ × ℕ)) → IsElection e → 1 ≤ i → i ≤ voters e → AllByRecursion (IsPayment (projects e)) qs → map (payment_of e) (rows_of e i qs) ≡ map Some (of_voter i qs)
+voter-states : (e : Instance) (i : ℕ) (qs : List (ℕ × ℕ)) → IsElection e → 1 ≤ i → i ≤ voters e → AllByRecursion (IsPayment (projects e)) qs → map (payment_of e) (rows_of_voter e i qs) ≡ map Some (of_voter i qs)
 voter-states e i [] s low high h = refl
 voter-states e i (q ∷ qs) s low high h =
     let first = row-states e i q s (low, high) h.0 in
@@ -105,14 +105,14 @@ voter-states e i (q ∷ qs) s low high h =
 
 rows-state : (e : Instance) (p : Prices) → IsElection e → ArePrices e p → map (payment_of e) (payment_rows e p) ≡ map Some (paid e p)
 rows-state e p s a =
-    stated-range (payment_of e) (λ i. rows_of e i (payments_of p i)) (λ i. of_voter i (payments_of p i)) (voters e) 1
+    stated-range (payment_of e) (λ i. rows_of_voter e i (payments_of p i)) (λ i. of_voter i (payments_of p i)) (voters e) 1
     (λ i low high. voter-states e i (payments_of p i) s low (omega arith) (each-payment (projects e) (payments_of p i) (voter-map e p i a low (omega arith))))
 
 rows-many : (e : Instance) (p : Prices) → ArePrices e p → length (payment_rows e p) ≤ 10000000
 rows-many e p a =
     let few : sum_by length p.payments ≤ 10000000 = a.system.few in
-    let rows : length (payment_rows e p) ≡ sum_by (λ i. length (rows_of e i (payments_of p i))) (all_voters e) = length-flat_map (λ i. rows_of e i (payments_of p i)) (all_voters e) in
-    let each : sum_by (λ i. length (rows_of e i (payments_of p i))) (all_voters e) ≡ sum_by (λ i. length (payments_of p i)) (all_voters e) = λ k. sum_by (λ i. length-map (payments_of p i) (row_of e i) k) (all_voters e) in
+    let rows : length (payment_rows e p) ≡ sum_by (λ i. length (rows_of_voter e i (payments_of p i))) (all_voters e) = length-flat_map (λ i. rows_of_voter e i (payments_of p i)) (all_voters e) in
+    let each : sum_by (λ i. length (rows_of_voter e i (payments_of p i))) (all_voters e) ≡ sum_by (λ i. length (payments_of p i)) (all_voters e) = λ k. sum_by (λ i. length-map (payments_of p i) (row_of e i) k) (all_voters e) in
     let lists : sum_by length p.payments ≡ sum_by (λ i. length (payments_of p i)) (all_voters e) = ap (sum_by length) (by-voter e p a) ∙ sum-mapped length (payments_of p) (all_voters e) in
     omega arith
 

@@ -10,7 +10,7 @@ use Rattle.pb_records.specs.FirstFault.{Form, IsFirstFault, NoFault, fault_at}
 use Rattle.pb_records.specs.declared.drafts.FaultAt.{FaultAt}
 use Rattle.pb_records.specs.declared.drafts.Stop.{Stop}
 use Rattle.pb_records.specs.declared.drafts.Stop.TheVariants.{Fault, Memory}
-use Rattle.pb_certificate.specs.Faults.{no_memory, refusal_of}
+use Rattle.pb_certificate.specs.Faults.{no_memory, refusal_where_stopped}
 use Rattle.pb_certificate.specs.declared.refusal.CertFault.{CertFault}
 
 pub fault-last : {F : Type 0} (form : Form F) (recs : List Rec) → fault_at form recs (suc (length recs)) ≡ form (nonblank recs) None
@@ -24,12 +24,12 @@ none-at-end form recs none = sym (fault-last form recs) ∙ none (suc (length re
 
 -- a reading that stopped refuses the file
 pub stop-refuses : (form : Form CertFault) (recs : List Rec) (stop : Stop (FaultAt CertFault)) → StopsFirst form recs stop
-    → (refusal_of stop ≡ no_memory) ⊎ IsFirstFault form recs (refusal_of stop).place (refusal_of stop).fault
+    → (refusal_where_stopped stop ≡ no_memory) ⊎ IsFirstFault form recs (refusal_where_stopped stop).place (refusal_where_stopped stop).fault
 stop-refuses form recs (Fault f) first = inr first
 stop-refuses form recs Memory first = inl refl
 
 -- and where no fault can be the first, it was want of memory
 pub stop-is-memory : (form : Form CertFault) (recs : List Rec) (stop : Stop (FaultAt CertFault)) → StopsFirst form recs stop
-    → ((f : FaultAt CertFault) → IsFirstFault form recs f.place f.fault → ⊥) → refusal_of stop ≡ no_memory
+    → ((f : FaultAt CertFault) → IsFirstFault form recs f.place f.fault → ⊥) → refusal_where_stopped stop ≡ no_memory
 stop-is-memory form recs (Fault f) first none = absurd (none f first)
 stop-is-memory form recs Memory first none = refl

@@ -8,7 +8,7 @@ use Rattle.pb_records.specs.FirstFault.{NoFault}
 use Rattle.pb_certificate.specs.Fields.{fields, same_fields}
 use Rattle.pb_certificate.specs.Faults.{violation_form}
 use Rattle.pb_certificate.specs.Marks.{marked, project_marks, voter_marks}
-use Rattle.pb_certificate.specs.ViolationDrafts.{Reading, ViolationTaken, after_violation_row}
+use Rattle.pb_certificate.specs.ViolationDrafts.{TakenSoFar, ViolationTaken, after_violation_row}
 use Rattle.pb_certificate.specs.ViolationText.{IsViolationText, satisfaction_by, version_1, version_2}
 use Rattle.pb_certificate.specs.declared.measure.Measure.{Measure}
 use Rattle.pb_certificate.specs.declared.measure.Measure.TheVariants.{ByCount, ByCost}
@@ -22,7 +22,7 @@ use Rattle.pb_certificate.proofs.ViolationSteps.{format-refused, measure-refused
 
 -- some head records and rows were taken
 abbrev Taken : Instance → List Rec → Type 0
-Taken e before = (d : Reading) × ViolationTaken e d before
+Taken e before = (d : TakenSoFar) × ViolationTaken e d before
 
 is-text : (e : Instance) (before : List Rec) (r : Rec) → violation_form e before (Some r) ≡ None → is_text r ≡ true
 is-text e before r none = by (is_text r) refl
@@ -31,42 +31,42 @@ is-text e before r none = by (is_text r) refl
     by true is = is
     by false is = let refused : violation_form e before (Some r) ≡ Some fault.NotUtf8 = rw is refl in cc (none, refused)
 
-after-format : (e : Instance) (before : List Rec) (r : Rec) (d : Reading) → d.awaited ≡ Format → ViolationTaken e d before → violation_form e before (Some r) ≡ None → Taken e (before ++ (r ∷ []))
+after-format : (e : Instance) (before : List Rec) (r : Rec) (d : TakenSoFar) → d.awaited ≡ Format → ViolationTaken e d before → violation_form e before (Some r) ≡ None → Taken e (before ++ (r ∷ []))
 after-format e before r d at h none = by (same_fields (fields r) version_1) (same_fields (fields r) version_2) refl refl
   where
     text : is_text r ≡ true
     text = is-text e before r none
 
     by : (one two : Bool) → same_fields (fields r) version_1 ≡ one → same_fields (fields r) version_2 ≡ two → Taken e (before ++ (r ∷ []))
-    by true two one_is two_is = let new : Reading = record d { awaited = Row } in (new, (version-1-taken e d new r text at one_is refl refl refl refl before h).1)
-    by false true one_is two_is = let new : Reading = record d { awaited = Satisfaction } in (new, (version-2-taken e d new r text at two_is refl refl refl before h).1)
+    by true two one_is two_is = let new : TakenSoFar = record d { awaited = Row } in (new, (version-1-taken e d new r text at one_is refl refl refl refl before h).1)
+    by false true one_is two_is = let new : TakenSoFar = record d { awaited = Satisfaction } in (new, (version-2-taken e d new r text at two_is refl refl refl before h).1)
     by false false one_is two_is = let refused = format-refused e d r text at one_is two_is before h in cc (none, refused)
 
-after-satisfaction : (e : Instance) (before : List Rec) (r : Rec) (d : Reading) → d.awaited ≡ Satisfaction → ViolationTaken e d before → violation_form e before (Some r) ≡ None → Taken e (before ++ (r ∷ []))
+after-satisfaction : (e : Instance) (before : List Rec) (r : Rec) (d : TakenSoFar) → d.awaited ≡ Satisfaction → ViolationTaken e d before → violation_form e before (Some r) ≡ None → Taken e (before ++ (r ∷ []))
 after-satisfaction e before r d at h none = by (same_fields (fields r) (satisfaction_by ByCount)) (same_fields (fields r) (satisfaction_by ByCost)) refl refl
   where
     text : is_text r ≡ true
     text = is-text e before r none
 
     states : (m : Measure) → same_fields (fields r) (satisfaction_by m) ≡ true → Taken e (before ++ (r ∷ []))
-    states m is = let new : Reading = record d { awaited = Row; measure = m } in (new, (measure-taken e d new r text at is refl refl refl before h).1)
+    states m is = let new : TakenSoFar = record d { awaited = Row; measure = m } in (new, (measure-taken e d new r text at is refl refl refl before h).1)
 
     by : (count cost : Bool) → same_fields (fields r) (satisfaction_by ByCount) ≡ count → same_fields (fields r) (satisfaction_by ByCost) ≡ cost → Taken e (before ++ (r ∷ []))
     by true cost count_is cost_is = states ByCount count_is
     by false true count_is cost_is = states ByCost cost_is
     by false false count_is cost_is = let refused = measure-refused e d r text at (or-false _ _ count_is cost_is) before h in cc (none, refused)
 
-after-rows : (e : Instance) (before : List Rec) (r : Rec) (d : Reading) → d.awaited ≡ Row → ViolationTaken e d before → violation_form e before (Some r) ≡ None → Taken e (before ++ (r ∷ []))
+after-rows : (e : Instance) (before : List Rec) (r : Rec) (d : TakenSoFar) → d.awaited ≡ Row → ViolationTaken e d before → violation_form e before (Some r) ≡ None → Taken e (before ++ (r ∷ []))
 after-rows e before r d at h none = by (after_violation_row e d.group d.demand r) refl
   where
     text : is_text r ≡ true
     text = is-text e before r none
 
     by : (after : Result (List Bool × List Bool) CertFault) → after_violation_row e d.group d.demand r ≡ after → Taken e (before ++ (r ∷ []))
-    by (Ok marks) is = let new : Reading = record d { group = marks.0; demand = marks.1 } in (new, (row-taken e d new r text at refl refl is before h).1)
+    by (Ok marks) is = let new : TakenSoFar = record d { group = marks.0; demand = marks.1 } in (new, (row-taken e d new r text at refl refl is before h).1)
     by (Err f) is = let refused = row-refused e d r f text at is before h in cc (none, refused)
 
-one-more : (e : Instance) (before : List Rec) (r : Rec) (d : Reading) → ViolationTaken e d before → violation_form e before (Some r) ≡ None → Taken e (before ++ (r ∷ []))
+one-more : (e : Instance) (before : List Rec) (r : Rec) (d : TakenSoFar) → ViolationTaken e d before → violation_form e before (Some r) ≡ None → Taken e (before ++ (r ∷ []))
 one-more e before r d h none = by d.awaited refl
   where
     by : (a : Awaited) → d.awaited ≡ a → Taken e (before ++ (r ∷ []))

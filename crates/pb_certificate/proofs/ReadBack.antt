@@ -10,7 +10,7 @@ use Rattle.csv.proofs.RoundTrip.{read-write}
 use Rattle.pb_election.specs.Instance.{Instance, projects, voters}
 use Rattle.pb_records.specs.Records.{Rec, drop_marks}
 use Rattle.pb_election.specs.Text.{IsElection}
-use Rattle.pb_certificate.specs.Canon.{Canon, canonical_records, comma, head_records, line, line_end, lines, payment_rows, rows_of, written}
+use Rattle.pb_certificate.specs.Canon.{Canon, canonical_records, comma, head_records, line, line_end, lines, payment_rows, rows_of_voter, written}
 use Rattle.pb_certificate.specs.Faults.{certificate_records}
 use Rattle.pb_certificate.specs.Prices.{ArePrices, IsPaymentMap, Prices, payments_of}
 use Rattle.pb_certificate.proofs.Lines.{ArePlain, decimal-plain, row-line}
@@ -72,8 +72,8 @@ voter-map e p i a low high =
 -- what holds of each row of the canonical text
 pub all-rows : (Q : Rec → Type 0) (e : Instance) (p : Prices) → ArePrices e p → ((i : ℕ) (q : ℕ × ℕ) → 1 ≤ i → i ≤ voters e → IsPayment (projects e) q → Q (row_of e i q)) → AllByRecursion Q (payment_rows e p)
 all-rows Q e p a h =
-    all-flat Q (λ i. rows_of e i (payments_of p i)) (range_with_len 1 (voters e))
-    (all-range (λ i. AllByRecursion Q (rows_of e i (payments_of p i))) 1 (voters e)
+    all-flat Q (λ i. rows_of_voter e i (payments_of p i)) (range_with_len 1 (voters e))
+    (all-range (λ i. AllByRecursion Q (rows_of_voter e i (payments_of p i))) 1 (voters e)
     (λ i low high. all-map (IsPayment (projects e)) Q (row_of e i) (payments_of p i) (λ q k. h i q low (omega arith) k) (each-payment (projects e) (payments_of p i) (voter-map e p i a low (omega arith)))))
 
 pub all-records : (Q : Rec → Type 0) (e : Instance) (p : Prices) → ArePrices e p → AllByRecursion Q (head_records p.denominator p.budget)

@@ -10,7 +10,7 @@ use Rattle.std.proofs.lemmas.List.Sums.{sum_by-cons}
 use Rattle.pb_election.specs.Instance.{IsSet}
 use Rattle.pb_certificate.specs.Prices.{numerator_in}
 use Rattle.pb_certificate.specs.PriceText.{Payment, same_pair, stated}
-use Rattle.pb_certificate.specs.Gathering.{paid_by, stated_by}
+use Rattle.pb_certificate.specs.Gathering.{payments_made, stated_by}
 use Rattle.pb_certificate.proofs.Payments.{each-of}
 use Rattle.pb_certificate.proofs.Texts.{keys, pairs}
 
@@ -97,17 +97,17 @@ absent q i j (m ∷ ms) v p h =
 paid-cons : Bool → Payment → List (ℕ × ℕ) → List (ℕ × ℕ)
 paid-cons b q rest = cons_option (cond b (Some (q.project, q.numerator)) None) rest
 
-stated-sum : (qs : List Payment) (i j : ℕ) → IsDistinct same_pair qs → sum_by (pick j) (paid_by qs i) ≡ stated qs i j
+stated-sum : (qs : List Payment) (i j : ℕ) → IsDistinct same_pair qs → sum_by (pick j) (payments_made qs i) ≡ stated qs i j
 unfolding IsDistinct pick paid-cons
 stated-sum [] i j h = refl
 stated-sum (q ∷ qs) i j h = by (q.voter == i) (nat_lt 0 q.numerator) (q.project == j) refl refl refl (stated-sum qs i j h.1)
   where
-    by : (a b c : Bool) → (q.voter == i) ≡ a → nat_lt 0 q.numerator ≡ b → (q.project == j) ≡ c → sum_by (pick j) (paid_by qs i) ≡ stated qs i j
-        → sum_by (pick j) (paid-cons (a && b) q (paid_by qs i)) ≡ cond (a && c) q.numerator (stated qs i j)
+    by : (a b c : Bool) → (q.voter == i) ≡ a → nat_lt 0 q.numerator ≡ b → (q.project == j) ≡ c → sum_by (pick j) (payments_made qs i) ≡ stated qs i j
+        → sum_by (pick j) (paid-cons (a && b) q (payments_made qs i)) ≡ cond (a && c) q.numerator (stated qs i j)
     by true true true is_a is_b is_c rest =
         let none : stated qs i j ≡ 0 = absent q i j qs (eqb-true q.voter i is_a) (eqb-true q.project j is_c) h.0 in
-        sum_by-cons (pick j) (q.project, q.numerator) (paid_by qs i) ∙ rw is_c (omega arith)
-    by true true false is_a is_b is_c rest = sum_by-cons (pick j) (q.project, q.numerator) (paid_by qs i) ∙ rw is_c (omega arith)
+        sum_by-cons (pick j) (q.project, q.numerator) (payments_made qs i) ∙ rw is_c (omega arith)
+    by true true false is_a is_b is_c rest = sum_by-cons (pick j) (q.project, q.numerator) (payments_made qs i) ∙ rw is_c (omega arith)
     by true false true is_a is_b is_c rest =
         let none : stated qs i j ≡ 0 = absent q i j qs (eqb-true q.voter i is_a) (eqb-true q.project j is_c) h.0 in
         let zero' : q.numerator ≤ 0 = elim (cases_lt 0 q.numerator) [ inl some ↦ absurd (false≢true (sym is_b ∙ lt-ltb 0 q.numerator some)) | inr le ↦ le ] in
@@ -115,12 +115,12 @@ stated-sum (q ∷ qs) i j h = by (q.voter == i) (nat_lt 0 q.numerator) (q.projec
     by true false false is_a is_b is_c rest = rest
     by false b c is_a is_b is_c rest = rest
 
-uncounted : (q : Payment) (i j : ℕ) (qs : List Payment) → q.voter ≡ i → q.project ≡ j → AllByRecursion (λ m. same_pair q m ≡ false) qs → sum_by (count j) (paid_by qs i) ≡ 0
+uncounted : (q : Payment) (i j : ℕ) (qs : List Payment) → q.voter ≡ i → q.project ≡ j → AllByRecursion (λ m. same_pair q m ≡ false) qs → sum_by (count j) (payments_made qs i) ≡ 0
 unfolding count paid-cons
 uncounted q i j [] v p h = refl
 uncounted q i j (m ∷ ms) v p h = by (m.voter == i) (nat_lt 0 m.numerator) refl (uncounted q i j ms v p h.1)
   where
-    by : (a b : Bool) → (m.voter == i) ≡ a → sum_by (count j) (paid_by ms i) ≡ 0 → sum_by (count j) (paid-cons (a && b) m (paid_by ms i)) ≡ 0
+    by : (a b : Bool) → (m.voter == i) ≡ a → sum_by (count j) (payments_made ms i) ≡ 0 → sum_by (count j) (paid-cons (a && b) m (payments_made ms i)) ≡ 0
     by true true is_a rest =
         let voters : q.voter ≡ m.voter = v ∙ sym (eqb-true m.voter i is_a) in
         let other : (m.project == j) ≡ false = ne_eqb m.project j (λ e. (
@@ -128,23 +128,23 @@ uncounted q i j (m ∷ ms) v p h = by (m.voter == i) (nat_lt 0 m.numerator) refl
         false≢true (sym h.0 ∙ named)
         )) in
         let zero' : count j (m.project, m.numerator) ≡ 0 = ap (λ b. cond b 1 0) other in
-        sum_by-cons (count j) (m.project, m.numerator) (paid_by ms i) ∙ sym (past (count j (m.project, m.numerator)) (sum_by (count j) (paid_by ms i)) _ zero' refl) ∙ rest
+        sum_by-cons (count j) (m.project, m.numerator) (payments_made ms i) ∙ sym (past (count j (m.project, m.numerator)) (sum_by (count j) (payments_made ms i)) _ zero' refl) ∙ rest
     by true false is_a rest = rest
     by false b is_a rest = rest
 
-counted-once : (qs : List Payment) (i j : ℕ) → IsDistinct same_pair qs → sum_by (count j) (paid_by qs i) ≤ 1
+counted-once : (qs : List Payment) (i j : ℕ) → IsDistinct same_pair qs → sum_by (count j) (payments_made qs i) ≤ 1
 unfolding IsDistinct count paid-cons
 counted-once [] i j h = omega arith
 counted-once (q ∷ qs) i j h = by (q.voter == i) (nat_lt 0 q.numerator) (q.project == j) refl refl (counted-once qs i j h.1)
   where
-    by : (a b c : Bool) → (q.voter == i) ≡ a → (q.project == j) ≡ c → sum_by (count j) (paid_by qs i) ≤ 1 → sum_by (count j) (paid-cons (a && b) q (paid_by qs i)) ≤ 1
+    by : (a b c : Bool) → (q.voter == i) ≡ a → (q.project == j) ≡ c → sum_by (count j) (payments_made qs i) ≤ 1 → sum_by (count j) (paid-cons (a && b) q (payments_made qs i)) ≤ 1
     by true true true is_a is_c rest =
-        let none : sum_by (count j) (paid_by qs i) ≡ 0 = uncounted q i j qs (eqb-true q.voter i is_a) (eqb-true q.project j is_c) h.0 in
-        let whole = sum_by-cons (count j) (q.project, q.numerator) (paid_by qs i) in
+        let none : sum_by (count j) (payments_made qs i) ≡ 0 = uncounted q i j qs (eqb-true q.voter i is_a) (eqb-true q.project j is_c) h.0 in
+        let whole = sum_by-cons (count j) (q.project, q.numerator) (payments_made qs i) in
         let one : count j (q.project, q.numerator) ≡ 1 = rw is_c refl in
         omega arith
     by true true false is_a is_c rest =
-        let whole = sum_by-cons (count j) (q.project, q.numerator) (paid_by qs i) in
+        let whole = sum_by-cons (count j) (q.project, q.numerator) (payments_made qs i) in
         let one : count j (q.project, q.numerator) ≡ 0 = rw is_c refl in
         omega arith
     by true false c is_a is_c rest = rest
@@ -181,21 +181,21 @@ keys-rise low high (q ∷ qs) nd once bounds =
     let rest = above q.0 high qs (none-there q.0 qs none) (each-of (λ r. q.0 ≤ r.0) qs least) (tops low high qs bounds.1) in
     (bounds.0.0, bounds.0.1, keys-rise (q.0 + 1) high qs (λ i j d le within. nd (suc i) (suc j) d (omega arith) (omega arith)) (λ j. (let more = sum_by-cons (count j) q qs in let most = once j in omega arith)) rest)
 
-paid-bounds : (qs : List Payment) (m i : ℕ) → AllByRecursion (λ q. (1 ≤ q.project) × (q.project ≤ m)) qs → AllByRecursion (λ p. (1 ≤ p.0) × (p.0 ≤ m)) (paid_by qs i)
+paid-bounds : (qs : List Payment) (m i : ℕ) → AllByRecursion (λ q. (1 ≤ q.project) × (q.project ≤ m)) qs → AllByRecursion (λ p. (1 ≤ p.0) × (p.0 ≤ m)) (payments_made qs i)
 unfolding paid-cons
 paid-bounds [] m i h = tt
 paid-bounds (q ∷ qs) m i h = by ((q.voter == i) && nat_lt 0 q.numerator) (paid-bounds qs m i h.1)
   where
-    by : (b : Bool) → AllByRecursion (λ p. (1 ≤ p.0) × (p.0 ≤ m)) (paid_by qs i) → AllByRecursion (λ p. (1 ≤ p.0) × (p.0 ≤ m)) (paid-cons b q (paid_by qs i))
+    by : (b : Bool) → AllByRecursion (λ p. (1 ≤ p.0) × (p.0 ≤ m)) (payments_made qs i) → AllByRecursion (λ p. (1 ≤ p.0) × (p.0 ≤ m)) (paid-cons b q (payments_made qs i))
     by true rest = (h.0, rest)
     by false rest = rest
 
-paid-some : (qs : List Payment) (i : ℕ) → AllByRecursion (λ p. 0 < p.1) (paid_by qs i)
+paid-some : (qs : List Payment) (i : ℕ) → AllByRecursion (λ p. 0 < p.1) (payments_made qs i)
 unfolding paid-cons
 paid-some [] i = tt
 paid-some (q ∷ qs) i = by (q.voter == i) (nat_lt 0 q.numerator) refl (paid-some qs i)
   where
-    by : (a b : Bool) → nat_lt 0 q.numerator ≡ b → AllByRecursion (λ p. 0 < p.1) (paid_by qs i) → AllByRecursion (λ p. 0 < p.1) (paid-cons (a && b) q (paid_by qs i))
+    by : (a b : Bool) → nat_lt 0 q.numerator ≡ b → AllByRecursion (λ p. 0 < p.1) (payments_made qs i) → AllByRecursion (λ p. 0 < p.1) (paid-cons (a && b) q (payments_made qs i))
     by true true is rest = (ltb-true 0 q.numerator is, rest)
     by true false is rest = rest
     by false b is rest = rest
@@ -203,10 +203,10 @@ paid-some (q ∷ qs) i = by (q.voter == i) (nat_lt 0 q.numerator) refl (paid-som
 moved : (P : ℕ × ℕ → Type 0) (xs ys : List (ℕ × ℕ)) → IsPermutation xs ys → AllByRecursion P xs → AllByRecursion P ys
 moved P xs ys p h = each-of P ys (All-permutation P xs ys p (All-from_recursion P xs h))
 
-pub sorted-stated : (qs : List Payment) (m i : ℕ) (ys : List (ℕ × ℕ)) → IsDistinct same_pair qs → AllByRecursion (λ q. (1 ≤ q.project) × (q.project ≤ m)) qs → IsNonDecreasingBy (λ p. p.0) ys → IsPermutation (paid_by qs i) ys
+pub sorted-stated : (qs : List Payment) (m i : ℕ) (ys : List (ℕ × ℕ)) → IsDistinct same_pair qs → AllByRecursion (λ q. (1 ≤ q.project) × (q.project ≤ m)) qs → IsNonDecreasingBy (λ p. p.0) ys → IsPermutation (payments_made qs i) ys
     → ys ≡ stated_by m qs i
 sorted-stated qs m i ys once within nd perm =
-    let counts : (j : ℕ) → sum_by (count j) ys ≤ 1 = λ j. subst (λ n. n ≤ 1) (sym (sum_by-IsPermutation (count j) (paid_by qs i) ys perm)) (counted-once qs i j once) in
-    let rise = keys-rise 1 m ys nd counts (moved (λ p. (1 ≤ p.0) × (p.0 ≤ m)) (paid_by qs i) ys perm (paid-bounds qs m i within)) in
-    pairs-are (stated qs i) m 1 m ys (omega arith) rise (moved (λ p. 0 < p.1) (paid_by qs i) ys perm (paid-some qs i))
-    (λ j low. numerator-sum 1 m j ys rise ∙ sum_by-IsPermutation (pick j) (paid_by qs i) ys perm ∙ stated-sum qs i j once)
+    let counts : (j : ℕ) → sum_by (count j) ys ≤ 1 = λ j. subst (λ n. n ≤ 1) (sym (sum_by-IsPermutation (count j) (payments_made qs i) ys perm)) (counted-once qs i j once) in
+    let rise = keys-rise 1 m ys nd counts (moved (λ p. (1 ≤ p.0) × (p.0 ≤ m)) (payments_made qs i) ys perm (paid-bounds qs m i within)) in
+    pairs-are (stated qs i) m 1 m ys (omega arith) rise (moved (λ p. 0 < p.1) (payments_made qs i) ys perm (paid-some qs i))
+    (λ j low. numerator-sum 1 m j ys rise ∙ sum_by-IsPermutation (pick j) (payments_made qs i) ys perm ∙ stated-sum qs i j once)

@@ -8,7 +8,7 @@ use Rattle.std.proofs.lemmas.Bool.{eq-eqb, le-ltb, lt-ltb, ne_eqb}
 use Rattle.std.proofs.lemmas.List.Elements.{filter_map-append}
 use Rattle.std.proofs.lemmas.List.Sorted.{length_permutation}
 use Rattle.std.proofs.lemmas.List.Sums.{sum_by-append, sum_by-cons}
-use Rattle.pb_certificate.specs.Gathering.{Holds, paid_by, prices_up_to, stated_by, stated_up_to}
+use Rattle.pb_certificate.specs.Gathering.{Holds, payments_made, prices_up_to, stated_by, stated_up_to}
 use Rattle.pb_certificate.specs.Ledgers.{CanTake, with_voter}
 use Rattle.pb_certificate.specs.Prices.{IsPaymentMap, Prices}
 use Rattle.pb_certificate.specs.Rows.{Rows}
@@ -20,21 +20,21 @@ use Rattle.pb_certificate.proofs.SortedRuns.{sorted-stated}
 use Rattle.pb_certificate.proofs.Texts.{map-stated, pairs}
 
 -- the payments of a voter after one more
-paid-append : (qs : List Payment) (q : Payment) (i : ℕ) → paid_by (qs ++ (q ∷ [])) i ≡ paid_by qs i ++ paid_by (q ∷ []) i
+paid-append : (qs : List Payment) (q : Payment) (i : ℕ) → payments_made (qs ++ (q ∷ [])) i ≡ payments_made qs i ++ payments_made (q ∷ []) i
 paid-append qs q i = filter_map-append (λ (p : Payment). cond ((p.voter == i) && nat_lt 0 p.numerator) (Some (p.project, p.numerator)) None) qs (q ∷ [])
 
-paid-here : (qs : List Payment) (q : Payment) → nat_lt 0 q.numerator ≡ true → paid_by (qs ++ (q ∷ [])) q.voter ≡ paid_by qs q.voter ++ ((q.project, q.numerator) ∷ [])
+paid-here : (qs : List Payment) (q : Payment) → nat_lt 0 q.numerator ≡ true → payments_made (qs ++ (q ∷ [])) q.voter ≡ payments_made qs q.voter ++ ((q.project, q.numerator) ∷ [])
 paid-here qs q some = let same : (q.voter == q.voter) ≡ true = eq-eqb q.voter q.voter refl in paid-append qs q q.voter ∙ rw (same, some) refl
 
-paid-nothing : (qs : List Payment) (q : Payment) (i : ℕ) → nat_lt 0 q.numerator ≡ false → paid_by (qs ++ (q ∷ [])) i ≡ paid_by qs i
+paid-nothing : (qs : List Payment) (q : Payment) (i : ℕ) → nat_lt 0 q.numerator ≡ false → payments_made (qs ++ (q ∷ [])) i ≡ payments_made qs i
 paid-nothing qs q i none = paid-append qs q i ∙ by (q.voter == i)
   where
-    by : (b : Bool) → paid_by qs i ++ cons_option (cond (b && nat_lt 0 q.numerator) (Some (q.project, q.numerator)) None) [] ≡ paid_by qs i
-    by true = rw none (append-nil (paid_by qs i))
-    by false = append-nil (paid_by qs i)
+    by : (b : Bool) → payments_made qs i ++ cons_option (cond (b && nat_lt 0 q.numerator) (Some (q.project, q.numerator)) None) [] ≡ payments_made qs i
+    by true = rw none (append-nil (payments_made qs i))
+    by false = append-nil (payments_made qs i)
 
 -- a voter that no payment has yet
-paid-none : (qs : List Payment) (k i : ℕ) → AllByRecursion (λ q. q.voter ≤ k) qs → k < i → paid_by qs i ≡ []
+paid-none : (qs : List Payment) (k i : ℕ) → AllByRecursion (λ q. q.voter ≤ k) qs → k < i → payments_made qs i ≡ []
 paid-none [] k i h l = refl
 paid-none (q ∷ qs) k i h l = let first : q.voter ≤ k = h.0 in rw (ne_eqb q.voter i (λ e. omega arith)) (paid-none qs k i h.1 l)
 
@@ -140,7 +140,7 @@ row-done s qs q n at =
     (λ i l. pairs-same (stated qs i) (stated (qs ++ (q ∷ [])) i) (projects s.election) 1 (λ j. sym (stated-other qs q i j (ne_eqb q.voter i (λ e. omega arith)))))
 
 one-row : (has : Instance → Prices → Type 0) (s : Rows) (qs : List Payment) (q : Payment) (old new : Turn) → Holds has s qs old → q.voter ≡ old.done + 1 → list_any (same_pair q) qs ≡ false → 1 ≤ q.project → q.project ≤ projects s.election → q.numerator ≤ 10 ^ 21
-    → length qs < 10000000 → new.done ≡ old.done → new.payments.items ≡ paid_by (qs ++ (q ∷ [])) q.voter → length new.payments.items ≤ length old.payments.items + 1 → Holds has s (qs ++ (q ∷ [])) new
+    → length qs < 10000000 → new.done ≡ old.done → new.payments.items ≡ payments_made (qs ++ (q ∷ [])) q.voter → length new.payments.items ≤ length old.payments.items + 1 → Holds has s (qs ++ (q ∷ [])) new
 one-row has s qs q old new h at fresh low high small few same is long =
     let n : ℕ = old.done in
     let more : length (qs ++ (q ∷ [])) ≡ length qs + 1 = length-append qs (q ∷ []) in
@@ -149,7 +149,7 @@ one-row has s qs q old new h at fresh low high small few same is long =
     let sums : sum_by length (stated_up_to (projects s.election) (qs ++ (q ∷ [])) new.done) ≡ sum_by length (stated_up_to (projects s.election) qs n) = ap (sum_by length) (sym done) in
     record {
       has_done = subst (λ (ps : List (List (ℕ × ℕ))). has s.election (record { projects = projects s.election; denominator = s.denominator; budget = s.budget; payments = ps })) done h.has_done;
-      at_hand = is ∙ ap (paid_by (qs ++ (q ∷ []))) (at ∙ ap (λ (k : ℕ). k + 1) (sym same));
+      at_hand = is ∙ ap (payments_made (qs ++ (q ∷ []))) (at ∙ ap (λ (k : ℕ). k + 1) (sym same));
       none_later = subst (λ (k : ℕ). AllByRecursion (λ p. p.voter ≤ k + 1) (qs ++ (q ∷ []))) (sym same) (all-push (λ p. p.voter ≤ n + 1) qs q h.none_later (omega arith));
       once = once-push qs q h.once fresh;
       within = all-push (λ p. (1 ≤ p.project) × (p.project ≤ projects s.election)) qs q h.within (low, high);
@@ -163,9 +163,9 @@ pub row-of-some : (has : Instance → Prices → Type 0) (s : Rows) (qs : List P
 row-of-some has s qs q old new h at fresh low high small few some same is =
     let long : length new.payments.items ≡ length old.payments.items + 1 = ap length is ∙ length-append old.payments.items ((q.project, q.numerator) ∷ []) in
     one-row has s qs q old new h at fresh low high small few same
-    (is ∙ ap (λ (xs : List (ℕ × ℕ)). xs ++ ((q.project, q.numerator) ∷ [])) (h.at_hand ∙ ap (paid_by qs) (sym at)) ∙ sym (paid-here qs q (lt-ltb 0 q.numerator some))) (omega arith)
+    (is ∙ ap (λ (xs : List (ℕ × ℕ)). xs ++ ((q.project, q.numerator) ∷ [])) (h.at_hand ∙ ap (payments_made qs) (sym at)) ∙ sym (paid-here qs q (lt-ltb 0 q.numerator some))) (omega arith)
 
 pub row-of-none : (has : Instance → Prices → Type 0) (s : Rows) (qs : List Payment) (q : Payment) (old : Turn) → Holds has s qs old → q.voter ≡ old.done + 1 → list_any (same_pair q) qs ≡ false → 1 ≤ q.project → q.project ≤ projects s.election → q.numerator ≤ 10 ^ 21
     → length qs < 10000000 → q.numerator ≤ 0 → Holds has s (qs ++ (q ∷ [])) old
 row-of-none has s qs q old h at fresh low high small few none =
-    one-row has s qs q old old h at fresh low high small few refl (h.at_hand ∙ ap (paid_by qs) (sym at) ∙ sym (paid-nothing qs q q.voter (le-ltb 0 q.numerator none))) (omega arith)
+    one-row has s qs q old old h at fresh low high small few refl (h.at_hand ∙ ap (payments_made qs) (sym at) ∙ sym (paid-nothing qs q q.voter (le-ltb 0 q.numerator none))) (omega arith)

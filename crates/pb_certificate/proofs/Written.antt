@@ -9,7 +9,7 @@ use Rattle.csv.specs.Writing.{default_writer, row_text}
 use Rattle.pb_election.specs.Instance.{Instance, IsProject, IsSet, id_of, projects}
 use Rattle.pb_records.specs.Records.{Rec}
 use Rattle.pb_election.specs.Text.{IsElection, IsId}
-use Rattle.pb_certificate.specs.Canon.{Canon, head_records, line, lines, payment_rows, rows_of}
+use Rattle.pb_certificate.specs.Canon.{Canon, head_records, line, lines, payment_rows, rows_of_voter}
 use Rattle.pb_certificate.specs.Prices.{IsPaymentMap, Prices, payments_of}
 use Rattle.pb_certificate.proofs.Lines.{ArePlain, decimal-plain, id-plain, row-line}
 use Rattle.pb_certificate.proofs.Payments.{each-of}
@@ -93,17 +93,17 @@ lines-push rows r = flat_map-append line rows (r ∷ []) ∙ ap (λ (x : List �
 
 -- one more row of a voter
 pub row-written : (e : Instance) (i : ℕ) (qs : List (ℕ × ℕ)) (k : ℕ) (old before after : List ℕ) → IsElection e → i < 10 ^ 64 → IsPaymentMap (projects e) qs → k < length qs
-    → before ≡ old ++ lines (rows_of e i (take k qs)) → after ≡ before ++ row_text default_writer (row_of e i (get_or qs k (0, 0))) → after ≡ old ++ lines (rows_of e i (take (k + 1) qs))
+    → before ≡ old ++ lines (rows_of_voter e i (take k qs)) → after ≡ before ++ row_text default_writer (row_of e i (get_or qs k (0, 0))) → after ≡ old ++ lines (rows_of_voter e i (take (k + 1) qs))
 row-written e i qs k old before after s v h l b a =
     let q : ℕ × ℕ = get_or qs k (0, 0) in
     let text : row_text default_writer (row_of e i q) ≡ line (row_of e i q) = row-line (decimal i) (id_of e q.0) (decimal q.1 ∷ []) (row-plain e i q s v (payment-at (projects e) qs k h l)) in
     let more : take (k + 1) qs ≡ take k qs ++ (q ∷ []) = rw (add-one k) (take-suc qs k (0, 0) l) in
-    let rows : rows_of e i (take (k + 1) qs) ≡ rows_of e i (take k qs) ++ (row_of e i q ∷ []) = ap (rows_of e i) more ∙ map-append (row_of e i) (take k qs) (q ∷ []) in
-    a ∙ ap (λ (x : List ℕ). before ++ x) text ∙ ap (λ (x : List ℕ). x ++ line (row_of e i q)) b ∙ append_assoc old (lines (rows_of e i (take k qs))) (line (row_of e i q))
-    ∙ ap (λ (x : List ℕ). old ++ x) (sym (lines-push (rows_of e i (take k qs)) (row_of e i q)) ∙ ap lines (sym rows))
+    let rows : rows_of_voter e i (take (k + 1) qs) ≡ rows_of_voter e i (take k qs) ++ (row_of e i q ∷ []) = ap (rows_of_voter e i) more ∙ map-append (row_of e i) (take k qs) (q ∷ []) in
+    a ∙ ap (λ (x : List ℕ). before ++ x) text ∙ ap (λ (x : List ℕ). x ++ line (row_of e i q)) b ∙ append_assoc old (lines (rows_of_voter e i (take k qs))) (line (row_of e i q))
+    ∙ ap (λ (x : List ℕ). old ++ x) (sym (lines-push (rows_of_voter e i (take k qs)) (row_of e i q)) ∙ ap lines (sym rows))
 
-pub rows-written : (e : Instance) (i : ℕ) (qs : List (ℕ × ℕ)) (k : ℕ) (old now : List ℕ) → length qs ≤ k → now ≡ old ++ lines (rows_of e i (take k qs)) → now ≡ old ++ lines (rows_of e i qs)
-rows-written e i qs k old now l h = h ∙ ap (λ (x : List (ℕ × ℕ)). old ++ lines (rows_of e i x)) (take_all k qs l)
+pub rows-written : (e : Instance) (i : ℕ) (qs : List (ℕ × ℕ)) (k : ℕ) (old now : List ℕ) → length qs ≤ k → now ≡ old ++ lines (rows_of_voter e i (take k qs)) → now ≡ old ++ lines (rows_of_voter e i qs)
+rows-written e i qs k old now l h = h ∙ ap (λ (x : List (ℕ × ℕ)). old ++ lines (rows_of_voter e i x)) (take_all k qs l)
 
 -- The rows of all voters.
 
@@ -127,7 +127,7 @@ voter-written rows i old before after low b a =
 
 -- the rows of a voter
 abbrev pub voter_rows : Instance → Prices → ℕ → List Rec
-voter_rows e p i = rows_of e i (payments_of p i)
+voter_rows e p i = rows_of_voter e i (payments_of p i)
 
 -- the head, and then the rows
 pub canon-written : (e : Instance) (p : Prices) (d b : ℕ) (h0 h1 h2 : List ℕ) → d ≡ p.denominator → b ≡ p.budget → h0 ≡ [] → h1 ≡ h0 ++ lines (head_records d b) → h2 ≡ h1 ++ lines (payment_rows e p) → h2 ≡ Canon e p

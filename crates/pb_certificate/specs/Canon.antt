@@ -38,12 +38,12 @@ head_records denominator budget =
     ∷ []
 
 -- a row for each of the payments that a voter makes
-abbrev pub rows_of : Instance → ℕ → List (ℕ × ℕ) → List Rec
-rows_of e i payments = map (λ q. decimal i ∷ id_of e q.0 ∷ decimal q.1 ∷ []) payments
+abbrev pub rows_of_voter : Instance → ℕ → List (ℕ × ℕ) → List Rec
+rows_of_voter e i payments = map (λ q. decimal i ∷ id_of e q.0 ∷ decimal q.1 ∷ []) payments
 
 -- the rows of all voters, by rising voter and then rising project
 abbrev pub payment_rows : Instance → Prices → List Rec
-payment_rows e p = flat_map (λ i. rows_of e i (payments_of p i)) (all_voters e)
+payment_rows e p = flat_map (λ i. rows_of_voter e i (payments_of p i)) (all_voters e)
 
 abbrev pub canonical_records : Instance → Prices → List Rec
 canonical_records e p = head_records p.denominator p.budget ++ payment_rows e p

@@ -4,14 +4,14 @@ use Rattle.std.specs.List.{range_with_len}
 use Rattle.pb_election.specs.Instance.{Instance, projects}
 use Rattle.pb_election.specs.Text.{IsElection}
 use Rattle.pb_records.specs.Records.{Rec}
-use Rattle.pb_certificate.specs.Canon.{head_records, lines, rows_of}
+use Rattle.pb_certificate.specs.Canon.{head_records, lines, rows_of_voter}
 use Rattle.pb_certificate.specs.Prices.{Prices, payments_of}
 use Rattle.pb_certificate.specs.RecordWriter.{IsOpen, held}
 use Rattle.pb_certificate.specs.declared.canonical_draft.CanonicalDraft.{CanonicalDraft}
 
 -- the rows of the first so many voters
 abbrev pub rows_up_to : Instance → Prices → ℕ → List Rec
-rows_up_to e p n = flat_map (λ i. rows_of e i (payments_of p i)) (range_with_len 1 n)
+rows_up_to e p n = flat_map (λ i. rows_of_voter e i (payments_of p i)) (range_with_len 1 n)
 
 -- for this election, the text has the head of the prices so far and the rows of their voters
 pub record HasWritten (d : CanonicalDraft) (e : Instance) (p : Prices) : Type 0 where

@@ -218,9 +218,9 @@ abbrev pub no_memory : CertRefusal
 no_memory = record { fault = fault.Memory; place = 0 }
 
 -- the refusal of a file whose reading stopped so
-abbrev pub refusal_of : Stop (FaultAt CertFault) → CertRefusal
-refusal_of (Fault f) = record { fault = f.fault; place = f.place }
-refusal_of Memory = no_memory
+abbrev pub refusal_where_stopped : Stop (FaultAt CertFault) → CertRefusal
+refusal_where_stopped (Fault f) = record { fault = f.fault; place = f.place }
+refusal_where_stopped Memory = no_memory
 
 -- the number and the name of a fault
 abbrev pub fault_number : CertFault → ℕ

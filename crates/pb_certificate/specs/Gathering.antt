@@ -9,8 +9,8 @@ use Rattle.pb_certificate.specs.PriceText.{IsPriceText, Payment, above_0, same_p
 use Rattle.pb_certificate.specs.declared.gathering.Turn.{Turn}
 
 -- the payments of a voter that are not 0, as they came
-abbrev pub paid_by : List Payment → ℕ → List (ℕ × ℕ)
-paid_by qs i = filter_map (λ q. if (q.voter == i) && nat_lt 0 q.numerator then Some (q.project, q.numerator) else None) qs
+abbrev pub payments_made : List Payment → ℕ → List (ℕ × ℕ)
+payments_made qs i = filter_map (λ q. if (q.voter == i) && nat_lt 0 q.numerator then Some (q.project, q.numerator) else None) qs
 
 -- of a voter, each of so many projects that it pays for, rising, with the numerator
 abbrev pub stated_by : ℕ → List Payment → ℕ → List (ℕ × ℕ)
@@ -29,7 +29,7 @@ prices_up_to s qs n = record { projects = projects s.election; denominator = s.d
 -- of the payments that some rows state, the ledger has those of the voters that are done, and the turn those of the next
 pub record Holds (has : Instance → Prices → Type 0) (s : Rows) (qs : List Payment) (t : Turn) : Type 0 where
   pub has_done : has s.election (prices_up_to s qs t.done)
-  pub at_hand : t.payments.items ≡ paid_by qs (t.done + 1)
+  pub at_hand : t.payments.items ≡ payments_made qs (t.done + 1)
   pub none_later : AllByRecursion (λ q. q.voter ≤ t.done + 1) qs
   pub once : IsDistinct same_pair qs
   pub within : AllByRecursion (λ q. (1 ≤ q.project) × (q.project ≤ projects s.election)) qs

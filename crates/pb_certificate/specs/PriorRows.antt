@@ -48,6 +48,6 @@ pub record RefusesPayment (e : Instance) (r : Rec) (old : PriorRows) (f : CertFa
   pub no_fault : row_fault e r ≡ None
   pub stops : (qs : List Payment) → Remembers old qs → payment_fault qs payment ≡ Some f
 
-abbrev pub TakesRow : Instance → Rec → PriorRows → PriorRows → Result PriceRow CertFault → Type 0
-TakesRow e r old new (Ok q) = TakesPayment e r old new q
-TakesRow e r old new (Err f) = (row_fault e r ≡ Some f) ⊎ RefusesPayment e r old f
+abbrev pub TakesRecord : Instance → Rec → PriorRows → PriorRows → Result PriceRow CertFault → Type 0
+TakesRecord e r old new (Ok q) = TakesPayment e r old new q
+TakesRecord e r old new (Err f) = (row_fault e r ≡ Some f) ⊎ RefusesPayment e r old f

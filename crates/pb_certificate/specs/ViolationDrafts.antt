@@ -20,21 +20,21 @@ use Rattle.pb_certificate.specs.declared.refusal.CertFault.{CertFault}
 use Rattle.pb_certificate.specs.declared.refusal.CertFault.TheVariants as fault
 
 -- what a draft has of the records that were taken
-pub record Reading : Type 0 where
+pub record TakenSoFar : Type 0 where
   pub awaited : Awaited
   pub measure : Measure
   pub group : List Bool
   pub demand : List Bool
 
-abbrev pub reading : ViolationDraft → Reading
-reading d = record { awaited = d.awaited; measure = d.measure; group = d.group.items; demand = d.demand.items }
+abbrev pub taken_so_far : ViolationDraft → TakenSoFar
+taken_so_far d = record { awaited = d.awaited; measure = d.measure; group = d.group.items; demand = d.demand.items }
 
 -- the marks are those of the voters and the projects that some names are
-abbrev pub AreMarked : Instance → Reading → List Named → Type 0
+abbrev pub AreMarked : Instance → TakenSoFar → List Named → Type 0
 AreMarked e d names = (d.group ≡ voter_marks e names) × (d.demand ≡ project_marks e names)
 
 -- the head records and some rows were taken, and what they name is marked
-pub record ViolationRows (e : Instance) (d : Reading) (before : List Rec) : Type 0 where
+pub record ViolationRows (e : Instance) (d : TakenSoFar) (before : List Rec) : Type 0 where
   pub heads : List Rec
   pub rows : List Rec
   pub names : List Named
@@ -44,17 +44,17 @@ pub record ViolationRows (e : Instance) (d : Reading) (before : List Rec) : Type
   pub marked : AreMarked e d names
 
 -- these records were taken, where this one is awaited
-abbrev pub ViolationStands : Instance → Reading → Awaited → List Rec → Type 0
+abbrev pub ViolationStands : Instance → TakenSoFar → Awaited → List Rec → Type 0
 ViolationStands e d Format before = (before ≡ []) × (d.measure ≡ ByCount) × AreMarked e d []
 ViolationStands e d Satisfaction before = (head : Rec) × (before ≡ head ∷ []) × (fields head ≡ version_2) × AreMarked e d []
 ViolationStands e d Row before = ViolationRows e d before
 
 -- these records, none of them blank, were taken
-abbrev pub ViolationTaken : Instance → Reading → List Rec → Type 0
+abbrev pub ViolationTaken : Instance → TakenSoFar → List Rec → Type 0
 ViolationTaken e d before = AllByRecursion (λ r. IsTrue (is_text r)) before × ViolationStands e d d.awaited before
 
 -- what taking one more record gives
-abbrev pub Took : Instance → Reading → Reading → Rec → Result ⊤ (Stop CertFault) → Type 0
+abbrev pub Took : Instance → TakenSoFar → TakenSoFar → Rec → Result ⊤ (Stop CertFault) → Type 0
 Took e old new r (Ok done) = Takes (violation_form e) (ViolationTaken e old) (ViolationTaken e new) r
 Took e old new r (Err stop) = StopsAt (violation_form e) (ViolationTaken e old) r stop
 

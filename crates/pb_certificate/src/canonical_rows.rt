@@ -2,7 +2,7 @@
 ghost use Rattle.std.specs.Prelude.{◌≡◌, ◌++◌, OnOk};
 ghost use Rattle.pb_election.specs.Instance.{projects};
 ghost use Rattle.pb_election.specs.Text.{IsElection};
-ghost use Rattle.pb_certificate.specs.Canon.{head_records, lines, rows_of};
+ghost use Rattle.pb_certificate.specs.Canon.{head_records, lines, rows_of_voter};
 ghost use Rattle.pb_certificate.specs.Prices.{IsPaymentMap};
 ghost use Rattle.pb_certificate.specs.RecordWriter.{IsOpen, held};
 
@@ -41,7 +41,7 @@ pub fn add_payments(
     requires election { IsElection election.now }
     requires payments { IsPaymentMap (projects election.now) payments.now }
     ensures open { OnOk result (IsOpen writer.new) }
-    ensures text { OnOk result (held writer.new ≡ held writer.old ++ lines (rows_of election.now voter payments.now)) }
+    ensures text { OnOk result (held writer.new ≡ held writer.old ++ lines (rows_of_voter election.now voter payments.now)) }
 {
     let mut voter_digits = Buffer::new();
     let mut payment_digits = Buffer::new();

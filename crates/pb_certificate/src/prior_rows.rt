@@ -4,7 +4,7 @@ ghost use Rattle.csv.specs.Records.{fields_of};
 ghost use Rattle.pb_election.specs.Instance.{projects};
 ghost use Rattle.pb_certificate.specs.PriceRows.{as_payment};
 ghost use Rattle.pb_certificate.specs.PriceText.{Payment};
-ghost use Rattle.pb_certificate.specs.PriorRows.{Admits, Remembers, TakesRow};
+ghost use Rattle.pb_certificate.specs.PriorRows.{Admits, Remembers, TakesRecord};
 
 use crate::CertFault;
 use crate::price_row::{PriceRow, price_row};
@@ -67,7 +67,7 @@ impl PriorRows {
     /// Takes the row that a record states, or tells its fault.
     pub fn take(&mut self, row: &StringRecord, election: &Election) -> Result<PriceRow, CertFault>
         requires { length (self.old).last_payers.items ≡ projects election.now }
-        ensures takes { TakesRow election.now (fields_of row.now) self.old self.new result }
+        ensures takes { TakesRecord election.now (fields_of row.now) self.old self.new result }
         ensures projects { length (self.new).last_payers.items ≡ length (self.old).last_payers.items }
     {
         let payment = price_row(row, election)?;

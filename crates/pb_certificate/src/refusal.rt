@@ -1,6 +1,6 @@
 //! Why a file is refused.
 ghost use Rattle.std.specs.Prelude.{◌≡◌};
-ghost use Rattle.pb_certificate.specs.Faults.{fault_name, fault_number, refusal_of};
+ghost use Rattle.pb_certificate.specs.Faults.{fault_name, fault_number, refusal_where_stopped};
 
 use pb_records::{FaultAt, Stop};
 
@@ -52,7 +52,7 @@ impl CertRefusal {
 
     /// The refusal of a file whose reading stopped.
     pub(crate) fn of(stop: Stop<FaultAt<CertFault>>) -> CertRefusal
-        ensures { result ≡ refusal_of stop }
+        ensures { result ≡ refusal_where_stopped stop }
     {
         match stop {
             Stop::Fault(FaultAt { fault, place }) => CertRefusal { fault, place },

@@ -4,7 +4,7 @@ ghost use Rattle.csv.specs.Records.{fields_of};
 ghost use Rattle.pb_election.specs.Instance.{Instance};
 ghost use Rattle.pb_records.specs.Cells.{is_text};
 ghost use Rattle.pb_certificate.specs.Marks.{EndsAs};
-ghost use Rattle.pb_certificate.specs.ViolationDrafts.{Took, ViolationTaken, after_violation_row, reading};
+ghost use Rattle.pb_certificate.specs.ViolationDrafts.{Took, ViolationTaken, after_violation_row, taken_so_far};
 
 use crate::fields::{is_pair, width};
 use crate::marks::{mark_project, mark_voter};
@@ -40,7 +40,7 @@ pub struct ViolationDraft {
 impl ViolationDraft {
     /// Nothing has been read.
     pub fn new(alloc: Global, election: &Election) -> Result<ViolationDraft, AllocError>
-        ensures { IfOk result (λ d. ViolationTaken election.now (reading d) []) }
+        ensures { IfOk result (λ d. ViolationTaken election.now (taken_so_far d) []) }
     {
         let group = vec![in alloc; false; election.voters() as usize]?;
         let demand = vec![in alloc; false; election.projects() as usize]?;
@@ -56,7 +56,7 @@ impl ViolationDraft {
     fn take_format(&mut self, row: &StringRecord) -> Result<(), Stop<CertFault>>
         requires text { is_text (fields_of row.now) ≡ true }
         requires awaited { self.old.awaited ≡ Awaited.Format }
-        ensures { (e : Instance) → Took e (reading self.old) (reading self.new) (fields_of row.now) result }
+        ensures { (e : Instance) → Took e (taken_so_far self.old) (taken_so_far self.new) (fields_of row.now) result }
     {
         if is_pair(row, "pb-violation", "1") {
             self.awaited = Awaited::Row;
@@ -73,7 +73,7 @@ impl ViolationDraft {
     fn take_satisfaction(&mut self, row: &StringRecord) -> Result<(), Stop<CertFault>>
         requires text { is_text (fields_of row.now) ≡ true }
         requires awaited { self.old.awaited ≡ Awaited.Satisfaction }
-        ensures { (e : Instance) → Took e (reading self.old) (reading self.new) (fields_of row.now) result }
+        ensures { (e : Instance) → Took e (taken_so_far self.old) (taken_so_far self.new) (fields_of row.now) result }
     {
         if is_pair(row, "satisfaction", "count") {
             self.measure = Measure::ByCount;
@@ -92,7 +92,7 @@ impl ViolationDraft {
     fn take_row(&mut self, election: &Election, row: &StringRecord) -> Result<(), Stop<CertFault>>
         requires text { is_text (fields_of row.now) ≡ true }
         requires awaited { self.old.awaited ≡ Awaited.Row }
-        ensures { Took election.now (reading self.old) (reading self.new) (fields_of row.now) result }
+        ensures { Took election.now (taken_so_far self.old) (taken_so_far self.new) (fields_of row.now) result }
     {
         match self.mark_row(election, row) {
             Ok(()) => Ok(()),
@@ -122,13 +122,13 @@ impl ViolationDraft {
 
 impl Draft<Election> for ViolationDraft {
     ghost use Rattle.pb_certificate.specs.Faults.{violation_form};
-    ghost use Rattle.pb_certificate.specs.ViolationDrafts.{ViolationTaken, reading};
+    ghost use Rattle.pb_certificate.specs.ViolationDrafts.{ViolationTaken, taken_so_far};
 
     type Fault = CertFault;
 
     ghost form = { violation_form };
 
-    ghost HasTaken = { λ e d. ViolationTaken e (reading d) };
+    ghost HasTaken = { λ e d. ViolationTaken e (taken_so_far d) };
 
     fn take(&mut self, election: &Election, row: &StringRecord) -> Result<(), Stop<CertFault>> {
         match self.awaited {

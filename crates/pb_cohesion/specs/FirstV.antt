@@ -16,8 +16,8 @@ abbrev pub culprits_of_V4 : (ℕ → ℕ) → Instance → List Bool → List �
 culprits_of_V4 worth e w s t = filter (λ i. nat_le (sat worth t) (sat worth (gets e w i))) s
 
 -- each way in which a group and its demand are no violation, in the order of the tests
-abbrev pub failures_of : (ℕ → ℕ) → Instance → List Bool → List ℕ → List ℕ → List ViolationFailure
-failures_of worth e w s t =
+abbrev pub violation_failures_of : (ℕ → ℕ) → Instance → List Bool → List ℕ → List ℕ → List ViolationFailure
+violation_failures_of worth e w s t =
     (if length s == 0 then V1 ∷ [] else [])
     ++ map (λ q. V2 q.0 q.1) (culprits_of_V2 e s t)
     ++ (if nat_lt (length s * e.limit) (voters e * cost_of_all e t) then V3 ∷ [] else [])
@@ -25,9 +25,9 @@ failures_of worth e w s t =
 
 -- the first of them, where there is one
 abbrev pub FirstV : (ℕ → ℕ) → Instance → List Bool → List ℕ → List ℕ → Option ViolationFailure
-FirstV worth e w s t = slice_get (failures_of worth e w s t) 0
+FirstV worth e w s t = slice_get (violation_failures_of worth e w s t) 0
 
 -- the verdict: a violation where no test fails
-abbrev pub verdict_of : Option ViolationFailure → ViolationVerdict
-verdict_of None = verdict.Violation
-verdict_of (Some f) = verdict.Failed f
+abbrev pub violation_verdict_of : Option ViolationFailure → ViolationVerdict
+violation_verdict_of None = verdict.Violation
+violation_verdict_of (Some f) = verdict.Failed f

@@ -11,7 +11,7 @@ ghost use Rattle.pb_cohesion.specs.EveryGroup.{BudgetsAreWithinReach, GroupsGetT
 ghost use Rattle.pb_cohesion.specs.FirstV.{FirstV};
 ghost use Rattle.pb_cohesion.specs.Groups.{AreProjects, Blocks, IsGroup, IsGroupWithin, Offer, Violates, gets, reach};
 ghost use Rattle.pb_cohesion.specs.Outcome.{IsUnfunded, total};
-ghost use Rattle.pb_cohesion.specs.ViolationFindings.{TellWhatHolds, violation_findings};
+ghost use Rattle.pb_cohesion.specs.ViolationFindings.{TellWhichTestsHold, violation_findings};
 
 /// The total of an outcome is what its funded projects cost, where the instance is an election or the outcome fits it.
 pub fn outcomes_cost_their_projects()
@@ -88,5 +88,5 @@ pub fn violation_where_no_test_fails()
 /// The findings on a group and its demand tell which tests hold: V1 where there are members, V2 and V4 where there is no
 /// culprit, and V3 where the group's share of the limit covers what the demanded projects cost.
 pub fn violation_findings_tell_what_holds()
-    ensures { (worth : ℕ → ℕ) (e : Instance) (w : List Bool) (s t : List ℕ) → TellWhatHolds worth e w s t (violation_findings worth e w s t) }
+    ensures { (worth : ℕ → ℕ) (e : Instance) (w : List Bool) (s t : List ℕ) → TellWhichTestsHold worth e w s t (violation_findings worth e w s t) }
 {}

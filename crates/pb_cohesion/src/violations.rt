@@ -5,7 +5,7 @@ ghost use Rattle.pb_election.specs.Instance as spec;
 ghost use Rattle.pb_election.specs.Instance.{IsVoter, approves};
 ghost use Rattle.pb_election.specs.Outcome.{Fits};
 ghost use Rattle.pb_certificate.specs.Claim as claim;
-ghost use Rattle.pb_cohesion.specs.FirstV.{FirstV, culprits_of_V2, verdict_of};
+ghost use Rattle.pb_cohesion.specs.FirstV.{FirstV, culprits_of_V2, violation_verdict_of};
 ghost use Rattle.pb_cohesion.specs.Groups.{AreProjects, IsGroup, Violates, gets, sat};
 
 use crate::worths::{cost_of_all, worth_of_all, worth_of_funded};
@@ -23,7 +23,7 @@ pub fn check_violation<S: Satisfaction>(
 ) -> ViolationVerdict
     requires outcome { Fits outcome.now election.now }
     requires violation { claim.Fits violation.now election.now }
-    ensures first { result ≡ verdict_of (FirstV (S.meaning satisfaction.now election.now) election.now (outcome.now).marks (violation.now).group (violation.now).demand) }
+    ensures first { result ≡ violation_verdict_of (FirstV (S.meaning satisfaction.now election.now) election.now (outcome.now).marks (violation.now).group (violation.now).demand) }
     ensures violation { (result ≡ ViolationVerdict.Violation) ↔ Violates (S.meaning satisfaction.now election.now) election.now (outcome.now).marks (violation.now).group (violation.now).demand }
 {
     match first_failure(election, outcome, violation, satisfaction) {

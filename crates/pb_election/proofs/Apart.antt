@@ -24,7 +24,7 @@ use Rattle.pb_election.specs.Markers.{is_marker, marker_of, marks}
 use Rattle.pb_election.specs.Rows.{ballot_in, ballots_in, columns_of, cost_in, has_key, id_in, ids_in, is_approval, is_id, is_known, key_in, stated_value, value_in, vote_column}
 use Rattle.pb_records.specs.FirstFault.{NoFault, fault_after}
 use Rattle.pb_election.specs.Faults.{PbFault, before_of, election_form, first_of, has_stood, header_of, keys_in, lowest_fault, lowest_fault_at_end, rest_of, role_of, rows_of, up_to_marker}
-use Rattle.pb_election.specs.Text.{AreMetaRows, AreProjectRows, AreVoteRows, EachKeyOnce, IsHeader, IsPart, lines, Part, PbText}
+use Rattle.pb_election.specs.Text.{AreMetaRows, AreProjectRows, AreVoteRows, EachKeyOnce, IsHeader, IsPart, Part, part_records, PbText}
 use Rattle.pb_election.proofs.FoundParts.{behind, behind-here, found, past, up-all, up-part}
 use Rattle.pb_election.proofs.Distinct.{distinct-at}
 use Rattle.pb_election.proofs.KeyLemmas.{key-new, key-there, stated_value-here}
@@ -46,13 +46,13 @@ value-at key P xs r zs once s has = rw (stated_value-here key xs r zs once has) 
 
 module _ (a b c : Part) (ha : IsPart Meta a) (hb : IsPart Projects b) (hc : IsPart Votes c) where
   whole : List Rec
-  whole = lines a ++ (lines b ++ lines c)
+  whole = part_records a ++ (part_records b ++ part_records c)
 
-  count-a : (s : Section) (x : Part) → IsPart s x → count_by is_marker (lines x) ≡ 1
+  count-a : (s : Section) (x : Part) → IsPart s x → count_by is_marker (part_records x) ≡ 1
   count-a s x h = count-behind s x.marker (behind x) h.marker h.others
 
-  count-two : count_by is_marker (lines a ++ lines b) ≡ 2
-  count-two = omega (arith, count-append (lines a) (lines b), count-a Meta a ha, count-a Projects b hb)
+  count-two : count_by is_marker (part_records a ++ part_records b) ≡ 2
+  count-two = omega (arith, count-append (part_records a) (part_records b), count-a Meta a ha, count-a Projects b hb)
 
   -- among the rows of META
   found-a : (xs zs : List Rec) → a.rows ≡ xs ++ zs → found Meta (a.marker ∷ a.header ∷ xs) ≡ a.header ∷ xs
@@ -62,27 +62,27 @@ module _ (a b c : Part) (ha : IsPart Meta a) (hb : IsPart Projects b) (hc : IsPa
       ∙ up-all (a.header ∷ xs) (ha.others.0, all-front (λ r. marker_of r ≡ None) xs zs (rw e at ha.others.1))
 
   -- among the rows of PROJECTS
-  found-b : (xs zs : List Rec) → b.rows ≡ xs ++ zs → found Projects (lines a ++ (b.marker ∷ b.header ∷ xs)) ≡ b.header ∷ xs
+  found-b : (xs zs : List Rec) → b.rows ≡ xs ++ zs → found Projects (part_records a ++ (b.marker ∷ b.header ∷ xs)) ≡ b.header ∷ xs
   found-b xs zs e =
       let m : marks Projects b.marker ≡ true = rw hb.marker refl in
       ap up_to_marker (past Projects a Meta (b.marker ∷ b.header ∷ xs) ha refl ∙ behind-here Projects b.marker (b.header ∷ xs) m)
       ∙ up-all (b.header ∷ xs) (hb.others.0, all-front (λ r. marker_of r ≡ None) xs zs (rw e at hb.others.1))
 
   -- among the rows of VOTES
-  found-c : (xs zs : List Rec) → c.rows ≡ xs ++ zs → found Votes (lines a ++ (lines b ++ (c.marker ∷ c.header ∷ xs))) ≡ c.header ∷ xs
+  found-c : (xs zs : List Rec) → c.rows ≡ xs ++ zs → found Votes (part_records a ++ (part_records b ++ (c.marker ∷ c.header ∷ xs))) ≡ c.header ∷ xs
   found-c xs zs e =
       let m : marks Votes c.marker ≡ true = rw hc.marker refl in
-      ap up_to_marker (past Votes a Meta (lines b ++ (c.marker ∷ c.header ∷ xs)) ha refl ∙ past Votes b Projects (c.marker ∷ c.header ∷ xs) hb refl ∙ behind-here Votes c.marker (c.header ∷ xs) m)
+      ap up_to_marker (past Votes a Meta (part_records b ++ (c.marker ∷ c.header ∷ xs)) ha refl ∙ past Votes b Projects (c.marker ∷ c.header ∷ xs) hb refl ∙ behind-here Votes c.marker (c.header ∷ xs) m)
       ∙ up-all (c.header ∷ xs) (hc.others.0, all-front (λ r. marker_of r ≡ None) xs zs (rw e at hc.others.1))
 
-  found-b-votes : (xs : List Rec) → found Projects (lines a ++ (lines b ++ (c.marker ∷ xs))) ≡ behind b
+  found-b-votes : (xs : List Rec) → found Projects (part_records a ++ (part_records b ++ (c.marker ∷ xs))) ≡ behind b
   found-b-votes xs =
       let m : marks Projects b.marker ≡ true = rw hb.marker refl in
       let n : is_marker c.marker ≡ true = rw hc.marker refl in
-      ap up_to_marker (past Projects a Meta (lines b ++ (c.marker ∷ xs)) ha refl ∙ behind-here Projects b.marker (behind b ++ (c.marker ∷ xs)) m)
+      ap up_to_marker (past Projects a Meta (part_records b ++ (c.marker ∷ xs)) ha refl ∙ behind-here Projects b.marker (behind b ++ (c.marker ∷ xs)) m)
       ∙ up-part (behind b) c.marker xs hb.others n
 
-  found-a-all : found Meta (lines a) ≡ behind a
+  found-a-all : found Meta (part_records a) ≡ behind a
   found-a-all =
       let m : marks Meta a.marker ≡ true = rw ha.marker refl in
       ap up_to_marker (behind-here Meta a.marker (behind a) m) ∙ up-all (behind a) ha.others
@@ -106,24 +106,24 @@ module _ (a b c : Part) (ha : IsPart Meta a) (hb : IsPart Projects b) (hc : IsPa
       ])
 
   -- the marker of PROJECTS
-  projects-marker : AreMetaRows a.rows → is_text b.marker ≡ true → lowest_fault (before_of (lines a)) b.marker ≡ None
+  projects-marker : AreMetaRows a.rows → is_text b.marker ≡ true → lowest_fault (before_of (part_records a)) b.marker ≡ None
   unfolding before_of
   projects-marker w t =
-      let keys : keys_in (rows_of Meta (lines a)) ≡ keys_in a.rows = ap (λ l. keys_in (rest_of l)) found-a-all in
-      let role : role_of (lines a) ≡ Inside Meta = role-rows [] Meta a.marker a.header a.rows ha.marker ha.others in
+      let keys : keys_in (rows_of Meta (part_records a)) ≡ keys_in a.rows = ap (λ l. keys_in (rest_of l)) found-a-all in
+      let role : role_of (part_records a) ≡ Inside Meta = role-rows [] Meta a.marker a.header a.rows ha.marker ha.others in
       let budget = key-there Budget IsMoney a.rows w.budget in
       let vote_type = key-there VoteType (λ v. IsTrue (is_approval v)) a.rows w.vote_type in
-      clear-projects (before_of (lines a)) b.marker role t hb.marker (ap (λ (ks : Keys). ks.budget) keys ∙ budget) (ap (λ (ks : Keys). ks.vote_type) keys ∙ vote_type)
+      clear-projects (before_of (part_records a)) b.marker role t hb.marker (ap (λ (ks : Keys). ks.budget) keys ∙ budget) (ap (λ (ks : Keys). ks.vote_type) keys ∙ vote_type)
 
   -- a row of PROJECTS
-  project-row : (xs : List Rec) (r : Rec) (zs : List Rec) → AreProjectRows (columns_of b.header) b.rows → b.rows ≡ xs ++ r ∷ zs → is_text r ≡ true → lowest_fault (before_of (lines a ++ (b.marker ∷ b.header ∷ xs))) r ≡ None
+  project-row : (xs : List Rec) (r : Rec) (zs : List Rec) → AreProjectRows (columns_of b.header) b.rows → b.rows ≡ xs ++ r ∷ zs → is_text r ≡ true → lowest_fault (before_of (part_records a ++ (b.marker ∷ b.header ∷ xs))) r ≡ None
   unfolding before_of
   project-row xs r zs w e t =
-      let before = lines a ++ (b.marker ∷ b.header ∷ xs) in
+      let before = part_records a ++ (b.marker ∷ b.header ∷ xs) in
       let columns = columns_of b.header in
       let f = found-b xs (r ∷ zs) e in
       let role : role_of before ≡ Inside Projects =
-      role-rows (lines a) Projects b.marker b.header xs hb.marker (hb.others.0, all-front (λ r. marker_of r ≡ None) xs (r ∷ zs) (rw e at hb.others.1))
+      role-rows (part_records a) Projects b.marker b.header xs hb.marker (hb.others.0, all-front (λ r. marker_of r ≡ None) xs (r ∷ zs) (rw e at hb.others.1))
       ∙ rw (count-a Meta a ha) refl
       in
       let cols : columns_of (header_of Projects before) ≡ columns = ap (λ l. columns_of (first_of l)) f in
@@ -139,23 +139,23 @@ module _ (a b c : Part) (ha : IsPart Meta a) (hb : IsPart Projects b) (hc : IsPa
       (subst (λ (cs : Columns). length (ids_in cs (rows_of Projects before)) + 1 ≤ 20000) (sym cols) (rw (rows, many) size))
 
   -- the marker of VOTES
-  votes-marker : is_text c.marker ≡ true → lowest_fault (before_of (lines a ++ lines b)) c.marker ≡ None
+  votes-marker : is_text c.marker ≡ true → lowest_fault (before_of (part_records a ++ part_records b)) c.marker ≡ None
   unfolding before_of
   votes-marker t =
-      let role : role_of (lines a ++ lines b) ≡ Inside Projects = role-rows (lines a) Projects b.marker b.header b.rows hb.marker hb.others ∙ rw (count-a Meta a ha) refl in
-      clear-votes (before_of (lines a ++ lines b)) c.marker role t hc.marker
+      let role : role_of (part_records a ++ part_records b) ≡ Inside Projects = role-rows (part_records a) Projects b.marker b.header b.rows hb.marker hb.others ∙ rw (count-a Meta a ha) refl in
+      clear-votes (before_of (part_records a ++ part_records b)) c.marker role t hc.marker
 
-  role-c : (xs zs : List Rec) → c.rows ≡ xs ++ zs → role_of (lines a ++ (lines b ++ (c.marker ∷ c.header ∷ xs))) ≡ Inside Votes
+  role-c : (xs zs : List Rec) → c.rows ≡ xs ++ zs → role_of (part_records a ++ (part_records b ++ (c.marker ∷ c.header ∷ xs))) ≡ Inside Votes
   role-c xs zs e =
-      rw (← append_assoc (lines a) (lines b) (c.marker ∷ c.header ∷ xs))
-      (role-rows (lines a ++ lines b) Votes c.marker c.header xs hc.marker (hc.others.0, all-front (λ r. marker_of r ≡ None) xs zs (rw e at hc.others.1)) ∙ rw count-two refl)
+      rw (← append_assoc (part_records a) (part_records b) (c.marker ∷ c.header ∷ xs))
+      (role-rows (part_records a ++ part_records b) Votes c.marker c.header xs hc.marker (hc.others.0, all-front (λ r. marker_of r ≡ None) xs zs (rw e at hc.others.1)) ∙ rw count-two refl)
 
   -- a row of VOTES
   vote-row : (xs : List Rec) (r : Rec) (zs : List Rec) → AreVoteRows (vote_column c.header) (ids_in (columns_of b.header) b.rows) c.rows → c.rows ≡ xs ++ r ∷ zs → is_text r ≡ true
-      → lowest_fault (before_of (lines a ++ (lines b ++ (c.marker ∷ c.header ∷ xs)))) r ≡ None
+      → lowest_fault (before_of (part_records a ++ (part_records b ++ (c.marker ∷ c.header ∷ xs)))) r ≡ None
   unfolding before_of
   vote-row xs r zs w e t =
-      let before = lines a ++ (lines b ++ (c.marker ∷ c.header ∷ xs)) in
+      let before = part_records a ++ (part_records b ++ (c.marker ∷ c.header ∷ xs)) in
       let ids = ids_in (columns_of b.header) b.rows in
       let vote = vote_column c.header in
       let f = found-b-votes (c.header ∷ xs) in
@@ -175,9 +175,9 @@ module _ (a b c : Part) (ha : IsPart Meta a) (hb : IsPart Projects b) (hc : IsPa
       (rw (same_ids, same_vote, rows) sizes)
 
   -- the end
-  at-end : lowest_fault_at_end (before_of (lines a ++ (lines b ++ lines c))) ≡ None
+  at-end : lowest_fault_at_end (before_of (part_records a ++ (part_records b ++ part_records c))) ≡ None
   unfolding before_of
-  at-end = clear-end (before_of (lines a ++ (lines b ++ lines c))) (role-c c.rows [] (sym (append-nil c.rows)))
+  at-end = clear-end (before_of (part_records a ++ (part_records b ++ part_records c))) (role-c c.rows [] (sym (append-nil c.rows)))
 
 -- the parts of a text, and what is known of each
 pub record Whole (a b c : Part) : Type 0 where
@@ -201,15 +201,15 @@ header-place : (before : List Rec) (s : Section) (h : Rec) → role_of before �
 unfolding before_of
 header-place before s h e t m k = clear-header s (before_of before) h e t m k
 
-clear-votes-part : (a b c : Part) → Whole a b c → (more : List Rec) (r : Rec) (left : List Rec) → more ++ r ∷ left ≡ lines c → is_text r ≡ true → lowest_fault (before_of (lines a ++ (lines b ++ more))) r ≡ None
+clear-votes-part : (a b c : Part) → Whole a b c → (more : List Rec) (r : Rec) (left : List Rec) → more ++ r ∷ left ≡ part_records c → is_text r ≡ true → lowest_fault (before_of (part_records a ++ (part_records b ++ more))) r ≡ None
 clear-votes-part a b c w more r left h t =
-    elim (spot c [] more r left (h ∙ sym (append-nil (lines c)))) [
-      | at_marker e m ↦ rw (e, append-nil (lines b), m) (votes-marker a b c w.meta w.projects w.votes (rw m at t))
+    elim (spot c [] more r left (h ∙ sym (append-nil (part_records c)))) [
+      | at_marker e m ↦ rw (e, append-nil (part_records b), m) (votes-marker a b c w.meta w.projects w.votes (rw m at t))
       | at_header e m ↦
-          let role : role_of (lines a ++ (lines b ++ (c.marker ∷ []))) ≡ Header Votes =
-          rw (← append_assoc (lines a) (lines b) (c.marker ∷ [])) (role-header (lines a ++ lines b) Votes c.marker w.votes.marker ∙ rw (count-two a b c w.meta w.projects w.votes) refl)
+          let role : role_of (part_records a ++ (part_records b ++ (c.marker ∷ []))) ≡ Header Votes =
+          rw (← append_assoc (part_records a) (part_records b) (c.marker ∷ [])) (role-header (part_records a ++ part_records b) Votes c.marker w.votes.marker ∙ rw (count-two a b c w.meta w.projects w.votes) refl)
           in
-          rw (e, m) (header-place (lines a ++ (lines b ++ (c.marker ∷ []))) Votes c.header role (rw m at t) w.votes.others.0 w.vote_header)
+          rw (e, m) (header-place (part_records a ++ (part_records b ++ (c.marker ∷ []))) Votes c.header role (rw m at t) w.votes.others.0 w.vote_header)
       | at_row zs xs e m ↦ rw e (vote-row a b c w.meta w.projects w.votes xs r zs w.vote_rows m t)
       | in_rest rest e m ↦ absurd (not-nil rest r left m)
     ]
@@ -218,23 +218,23 @@ clear-votes-part a b c w more r left h t =
     not-nil [] x ys e = cc e
     not-nil (z ∷ zs) x ys e = cc e
 
-clear-projects-part : (a b c : Part) → Whole a b c → (more : List Rec) (r : Rec) (left : List Rec) → more ++ r ∷ left ≡ lines b ++ lines c → is_text r ≡ true → lowest_fault (before_of (lines a ++ more)) r ≡ None
+clear-projects-part : (a b c : Part) → Whole a b c → (more : List Rec) (r : Rec) (left : List Rec) → more ++ r ∷ left ≡ part_records b ++ part_records c → is_text r ≡ true → lowest_fault (before_of (part_records a ++ more)) r ≡ None
 clear-projects-part a b c w more r left h t =
-    elim (spot b (lines c) more r left h) [
-      | at_marker e m ↦ rw (e, append-nil (lines a), m) (projects-marker a b c w.meta w.projects w.votes w.meta_rows (rw m at t))
+    elim (spot b (part_records c) more r left h) [
+      | at_marker e m ↦ rw (e, append-nil (part_records a), m) (projects-marker a b c w.meta w.projects w.votes w.meta_rows (rw m at t))
       | at_header e m ↦
-          let role : role_of (lines a ++ (b.marker ∷ [])) ≡ Header Projects =
-          role-header (lines a) Projects b.marker w.projects.marker ∙ rw (count-a a b c w.meta w.projects w.votes Meta a w.meta) refl
+          let role : role_of (part_records a ++ (b.marker ∷ [])) ≡ Header Projects =
+          role-header (part_records a) Projects b.marker w.projects.marker ∙ rw (count-a a b c w.meta w.projects w.votes Meta a w.meta) refl
           in
-          rw (e, m) (header-place (lines a ++ (b.marker ∷ [])) Projects b.header role (rw m at t) w.projects.others.0 w.project_header)
+          rw (e, m) (header-place (part_records a ++ (b.marker ∷ [])) Projects b.header role (rw m at t) w.projects.others.0 w.project_header)
       | at_row zs xs e m ↦ rw e (project-row a b c w.meta w.projects w.votes xs r zs w.project_rows m t)
       | in_rest rest e m ↦ rw e (clear-votes-part a b c w rest r left m t)
     ]
 
 -- no fault stands at a record of a whole text
-clear-at : (a b c : Part) → Whole a b c → (before : List Rec) (r : Rec) (left : List Rec) → before ++ r ∷ left ≡ lines a ++ (lines b ++ lines c) → is_text r ≡ true → lowest_fault (before_of before) r ≡ None
+clear-at : (a b c : Part) → Whole a b c → (before : List Rec) (r : Rec) (left : List Rec) → before ++ r ∷ left ≡ part_records a ++ (part_records b ++ part_records c) → is_text r ≡ true → lowest_fault (before_of before) r ≡ None
 clear-at a b c w before r left h t =
-    elim (spot a (lines b ++ lines c) before r left h) [
+    elim (spot a (part_records b ++ part_records c) before r left h) [
       | at_marker e m ↦ rw e (first-place r t (ap marker_of m ∙ w.meta.marker))
       | at_header e m ↦
           let role : role_of (a.marker ∷ []) ≡ Header Meta = role-header [] Meta a.marker w.meta.marker in
@@ -264,7 +264,7 @@ text-faultless recs e p (suc k) = by (slice_get recs k) refl
   where
     by : (o : Option Rec) → slice_get recs k ≡ o → fault_after election_form (take k recs) o ≡ None
     by None h =
-        let all : nonblank (take k recs) ≡ lines p.meta ++ (lines p.projects ++ lines p.votes) = ap nonblank (past-end recs k h) ∙ p.cut in
+        let all : nonblank (take k recs) ≡ part_records p.meta ++ (part_records p.projects ++ part_records p.votes) = ap nonblank (past-end recs k h) ∙ p.cut in
         rw all (at-end p.meta p.projects p.votes p.is_meta p.is_projects p.is_votes)
     by (Some r) h =
         elim (cases_Bool (is_blank r)) [

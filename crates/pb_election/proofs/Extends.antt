@@ -22,11 +22,11 @@ use Rattle.pb_election.specs.declared.sections.Section.TheVariants.{Meta, Projec
 use Rattle.pb_election.specs.Names.{is_among}
 use Rattle.pb_election.specs.Markers.{is_marker, marker_of, marks}
 use Rattle.pb_records.specs.Cells.{is_text}
-use Rattle.pb_election.specs.Rows.{ballot_in, ballots_in, columns_of, cost_in, costs_in, funded_in, has_key, id_in, ids_in, is_approval, is_id, is_known, is_yes, key_in, others_in, says_neither, selected_in, stated_value, value_in, vote_column}
+use Rattle.pb_election.specs.Rows.{ballot_in, ballots_in, columns_of, cost_in, costs_in, funded_in, has_key, id_in, ids_in, is_approval, is_id, is_known, key_in, others_in, says_funded, says_neither, selected_in, stated_value, value_in, vote_column}
 use Rattle.pb_election.specs.Faults.{has_stood, is_no_money, keys_in, lowest_fault}
-use Rattle.pb_election.specs.Text.{EachKeyOnce, IsPart, lines, Part}
+use Rattle.pb_election.specs.Text.{EachKeyOnce, IsPart, Part, part_records}
 use Rattle.pb_election.specs.SoFar.{before_next, next}
-use Rattle.pb_election.specs.Beginnings.{Beginning, AtStart, AfterMeta, InMeta, AfterProjects, InProjects, AfterVotes, InVotes, AllMeta, Good, GoodMeta, GoodProjects, GoodVotes, so_far_of, text_of}
+use Rattle.pb_election.specs.Beginnings.{Beginning, AtStart, AfterMeta, InMeta, AfterProjects, InProjects, AfterVotes, InVotes, AllMeta, Good, GoodMeta, GoodProjects, GoodVotes, so_far_of, beginning_records}
 use Rattle.pb_election.proofs.KeyLemmas.{count-append, has_stood-is, none-found, once-at, once-by, or-false}
 use Rattle.pb_election.proofs.Taken.{taken-first, taken-header, taken-meta-row, taken-project-row, taken-projects-marker, taken-vote-row, taken-votes-marker}
 
@@ -45,22 +45,22 @@ extend (InProjects a b) r = if is_marker r then AfterVotes a b r else InProjects
 extend (AfterVotes a b m) r = InVotes a b (part_of m r)
 extend (InVotes a b c) r = InVotes a b (more c r)
 
-pub text-extend : (x : Beginning) (r : Rec) → text_of (extend x r) ≡ text_of x ++ (r ∷ [])
+pub text-extend : (x : Beginning) (r : Rec) → beginning_records (extend x r) ≡ beginning_records x ++ (r ∷ [])
 text-extend AtStart r = refl
 text-extend (AfterMeta m) r = refl
 text-extend (InMeta a) r = by (is_marker r)
   where
-    by : (t : Bool) → text_of (if t then AfterProjects a r else InMeta (more a r)) ≡ lines a ++ (r ∷ [])
+    by : (t : Bool) → beginning_records (if t then AfterProjects a r else InMeta (more a r)) ≡ part_records a ++ (r ∷ [])
     by true = refl
     by false = refl
-text-extend (AfterProjects a m) r = sym (append_assoc (lines a) (m ∷ []) (r ∷ []))
+text-extend (AfterProjects a m) r = sym (append_assoc (part_records a) (m ∷ []) (r ∷ []))
 text-extend (InProjects a b) r = by (is_marker r)
   where
-    by : (t : Bool) → text_of (if t then AfterVotes a b r else InProjects a (more b r)) ≡ (lines a ++ lines b) ++ (r ∷ [])
-    by true = sym (append_assoc (lines a) (lines b) (r ∷ []))
-    by false = sym (append_assoc (lines a) (lines b) (r ∷ []))
-text-extend (AfterVotes a b m) r = sym (append_assoc (lines a) (lines b ++ (m ∷ [])) (r ∷ []) ∙ ap (λ l. lines a ++ l) (append_assoc (lines b) (m ∷ []) (r ∷ [])))
-text-extend (InVotes a b c) r = sym (append_assoc (lines a) (lines b ++ lines c) (r ∷ []) ∙ ap (λ l. lines a ++ l) (append_assoc (lines b) (lines c) (r ∷ [])))
+    by : (t : Bool) → beginning_records (if t then AfterVotes a b r else InProjects a (more b r)) ≡ (part_records a ++ part_records b) ++ (r ∷ [])
+    by true = sym (append_assoc (part_records a) (part_records b) (r ∷ []))
+    by false = sym (append_assoc (part_records a) (part_records b) (r ∷ []))
+text-extend (AfterVotes a b m) r = sym (append_assoc (part_records a) (part_records b ++ (m ∷ [])) (r ∷ []) ∙ ap (λ l. part_records a ++ l) (append_assoc (part_records b) (m ∷ []) (r ∷ [])))
+text-extend (InVotes a b c) r = sym (append_assoc (part_records a) (part_records b ++ part_records c) (r ∷ []) ∙ ap (λ l. part_records a ++ l) (append_assoc (part_records b) (part_records c) (r ∷ [])))
 
 marks-section : (s : Section) (r : Rec) → marks s r ≡ true → marker_of r ≡ Some s
 marks-section s r h = by (marker_of r) s refl h
@@ -334,8 +334,8 @@ next-project a b r m =
     let columns = columns_of b.header in
     let ids : ids_in columns (b.rows ++ (r ∷ [])) ≡ ids_in columns b.rows ++ (id_in columns r ∷ []) = map-append (id_in columns) b.rows (r ∷ []) in
     let costs : costs_in columns (b.rows ++ (r ∷ [])) ≡ costs_in columns b.rows ++ (millionths (cost_in columns r) ∷ []) = map-append (λ row. millionths (cost_in columns row)) b.rows (r ∷ []) in
-    let marks : map (λ row. is_yes (selected_in columns row)) (b.rows ++ (r ∷ [])) ≡ map (λ row. is_yes (selected_in columns row)) b.rows ++ (is_yes (selected_in columns r) ∷ []) = map-append (λ row. is_yes (selected_in columns row)) b.rows (r ∷ []) in
-    let funded : funded_in columns (b.rows ++ (r ∷ [])) ≡ option_map (λ ms. ms ++ (is_yes (selected_in columns r) ∷ [])) (funded_in columns b.rows) = fund (is_some columns.selected) _ _ _ marks in
+    let marks : map (λ row. says_funded (selected_in columns row)) (b.rows ++ (r ∷ [])) ≡ map (λ row. says_funded (selected_in columns row)) b.rows ++ (says_funded (selected_in columns r) ∷ []) = map-append (λ row. says_funded (selected_in columns row)) b.rows (r ∷ []) in
+    let funded : funded_in columns (b.rows ++ (r ∷ [])) ≡ option_map (λ ms. ms ++ (says_funded (selected_in columns r) ∷ [])) (funded_in columns b.rows) = fund (is_some columns.selected) _ _ _ marks in
     let others : others_in columns (b.rows ++ (r ∷ [])) ≡ others_in columns b.rows + (if says_neither columns r then 1 else 0) =
     count-append (says_neither columns) b.rows (r ∷ []) ∙ ap (λ n. others_in columns b.rows + n) (one (says_neither columns r)) in
     rw (m, ids, costs, funded, others) refl

@@ -20,7 +20,7 @@ use Rattle.pb_records.specs.FirstFault.{NoFault, fault_after, fault_at}
 use Rattle.pb_election.specs.Faults.{PbFault, before_of, election_form, lowest_fault, lowest_fault_at_end}
 use Rattle.pb_election.specs.Text.{PbText}
 use Rattle.pb_election.specs.SoFar.{SoFar, Steps, before_next, election_of, next, nothing, step, step_by}
-use Rattle.pb_election.specs.Beginnings.{Beginning, AtStart, AfterMeta, InMeta, AfterProjects, InProjects, AfterVotes, InVotes, Good, HasRead, so_far_of, text_of}
+use Rattle.pb_election.specs.Beginnings.{Beginning, AtStart, AfterMeta, InMeta, AfterProjects, InProjects, AfterVotes, InVotes, Good, HasRead, so_far_of, beginning_records}
 use Rattle.pb_election.proofs.BeginningLemmas.{before-text}
 use Rattle.pb_election.proofs.Extends.{all-push, extend, extends, text-extend}
 
@@ -74,7 +74,7 @@ step-err s r f e = by (lowest_fault (before_next s) r) refl e
 -- The end.
 
 -- records at whose end no fault stands are the text of an election
-whole : (s : SoFar) (recs left : List Rec) (x : Beginning) → Good x → s ≡ so_far_of x → nonblank recs ≡ text_of x → AllByRecursion (λ r. IsTrue (is_text r)) (nonblank recs)
+whole : (s : SoFar) (recs left : List Rec) (x : Beginning) → Good x → s ≡ so_far_of x → nonblank recs ≡ beginning_records x → AllByRecursion (λ r. IsTrue (is_text r)) (nonblank recs)
     → lowest_fault_at_end (before_next (so_far_of x)) ≡ None → PbText recs (election_of s)
 unfolding lowest_fault_at_end
 whole s recs left AtStart h e t x n = cc n

@@ -15,8 +15,8 @@ use Rattle.pb_election.specs.declared.columns.Columns.{Columns}
 use Rattle.pb_election.specs.declared.keys.Key.TheVariants.{Budget}
 use Rattle.pb_records.specs.Cells.{clean, is_text}
 use Rattle.pb_election.specs.Names.{is_among}
-use Rattle.pb_election.specs.Rows.{ballot_in, ballots_in, columns_of, cost_in, costs_in, funded_in, id_in, ids_in, is_id, is_yes, names_in, positions_of, says_neither, selected_in, stated_value, under, vote_column}
-use Rattle.pb_election.specs.Text.{IsElection, IsId, PbText, lines}
+use Rattle.pb_election.specs.Rows.{ballot_in, ballots_in, columns_of, cost_in, costs_in, funded_in, id_in, ids_in, is_id, names_in, positions_of, says_funded, says_neither, selected_in, stated_value, under, vote_column}
+use Rattle.pb_election.specs.Text.{IsElection, IsId, PbText, part_records}
 use Rattle.pb_records.proofs.Cleaning.{clean-clean, is_utf8-clean}
 
 -- Ballots.
@@ -87,8 +87,8 @@ costs-small columns (r ∷ rs) h = (h.0.small, costs-small columns rs h.1)
 marks-many : (columns : Columns) (rows : List Rec) → IfSome (funded_in columns rows) (λ marks. length marks ≡ length (ids_in columns rows))
 marks-many columns rows = by (is_some columns.selected)
   where
-    by : (b : Bool) → IfSome (if b then Some (map (λ row. is_yes (selected_in columns row)) rows) else None) (λ marks. length marks ≡ length (ids_in columns rows))
-    by true = length-map rows (λ row. is_yes (selected_in columns row)) ∙ sym (length-map rows (id_in columns))
+    by : (b : Bool) → IfSome (if b then Some (map (λ row. says_funded (selected_in columns row)) rows) else None) (λ marks. length marks ≡ length (ids_in columns rows))
+    by true = length-map rows (λ row. says_funded (selected_in columns row)) ∙ sym (length-map rows (id_in columns))
     by false = tt
 
 limit-small : (o : Option Field) → IsSomeAnd o IsMoney → option_map_or millionths o 0 ≤ most_money
@@ -108,8 +108,8 @@ sound recs e p =
     let columns = columns_of p.projects.header in
     let ids = ids_in columns p.projects.rows in
     let many : length ids ≡ length p.projects.rows = length-map p.projects.rows (id_in columns) in
-    let text : AllByRecursion (λ r. IsTrue (is_text r)) (lines p.meta ++ (lines p.projects ++ lines p.votes)) = rw p.cut at p.text in
-    let of_projects = all-front (λ r. IsTrue (is_text r)) (lines p.projects) (lines p.votes) (all-back (λ r. IsTrue (is_text r)) (lines p.meta) (lines p.projects ++ lines p.votes) text) in
+    let text : AllByRecursion (λ r. IsTrue (is_text r)) (part_records p.meta ++ (part_records p.projects ++ part_records p.votes)) = rw p.cut at p.text in
+    let of_projects = all-front (λ r. IsTrue (is_text r)) (part_records p.projects) (part_records p.votes) (all-back (λ r. IsTrue (is_text r)) (part_records p.meta) (part_records p.projects ++ part_records p.votes) text) in
     rw p.states (record {
       limit = limit-small (stated_value Budget p.meta.rows) p.meta_rows.budget;
       ids = ids-are columns p.projects.rows of_projects.1.1 p.project_rows.ids;

@@ -8,7 +8,7 @@ use Rattle.pb_election.specs.declared.sections.Role.TheVariants.{Header, Inside}
 use Rattle.pb_election.specs.declared.sections.Section.{Section}
 use Rattle.pb_election.specs.Markers.{is_marker, marker_of}
 use Rattle.pb_election.specs.Faults.{role_after, role_of, section_of}
-use Rattle.pb_election.specs.Text.{Part, lines}
+use Rattle.pb_election.specs.Text.{Part, part_records}
 use Rattle.pb_election.proofs.FoundParts.{NoMarkers}
 
 -- a record in a section that is followed by a rest, or in that rest
@@ -16,7 +16,7 @@ pub data Spot (a : Part) (rest before : List Rec) (r : Rec) (left : List Rec) : 
   at_marker : before ≡ [] → r ≡ a.marker → Spot a rest before r left
   at_header : before ≡ a.marker ∷ [] → r ≡ a.header → Spot a rest before r left
   at_row : (zs xs : List Rec) → before ≡ a.marker ∷ a.header ∷ xs → a.rows ≡ xs ++ r ∷ zs → Spot a rest before r left
-  in_rest : (more : List Rec) → before ≡ lines a ++ more → more ++ r ∷ left ≡ rest → Spot a rest before r left
+  in_rest : (more : List Rec) → before ≡ part_records a ++ more → more ++ r ∷ left ≡ rest → Spot a rest before r left
 
 pub data InRows (rows rest before : List Rec) (r : Rec) (left : List Rec) : Type 0 where
   here : (zs : List Rec) → rows ≡ before ++ r ∷ zs → InRows rows rest before r left
@@ -32,7 +32,7 @@ in-rows (x ∷ xs) rest (y ∷ ys) r left h =
       | later more k l ↦ later more (rw (e, k) refl) l
     ]
 
-pub spot : (a : Part) (rest before : List Rec) (r : Rec) (left : List Rec) → before ++ r ∷ left ≡ lines a ++ rest → Spot a rest before r left
+pub spot : (a : Part) (rest before : List Rec) (r : Rec) (left : List Rec) → before ++ r ∷ left ≡ part_records a ++ rest → Spot a rest before r left
 spot a rest [] r left h = at_marker refl (cc h)
 spot a rest (x ∷ []) r left h = let e : x ≡ a.marker = cc h in at_header (rw e refl) (cc h)
 spot a rest (x ∷ y ∷ ys) r left h =

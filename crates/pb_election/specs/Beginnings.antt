@@ -13,7 +13,7 @@ use Rattle.pb_records.specs.Cells.{is_text}
 use Rattle.pb_election.specs.Markers.{marker_of}
 use Rattle.pb_election.specs.Rows.{ballots_in, columns_of, costs_in, declared_count, funded_in, ids_in, is_approval, others_in, stated_value, vote_column}
 use Rattle.pb_election.specs.Faults.{keys_in}
-use Rattle.pb_election.specs.Text.{AreMetaRows, AreProjectRows, AreVoteRows, EachKeyOnce, IsHeader, IsPart, Part, lines}
+use Rattle.pb_election.specs.Text.{AreMetaRows, AreProjectRows, AreVoteRows, EachKeyOnce, IsHeader, IsPart, Part, part_records}
 use Rattle.pb_election.specs.SoFar.{SoFar}
 
 pub data Beginning : Type 0 where
@@ -25,14 +25,14 @@ pub data Beginning : Type 0 where
   AfterVotes : Part → Part → Rec → Beginning
   InVotes : Part → Part → Part → Beginning
 
-abbrev pub text_of : Beginning → List Rec
-text_of AtStart = []
-text_of (AfterMeta r) = r ∷ []
-text_of (InMeta a) = lines a
-text_of (AfterProjects a r) = lines a ++ (r ∷ [])
-text_of (InProjects a b) = lines a ++ lines b
-text_of (AfterVotes a b r) = lines a ++ (lines b ++ (r ∷ []))
-text_of (InVotes a b c) = lines a ++ (lines b ++ lines c)
+abbrev pub beginning_records : Beginning → List Rec
+beginning_records AtStart = []
+beginning_records (AfterMeta r) = r ∷ []
+beginning_records (InMeta a) = part_records a
+beginning_records (AfterProjects a r) = part_records a ++ (r ∷ [])
+beginning_records (InProjects a b) = part_records a ++ part_records b
+beginning_records (AfterVotes a b r) = part_records a ++ (part_records b ++ (r ∷ []))
+beginning_records (InVotes a b c) = part_records a ++ (part_records b ++ part_records c)
 
 -- a section of which nothing was read
 abbrev pub no_part : Part
@@ -103,5 +103,5 @@ pub record HasRead (s : SoFar) (recs : List Rec) : Type 0 where
   pub beginning : Beginning
   pub good : Good beginning
   pub same : s ≡ so_far_of beginning
-  pub records : recs ≡ text_of beginning
+  pub records : recs ≡ beginning_records beginning
   pub text : AllByRecursion (λ r. IsTrue (is_text r)) recs

@@ -122,16 +122,16 @@ abbrev pub costs_in : Columns → List Rec → List ℕ
 costs_in columns rows = map (λ row. millionths (cost_in columns row)) rows
 
 -- whether a project is funded, and whether the file says neither yes nor no
-abbrev pub is_yes : Field → Bool
-is_yes field = bytes_eq field (codes "1")
+abbrev pub says_funded : Field → Bool
+says_funded field = bytes_eq field (codes "1")
 
 abbrev pub is_neither : Field → Bool
-is_neither field = not (is_yes field) && not (bytes_eq field (codes "0"))
+is_neither field = not (says_funded field) && not (bytes_eq field (codes "0"))
 
 -- which projects are funded, where there is a column for it
 abbrev pub funded_in : Columns → List Rec → Option (List Bool)
 funded_in columns rows =
-    if is_some columns.selected then Some (map (λ row. is_yes (selected_in columns row)) rows) else None
+    if is_some columns.selected then Some (map (λ row. says_funded (selected_in columns row)) rows) else None
 
 -- whether there is the column, and it says neither yes nor no of a project
 abbrev pub says_neither : Columns → Rec → Bool

@@ -16,7 +16,7 @@ use Rattle.pb_election.specs.declared.refusal.ElectionFault.{ElectionFault}
 use Rattle.pb_records.specs.declared.drafts.Stop.{Stop}
 use Rattle.pb_records.specs.declared.drafts.Stop.TheVariants.{Fault, Memory}
 use Rattle.pb_election.specs.Markers.{is_marker}
-use Rattle.pb_election.specs.Rows.{ballot_in, columns_of, cost_in, count_in, funded_in, id_in, is_yes, key_in, says_neither, selected_in, value_in, vote_column}
+use Rattle.pb_election.specs.Rows.{ballot_in, columns_of, cost_in, count_in, funded_in, id_in, key_in, says_funded, says_neither, selected_in, value_in, vote_column}
 use Rattle.pb_election.specs.Faults.{Before, lowest_fault}
 
 pub record SoFar : Type 0 where
@@ -55,7 +55,7 @@ with_project r s =
     record s {
       ids = s.ids ++ (id_in s.columns r ∷ []);
       costs = s.costs ++ (millionths (cost_in s.columns r) ∷ []);
-      selected = option_map (λ marks. marks ++ (is_yes (selected_in s.columns r) ∷ [])) s.selected;
+      selected = option_map (λ marks. marks ++ (says_funded (selected_in s.columns r) ∷ [])) s.selected;
       other_selected = s.other_selected + (if says_neither s.columns r then 1 else 0);
     }
 

@@ -21,8 +21,8 @@ pub record Part : Type 0 where
   pub header : Rec
   pub rows : List Rec
 
-abbrev pub lines : Part → List Rec
-lines part = part.marker ∷ part.header ∷ part.rows
+abbrev pub part_records : Part → List Rec
+part_records part = part.marker ∷ part.header ∷ part.rows
 
 -- the part is that section: its first record marks it, and no other record marks any
 pub record IsPart (s : Section) (part : Part) : Type 0 where
@@ -79,7 +79,7 @@ pub record PbText (recs : List Rec) (e : Instance) : Type 0 where
   pub projects : Part
   pub votes : Part
   -- the records that are not blank are the three sections, and each is text
-  pub cut : nonblank recs ≡ lines meta ++ (lines projects ++ lines votes)
+  pub cut : nonblank recs ≡ part_records meta ++ (part_records projects ++ part_records votes)
   pub text : AllByRecursion (λ r. IsTrue (is_text r)) (nonblank recs)
   pub is_meta : IsPart Meta meta
   pub is_projects : IsPart Projects projects

@@ -61,12 +61,12 @@ c3_line e f =
 abbrev pub c4_line : Instance → Findings → Text
 c4_line e f =
     opening (codes "C4          ") (holds f.c4)
-    ++ told_where_it_fails (codes "nothing is paid for an unfunded project") (words.in_vain e f.grains_per_unit f.c4.count) f.c4.shown
+    ++ told_where_it_fails (codes "nothing is paid for an unfunded project") (words.unfunded_paid e f.grains_per_unit f.c4.count) f.c4.shown
 
 -- what the supporters of unfunded projects have left or can offer
 abbrev pub supporters_told : Instance → ℕ → Text → Finding → Text
 supporters_told e unit sums_of f =
-    told (codes "every project is funded") (words.closest e unit sums_of) (words.richer e unit sums_of f.count) (holds f) f.shown
+    told (codes "every project is funded") (words.comes_closest e unit sums_of) (words.richer e unit sums_of f.count) (holds f) f.shown
 
 abbrev pub c5_line : Bool → Instance → Findings → Text
 c5_line asked e f =
@@ -92,13 +92,13 @@ abbrev pub price_table : Mode → Instance → Findings → List Text
 price_table m e f = outcome_lines m e f ++ payment_lines e f ++ supporter_lines m.stable e f
 
 -- the projects that are named are those of the election
-abbrev pub NamesProject : Instance → Finding → Type 0
-NamesProject e f = IfSome f.shown (λ m. IsProject e m.at)
+abbrev pub ShowsProject : Instance → Finding → Type 0
+ShowsProject e f = IfSome f.shown (λ m. IsProject e m.at)
 
 pub record NameProjects (e : Instance) (f : Findings) : Type 0 where
-  pub exhaustive : NamesProject e f.exhaustive
+  pub exhaustive : ShowsProject e f.exhaustive
   pub c1 : IfSome f.c1.first (λ q. IsProject e q.1)
-  pub c3 : NamesProject e f.c3
-  pub c4 : NamesProject e f.c4
-  pub c5 : NamesProject e f.c5
-  pub s5 : NamesProject e f.s5
+  pub c3 : ShowsProject e f.c3
+  pub c4 : ShowsProject e f.c4
+  pub c5 : ShowsProject e f.c5
+  pub s5 : ShowsProject e f.s5

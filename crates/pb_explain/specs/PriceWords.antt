@@ -50,8 +50,8 @@ inexact e unit count m =
     ++ codes " is paid for it" ++ how_many (codes "funded projects not paid exactly") count
 
 -- C4, where an unfunded project is paid for
-unfoldable pub in_vain : Instance → ℕ → ℕ → Comparison → Text
-in_vain e unit count m =
+unfoldable pub unfunded_paid : Instance → ℕ → ℕ → Comparison → Text
+unfunded_paid e unit count m =
     balance unit m.amount ++ codes " is paid for project " ++ id_of e m.at ++ codes ", which isn't funded"
     ++ how_many (codes "unfunded projects that are paid for") count
 
@@ -61,8 +61,8 @@ unfoldable pub cost_and_sum : ℕ → Text → Comparison → Text
 cost_and_sum unit sums_of m =
     codes " costs " ++ amount unit m.bound ++ codes ", and its supporters' " ++ sums_of ++ codes " come to " ++ balance unit m.amount
 
-unfoldable pub closest : Instance → ℕ → Text → Comparison → Text
-closest e unit sums_of m = codes "project " ++ id_of e m.at ++ codes ", the closest," ++ cost_and_sum unit sums_of m
+unfoldable pub comes_closest : Instance → ℕ → Text → Comparison → Text
+comes_closest e unit sums_of m = codes "project " ++ id_of e m.at ++ codes ", the closest," ++ cost_and_sum unit sums_of m
 
 unfoldable pub richer : Instance → ℕ → Text → ℕ → Comparison → Text
 richer e unit sums_of count m =

@@ -2,7 +2,7 @@
 ghost use Rattle.std.specs.Prelude.{◌≡◌, ◌≤◌, ◌^◌, ◌++◌, IfOk, IfSome, OnOk, map, string_bytes};
 ghost use Rattle.pb_election.specs.Instance.{IsProject};
 ghost use Rattle.pb_explain.specs.PriceTable as spec;
-ghost use Rattle.pb_explain.specs.PriceTable.{NameProjects, NamesProject};
+ghost use Rattle.pb_explain.specs.PriceTable.{NameProjects, ShowsProject};
 
 use crate::price_words as words;
 use crate::rows::{opened, opened_if, push_line};
@@ -40,7 +40,7 @@ fn push_outcome_lines(
     mode: Mode,
 ) -> Result<(), AllocError>
     requires unit { 10 ^ 6 ≤ (findings.now).grains_per_unit }
-    requires exhaustive { NamesProject election.now (findings.now).exhaustive }
+    requires exhaustive { ShowsProject election.now (findings.now).exhaustive }
     ensures { OnOk result (map string_bytes lines.new.items ≡ map string_bytes lines.old.items ++ spec.outcome_lines mode election.now findings.now) }
 {
     push_line(lines, feasible_line(alloc, findings)?)?;
@@ -60,8 +60,8 @@ fn push_payment_lines(
 ) -> Result<(), AllocError>
     requires unit { 10 ^ 6 ≤ (findings.now).grains_per_unit }
     requires c1 { IfSome (findings.now).c1.first (λ q. IsProject election.now q.1) }
-    requires c3 { NamesProject election.now (findings.now).c3 }
-    requires c4 { NamesProject election.now (findings.now).c4 }
+    requires c3 { ShowsProject election.now (findings.now).c3 }
+    requires c4 { ShowsProject election.now (findings.now).c4 }
     ensures { OnOk result (map string_bytes lines.new.items ≡ map string_bytes lines.old.items ++ spec.payment_lines election.now findings.now) }
 {
     push_line(lines, c1_line(alloc, election, findings)?)?;
@@ -79,8 +79,8 @@ fn push_supporter_lines(
     stable: bool,
 ) -> Result<(), AllocError>
     requires unit { 10 ^ 6 ≤ (findings.now).grains_per_unit }
-    requires c5 { NamesProject election.now (findings.now).c5 }
-    requires s5 { NamesProject election.now (findings.now).s5 }
+    requires c5 { ShowsProject election.now (findings.now).c5 }
+    requires s5 { ShowsProject election.now (findings.now).s5 }
     ensures { OnOk result (map string_bytes lines.new.items ≡ map string_bytes lines.old.items ++ spec.supporter_lines stable election.now findings.now) }
 {
     push_line(lines, c5_line(alloc, election, findings, !stable)?)?;
@@ -109,7 +109,7 @@ fn exhaustive_line(
     asked: bool,
 ) -> Result<String, AllocError>
     requires unit { 10 ^ 6 ≤ (findings.now).grains_per_unit }
-    requires project { NamesProject election.now (findings.now).exhaustive }
+    requires project { ShowsProject election.now (findings.now).exhaustive }
     ensures { IfOk result (λ line. string_bytes line ≡ spec.exhaustive_line asked election.now findings.now) }
 {
     let unit = findings.grains_per_unit;
@@ -134,7 +134,7 @@ fn push_room(
     found: &Finding,
 ) -> Result<(), AllocError>
     requires unit { 10 ^ 6 ≤ unit }
-    requires project { NamesProject election.now found.now }
+    requires project { ShowsProject election.now found.now }
     ensures { OnOk result (string_bytes line.new ≡ string_bytes line.old ++ spec.room_told election.now unit found.now) }
 {
     match found.shown {
@@ -190,7 +190,7 @@ fn c2_line(alloc: Global, findings: &Findings) -> Result<String, AllocError>
 
 fn c3_line(alloc: Global, election: &Election, findings: &Findings) -> Result<String, AllocError>
     requires unit { 10 ^ 6 ≤ (findings.now).grains_per_unit }
-    requires project { NamesProject election.now (findings.now).c3 }
+    requires project { ShowsProject election.now (findings.now).c3 }
     ensures { IfOk result (λ line. string_bytes line ≡ spec.c3_line election.now findings.now) }
 {
     let unit = findings.grains_per_unit;
@@ -211,7 +211,7 @@ fn c3_line(alloc: Global, election: &Election, findings: &Findings) -> Result<St
 
 fn c4_line(alloc: Global, election: &Election, findings: &Findings) -> Result<String, AllocError>
     requires unit { 10 ^ 6 ≤ (findings.now).grains_per_unit }
-    requires project { NamesProject election.now (findings.now).c4 }
+    requires project { ShowsProject election.now (findings.now).c4 }
     ensures { IfOk result (λ line. string_bytes line ≡ spec.c4_line election.now findings.now) }
 {
     let unit = findings.grains_per_unit;
@@ -237,7 +237,7 @@ fn c5_line(
     asked: bool,
 ) -> Result<String, AllocError>
     requires unit { 10 ^ 6 ≤ (findings.now).grains_per_unit }
-    requires project { NamesProject election.now (findings.now).c5 }
+    requires project { ShowsProject election.now (findings.now).c5 }
     ensures { IfOk result (λ line. string_bytes line ≡ spec.c5_line asked election.now findings.now) }
 {
     let found = &findings.c5;
@@ -265,7 +265,7 @@ fn s5_line(
     asked: bool,
 ) -> Result<String, AllocError>
     requires unit { 10 ^ 6 ≤ (findings.now).grains_per_unit }
-    requires project { NamesProject election.now (findings.now).s5 }
+    requires project { ShowsProject election.now (findings.now).s5 }
     ensures { IfOk result (λ line. string_bytes line ≡ spec.s5_line asked election.now findings.now) }
 {
     let found = &findings.s5;
@@ -295,7 +295,7 @@ fn push_supporters(
     found: &Finding,
 ) -> Result<(), AllocError>
     requires unit { 10 ^ 6 ≤ unit }
-    requires project { NamesProject election.now found.now }
+    requires project { ShowsProject election.now found.now }
     ensures { OnOk result (string_bytes line.new ≡ string_bytes line.old ++ spec.supporters_told election.now unit sums_of.now found.now) }
 {
     match found.shown {

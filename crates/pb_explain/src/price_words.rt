@@ -163,7 +163,7 @@ pub(crate) fn push_inexact(
 }
 
 /// Adds what is paid for an unfunded project.
-#[tactic(auto, unfolding(crate::specs::PriceWords::in_vain))]
+#[tactic(auto, unfolding(crate::specs::PriceWords::unfunded_paid))]
 pub(crate) fn push_in_vain(
     line: &mut String,
     election: &Election,
@@ -173,7 +173,7 @@ pub(crate) fn push_in_vain(
 ) -> Result<(), AllocError>
     requires unit { 10 ^ 6 ≤ unit }
     requires project { IsProject election.now (here.now).at }
-    ensures { OnOk result (string_bytes line.new ≡ string_bytes line.old ++ spec.in_vain election.now unit count here.now) }
+    ensures { OnOk result (string_bytes line.new ≡ string_bytes line.old ++ spec.unfunded_paid election.now unit count here.now) }
 {
     push_sum(line, unit, here)?;
     line.push_str(" is paid for project ")?;
@@ -183,7 +183,7 @@ pub(crate) fn push_in_vain(
 }
 
 /// Adds what the project that comes closest costs, and what its supporters have; `sums_of` says what of it.
-#[tactic(auto, unfolding(crate::specs::PriceWords::closest))]
+#[tactic(auto, unfolding(crate::specs::PriceWords::comes_closest))]
 pub(crate) fn push_closest(
     line: &mut String,
     election: &Election,
@@ -193,7 +193,7 @@ pub(crate) fn push_closest(
 ) -> Result<(), AllocError>
     requires unit { 10 ^ 6 ≤ unit }
     requires project { IsProject election.now (here.now).at }
-    ensures { OnOk result (string_bytes line.new ≡ string_bytes line.old ++ spec.closest election.now unit sums_of.now here.now) }
+    ensures { OnOk result (string_bytes line.new ≡ string_bytes line.old ++ spec.comes_closest election.now unit sums_of.now here.now) }
 {
     line.push_str("project ")?;
     push_id(line, election, here.at)?;

@@ -7,7 +7,7 @@ use Rattle.std.specs.Int.{int_max}
 use Rattle.std.proofs.lemmas.Bool.{eq-eqb, ne_eqb}
 use Rattle.std.proofs.lemmas.List.Sums.{sum_by_more}
 use Rattle.pb_election.specs.Instance.{Instance, approvals, approves, ballot_of, voters}
-use Rattle.pb_price.specs.Tallies.{AreChanged, AreSumsOf, IsWithin, Taken, Tallied, left_by, marked, most_by, spent_by, top_by, with_supporter}
+use Rattle.pb_price.specs.Tallies.{AreChanged, AreSumsOf, IsWithin, Taken, Tallied, left_by, marked_with, most_by, spent_by, top_by, with_supporter}
 use Rattle.pb_price.specs.declared.tally.ProjectSums.{ProjectSums}
 use Rattle.pb_price.specs.declared.tally.Tally.{Tally}
 use Rattle.pb_price.proofs.Amounts.{spent-none, top-none}
@@ -18,24 +18,24 @@ use Rattle.pb_price.proofs.OneMore.{tried}
 use Rattle.pb_price.proofs.Signed.{count-next, signed-next, small-kept}
 
 -- a mark changes no sum
-marked-paid : (b : Bool) (i : ℕ) (s : ProjectSums) → (cond b (marked i s) s).paid ≡ s.paid
+marked-paid : (b : Bool) (i : ℕ) (s : ProjectSums) → (cond b (marked_with i s) s).paid ≡ s.paid
 marked-paid true i s = refl
 marked-paid false i s = refl
 
-marked-left : (b : Bool) (i : ℕ) (s : ProjectSums) → (cond b (marked i s) s).left ≡ s.left
+marked-left : (b : Bool) (i : ℕ) (s : ProjectSums) → (cond b (marked_with i s) s).left ≡ s.left
 marked-left true i s = refl
 marked-left false i s = refl
 
-marked-offer : (b : Bool) (i : ℕ) (s : ProjectSums) → (cond b (marked i s) s).offer ≡ s.offer
+marked-offer : (b : Bool) (i : ℕ) (s : ProjectSums) → (cond b (marked_with i s) s).offer ≡ s.offer
 marked-offer true i s = refl
 marked-offer false i s = refl
 
-marked-count : (b : Bool) (i : ℕ) (s : ProjectSums) → (cond b (marked i s) s).supporters ≡ s.supporters
+marked-count : (b : Bool) (i : ℕ) (s : ProjectSums) → (cond b (marked_with i s) s).supporters ≡ s.supporters
 marked-count true i s = refl
 marked-count false i s = refl
 
 -- opened: the projects of its ballot are marked
-sums-opened : (e : Instance) (a : Taken) (closed opened : ℕ) (xs ys : List ProjectSums) → AreSumsOf e a closed opened xs → opened ≤ closed → AreChanged (marked (closed + 1)) xs ys (ballot_of e (closed + 1)) → AreSumsOf e a closed (closed + 1) ys
+sums-opened : (e : Instance) (a : Taken) (closed opened : ℕ) (xs ys : List ProjectSums) → AreSumsOf e a closed opened xs → opened ≤ closed → AreChanged (marked_with (closed + 1)) xs ys (ballot_of e (closed + 1)) → AreSumsOf e a closed (closed + 1) ys
 sums-opened e a closed opened xs ys h early m = record {
   as_many = m.as_many ∙ h.as_many;
   paid = λ k d w. (ap (λ x. x.paid) (m.each k d (rw h.as_many w)) ∙ marked-paid (approves e (closed + 1) (k + 1)) (closed + 1) (get_or xs k d) ∙ h.paid k d w);
@@ -46,15 +46,15 @@ sums-opened e a closed opened xs ys h early m = record {
   marked = λ k d w o. rw (m.each k d (rw h.as_many w)) (marked_by (approves e (closed + 1) (k + 1)) (get_or xs k d) (h.seen k d w));
 }
   where
-    seen_by : (b : Bool) (s : ProjectSums) → s.last_approver ≤ opened → (cond b (marked (closed + 1) s) s).last_approver ≤ closed + 1
+    seen_by : (b : Bool) (s : ProjectSums) → s.last_approver ≤ opened → (cond b (marked_with (closed + 1) s) s).last_approver ≤ closed + 1
     seen_by true s l = omega arith
     seen_by false s l = omega arith
 
-    marked_by : (b : Bool) (s : ProjectSums) → s.last_approver ≤ opened → ((cond b (marked (closed + 1) s) s).last_approver == closed + 1) ≡ b
+    marked_by : (b : Bool) (s : ProjectSums) → s.last_approver ≤ opened → ((cond b (marked_with (closed + 1) s) s).last_approver == closed + 1) ≡ b
     marked_by true s l = eq-eqb (closed + 1) (closed + 1) refl
     marked_by false s l = ne_eqb s.last_approver (closed + 1) (λ is. omega arith)
 
-pub opened : (e : Instance) (a : Taken) (t u : Tally) → Tallied e a t → t.opened ≤ t.closed → AreChanged (marked (t.closed + 1)) t.projects.items u.projects.items (ballot_of e (t.closed + 1))
+pub opened : (e : Instance) (a : Taken) (t u : Tally) → Tallied e a t → t.opened ≤ t.closed → AreChanged (marked_with (t.closed + 1)) t.projects.items u.projects.items (ballot_of e (t.closed + 1))
     → u.budget ≡ t.budget → u.closed ≡ t.closed → u.opened ≡ t.closed + 1 → u.unapproved ≡ t.unapproved → u.over_budget ≡ t.over_budget
     → u.steps ≡ t.steps + length (ballot_of e (t.closed + 1)) → u.spent ≡ t.spent → u.largest ≡ t.largest → Tallied e a u
 opened e a t u h early m budget closed opened_is unapproved over steps spent largest = record {

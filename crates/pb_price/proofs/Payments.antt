@@ -8,7 +8,7 @@ use Rattle.pb_certificate.specs.Prices.{Fits, IsPaymentMap, Prices, numerator_in
 use Rattle.pb_certificate.specs.declared.price_row.PriceRow.{PriceRow}
 use Rattle.pb_cohesion.proofs.Loops.{set-at, set-length}
 use Rattle.pb_cohesion.specs.Amounts.{beta}
-use Rattle.pb_price.specs.Tallies.{CanTake, IsTallyOf, Taken, TakesRow, Tallied}
+use Rattle.pb_price.specs.Tallies.{CanTakeRow, IsTallyOf, Taken, TakesRow, Tallied}
 use Rattle.pb_price.proofs.Starting.{no_payment}
 use Rattle.pb_price.proofs.Whole.{Agree, whole}
 use Rattle.pb_price.specs.Takings.{TakesUntil, pays_until}
@@ -87,7 +87,7 @@ takes-next e p i k d t u m w =
       ]);
     }
 
-pub can-take : (e : Instance) (p : Prices) (i k : ℕ) (d : ℕ × ℕ) (t : Tally) → TakesUntil e p i k t → Fits p e → IsPaymentMap p.projects (payments_of p i) → k < length (payments_of p i) → IsVoter e i → CanTake e t (row_of i (get_or (payments_of p i) k d))
+pub can-take : (e : Instance) (p : Prices) (i k : ℕ) (d : ℕ × ℕ) (t : Tally) → TakesUntil e p i k t → Fits p e → IsPaymentMap p.projects (payments_of p i) → k < length (payments_of p i) → IsVoter e i → CanTakeRow e t (row_of i (get_or (payments_of p i) k d))
 can-take e p i k d t u fits m w v =
     let at : (1 ≤ (get_or (payments_of p i) k d).0) × ((get_or (payments_of p i) k d).0 ≤ p.projects) = in-set 1 p.projects (payments_of p i) k d m.projects_rise w in
     record {

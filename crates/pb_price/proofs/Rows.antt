@@ -17,7 +17,7 @@ use Rattle.pb_certificate.specs.declared.price_row.PriceRow.{PriceRow}
 use Rattle.pb_certificate.specs.declared.refusal.CertFault.{CertFault}
 use Rattle.pb_certificate.specs.declared.refusal.CertFault.TheVariants as fault
 use Rattle.pb_certificate.proofs.Texts.{stated-length}
-use Rattle.pb_price.specs.Tallies.{CanTake, TakesRow, Tallied}
+use Rattle.pb_price.specs.Tallies.{CanTakeRow, TakesRow, Tallied}
 use Rattle.pb_price.specs.Takings.{taken_from}
 use Rattle.pb_price.specs.declared.tally.Tally.{Tally}
 
@@ -90,7 +90,7 @@ takes-row old new q g =
       projects = λ i c ne. (ap (λ qs. stated qs i c) g.given_then ∙ stated-other (given old) (as_payment q) i c (and_right (q.voter == i) (q.project == c) (ne_eqb q.project c (λ e. ne (sym e)))));
     }
 
-pub can-take : (e : Instance) (old new : Rows) (q : PriceRow) (t : Tally) → GivesRow old new q → old.election ≡ e → Tallied e (taken_from old) t → t.closed ≤ last_voter (given old) - 1 → CanTake e t q
+pub can-take : (e : Instance) (old new : Rows) (q : PriceRow) (t : Tally) → GivesRow old new q → old.election ≡ e → Tallied e (taken_from old) t → t.closed ≤ last_voter (given old) - 1 → CanTakeRow e t q
 can-take e old new q t g is h closed =
     let f : Follows (given old) (as_payment q) = follows (given old) (as_payment q) g.follows in
     let voter : IsVoter e q.voter = subst (λ x. IsVoter x q.voter) is g.voter in

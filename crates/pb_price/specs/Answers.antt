@@ -28,8 +28,8 @@ pub record IsVerdictOn (m : Mode) (e : Instance) (w : List Bool) (p : Prices) (v
   pub any_yes : v ≡ verdict.Supported → BudgetsAreWithinReach e w p
 
 -- how many rows of payments a certificate has: its records that are not blank, but for the four of the head
-abbrev pub payment_rows : List ℕ → ℕ
-payment_rows bytes = length (drop 4 (nonblank (certificate_records bytes)))
+abbrev pub row_count : List ℕ → ℕ
+row_count bytes = length (drop 4 (nonblank (certificate_records bytes)))
 
 -- at least a step for each row and each voter; at most one for each row, two for each approval, one for each voter, and four
 -- for each project

@@ -10,7 +10,7 @@ use Rattle.pb_certificate.specs.Prices.{Prices, numerator_in, payment, payments_
 use Rattle.pb_certificate.specs.Rows.{Rows, given, prices_given}
 use Rattle.pb_cohesion.specs.Amounts.{beta}
 use Rattle.pb_price.specs.Tallies.{AreInRange, IsTallyOf, Taken, Tallied, sums_of}
-use Rattle.pb_price.specs.Answers.{AreStepsOf, payment_rows}
+use Rattle.pb_price.specs.Answers.{AreStepsOf, row_count}
 use Rattle.pb_price.specs.declared.takings.CertificateTally.{CertificateTally}
 use Rattle.pb_price.specs.declared.tally.Tally.{Tally}
 
@@ -39,7 +39,7 @@ pub record IsTallied (e : Instance) (bytes : List ℕ) (t : CertificateTally) : 
   pub few_steps : t.tally.steps ≤ 2 ^ 61
   pub in_range : (c : ℕ) → IsProject e c → AreInRange (sums_of t.tally.projects.items c)
   -- with the passes over the projects, the steps are those that are promised
-  pub steps : (steps : ℕ) → t.tally.steps ≤ steps → steps ≤ t.tally.steps + 4 * projects e → AreStepsOf e (payment_rows bytes) steps
+  pub steps : (steps : ℕ) → t.tally.steps ≤ steps → steps ≤ t.tally.steps + 4 * projects e → AreStepsOf e (row_count bytes) steps
 
 -- what a voter pays for a project by the payments of the voters before i, and the first k of voter i
 abbrev pub pays_until : Prices → ℕ → ℕ → ℕ → ℕ → ℕ

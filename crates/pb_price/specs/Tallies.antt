@@ -116,7 +116,7 @@ pub record TakesRow (a b : Taken) (q : PriceRow) : Type 0 where
   pub projects : (i c : ℕ) → (c ≡ q.project → ⊥) → b.pays i c ≡ a.pays i c
 
 -- a row can be taken
-pub record CanTake (e : Instance) (t : Tally) (q : PriceRow) : Type 0 where
+pub record CanTakeRow (e : Instance) (t : Tally) (q : PriceRow) : Type 0 where
   pub taken : Taken
   pub tallied : Tallied e taken t
   pub voter : IsVoter e q.voter
@@ -133,8 +133,8 @@ pub record AreChanged (change : ProjectSums → ProjectSums) (old new : List Pro
       → slice_index_or new k d ≡ (if list_any (λ j. j == k + 1) ballot then change (slice_index_or old k d) else slice_index_or old k d)
 
 -- it was marked with a voter
-abbrev pub marked : ℕ → ProjectSums → ProjectSums
-marked voter s = record s { last_approver = voter }
+abbrev pub marked_with : ℕ → ProjectSums → ProjectSums
+marked_with voter s = record s { last_approver = voter }
 
 -- it has one more supporter, which has so much left and can offer so much
 abbrev pub with_supporter : ℤ → ℤ → ProjectSums → ProjectSums

@@ -8,7 +8,7 @@ ghost use Rattle.pb_certificate.specs.Prices as spec;
 ghost use Rattle.pb_certificate.specs.PriceText.{IsPriceText};
 ghost use Rattle.pb_cohesion.specs.Conditions.{Supports};
 ghost use Rattle.pb_cohesion.specs.EveryGroup.{BudgetsAreWithinReach, GroupsGetTheirShare, NoGroupHasMoreLeft, NoViolationByCounting, NothingBlocks, SupportersBlock, SupportersHaveMoreLeft};
-ghost use Rattle.pb_price.specs.Answers.{AreStepsOf, IsVerdictOn, payment_rows};
+ghost use Rattle.pb_price.specs.Answers.{AreStepsOf, IsVerdictOn, row_count};
 ghost use Rattle.pb_price.specs.First.{First, verdict_of};
 ghost use Rattle.pb_price.specs.Tallies.{IsTallyOf};
 
@@ -75,7 +75,7 @@ pub fn check_rows(
     ensures found { IfOk result (λ a. (p : spec.Prices) × IsPriceText (certificate_records bytes.now) election.now p × IsVerdictOn mode election.now (outcome.now).marks p a.verdict) }
 
     // The steps are at least one for each row and each voter, and at most so many for rows, approvals, voters and projects.
-    ensures steps { IfOk result (λ a. AreStepsOf election.now (payment_rows bytes.now) a.steps) }
+    ensures steps { IfOk result (λ a. AreStepsOf election.now (row_count bytes.now) a.steps) }
 
     // A refusal is the first fault, or want of memory.
     ensures refused { IfErr result (λ r. (r ≡ no_memory) ⊎ Refuses (price_form election.now) bytes.now r) }

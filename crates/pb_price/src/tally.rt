@@ -5,7 +5,7 @@ ghost use Rattle.std.specs.Prelude.{◌≡◌, ◌<◌, ◌≤◌, ◌+◌, ◌-
 ghost use Rattle.std.specs.Int.{int_max};
 ghost use Rattle.pb_election.specs.Instance.{IsSet, IsProject, IsVoter, voters};
 ghost use Rattle.pb_price.specs.Noted.{first_number};
-ghost use Rattle.pb_price.specs.Tallies.{AreChanged, AreSmall, CanTake, IsWithin, Taken, Tallied, TakesRow, first_pair, marked, with_supporter};
+ghost use Rattle.pb_price.specs.Tallies.{AreChanged, AreSmall, CanTakeRow, IsWithin, Taken, Tallied, TakesRow, first_pair, marked_with, with_supporter};
 
 use crate::noting::NOTHING_FOUND;
 use crate::{Comparison, Finding, PaymentFinding};
@@ -82,7 +82,7 @@ impl Tally {
 
     /// Takes a row. The rows come by voter, and none is on the voter and the project of another.
     pub fn take(&mut self, election: &Election, row: PriceRow)
-        requires { CanTake election.now self.old row }
+        requires { CanTakeRow election.now self.old row }
         ensures taken { (a b : Taken) → Tallied election.now a self.old → TakesRow a b row → Tallied election.now b self.new }
         ensures closed { (self.new).closed + 1 ≡ row.voter }
     {
@@ -157,7 +157,7 @@ impl Tally {
 
     // Adds a payment of the voter at hand, which is open.
     fn add(&mut self, election: &Election, row: PriceRow)
-        requires can { CanTake election.now self.old row }
+        requires can { CanTakeRow election.now self.old row }
         requires at_hand { (self.old).closed + 1 ≡ row.voter }
         requires opened { (self.old).opened ≡ row.voter }
         ensures taken { (a b : Taken) → Tallied election.now a self.old → TakesRow a b row → Tallied election.now b self.new }
@@ -229,7 +229,7 @@ fn first_of(known: Option<(u32, u32)>, voter: u32, project: u32) -> Option<(u32,
 // Marks the projects of a voter's ballot with the voter.
 fn mark(projects: &mut [ProjectSums], ballot: &[u32], voter: u32)
     requires { IsSet 1 (length projects.old) ballot.now }
-    ensures { AreChanged (marked voter) projects.old projects.new ballot.now }
+    ensures { AreChanged (marked_with voter) projects.old projects.new ballot.now }
 {
     for j in ballot {
         projects[*j as usize - 1].last_approver = voter;

@@ -34,7 +34,7 @@ pub record Stands (r : Reader (Bor (List ℕ))) : Type 0 where
   pub known : IsSome (source_of left_in r)
 
 -- what was found where these records were left, with the row that was read and the records left then
-abbrev pub Finds : Next → List Rec → Rec → List Rec → Type 0
-Finds Record old row new = (old ≡ row ∷ new) × (is_text row ≡ true)
-Finds NotText old row new = (r : Rec) × (rest : List Rec) × (old ≡ r ∷ rest) × (is_text r ≡ false) × (new ≡ [])
-Finds End old row new = (old ≡ []) × (new ≡ [])
+abbrev pub FindsRecord : Next → List Rec → Rec → List Rec → Type 0
+FindsRecord Record old row new = (old ≡ row ∷ new) × (is_text row ≡ true)
+FindsRecord NotText old row new = (r : Rec) × (rest : List Rec) × (old ≡ r ∷ rest) × (is_text r ≡ false) × (new ≡ [])
+FindsRecord End old row new = (old ≡ []) × (new ≡ [])

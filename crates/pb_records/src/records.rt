@@ -2,7 +2,7 @@
 ghost use Rattle.std.specs.Prelude.{◌≡◌, ◌<◌, ◌^◌, [], length, IfOk, OnErr};
 ghost use Rattle.csv.specs.Records.{fields_of};
 ghost use Rattle.pb_records.specs.Records.{drop_marks, records_of};
-ghost use Rattle.pb_records.specs.RecordReader.{Finds};
+ghost use Rattle.pb_records.specs.RecordReader.{FindsRecord};
 
 use csv::{ErrorKind, Reader, ReaderBuilder, StringRecord};
 use std::alloc::{AllocError, Global};
@@ -70,7 +70,7 @@ impl<'a> Records<'a> {
 
     /// Reads the next record into the row, if there is one and it is UTF-8. After an error no record is left.
     pub fn read(&mut self, row: &mut StringRecord) -> Result<Next, AllocError>
-        ensures found { IfOk result (λ next. Finds next self.old (fields_of row.new) self.new) }
+        ensures found { IfOk result (λ next. FindsRecord next self.old (fields_of row.new) self.new) }
         ensures failed { OnErr result (self.new ≡ []) }
     {
         if self.ended {

@@ -4,7 +4,7 @@ use Rattle.std.proofs.lemmas.Result.{IfOk-weaker}
 use Rattle.pb_election.specs.Instance.{projects}
 use Rattle.pb_certificate.specs.Canon.{lines}
 use Rattle.pb_certificate.specs.RecordWriter.{held}
-use Rattle.pb_audit.specs.Margins.{head_records, rows_of, table_of}
+use Rattle.pb_audit.specs.Margins.{margin_head, margin_rows, table_of}
 use Rattle.pb_audit.proofs.Margins.{row_pushed, table_written}
 use Rattle.pb_audit.proofs.margin_table.table_text.Goals.{else-loop-project-test, then-loop-project-test+in_ok-add_row+else-project-project-end}
 use Rattle.pb_audit.proofs.margin_table.table_text.Goals as goal
@@ -20,7 +20,7 @@ loop-project-preserved c =
       within = rw (sym same) high;
       text = λ w p are.
           row_pushed c.args.election.now w p c.args.margins.now j _ (held c.loop-project.writer) (held c.add_row.new.writer) are c.loop-project.auto.project high (c.loop-project.invariant.text w p are) row
-          ∙ ap (λ (n : ℕ). lines (head_records c.args.margins.now.grains_per_unit ++ rows_of c.args.election.now w p (range_with_len 1 n))) same;
+          ∙ ap (λ (n : ℕ). lines (margin_head c.args.margins.now.grains_per_unit ++ margin_rows c.args.election.now w p (range_with_len 1 n))) same;
     }
 
 pub returns : goal.returns

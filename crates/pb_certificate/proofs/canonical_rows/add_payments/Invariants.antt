@@ -1,5 +1,5 @@
 use Rattle.std.proofs.Common.{◌≡◌, ◌++◌, take}
-use Rattle.pb_certificate.specs.Canon.{lines, rows_of}
+use Rattle.pb_certificate.specs.Canon.{lines, rows_of_voter}
 use Rattle.pb_certificate.specs.RecordWriter.{IsOpen, held}
 use Rattle.pb_certificate.proofs.canonical_rows.add_payments.Given as goal
 
@@ -7,5 +7,5 @@ abbrev pub invariant-loop-payment : goal.invariant-loop-payment
 invariant-loop-payment l =
     record {
       open_still : IsOpen l.writer;
-      text : held l.writer ≡ held l.fn.writer ++ lines (rows_of l.election l.voter (take l.payment-index l.payments));
+      text : held l.writer ≡ held l.fn.writer ++ lines (rows_of_voter l.election l.voter (take l.payment-index l.payments));
     }

@@ -1,10 +1,10 @@
 use Rattle.std.proofs.Common.{◌∙◌, append_assoc}
 use Rattle.std.proofs.lemmas.Result.{on_ok_weaker}
-use Rattle.pb_explain.specs.PriceWords.{in_vain}
+use Rattle.pb_explain.specs.PriceWords.{unfunded_paid}
 use Rattle.pb_explain.proofs.price_words.push_in_vain.Goals as goal
 
 pub returns : goal.returns
-unfolding in_vain
+unfolding unfunded_paid
 returns c =
     on_ok_weaker c.push_how_many.result
     (λ last. last ∙ simp (c.in_ok-push_str-2.ensures.bytes, c.in_ok-push_id.ensures, c.in_ok-push_str.ensures.bytes, c.in_ok-push_sum.ensures, append_assoc))
