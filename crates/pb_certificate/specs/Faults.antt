@@ -1,5 +1,5 @@
 -- The faults of certificates and outcome files: where each stands.
-use Rattle.std.specs.Prelude.{◌^◌, ◌==◌, ◌&&◌, ◌||◌, not, nat_lt, nat_le, if◌then◌else◌, Bool, false, ℕ, List, [], ◌∷◌, length, find, drop, Option, None, is_some, is_none, codes}
+use Rattle.std.specs.Prelude.{◌==◌, ◌&&◌, ◌||◌, not, nat_lt, nat_le, if◌then◌else◌, Bool, false, ℕ, List, [], ◌∷◌, length, find, drop, Option, None, is_some, is_none, codes}
 use Rattle.std.specs.List.{last_or, list_any}
 use Rattle.std.specs.Option.{option_map_or}
 use Rattle.std.specs.Str.{byte, bytes_eq}
@@ -17,6 +17,7 @@ use Rattle.pb_certificate.specs.declared.measure.Measure.TheVariants.{ByCount, B
 use Rattle.pb_certificate.specs.declared.refusal.CertFault.{CertFault}
 use Rattle.pb_certificate.specs.declared.refusal.CertFault.TheVariants as fault
 use Rattle.pb_certificate.specs.declared.refusal.CertRefusal.{CertRefusal}
+use Rattle.pb_certificate.specs.Prices.{most_denominator, most_numerator, most_rows}
 
 -- A fault stands at a place by the records before it that are not blank, and by the record here, which is none at the end.
 
@@ -97,15 +98,15 @@ price_fault_stands e before here fault.BadHead =
     || head_is_cut 4 before here
 price_fault_stands e before here fault.BadRow = at_price_row before here (λ r. not (width r == 3))
 price_fault_stands e before here fault.BadNumber =
-    at_denominator before here (λ r. is_none (whole_within 1 (10 ^ 9) (value_field r)))
-    || at_budget before here (λ r. is_none (whole_within 0 (10 ^ 21) (value_field r)))
+    at_denominator before here (λ r. is_none (whole_within 1 most_denominator (value_field r)))
+    || at_budget before here (λ r. is_none (whole_within 0 most_numerator (value_field r)))
     || at_price_row before here (λ r. is_none (whole_in (voter_field r)) || is_none (numerator_of (payment_field r)))
 price_fault_stands e before here fault.UnknownVoter = at_price_row before here (λ r. is_some (whole_in (voter_field r)) && is_none (voter_in e (voter_field r)))
 price_fault_stands e before here fault.UnknownProject = at_price_row before here (λ r. is_none (project_in e (project_field r)))
 price_fault_stands e before here fault.OutOfOrder =
     at_price_row before here (λ r. at_record (last_price_row before) (λ last. nat_lt (number (voter_field r)) (number (voter_field last))))
 price_fault_stands e before here fault.Repeated = at_price_row before here (λ r. list_any (same_cells r) (price_rows before))
-price_fault_stands e before here fault.TooMany = at_price_row before here (λ r. nat_le 10000000 (length (price_rows before)))
+price_fault_stands e before here fault.TooMany = at_price_row before here (λ r. nat_le most_rows (length (price_rows before)))
 price_fault_stands e before here fault.Memory = false
 
 -- Violation certificates and outcome files. Their first head record, and the two fields of a row, its kind and what it names:

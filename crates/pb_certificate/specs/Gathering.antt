@@ -1,9 +1,9 @@
 -- What is remembered of the rows of a price certificate while their payments are gathered by voter. No claim on a file rests
 -- on this.
-use Rattle.std.specs.Prelude.{◌≡◌, ◌≤◌, ◌<◌, ◌+◌, ◌^◌, ◌==◌, ◌&&◌, nat_lt, if◌then◌else◌, false, ℕ, List, filter_map, length, map, Some, None, sum_by}
+use Rattle.std.specs.Prelude.{◌≡◌, ◌≤◌, ◌<◌, ◌+◌, ◌==◌, ◌&&◌, nat_lt, if◌then◌else◌, false, ℕ, List, filter_map, length, map, Some, None, sum_by}
 use Rattle.std.specs.List.{AllByRecursion, IsDistinct, list_any, range_with_len}
 use Rattle.pb_election.specs.Instance.{Instance, projects, voters}
-use Rattle.pb_certificate.specs.Prices.{Prices}
+use Rattle.pb_certificate.specs.Prices.{Prices, most_numerator, most_rows}
 use Rattle.pb_certificate.specs.Rows.{Rows, given, prices_given}
 use Rattle.pb_certificate.specs.PriceText.{IsPriceText, Payment, above_0, same_pair, stated}
 use Rattle.pb_certificate.specs.declared.gathering.Turn.{Turn}
@@ -33,14 +33,14 @@ pub record Holds (has : Instance → Prices → Type 0) (s : Rows) (qs : List Pa
   pub none_later : AllByRecursion (λ q. q.voter ≤ t.done + 1) qs
   pub once : IsDistinct same_pair qs
   pub within : AllByRecursion (λ q. (1 ≤ q.project) × (q.project ≤ projects s.election)) qs
-  pub small : AllByRecursion (λ q. q.numerator ≤ 10 ^ 21) qs
+  pub small : AllByRecursion (λ q. q.numerator ≤ most_numerator) qs
   pub total : sum_by length (prices_up_to s qs t.done).payments + length t.payments.items ≤ length qs
-  pub few : length qs ≤ 10000000
+  pub few : length qs ≤ most_rows
 
 -- this holds where one more payment may come behind others: for a project that there is, of a pair that has none, and
 -- within the limit
 abbrev pub WhereNew : Rows → List Payment → Payment → Type 0 → Type 0
-WhereNew s qs q holds = q.project ≤ projects s.election → list_any (same_pair q) qs ≡ false → length qs < 10000000 → holds
+WhereNew s qs q holds = q.project ≤ projects s.election → list_any (same_pair q) qs ≡ false → length qs < most_rows → holds
 
 -- they are those of some rows
 abbrev pub HoldSome : (Instance → Prices → Type 0) → Turn → Type 0

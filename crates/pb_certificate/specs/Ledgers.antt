@@ -2,7 +2,7 @@
 -- rests on this.
 use Rattle.std.specs.Prelude.{◌≡◌, ◌≤◌, ◌+◌, ◌++◌, ℕ, List, [], ◌∷◌, length, sum_by}
 use Rattle.pb_election.specs.Instance.{Instance}
-use Rattle.pb_certificate.specs.Prices.{IsPaymentMap, Prices}
+use Rattle.pb_certificate.specs.Prices.{IsPaymentMap, Prices, most_rows}
 
 -- the prices with the payments of one more voter
 abbrev pub with_voter : Prices → List (ℕ × ℕ) → Prices
@@ -15,4 +15,4 @@ pub record CanTake (has : Instance → Prices → Type 0) (voter : ℕ) (run : L
   pub has_prices : has election prices
   pub next : voter ≡ length prices.payments + 1
   pub map : IsPaymentMap prices.projects run
-  pub few : sum_by length prices.payments + length run ≤ 10000000
+  pub few : sum_by length prices.payments + length run ≤ most_rows

@@ -1,5 +1,5 @@
 -- The head of a price certificate, as the reader's own parts take it. No claim on a file rests on this.
-use Rattle.std.specs.Prelude.{◌≡◌, ◌-◌, ◌<◌, ◌^◌, ◌⊎◌, ⊤, ℕ, List, [], ◌∷◌, ◌++◌, length, take, Result, Ok, Err, codes}
+use Rattle.std.specs.Prelude.{◌≡◌, ◌-◌, ◌<◌, ◌⊎◌, ⊤, ℕ, List, [], ◌∷◌, ◌++◌, length, take, Result, Ok, Err, codes}
 use Rattle.pb_election.specs.Instance.{Instance}
 use Rattle.pb_records.specs.Records.{Field, Rec}
 use Rattle.pb_records.specs.Cells.{nonblank}
@@ -10,6 +10,7 @@ use Rattle.pb_certificate.specs.Faults.{no_memory, price_form}
 use Rattle.pb_certificate.specs.Places.{RefusedBehind, StandsBehind}
 use Rattle.pb_certificate.specs.declared.price_head.PriceHead.{PriceHead}
 use Rattle.pb_certificate.specs.declared.refusal.CertRefusal.{CertRefusal}
+use Rattle.pb_certificate.specs.Prices.{most_denominator, most_numerator}
 
 -- the next head record was met, or the file was refused
 abbrev pub NextHead : Position → Position → Result ⊤ CertRefusal → Type 0
@@ -42,8 +43,8 @@ pub record IsHead (denominator budget : ℕ) (heads : List Rec) : Type 0 where
   pub columns : Rec
   pub cut : heads ≡ name ∷ denominator_of ∷ budget_of ∷ columns ∷ []
   pub is_name : fields name ≡ name_fields
-  pub is_denominator : StatesNumber (codes "denominator") 1 (10 ^ 9) denominator_of denominator
-  pub is_budget : StatesNumber (codes "voter_budget") 0 (10 ^ 21) budget_of budget
+  pub is_denominator : StatesNumber (codes "denominator") 1 most_denominator denominator_of denominator
+  pub is_budget : StatesNumber (codes "voter_budget") 0 most_numerator budget_of budget
   pub are_columns : fields columns ≡ column_fields
 
 -- the head was read, and the cursor stands behind it; or it was refused

@@ -9,6 +9,7 @@ use Rattle.pb_certificate.specs.PriceText.{Payment, numerator_of, same_pair}
 use Rattle.pb_certificate.specs.declared.price_row.PriceRow.{PriceRow}
 use Rattle.pb_certificate.specs.declared.refusal.CertFault.{CertFault}
 use Rattle.pb_certificate.specs.declared.refusal.CertFault.TheVariants as fault
+use Rattle.pb_certificate.specs.Prices.{most_rows}
 
 abbrev pub as_payment : PriceRow → Payment
 as_payment q = record { voter = q.voter; project = q.project; numerator = q.payment }
@@ -36,5 +37,5 @@ abbrev pub payment_fault : List Payment → Payment → Option CertFault
 payment_fault qs q =
     if nat_lt q.voter (last_voter qs) then Some fault.OutOfOrder
     else if list_any (same_pair q) qs then Some fault.Repeated
-    else if nat_le 10000000 (length qs) then Some fault.TooMany
+    else if nat_le most_rows (length qs) then Some fault.TooMany
     else None

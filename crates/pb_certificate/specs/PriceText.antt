@@ -1,11 +1,11 @@
 -- The text of a price certificate.
-use Rattle.std.specs.Prelude.{◌≡◌, ◌≤◌, ◌^◌, ◌==◌, ◌&&◌, nat_lt, if◌then◌else◌, Bool, IsTrue, ℕ, List, [], ◌∷◌, length, map, filter_map, Option, Some, None, codes}
+use Rattle.std.specs.Prelude.{◌≡◌, ◌≤◌, ◌==◌, ◌&&◌, nat_lt, if◌then◌else◌, Bool, IsTrue, ℕ, List, [], ◌∷◌, length, map, filter_map, Option, Some, None, codes}
 use Rattle.std.specs.List.{AllByRecursion, IsDistinct}
 use Rattle.std.specs.List.Sorted.{IsNonDecreasing}
 use Rattle.pb_election.specs.Instance.{Instance, all_projects, all_voters, projects}
 use Rattle.pb_records.specs.Records.{Field, Rec}
 use Rattle.pb_records.specs.Cells.{is_text, nonblank}
-use Rattle.pb_certificate.specs.Prices.{Prices}
+use Rattle.pb_certificate.specs.Prices.{Prices, most_denominator, most_numerator, most_rows}
 use Rattle.pb_certificate.specs.Fields.{StatesNumber, fields, project_in, voter_in, whole_within}
 
 -- a payment that a row states
@@ -16,7 +16,7 @@ pub record Payment : Type 0 where
 
 -- the numerator that a field states
 abbrev pub numerator_of : Field → Option ℕ
-numerator_of f = whole_within 0 (10 ^ 21) f
+numerator_of f = whole_within 0 most_numerator f
 
 -- the payment of a voter, a project and a numerator, where there is each of them
 abbrev pub payment_from : Option ℕ → Option ℕ → Option ℕ → Option Payment
@@ -65,12 +65,12 @@ pub record IsPriceText (recs : List Rec) (e : Instance) (p : Prices) : Type 0 wh
   pub cut : nonblank recs ≡ head ∷ denominator ∷ budget ∷ columns ∷ rows
   pub text : AllByRecursion (λ r. IsTrue (is_text r)) (nonblank recs)
   pub is_head : fields head ≡ codes "pb-prices" ∷ codes "1" ∷ []
-  pub is_denominator : StatesNumber (codes "denominator") 1 (10 ^ 9) denominator p.denominator
-  pub is_budget : StatesNumber (codes "voter_budget") 0 (10 ^ 21) budget p.budget
+  pub is_denominator : StatesNumber (codes "denominator") 1 most_denominator denominator p.denominator
+  pub is_budget : StatesNumber (codes "voter_budget") 0 most_numerator budget p.budget
   pub is_columns : fields columns ≡ codes "voter" ∷ codes "project" ∷ codes "payment" ∷ []
   pub each_row : map (payment_of e) rows ≡ map Some payments
   pub in_order : IsNonDecreasing (map (λ q. q.voter) payments)
   pub once : IsDistinct same_pair payments
-  pub few : length rows ≤ 10000000
+  pub few : length rows ≤ most_rows
   pub each_project : p.projects ≡ projects e
   pub same_payments : p.payments ≡ map (payments_stated e payments) (all_voters e)

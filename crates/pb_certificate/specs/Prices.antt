@@ -24,18 +24,29 @@ numerator_in (q ∷ qs) j = if q.0 == j then q.1 else numerator_in qs j
 abbrev pub payment : Prices → ℕ → ℕ → ℕ
 payment p i j = numerator_in (payments_of p i) j
 
+-- the limits of price certificates: the greatest denominator, the greatest numerator of a budget or a payment, and how many
+-- rows of payments there are at most, and so how many payments that are not 0
+abbrev pub most_denominator : ℕ
+most_denominator = 10 ^ 9
+
+abbrev pub most_numerator : ℕ
+most_numerator = 10 ^ 21
+
+abbrev pub most_rows : ℕ
+most_rows = 10000000
+
 -- what one voter pays is a map from projects to numerators above 0
 pub record IsPaymentMap (most_project : ℕ) (qs : List (ℕ × ℕ)) : Type 0 where
   pub projects_rise : IsSet 1 most_project (map (λ q. q.0) qs)
   pub none_zero : All (λ q. 0 < q.1) qs
-  pub none_large : All (λ q. q.1 ≤ 10 ^ 21) qs
+  pub none_large : All (λ q. q.1 ≤ most_numerator) qs
 
 -- what holds of each price system, whatever the election
 pub record IsPriceSystem (p : Prices) : Type 0 where
-  pub denominator : (1 ≤ p.denominator) × (p.denominator ≤ 10 ^ 9)
-  pub budget : p.budget ≤ 10 ^ 21
+  pub denominator : (1 ≤ p.denominator) × (p.denominator ≤ most_denominator)
+  pub budget : p.budget ≤ most_numerator
   pub maps : All (IsPaymentMap p.projects) p.payments
-  pub few : sum_by length p.payments ≤ 10000000
+  pub few : sum_by length p.payments ≤ most_rows
 
 -- the prices speak of as many voters and projects as the election has
 pub record Fits (p : Prices) (e : Instance) : Type 0 where

@@ -1,5 +1,5 @@
 -- What the reader's own memory of the rows of a price certificate stands for. No claim on a file rests on this.
-use Rattle.std.specs.Prelude.{◌≡◌, ◌≤◌, ◌^◌, ◌⊎◌, ◌==◌, ⊤, ℕ, List, [], ◌∷◌, ◌++◌, filter, length, map, Some, None, Result, Ok, Err}
+use Rattle.std.specs.Prelude.{◌≡◌, ◌≤◌, ◌⊎◌, ◌==◌, ⊤, ℕ, List, [], ◌∷◌, ◌++◌, filter, length, map, Some, None, Result, Ok, Err}
 use Rattle.std.specs.List.{IsDistinct, range_with_len}
 use Rattle.pb_election.specs.Instance.{Instance, IsProject, IsVoter}
 use Rattle.pb_records.specs.Records.{Rec}
@@ -8,6 +8,7 @@ use Rattle.pb_certificate.specs.PriceRows.{as_payment, last_number, last_voter, 
 use Rattle.pb_certificate.specs.declared.price_row.PriceRow.{PriceRow}
 use Rattle.pb_certificate.specs.declared.prior_rows.PriorRows.{PriorRows}
 use Rattle.pb_certificate.specs.declared.refusal.CertFault.{CertFault}
+use Rattle.pb_certificate.specs.Prices.{most_numerator, most_rows}
 
 -- the last voter with a payment for a project, 0 among them, and 0 where there is none
 abbrev pub last_payer : List Payment → ℕ → ℕ
@@ -21,7 +22,7 @@ RiseFrom low (x ∷ xs) = (low ≤ x) × RiseFrom x xs
 -- just these payments are remembered
 pub record Remembers (t : PriorRows) (qs : List Payment) : Type 0 where
   pub rows : t.rows ≡ length qs
-  pub few : length qs ≤ 10000000
+  pub few : length qs ≤ most_rows
   pub last_voter_is : t.last_voter ≡ last_voter qs
   pub last_payers_are : t.last_payers.items ≡ map (last_payer qs) (range_with_len 1 (length t.last_payers.items))
   pub in_order : RiseFrom 0 (map (λ q. q.voter) qs)
@@ -38,7 +39,7 @@ pub record TakesPayment (e : Instance) (r : Rec) (old new : PriorRows) (q : Pric
   pub no_fault : row_fault e r ≡ None
   pub voter : IsVoter e q.voter
   pub project : IsProject e q.project
-  pub small : q.payment ≤ 10 ^ 21
+  pub small : q.payment ≤ most_numerator
   pub admits : (qs : List Payment) → Remembers old qs → (payment_fault qs (as_payment q) ≡ None) × Remembers new (qs ++ (as_payment q ∷ []))
 
 -- a row states a payment, which has this fault after the others

@@ -1,10 +1,10 @@
 -- A price certificate that is gone over row by row.
-use Rattle.std.specs.Prelude.{◌≡◌, ◌≤◌, ◌+◌, ◌-◌, ◌<◌, ◌^◌, ◌⊎◌, false, ℕ, List, [], ◌∷◌, ◌++◌, length, map, filter_map, take, drop, Some, None}
+use Rattle.std.specs.Prelude.{◌≡◌, ◌≤◌, ◌+◌, ◌-◌, ◌<◌, ◌⊎◌, false, ℕ, List, [], ◌∷◌, ◌++◌, length, map, filter_map, take, drop, Some, None}
 use Rattle.pb_election.specs.Instance.{Instance, IsProject, IsVoter, all_voters, projects}
 use Rattle.pb_records.specs.Records.{Rec}
 use Rattle.pb_records.specs.Cells.{is_blank, nonblank}
 use Rattle.pb_records.specs.FirstFault.{IsFirstFault}
-use Rattle.pb_certificate.specs.Prices.{Prices}
+use Rattle.pb_certificate.specs.Prices.{Prices, most_numerator}
 use Rattle.pb_certificate.specs.PriceText.{IsPriceText, Payment, payment_of, payments_stated}
 use Rattle.pb_certificate.specs.PriceRows.{as_payment, payment_fault}
 use Rattle.pb_certificate.specs.Faults.{no_memory, price_form}
@@ -47,7 +47,7 @@ pub record GivesRow (old new : Rows) (q : PriceRow) : Type 0 where
   pub given_then : given new ≡ given old ++ (as_payment q ∷ [])
   pub voter : IsVoter old.election q.voter
   pub project : IsProject old.election q.project
-  pub small : q.payment ≤ 10 ^ 21
+  pub small : q.payment ≤ most_numerator
   pub follows : payment_fault (given old) (as_payment q) ≡ None
 
 -- no row was left to give, and all rows together are the text of the prices that they state

@@ -1,7 +1,8 @@
 //! What the fields of a record state.
-ghost use Rattle.std.specs.Prelude.{◌≡◌, ◌≤◌, ◌^◌, ◌∷◌, [], if◌then◌else◌, Ok, Err, IfOk, IfSome, is_some, length};
+ghost use Rattle.std.specs.Prelude.{◌≡◌, ◌≤◌, ◌∷◌, [], if◌then◌else◌, Ok, Err, IfOk, IfSome, is_some, length};
 ghost use Rattle.csv.specs.Records.{fields_of};
 ghost use Rattle.pb_certificate.specs.Fields as spec;
+ghost use Rattle.pb_certificate.specs.Prices.{most_numerator};
 
 use crate::CertFault;
 use csv::StringRecord;
@@ -41,7 +42,7 @@ pub fn is_triple(row: &StringRecord, first: &str, second: &str, third: &str) -> 
 
 /// The whole number that a field states, if it lies between `least` and `most`, and `most` is at most 10^21.
 pub fn whole_within(least: u128, most: u128, field: &str) -> Option<u128>
-    requires { most ≤ 10 ^ 21 }
+    requires { most ≤ most_numerator }
     ensures value { result ≡ spec.whole_within least most field.now }
     ensures high { IfSome result (λ number. number ≤ most) }
 {
@@ -59,7 +60,7 @@ pub fn head_number(
     least: u128,
     most: u128,
 ) -> Result<u128, CertFault>
-    requires { most ≤ 10 ^ 21 }
+    requires { most ≤ most_numerator }
     ensures value { result ≡ spec.head_number name.now least most (fields_of row.now) }
     ensures high { IfOk result (λ number. number ≤ most) }
 {

@@ -7,6 +7,7 @@ ghost use Rattle.pb_certificate.specs.Gathering.{GathersAll, HoldSome, Holds, Ho
 ghost use Rattle.pb_certificate.specs.PriceRows.{as_payment};
 ghost use Rattle.pb_certificate.specs.PriceText.{Payment};
 ghost use Rattle.pb_certificate.specs.Rows.{given, Rows as Place};
+ghost use Rattle.pb_certificate.specs.Prices.{most_numerator};
 
 use crate::ledger::Ledger;
 use crate::{CertRefusal, PriceRow, Rows};
@@ -55,7 +56,7 @@ impl Turn {
         requires voter { 1 ≤ row.voter }
         requires done { self.old.done ≤ row.voter - 1 }
         requires project { 1 ≤ row.project }
-        requires small { row.payment ≤ 10 ^ 21 }
+        requires small { row.payment ≤ most_numerator }
         ensures holds { (s : Place) (qs : List Payment) → Holds (L.Has ledger.old) s qs self.old → WhereNew s qs (as_payment row) (OnOk result (Holds (L.Has ledger.new) s (qs ++ as_payment row ∷ []) self.new)) }
         ensures done { OnOk result (self.new.done ≡ row.voter - 1) }
     {

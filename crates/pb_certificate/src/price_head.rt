@@ -1,11 +1,12 @@
 //! The head of a price certificate.
-ghost use Rattle.std.specs.Prelude.{◌≡◌, ◌^◌, [], List, codes};
+ghost use Rattle.std.specs.Prelude.{◌≡◌, [], List, codes};
 ghost use Rattle.pb_election.specs.Instance.{Instance};
 ghost use Rattle.pb_records.specs.Records.{Rec};
 ghost use Rattle.pb_certificate.specs.Fields.{StatesNumber};
 ghost use Rattle.pb_certificate.specs.Faults.{price_form};
 ghost use Rattle.pb_certificate.specs.Places.{StandsBehind};
 ghost use Rattle.pb_certificate.specs.PriceHead.{HasFields, HeadGives, NextHead, ReadsHead, column_fields, name_fields};
+ghost use Rattle.pb_certificate.specs.Prices.{most_denominator, most_numerator};
 
 use crate::fields::{MOST_NUMERATOR, head_number, is_pair, is_triple};
 use crate::places::next_record;
@@ -60,7 +61,7 @@ fn take_name(cursor: &mut Cursor) -> Result<(), CertRefusal>
 
 // Takes the denominator.
 fn take_denominator(cursor: &mut Cursor) -> Result<u32, CertRefusal>
-    ensures { HeadGives (StatesNumber (codes "denominator") 1 (10 ^ 9)) 1 cursor.old cursor.new result }
+    ensures { HeadGives (StatesNumber (codes "denominator") 1 most_denominator) 1 cursor.old cursor.new result }
 {
     next_head(cursor)?;
     match head_number(cursor.row(), "denominator", 1, MOST_DENOMINATOR) {
@@ -71,7 +72,7 @@ fn take_denominator(cursor: &mut Cursor) -> Result<u32, CertRefusal>
 
 // Takes the numerator of the voters' budget.
 fn take_budget(cursor: &mut Cursor) -> Result<u128, CertRefusal>
-    ensures { HeadGives (StatesNumber (codes "voter_budget") 0 (10 ^ 21)) 2 cursor.old cursor.new result }
+    ensures { HeadGives (StatesNumber (codes "voter_budget") 0 most_numerator) 2 cursor.old cursor.new result }
 {
     next_head(cursor)?;
     match head_number(cursor.row(), "voter_budget", 0, MOST_NUMERATOR) {

@@ -1,9 +1,10 @@
 //! The rows of a price certificate.
-ghost use Rattle.std.specs.Prelude.{◌≡◌, ◌≤◌, ◌^◌, None, Some, MatchResult, IfOk};
+ghost use Rattle.std.specs.Prelude.{◌≡◌, ◌≤◌, None, Some, MatchResult, IfOk};
 ghost use Rattle.csv.specs.Records.{fields_of};
 ghost use Rattle.pb_election.specs.Instance.{IsProject, IsVoter};
 ghost use Rattle.pb_certificate.specs.PriceText.{payment_of};
 ghost use Rattle.pb_certificate.specs.PriceRows.{as_payment, row_fault};
+ghost use Rattle.pb_certificate.specs.Prices.{most_numerator};
 
 use crate::CertFault;
 use crate::fields::{MOST_NUMERATOR, voter_in, whole_within, width};
@@ -28,7 +29,7 @@ pub fn price_row(row: &StringRecord, election: &Election) -> Result<PriceRow, Ce
     ensures none { IfOk result (λ q. row_fault election.now (fields_of row.now) ≡ None) }
     ensures voter { IfOk result (λ q. IsVoter election.now q.voter) }
     ensures project { IfOk result (λ q. IsProject election.now q.project) }
-    ensures small { IfOk result (λ q. q.payment ≤ 10 ^ 21) }
+    ensures small { IfOk result (λ q. q.payment ≤ most_numerator) }
 {
     if width(row) != 3 {
         return Err(CertFault::BadRow);

@@ -1,8 +1,8 @@
 //! Price systems.
-ghost use Rattle.std.specs.Prelude.{◌≡◌, ◌≤◌, ◌^◌, ◌↔◌, ◌⊎◌, [], IsTrue, IfOk, IfErr, MatchResult, length};
+ghost use Rattle.std.specs.Prelude.{◌≡◌, ◌≤◌, ◌↔◌, ◌⊎◌, [], IsTrue, IfOk, IfErr, MatchResult, length};
 ghost use Rattle.pb_certificate.specs.Faults.{Refuses, certificate_records, no_memory, price_form};
 ghost use Rattle.pb_certificate.specs.Prices as spec;
-ghost use Rattle.pb_certificate.specs.Prices.{ArePrices, Fits, IsPaymentMap, IsPriceSystem};
+ghost use Rattle.pb_certificate.specs.Prices.{ArePrices, Fits, IsPaymentMap, IsPriceSystem, most_denominator, most_numerator};
 ghost use Rattle.pb_certificate.specs.PriceText.{IsPriceText};
 
 use crate::gathering::gather;
@@ -92,7 +92,7 @@ impl Prices {
     pub fn denominator(&self) -> u32
         ensures value { result ≡ (self.now).denominator }
         ensures low { 1 ≤ result }
-        ensures high { result ≤ 10 ^ 9 }
+        ensures high { result ≤ most_denominator }
     {
         self.denominator
     }
@@ -100,7 +100,7 @@ impl Prices {
     /// The numerator of the budget of each voter, at most 10^21.
     pub fn budget(&self) -> u128
         ensures value { result ≡ (self.now).budget }
-        ensures high { result ≤ 10 ^ 21 }
+        ensures high { result ≤ most_numerator }
     {
         self.budget
     }
@@ -113,7 +113,7 @@ impl Prices {
         requires low_project { 1 ≤ j }
         requires high_project { j ≤ (self.now).projects }
         ensures value { result ≡ spec.payment self.now i j }
-        ensures high { result ≤ 10 ^ 21 }
+        ensures high { result ≤ most_numerator }
     {
         let payments = self.payments_of(i);
         match payments.binary_search_by_key(&j, |payment| payment.0) {

@@ -1,7 +1,8 @@
 //! The rows of a price certificate, one after another.
-ghost use Rattle.std.specs.Prelude.{◌≡◌, ◌≤◌, ◌^◌, ◌⊎◌, [], None, IfOk, IfErr, IfSome};
+ghost use Rattle.std.specs.Prelude.{◌≡◌, ◌≤◌, ◌⊎◌, [], None, IfOk, IfErr, IfSome};
 ghost use Rattle.pb_certificate.specs.Faults.{Refuses, certificate_records, no_memory, price_form};
 ghost use Rattle.pb_certificate.specs.Rows.{GivesNone, GivesRow, IsInHead, RefusesNext, given};
+ghost use Rattle.pb_certificate.specs.Prices.{most_denominator, most_numerator};
 
 use crate::CertRefusal;
 use crate::price_row::PriceRow;
@@ -57,7 +58,7 @@ impl<'a> Rows<'a> {
     pub fn denominator(&self) -> u32
         ensures value { result ≡ (self.now).denominator }
         ensures low { 1 ≤ result }
-        ensures high { result ≤ 10 ^ 9 }
+        ensures high { result ≤ most_denominator }
     {
         self.reader.denominator
     }
@@ -65,7 +66,7 @@ impl<'a> Rows<'a> {
     /// The numerator of the budget of each voter, at most 10^21.
     pub fn budget(&self) -> u128
         ensures value { result ≡ (self.now).budget }
-        ensures high { result ≤ 10 ^ 21 }
+        ensures high { result ≤ most_numerator }
     {
         self.reader.budget
     }

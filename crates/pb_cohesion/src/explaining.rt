@@ -1,9 +1,9 @@
 //! What each test of a violation certificate comes to, also of those behind the first that fails.
 
-ghost use Rattle.std.specs.Prelude.{◌≡◌, ◌≤◌, ◌+◌, ◌*◌, ◌^◌, if◌then◌else◌, Some, None, filter, is_some, length, max, not};
+ghost use Rattle.std.specs.Prelude.{◌≡◌, ◌≤◌, ◌+◌, ◌*◌, if◌then◌else◌, Some, None, filter, is_some, length, max, not};
 ghost use Rattle.std.specs.Option.{option_or};
-ghost use Rattle.pb_election.specs.Instance.{IsVoter, approves};
-ghost use Rattle.pb_election.specs.Outcome.{Fits};
+ghost use Rattle.pb_election.specs.Instance.{IsVoter, approves, most_voters};
+ghost use Rattle.pb_election.specs.Outcome.{Fits, most_total};
 ghost use Rattle.pb_election.specs.Text.{IsElection};
 ghost use Rattle.pb_certificate.specs.Claim as claim;
 ghost use Rattle.pb_cohesion.specs.FirstV.{culprits_of_V2};
@@ -14,7 +14,7 @@ use crate::violations::first_not_approved;
 use crate::worths::{cost_of_all, worth_of_all, worth_of_funded};
 use crate::{MissingApprovals, Satisfaction, SatisfiedMembers, ViolationFindings};
 use pb_certificate::Violation;
-use pb_election::{Election, Outcome};
+use pb_election::{Election, MOST_VOTERS, Outcome};
 
 /// What each test of a violation comes to for the group and the demand of a certificate. The outcome and the certificate
 /// are to fit the election. Takes no memory.
@@ -27,10 +27,10 @@ pub fn violation_findings<S: Satisfaction>(
     requires outcome { Fits outcome.now election.now }
     requires violation { claim.Fits violation.now election.now }
     ensures value { result ≡ spec.violation_findings (S.meaning satisfaction.now election.now) election.now (outcome.now).marks (violation.now).group (violation.now).demand }
-    ensures small { result.cost ≤ 2 * 10 ^ 22 }
+    ensures small { result.cost ≤ most_total }
 {
     // Tells the proof that the counts fit.
-    prove!(election.voters() <= 1_000_000);
+    prove!(election.voters() as usize <= MOST_VOTERS);
     let group = violation.group();
     let demand = violation.demand();
     let unapproved = MissingApprovals {
@@ -121,7 +121,7 @@ fn shown_with(first: Option<u32>, enough: bool, shown: u128, worth: u128) -> u12
 impl SatisfiedMembers {
     // Looks at one more member, behind those before: whether it gets enough.
     fn note(&mut self, i: u32, enough: bool)
-        requires { (self.old).count ≤ 10 ^ 6 }
+        requires { (self.old).count ≤ most_voters }
         ensures first { (self.new).first ≡ option_or (self.old).first (if enough then Some i else None) }
         ensures count { (self.new).count ≡ (self.old).count + (if enough then 1 else 0) }
     {

@@ -1,6 +1,7 @@
 //! What projects are worth to the voters that approve them.
 
-ghost use Rattle.std.specs.Prelude.{◌≡◌, ◌≤◌, ◌^◌, ℕ};
+ghost use Rattle.std.specs.Prelude.{◌≡◌, ◌≤◌, ℕ};
+ghost use Rattle.pb_money.specs.Money.{most_money};
 ghost use Rattle.pb_election.specs.Instance.{Instance, IsProject};
 ghost use Rattle.pb_cohesion.specs.Satisfactions.{by_cost, by_count, worth_by};
 
@@ -17,7 +18,7 @@ pub trait Satisfaction {
     fn worth(&self, election: &Election, j: u32) -> u128
         requires { IsProject election.now j }
         ensures value { result ≡ meaning self.now election.now j }
-        ensures small { result ≤ 10 ^ 18 };
+        ensures small { result ≤ most_money };
 }
 
 /// Satisfaction by counting: each project is worth 1.

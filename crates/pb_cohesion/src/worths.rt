@@ -1,6 +1,7 @@
 //! Costs and worths of sets of projects.
 
-ghost use Rattle.std.specs.Prelude.{◌≡◌, ◌≤◌, ◌*◌, ◌^◌, filter, length};
+ghost use Rattle.std.specs.Prelude.{◌≡◌, ◌≤◌, ◌*◌, filter, length};
+ghost use Rattle.pb_money.specs.Money.{most_money};
 ghost use Rattle.pb_election.specs.Instance as spec;
 ghost use Rattle.pb_election.specs.Outcome.{Fits, has};
 ghost use Rattle.pb_cohesion.specs.Groups.{AreProjects, sat};
@@ -12,7 +13,7 @@ use pb_election::{Election, Outcome};
 pub(crate) fn cost_of_all(election: &Election, projects: &[u32]) -> u128
     requires { AreProjects election.now projects.now }
     ensures value { result ≡ spec.cost_of_all election.now projects.now }
-    ensures small { result ≤ length projects.now * 10 ^ 18 }
+    ensures small { result ≤ length projects.now * most_money }
 {
     let mut total = 0;
     for j in projects {
@@ -29,7 +30,7 @@ pub(crate) fn worth_of_all<S: Satisfaction>(
 ) -> u128
     requires { AreProjects election.now projects.now }
     ensures value { result ≡ sat (S.meaning satisfaction.now election.now) projects.now }
-    ensures small { result ≤ length projects.now * 10 ^ 18 }
+    ensures small { result ≤ length projects.now * most_money }
 {
     let mut total = 0;
     for j in projects {
@@ -48,7 +49,7 @@ pub(crate) fn worth_of_funded<S: Satisfaction>(
     requires outcome { Fits outcome.now election.now }
     requires projects { AreProjects election.now projects.now }
     ensures value { result ≡ sat (S.meaning satisfaction.now election.now) (filter (has (outcome.now).marks) projects.now) }
-    ensures small { result ≤ length projects.now * 10 ^ 18 }
+    ensures small { result ≤ length projects.now * most_money }
 {
     let mut total = 0;
     for j in projects {

@@ -1,5 +1,5 @@
 -- What the header and the rows of a section state. The places of columns are counted from 0.
-use Rattle.std.specs.Prelude.{◌==◌, ◌&&◌, ◌||◌, not, nat_lt, if◌then◌else◌, Bool, true, false, ℕ, List, [], ◌∷◌, map, find, filter, count_by, Option, Some, None, is_some, codes}
+use Rattle.std.specs.Prelude.{◌^◌, ◌==◌, ◌&&◌, ◌||◌, not, nat_lt, if◌then◌else◌, Bool, true, false, ℕ, List, [], ◌∷◌, map, find, filter, count_by, Option, Some, None, is_some, codes}
 use Rattle.std.specs.Option.{option_and_then, option_map, option_map_or}
 use Rattle.std.specs.Result.{result_ok}
 use Rattle.std.specs.List.{enumerate_from, list_all, list_any, position_from}
@@ -55,9 +55,13 @@ stated_value key rows = option_map value_in (find (has_key key) rows)
 abbrev pub is_approval : Field → Bool
 is_approval value = bytes_eq (lower value) (codes "approval")
 
--- the count that a value declares: a whole number of at most 10^18, and else none
+-- the greatest count that is taken for one
+abbrev pub most_declared : ℕ
+most_declared = 10 ^ 18
+
+-- the count that a value declares: a whole number within that, and else none
 unfoldable pub count_in : Field → Option ℕ
-count_in value = result_ok (whole_of 1000000000000000000 value)
+count_in value = result_ok (whole_of most_declared value)
 
 -- the count that the rows declare by a key
 abbrev pub declared_count : Key → List Rec → Option ℕ

@@ -32,7 +32,7 @@ use std::marker::Model;
 const MOST_PROJECTS: usize = 20_000;
 
 /// The most voters of an election.
-const MOST_VOTERS: usize = 1_000_000;
+pub const MOST_VOTERS: usize = 1_000_000;
 
 /// The most approvals over all ballots of an election.
 const MOST_APPROVALS: usize = 20_000_000;

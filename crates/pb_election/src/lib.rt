@@ -15,6 +15,7 @@ mod sections;
 mod votes;
 
 pub use election::Election;
+pub use election_draft::MOST_VOTERS;
 pub use outcome::Outcome;
 pub use pb_records::{Input, LoadFault, Output, PutFault, Sink, Source, clean, load, put};
 pub use refusal::{ElectionFault, Refusal};

@@ -1,6 +1,7 @@
 //! The table of the tests of a violation.
 ghost use Rattle.std.specs.Prelude.{◌≡◌, ◌≤◌, ◌*◌, ◌^◌, ◌++◌, IfOk, IfSome, OnOk, decimal, map, string_bytes};
 ghost use Rattle.pb_election.specs.Instance.{IsProject};
+ghost use Rattle.pb_election.specs.Outcome.{most_total};
 ghost use Rattle.pb_explain.specs.ViolationTable as spec;
 
 use crate::amounts::{MILLION, push_amount};
@@ -21,7 +22,7 @@ pub fn push_violation_table(
     measure: Measure,
     findings: &ViolationFindings,
 ) -> Result<(), AllocError>
-    requires cost { (findings.now).cost ≤ 2 * 10 ^ 22 }
+    requires cost { (findings.now).cost ≤ most_total }
     requires project { IfSome (findings.now).unapproved.first (λ q. IsProject election.now q.1) }
     ensures { OnOk result (map string_bytes lines.new.items ≡ map string_bytes lines.old.items ++ spec.violation_table measure election.now findings.now) }
 {
@@ -91,7 +92,7 @@ fn v3_line(
     election: &Election,
     findings: &ViolationFindings,
 ) -> Result<String, AllocError>
-    requires cost { (findings.now).cost ≤ 2 * 10 ^ 22 }
+    requires cost { (findings.now).cost ≤ most_total }
     ensures { IfOk result (λ line. string_bytes line ≡ spec.v3_line election.now findings.now) }
 {
     let voters = election.voters();

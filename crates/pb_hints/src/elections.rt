@@ -7,7 +7,7 @@ use crate::quotes::quote_remark;
 use crate::remark::{Remark, text};
 use crate::story::{Section, Story, small, times, under};
 use crate::walk::{Walk, without_marks};
-use pb_election::ElectionFault;
+use pb_election::{ElectionFault, MOST_VOTERS};
 use pb_money::{Money, MoneyFault};
 use pb_records::{Next, cell, clean};
 use std::alloc::{AllocError, Global};
@@ -292,7 +292,7 @@ impl Scene<'_> {
 
     fn too_many(&self) -> Result<String, AllocError> {
         let words = match self.section() {
-            Section::Votes if self.story.rows >= 1_000_000 =>
+            Section::Votes if self.story.rows >= MOST_VOTERS as u64 =>
                 "there are more than 1,000,000 voters",
             Section::Votes => "there are more than 20,000,000 approvals up to this vote",
             _ => "there are more than 20,000 projects",

@@ -1,15 +1,15 @@
 -- What the code's own tally is while the rows of a certificate or the payments of prices are taken. No claim on a certificate
 -- rests on this.
 use Rattle.std.specs.Prelude.{◌≡◌, ◌<◌, ◌≤◌, ◌+◌, ◌-◌, ◌*◌, ◌^◌, ◌==◌, ◌&&◌, if◌then◌else◌, nat_lt, [], ℕ, List, length, drop, take}
-use Rattle.pb_election.specs.Instance.{Instance, IsProject, projects}
+use Rattle.pb_election.specs.Instance.{Instance, IsProject, most_projects, projects}
 use Rattle.pb_records.specs.Cells.{nonblank}
 use Rattle.pb_money.specs.Grains.{payment_grains}
 use Rattle.pb_certificate.specs.Faults.{certificate_records}
 use Rattle.pb_certificate.specs.PriceText.{IsPriceText, stated}
-use Rattle.pb_certificate.specs.Prices.{Prices, numerator_in, payment, payments_of}
+use Rattle.pb_certificate.specs.Prices.{Prices, most_denominator, most_rows, numerator_in, payment, payments_of}
 use Rattle.pb_certificate.specs.Rows.{Rows, given, prices_given}
 use Rattle.pb_cohesion.specs.Amounts.{beta}
-use Rattle.pb_price.specs.Tallies.{AreInRange, IsTallyOf, Taken, Tallied, sums_of}
+use Rattle.pb_price.specs.Tallies.{AreInRange, IsTallyOf, Taken, Tallied, most_grains, sums_of}
 use Rattle.pb_price.specs.Answers.{AreStepsOf, row_count}
 use Rattle.pb_price.specs.declared.takings.CertificateTally.{CertificateTally}
 use Rattle.pb_price.specs.declared.tally.Tally.{Tally}
@@ -25,7 +25,7 @@ pub record TakesCertificate (s : Rows) (t : Tally) : Type 0 where
   pub no_row_left : nonblank (drop end.place s.records) ≡ []
   pub states : IsPriceText s.records s.election (prices_given end)
   pub tallied : Tallied s.election (taken_from end) t
-  pub few : length (given end) ≤ 10000000
+  pub few : length (given end) ≤ most_rows
 
 -- the tally is that of the prices that the bytes of a certificate state
 pub record IsTallied (e : Instance) (bytes : List ℕ) (t : CertificateTally) : Type 0 where
@@ -33,9 +33,9 @@ pub record IsTallied (e : Instance) (bytes : List ℕ) (t : CertificateTally) : 
   pub text : IsPriceText (certificate_records bytes) e prices
   pub denominator : prices.denominator ≡ t.denominator
   pub low : 1 ≤ t.denominator
-  pub high : t.denominator ≤ 10 ^ 9
+  pub high : t.denominator ≤ most_denominator
   pub tally : IsTallyOf e prices t.tally
-  pub small_budget : t.tally.budget ≤ 10 ^ 27
+  pub small_budget : t.tally.budget ≤ most_grains
   pub few_steps : t.tally.steps ≤ 2 ^ 61
   pub in_range : (c : ℕ) → IsProject e c → AreInRange (sums_of t.tally.projects.items c)
   -- with the passes over the projects, the steps are those that are promised
@@ -51,5 +51,5 @@ pub record TakesUntil (e : Instance) (p : Prices) (i k : ℕ) (t : Tally) : Type
   pub tallied : Tallied e taken t
   pub budget_is : taken.budget ≡ beta p
   pub pays_is : (a b : ℕ) → taken.pays a b ≡ pays_until p i k a b
-  pub few : taken.rows ≤ 20000 * (i - 1) + k
+  pub few : taken.rows ≤ most_projects * (i - 1) + k
   pub follows : t.closed < i

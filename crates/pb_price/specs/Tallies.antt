@@ -3,10 +3,10 @@ use Rattle.std.specs.Prelude.{◌≡◌, ◌<◌, ◌≤◌, ◌+◌, ◌-◌, �
 use Rattle.std.specs.Int.{int_max}
 use Rattle.std.specs.List.{list_any, range_with_len}
 use Rattle.pb_money.specs.Grains.{cost_grains, payment_grains}
-use Rattle.pb_election.specs.Instance.{Instance, IsProject, IsVoter, all_projects, all_voters, approvals, approves, ballot_of, cost_of, projects, supporters, voters}
+use Rattle.pb_election.specs.Instance.{Instance, IsProject, IsVoter, all_projects, all_voters, approvals, approves, ballot_of, cost_of, most_voters, projects, supporters, voters}
 use Rattle.pb_election.specs.Outcome.{has}
 use Rattle.pb_election.specs.Text.{IsElection}
-use Rattle.pb_certificate.specs.Prices.{Prices}
+use Rattle.pb_certificate.specs.Prices.{Prices, most_numerator}
 use Rattle.pb_certificate.specs.declared.price_row.PriceRow.{PriceRow}
 use Rattle.pb_cohesion.specs.Amounts.{beta, largest_by, left, paid, spent}
 use Rattle.pb_cohesion.specs.Conditions.{culprits_of_C1, culprits_of_C2, most_of, sum_ℤ}
@@ -75,12 +75,16 @@ pub record AreSumsOf (e : Instance) (a : Taken) (closed opened : ℕ) (sums : Li
   pub seen : (k : ℕ) (d : ProjectSums) → k < projects e → (slice_index_or sums k d).last_approver ≤ opened
   pub marked : (k : ℕ) (d : ProjectSums) → k < projects e → closed < opened → ((slice_index_or sums k d).last_approver == opened) ≡ approves e opened (k + 1)
 
+-- how many grains the budget of a voter, a payment or the cost of a project has at most
+abbrev pub most_grains : ℕ
+most_grains = 10 ^ 27
+
 -- what holds of what was taken, where so many voters are closed: the payments of those and of the next one, for projects of the
 -- election
 pub record AreTaken (e : Instance) (a : Taken) (closed opened : ℕ) : Type 0 where
   pub within : closed ≤ voters e
-  pub small_budget : a.budget ≤ 10 ^ 27
-  pub small : (i c : ℕ) → a.pays i c ≤ 10 ^ 21
+  pub small_budget : a.budget ≤ most_grains
+  pub small : (i c : ℕ) → a.pays i c ≤ most_numerator
   pub not_later : (i c : ℕ) → closed + 1 < i → a.pays i c ≡ 0
   pub seen : opened ≤ closed + 1
   pub not_unseen : (c : ℕ) → opened ≤ closed → a.pays (closed + 1) c ≡ 0
@@ -121,7 +125,7 @@ pub record CanTakeRow (e : Instance) (t : Tally) (q : PriceRow) : Type 0 where
   pub tallied : Tallied e taken t
   pub voter : IsVoter e q.voter
   pub project : IsProject e q.project
-  pub small : q.payment ≤ 10 ^ 21
+  pub small : q.payment ≤ most_numerator
   pub follows : t.closed < q.voter
   pub none_yet : taken.pays q.voter q.project ≡ 0
   pub few : taken.rows ≤ 10 ^ 12
@@ -148,7 +152,7 @@ IsWithin n x = (neg_ℤ (pos n) ≤ℤ x) × (x ≤ℤ pos n)
 pub record AreSmall (s : ProjectSums) : Type 0 where
   pub left : IsWithin (10 ^ 38) s.left
   pub offer : IsWithin (10 ^ 38) s.offer
-  pub supporters : s.supporters ≤ 10 ^ 6
+  pub supporters : s.supporters ≤ most_voters
 
 -- the sums are those of a price system: of each project what is paid for it, what its supporters have left and can offer, and how
 -- many these are

@@ -6,11 +6,12 @@ ghost use Rattle.pb_election.specs.Outcome as outcomes;
 ghost use Rattle.pb_certificate.specs.Faults.{Refuses, certificate_records, no_memory, price_form};
 ghost use Rattle.pb_certificate.specs.Prices as spec;
 ghost use Rattle.pb_certificate.specs.PriceText.{IsPriceText};
+ghost use Rattle.pb_certificate.specs.Prices.{most_denominator};
 ghost use Rattle.pb_cohesion.specs.Conditions.{Supports};
 ghost use Rattle.pb_cohesion.specs.EveryGroup.{BudgetsAreWithinReach, GroupsGetTheirShare, NoGroupHasMoreLeft, NoViolationByCounting, NothingBlocks, SupportersBlock, SupportersHaveMoreLeft};
 ghost use Rattle.pb_price.specs.Answers.{AreStepsOf, IsVerdictOn, row_count};
 ghost use Rattle.pb_price.specs.First.{First, verdict_of};
-ghost use Rattle.pb_price.specs.Tallies.{IsTallyOf};
+ghost use Rattle.pb_price.specs.Tallies.{IsTallyOf, most_grains};
 
 use crate::conditions::first_failure;
 use crate::takings::{take_certificate, take_prices};
@@ -97,9 +98,9 @@ fn judge(
 ) -> Checked
     requires outcome { outcomes.Fits outcome.now election.now }
     requires low { 1 ≤ denominator }
-    requires high { denominator ≤ 10 ^ 9 }
+    requires high { denominator ≤ most_denominator }
     requires sums { length (tally.now).projects.items ≡ projects election.now }
-    requires budget { (tally.now).budget ≤ 10 ^ 27 }
+    requires budget { (tally.now).budget ≤ most_grains }
     requires steps { (tally.now).steps ≤ 2 ^ 62 }
     ensures verdict { (p : spec.Prices) → p.denominator ≡ denominator → IsTallyOf election.now p tally.now → result.verdict ≡ verdict_of (First mode election.now (outcome.now).marks p) }
     ensures fewest { (tally.now).steps ≤ result.steps }

@@ -4,13 +4,13 @@
 ghost use Rattle.std.specs.Prelude.{◌≡◌, ◌≤◌, ◌+◌, ◌*◌, ◌^◌, ◌&&◌, not, nat_le, Bool, filter, length, slice_get};
 ghost use Rattle.pb_election.specs.Instance.{IsProject, all_projects, cost_of, projects};
 ghost use Rattle.pb_election.specs.Outcome as outcomes;
-ghost use Rattle.pb_election.specs.Outcome.{has};
-ghost use Rattle.pb_certificate.specs.Prices.{Prices};
+ghost use Rattle.pb_election.specs.Outcome.{has, most_total};
+ghost use Rattle.pb_certificate.specs.Prices.{Prices, most_denominator};
 ghost use Rattle.pb_cohesion.specs.Amounts.{beta};
 ghost use Rattle.pb_cohesion.specs.Conditions.{culprits_of_Exhaustive};
 ghost use Rattle.pb_cohesion.specs.Outcome.{total};
 ghost use Rattle.pb_price.specs.First.{First, failures_of_budgets, failures_of_outcome, failures_of_payments, failures_of_supporters};
-ghost use Rattle.pb_price.specs.Tallies.{AreSums, IsTallyOf, has_more, in_vain, not_exactly, paid_wrongly};
+ghost use Rattle.pb_price.specs.Tallies.{AreSums, IsTallyOf, has_more, in_vain, most_grains, not_exactly, paid_wrongly};
 
 use crate::tally::{ProjectSums, Tally, first_where};
 use crate::{Failure, Mode};
@@ -29,9 +29,9 @@ pub(crate) fn first_failure(
 ) -> Option<Failure>
     requires outcome { outcomes.Fits outcome.now election.now }
     requires low { 1 ≤ denominator }
-    requires high { denominator ≤ 10 ^ 9 }
+    requires high { denominator ≤ most_denominator }
     requires sums { length (tally.now).projects.items ≡ projects election.now }
-    requires budget { (tally.now).budget ≤ 10 ^ 27 }
+    requires budget { (tally.now).budget ≤ most_grains }
     requires steps { steps.old ≤ 2 ^ 62 }
     ensures first { (p : Prices) → p.denominator ≡ denominator → IsTallyOf election.now p tally.now → result ≡ First mode election.now (outcome.now).marks p }
     ensures fewest { steps.old ≤ steps.new }
@@ -78,7 +78,7 @@ pub(crate) fn cost_of_funded(election: &Election, outcome: &Outcome, steps: &mut
     requires outcome { outcomes.Fits outcome.now election.now }
     requires steps { steps.old ≤ 2 ^ 62 }
     ensures value { result ≡ total election.now (outcome.now).marks }
-    ensures small { result ≤ 20000 * 10 ^ 18 }
+    ensures small { result ≤ most_total }
     ensures steps { steps.new ≡ steps.old + projects election.now }
 {
     let mut cost = 0;
@@ -100,7 +100,7 @@ fn first_affordable(
 ) -> Option<u32>
     requires outcome { outcomes.Fits outcome.now election.now }
     requires cost { cost_of_funded ≡ total election.now (outcome.now).marks }
-    requires small { cost_of_funded ≤ 20000 * 10 ^ 18 }
+    requires small { cost_of_funded ≤ most_total }
     requires steps { steps.old ≤ 2 ^ 62 + projects election.now }
     ensures first { result ≡ slice_get (culprits_of_Exhaustive election.now (outcome.now).marks) 0 }
     ensures fewest { steps.old ≤ steps.new }
@@ -120,7 +120,7 @@ fn is_affordable(election: &Election, outcome: &Outcome, cost_of_funded: u128, j
     requires outcome { outcomes.Fits outcome.now election.now }
     requires project { IsProject election.now j }
     requires cost { cost_of_funded ≡ total election.now (outcome.now).marks }
-    requires small { cost_of_funded ≤ 20000 * 10 ^ 18 }
+    requires small { cost_of_funded ≤ most_total }
     ensures { result ≡ (not (has (outcome.now).marks j) && nat_le (total election.now (outcome.now).marks + cost_of election.now j) (election.now).limit) }
 {
     !outcome.has(j)
@@ -136,8 +136,8 @@ fn failure_of_budgets(
     budget: u128,
 ) -> Option<Failure>
     requires low { 1 ≤ denominator }
-    requires high { denominator ≤ 10 ^ 9 }
-    requires budget { budget ≤ 10 ^ 27 }
+    requires high { denominator ≤ most_denominator }
+    requires budget { budget ≤ most_grains }
     ensures { (p : Prices) → p.denominator ≡ denominator → budget ≡ beta p → result ≡ slice_get (failures_of_budgets mode election.now p) 0 }
 {
     let budgets = u128::from(election.voters()) * budget;
@@ -157,7 +157,7 @@ fn failure_of_payments(
 ) -> Option<Failure>
     requires outcome { outcomes.Fits outcome.now election.now }
     requires low { 1 ≤ denominator }
-    requires high { denominator ≤ 10 ^ 9 }
+    requires high { denominator ≤ most_denominator }
     requires sums { length (tally.now).projects.items ≡ projects election.now }
     requires steps { steps.old ≤ 2 ^ 62 + 2 * projects election.now }
     ensures first { (p : Prices) → p.denominator ≡ denominator → IsTallyOf election.now p tally.now → result ≡ slice_get (failures_of_payments election.now (outcome.now).marks p) 0 }
@@ -183,7 +183,7 @@ fn first_paid_wrongly(
 ) -> Option<Failure>
     requires outcome { outcomes.Fits outcome.now election.now }
     requires low { 1 ≤ denominator }
-    requires high { denominator ≤ 10 ^ 9 }
+    requires high { denominator ≤ most_denominator }
     requires sums { length sums.now ≡ projects election.now }
     requires steps { steps.old ≤ 2 ^ 62 + 2 * projects election.now }
     ensures first { result ≡ slice_get (paid_wrongly election.now (outcome.now).marks denominator sums.now) 0 }
@@ -215,7 +215,7 @@ fn is_not_paid_exactly(
     requires outcome { outcomes.Fits outcome.now election.now }
     requires project { IsProject election.now j }
     requires low { 1 ≤ denominator }
-    requires high { denominator ≤ 10 ^ 9 }
+    requires high { denominator ≤ most_denominator }
     requires sums { length sums.now ≡ projects election.now }
     ensures { result ≡ not_exactly election.now (outcome.now).marks denominator sums.now j }
 {
@@ -244,7 +244,7 @@ fn failure_of_supporters(
 ) -> Option<Failure>
     requires outcome { outcomes.Fits outcome.now election.now }
     requires low { 1 ≤ denominator }
-    requires high { denominator ≤ 10 ^ 9 }
+    requires high { denominator ≤ most_denominator }
     requires sums { length sums.now ≡ projects election.now }
     requires steps { steps.old ≤ 2 ^ 62 + 3 * projects election.now }
     ensures first { (p : Prices) → p.denominator ≡ denominator → AreSums election.now p sums.now → result ≡ slice_get (failures_of_supporters mode election.now (outcome.now).marks p) 0 }
@@ -269,7 +269,7 @@ fn first_with_more(
 ) -> Option<u32>
     requires outcome { outcomes.Fits outcome.now election.now }
     requires low { 1 ≤ denominator }
-    requires high { denominator ≤ 10 ^ 9 }
+    requires high { denominator ≤ most_denominator }
     requires sums { length sums.now ≡ projects election.now }
     requires steps { steps.old ≤ 2 ^ 62 + 3 * projects election.now }
     ensures first { result ≡ slice_get (filter (has_more election.now (outcome.now).marks denominator mode.stable sums.now) (all_projects election.now)) 0 }
@@ -297,7 +297,7 @@ fn is_with_more(
     requires outcome { outcomes.Fits outcome.now election.now }
     requires project { IsProject election.now j }
     requires low { 1 ≤ denominator }
-    requires high { denominator ≤ 10 ^ 9 }
+    requires high { denominator ≤ most_denominator }
     requires sums { length sums.now ≡ projects election.now }
     ensures { result ≡ has_more election.now (outcome.now).marks denominator mode.stable sums.now j }
 {

@@ -2,14 +2,15 @@
 //! one that adds up what the funded ones cost.
 
 ghost use Rattle.std.specs.Prelude.{◌≡◌, ◌≤◌, ◌^◌, ◌⊎◌, ℕ, IfErr, IfOk, MatchResult, length};
-ghost use Rattle.pb_election.specs.Instance.{IsProject, projects};
+ghost use Rattle.pb_election.specs.Instance.{IsProject, most_voters, projects};
 ghost use Rattle.pb_election.specs.Outcome as outcomes;
 ghost use Rattle.pb_certificate.specs.Faults.{Refuses, certificate_records, no_memory, price_form};
 ghost use Rattle.pb_certificate.specs.PriceText.{IsPriceText};
 ghost use Rattle.pb_certificate.specs.Prices as spec;
+ghost use Rattle.pb_certificate.specs.Prices.{most_denominator};
 ghost use Rattle.pb_price.specs.Findings.{findings};
 ghost use Rattle.pb_price.specs.Looked.{AreFoundTo, AreSmallFindings, with_funded, with_unfunded};
-ghost use Rattle.pb_price.specs.Tallies.{AreInRange, IsTallyOf, IsWithin, sums_of};
+ghost use Rattle.pb_price.specs.Tallies.{AreInRange, IsTallyOf, IsWithin, most_grains, sums_of};
 
 use crate::conditions::cost_of_funded;
 use crate::noting::NOTHING_FOUND;
@@ -48,8 +49,8 @@ pub fn findings_of(
 fn findings_by(election: &Election, outcome: &Outcome, denominator: u32, tally: &Tally) -> Findings
     requires outcome { outcomes.Fits outcome.now election.now }
     requires low { 1 ≤ denominator }
-    requires high { denominator ≤ 10 ^ 9 }
-    requires budget { (tally.now).budget ≤ 10 ^ 27 }
+    requires high { denominator ≤ most_denominator }
+    requires budget { (tally.now).budget ≤ most_grains }
     requires sums { length (tally.now).projects.items ≡ projects election.now }
     requires small { (c : ℕ) → IsProject election.now c → AreInRange (sums_of (tally.now).projects.items c) }
     ensures { (p : spec.Prices) → p.denominator ≡ denominator → IsTallyOf election.now p tally.now → result ≡ findings election.now (outcome.now).marks p }
@@ -96,7 +97,7 @@ fn project_findings(
 ) -> ProjectFindings
     requires outcome { outcomes.Fits outcome.now election.now }
     requires low { 1 ≤ denominator }
-    requires high { denominator ≤ 10 ^ 9 }
+    requires high { denominator ≤ most_denominator }
     requires remaining { IsWithin (10 ^ 38) remaining }
     requires sums { length sums.now ≡ projects election.now }
     requires small { (c : ℕ) → IsProject election.now c → AreInRange (sums_of sums.now c) }
@@ -125,7 +126,7 @@ fn project_findings(
 impl ProjectFindings {
     // Looks at a funded project.
     fn look_at_funded(&mut self, j: u32, cost: u128, paid: u128)
-        requires known { AreSmallFindings (10 ^ 6) self.old }
+        requires known { AreSmallFindings most_voters self.old }
         requires cost { cost ≤ 10 ^ 34 }
         requires paid { paid ≤ 10 ^ 34 }
         ensures { self.new ≡ with_funded j cost paid self.old }
@@ -142,7 +143,7 @@ impl ProjectFindings {
 
     // Looks at an unfunded project.
     fn look_at_unfunded(&mut self, j: u32, cost: u128, remaining: i128, sums: ProjectSums)
-        requires known { AreSmallFindings (10 ^ 6) self.old }
+        requires known { AreSmallFindings most_voters self.old }
         requires cost { cost ≤ 10 ^ 34 }
         requires remaining { IsWithin (10 ^ 38) remaining }
         requires sums { AreInRange sums }

@@ -2,12 +2,13 @@
 //! supporters have left and can offer. Amounts are in grains: a grain is 1/(10^6 D) of the currency, where D is the
 //! denominator.
 
-ghost use Rattle.std.specs.Prelude.{◌≡◌, ◌≤◌, ◌^◌, ◌⊎◌, IfErr, IfOk, MatchResult, length, map};
+ghost use Rattle.std.specs.Prelude.{◌≡◌, ◌≤◌, ◌⊎◌, IfErr, IfOk, MatchResult, length, map};
 ghost use Rattle.pb_election.specs.Instance.{all_projects, projects};
 ghost use Rattle.pb_election.specs.Outcome as outcomes;
 ghost use Rattle.pb_certificate.specs.Faults.{Refuses, certificate_records, no_memory, price_form};
 ghost use Rattle.pb_certificate.specs.PriceText.{IsPriceText};
 ghost use Rattle.pb_certificate.specs.Prices as spec;
+ghost use Rattle.pb_certificate.specs.Prices.{most_denominator};
 ghost use Rattle.pb_price.specs.Margins.{AreMargins};
 ghost use Rattle.pb_price.specs.Tallies.{figures_of};
 
@@ -60,7 +61,7 @@ fn margins_by(
 ) -> Result<Vec<ProjectMargins>, AllocError>
     requires outcome { outcomes.Fits outcome.now election.now }
     requires low { 1 ≤ denominator }
-    requires high { denominator ≤ 10 ^ 9 }
+    requires high { denominator ≤ most_denominator }
     requires sums { length sums.now ≡ projects election.now }
     ensures { IfOk result (λ m. m.items ≡ map (figures_of election.now (outcome.now).marks denominator sums.now) (all_projects election.now)) }
 {

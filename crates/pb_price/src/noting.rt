@@ -1,6 +1,7 @@
 //! What is kept of a condition while its voters or projects are looked at one by one.
 
-ghost use Rattle.std.specs.Prelude.{◌≡◌, ◌≤◌, ◌^◌, IfSome};
+ghost use Rattle.std.specs.Prelude.{◌≡◌, ◌≤◌, IfSome};
+ghost use Rattle.pb_election.specs.Instance.{most_voters};
 ghost use Rattle.pb_price.specs.Findings.{excess};
 ghost use Rattle.pb_price.specs.Noted.{is_closer, noted};
 ghost use Rattle.pb_price.specs.Looked.{IsSmallComparison};
@@ -18,7 +19,7 @@ pub(crate) const NOTHING_FOUND: Finding = Finding {
 impl Finding {
     /// Looks at one more place, behind those before: whether the condition is false there, and what it compares.
     pub(crate) fn note(&mut self, fails: bool, here: Comparison)
-        requires few { (self.old).count ≤ 10 ^ 6 }
+        requires few { (self.old).count ≤ most_voters }
         requires here { IsSmallComparison here }
         requires shown { IfSome (self.old).shown (λ m. IsSmallComparison m) }
         ensures { self.new ≡ noted fails here self.old }

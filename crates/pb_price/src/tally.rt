@@ -5,7 +5,7 @@ ghost use Rattle.std.specs.Prelude.{◌≡◌, ◌<◌, ◌≤◌, ◌+◌, ◌-
 ghost use Rattle.std.specs.Int.{int_max};
 ghost use Rattle.pb_election.specs.Instance.{IsSet, IsProject, IsVoter, voters};
 ghost use Rattle.pb_price.specs.Noted.{first_number};
-ghost use Rattle.pb_price.specs.Tallies.{AreChanged, AreSmall, CanTakeRow, IsWithin, Taken, Tallied, TakesRow, first_pair, marked_with, with_supporter};
+ghost use Rattle.pb_price.specs.Tallies.{AreChanged, AreSmall, CanTakeRow, IsWithin, Taken, Tallied, TakesRow, first_pair, marked_with, most_grains, with_supporter};
 
 use crate::noting::NOTHING_FOUND;
 use crate::{Comparison, Finding, PaymentFinding};
@@ -54,7 +54,7 @@ pub(crate) struct Tally {
 impl Tally {
     /// A tally of no payment, for voters with so many grains each.
     pub fn new(alloc: Global, election: &Election, budget: u128) -> Result<Tally, AllocError>
-        requires { budget ≤ 10 ^ 27 }
+        requires { budget ≤ most_grains }
         ensures { IfOk result (λ t. Tallied election.now (record { budget = budget; pays = λ i c. 0; rows = 0 }) t × (t.closed ≡ 0)) }
     {
         let none = ProjectSums {
@@ -176,7 +176,7 @@ impl Tally {
 
 // What a voter has left of its budget, which is negative where it spent more.
 fn left_of(budget: u128, spent: u128) -> i128
-    requires budget { budget ≤ 10 ^ 27 }
+    requires budget { budget ≤ most_grains }
     requires spent { spent ≤ 10 ^ 32 }
     ensures { result ≡ pos budget -ℤ pos spent }
 {
