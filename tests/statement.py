@@ -1,11 +1,13 @@
 #!/usr/bin/env python3
-"""Compares the definitions that docs/STATEMENT.md quotes with their files, word for word, and its sentence with the README.
+"""Compares what docs/STATEMENT.md and docs/CALLING.md quote with its files, word for word, and the sentence of STATEMENT
+with the README.
 
-A quote is a block of lines indented by four blanks. Its file is the last path (`crates/..`) in the paragraph before it. Of
-a file of definitions (.antt) a block has whole definitions, one after another, without the comments before them; of a
-source (.rt) it has whole lines. Where lines are broken doesn't matter. The last line is 'N passed, M failed'.
+A quote is a block of lines indented by four blanks. Its file is the last path (`crates/..`) in the last paragraph before it
+that is no quote. Of a file of definitions (.antt) a block has whole definitions, one after another, without the comments
+before them; of a source (.rt) it has whole lines. Where lines are broken doesn't matter. The last line is 'N passed, M
+failed'.
 
-usage: tests/statement.py [DOCUMENT]     DOCUMENT is docs/STATEMENT.md unless it is given
+usage: tests/statement.py [DOCUMENT]     DOCUMENT in the place of docs/STATEMENT.md
 """
 import re
 import sys
@@ -96,30 +98,40 @@ def sentence_of(found):
     return quoted[0] if len(quoted) == 1 else None
 
 
-def main():
-    document = Path(sys.argv[1]) if len(sys.argv) > 1 else TOP / "docs" / "STATEMENT.md"
-    found = paragraphs(document.read_text(encoding="utf-8").splitlines())
+def compare_quotes(document, found):
+    """How many quotes of a document are as in their files, and how many aren't."""
     passed = failed = quotes = 0
     before = None
     for number, paragraph in found:
-        if is_quote(paragraph):
-            quotes += 1
-            try:
-                passed += compare(paragraph, before)
-            except ValueError as error:
-                failed += 1
-                print(f"{document}:{number}: {error}")
-        before = paragraph
+        if not is_quote(paragraph):
+            before = paragraph
+            continue
+        quotes += 1
+        try:
+            passed += compare(paragraph, before)
+        except ValueError as error:
+            failed += 1
+            print(f"{document}:{number}: {error}")
     if not quotes:
         failed += 1
         print(f"{document}: it quotes nothing")
-    readme = paragraphs((TOP / "README.md").read_text(encoding="utf-8").splitlines())
-    sentence = sentence_of(found)
-    if sentence is not None and sentence == sentence_of(readme):
+    return passed, failed
+
+
+def read(document):
+    return paragraphs(document.read_text(encoding="utf-8").splitlines())
+
+
+def main():
+    statement = Path(sys.argv[1]) if len(sys.argv) > 1 else TOP / "docs" / "STATEMENT.md"
+    counts = [compare_quotes(it, read(it)) for it in (statement, TOP / "docs" / "CALLING.md")]
+    passed, failed = (sum(column) for column in zip(*counts))
+    sentence = sentence_of(read(statement))
+    if sentence is not None and sentence == sentence_of(read(TOP / "README.md")):
         passed += 1
     else:
         failed += 1
-        print(f"{document}: its sentence isn't that of README.md")
+        print(f"{statement}: its sentence isn't that of README.md")
     print(f"{passed} passed, {failed} failed")
     return 1 if failed else 0
 

@@ -1,6 +1,7 @@
 //! The calls on elections and certificates with answers that were worked out by hand, and the groups of supporters of one
 //! project, one by one.
 
+mod calling;
 mod telling;
 
 use crate::{
