@@ -25,7 +25,7 @@ def code_of(text):
 
 
 def blocks_of(text):
-    """Each declaration of a file by its name, with the words of it and of its equations."""
+    """Each declaration at the margin by its name, with the words of it and of its equations; all else under no name."""
     blocks, name = {}, None
     for line in text.split("\n"):
         if not line.strip() or line.startswith(("use ", "pub use ", "mod ", "pub mod ")):
@@ -37,7 +37,9 @@ def blocks_of(text):
                 name = found[1]
             elif first and first[0] in blocks:
                 name = first[0]
-        if name:
+            else:
+                name = ""
+        if name is not None:
             blocks.setdefault(name, []).extend(WORD.findall(line))
     return blocks
 
@@ -59,7 +61,7 @@ def main():
         if path.suffix == ".rt" or path.name in LEFT_OUT:
             continue
         blocks = blocks_of(text)
-        for name in blocks:
+        for name in filter(None, blocks):
             elsewhere = any(name in words for other, words in blocks.items() if other != name)
             if elsewhere or name in imported or name in dotted:
                 passed += 1

@@ -10,23 +10,25 @@ use Rattle.pb_certificate.specs.ViolationText.{IsViolationText}
 use Rattle.pb_certificate.specs.declared.measure.Measure.{Measure}
 use Rattle.pb_certificate.proofs.Unique.{group-text-sets}
 use Rattle.pb_audit.specs.Answers.{Answer, AnswersAudit, AnswersTidy, Reply, refused, with_input}
-use Rattle.pb_audit.specs.Inputs.{InTurn, Stated, StatesElection, StatesOutcome, its_outcome, refusal_of}
+use Rattle.pb_audit.specs.Inputs.{InTurn, Stated, StatesElection, StatesOutcome, refusal_of}
 use Rattle.pb_audit.specs.Lines.{Refusal}
 use Rattle.pb_audit.specs.Readers.{AuditReadings, Delivers, IsUntouched, Reading, ReadsAudit, ReadsTidy, file_reading, reading}
-use Rattle.pb_audit.specs.Taking.{AnswersCertificate, AuditsOutcome, Gives, IfTaken, ReadsOutcome, TidiesPrices, settled_answer, stopped}
+use Rattle.pb_audit.specs.Inside.Taking.{AnswersCertificate, AuditsOutcome, Gives, IfTaken, ReadsOutcome, TidiesPrices, settled_answer, stopped}
 use Rattle.pb_audit.specs.declared.input.Stop.{Stop}
 use Rattle.pb_audit.specs.declared.input.Stop.TheVariants as stop
 use Rattle.pb_audit.specs.declared.status.Status.{Status}
 
 -- what a status promises of each reply of a kind
-abbrev pub Promised : {A : Type 0} → (Instance → List Bool → A → Reply) → (Status → Instance → List Bool → A → Type 0) → Type 0
+abbrev pub Promised : {A : Type 0} → (Instance → List Bool → A → Reply) → (Status → Instance → List Bool → A → Type 0)
+    → Type 0
 Promised {A} reply promise = (e : Instance) (w : List Bool) (c : A) → promise (reply e w c).status e w c
 
 abbrev pub status_of : Reply → Status
 status_of r = r.status
 
 -- An audit of an election, an outcome and a certificate. Where the election is refused, the others may state anything.
-abbrev pub election_refused : {A : Type 0} (states : Instance → Delivery → Stated A → Type 0) (reply : Instance → List Bool → A → Reply) (promise : Status → Instance → List Bool → A → Type 0)
+abbrev pub election_refused : {A : Type 0} (states : Instance → Delivery → Stated A → Type 0)
+    (reply : Instance → List Bool → A → Reply) (promise : Status → Instance → List Bool → A → Type 0)
     (election : Delivery) (outcome : Option Delivery) (certificate : Delivery) (r : Refusal)
     → StatesElection election (Err r) → AnswersAudit states reply promise election outcome certificate (refused r)
 election_refused states reply promise election outcome certificate r given = record {
@@ -39,9 +41,11 @@ election_refused states reply promise election outcome certificate r given = rec
 }
 
 -- where the outcome is, the certificate may
-abbrev pub outcome_refused : {A : Type 0} (states : Instance → Delivery → Stated A → Type 0) (reply : Instance → List Bool → A → Reply) (promise : Status → Instance → List Bool → A → Type 0)
+abbrev pub outcome_refused : {A : Type 0} (states : Instance → Delivery → Stated A → Type 0)
+    (reply : Instance → List Bool → A → Reply) (promise : Status → Instance → List Bool → A → Type 0)
     (election : Delivery) (outcome : Option Delivery) (certificate : Delivery) (e : Instance) (r : Refusal)
-    → StatesElection election (Ok e) → AuditsOutcome e outcome (Err r) → AnswersAudit states reply promise election outcome certificate (refused r)
+    → StatesElection election (Ok e) → AuditsOutcome e outcome (Err r)
+    → AnswersAudit states reply promise election outcome certificate (refused r)
 outcome_refused {A} states reply promise election outcome certificate e r given taken = record {
   e = Ok e;
   o = taken.file;
@@ -56,15 +60,23 @@ outcome_refused {A} states reply promise election outcome certificate e r given 
 }
 
 -- a reply on a certificate keeps what its status promises
-pub promised_of : {A : Type 0} (reply : Instance → List Bool → A → Reply) (promise : Status → Instance → List Bool → A → Type 0) → Promised reply promise
-    → (e : Instance) (w : List Bool) (c : Stated A) (r : Reply) → r ≡ with_input c (λ a. reply e w a) → IfOk c (λ a. promise r.status e w a)
-promised_of reply promise each e w (Ok a) r is = subst (λ (s : Status). promise s e w a) (sym (ap status_of is)) (each e w a)
+pub promised_of : {A : Type 0} (reply : Instance → List Bool → A → Reply)
+    (promise : Status → Instance → List Bool → A → Type 0) → Promised reply promise
+    → (e : Instance) (w : List Bool) (c : Stated A) (r : Reply) → r ≡ with_input c (λ a. reply e w a)
+    → IfOk c (λ a. promise r.status e w a)
+promised_of reply promise each e w (Ok a) r is =
+    subst (λ (s : Status). promise s e w a) (sym (ap status_of is)) (each e w a)
 promised_of reply promise each e w (Err why) r is = tt
 
 -- the election and the outcome are accepted
-abbrev pub certificate_answered : {A : Type 0} (states : Instance → Delivery → Stated A → Type 0) (reply : Instance → List Bool → A → Reply) (promise : Status → Instance → List Bool → A → Type 0) → Promised reply promise
-    → (election : Delivery) (outcome : Option Delivery) (certificate : Delivery) (e : Instance) (w : List Bool) (r : Reply)
-    → StatesElection election (Ok e) → AuditsOutcome e outcome (Ok w) → AnswersCertificate states reply e w certificate r → AnswersAudit states reply promise election outcome certificate r
+abbrev pub certificate_answered : {A : Type 0} (states : Instance → Delivery → Stated A → Type 0)
+    (reply : Instance → List Bool → A → Reply) (promise : Status → Instance → List Bool → A → Type 0)
+    → Promised reply promise
+    → (election : Delivery) (outcome : Option Delivery) (certificate : Delivery) (e : Instance) (w : List Bool)
+    (r : Reply)
+    → StatesElection election (Ok e) → AuditsOutcome e outcome (Ok w)
+    → AnswersCertificate states reply e w certificate r
+    → AnswersAudit states reply promise election outcome certificate r
 certificate_answered {A} states reply promise each election outcome certificate e w r given taken answered = record {
   e = Ok e;
   o = taken.file;
@@ -72,153 +84,206 @@ certificate_answered {A} states reply promise each election outcome certificate 
   given = record {
     election_states = given;
     outcome_states = taken.given;
-    certificate_states = subst (λ (o : Stated (List Bool)). IfOk o (λ marks. states e certificate answered.c)) taken.is answered.given;
+    certificate_states =
+        subst (λ (o : Stated (List Bool)). IfOk o (λ marks. states e certificate answered.c)) taken.is answered.given;
   };
-  out = answered.out ∙ ap (λ (o : Stated (List Bool)). with_input o (λ marks. with_input answered.c (λ a. reply e marks a))) taken.is;
-  promised = subst (λ (o : Stated (List Bool)). IfOk o (λ marks. IfOk answered.c (λ a. promise r.status e marks a))) taken.is (promised_of reply promise each e w answered.c r answered.out);
+  out = answered.out
+      ∙ ap (λ (o : Stated (List Bool)). with_input o (λ marks. with_input answered.c (λ a. reply e marks a))) taken.is;
+  promised = subst (λ (o : Stated (List Bool)). IfOk o (λ marks. IfOk answered.c (λ a. promise r.status e marks a)))
+      taken.is (promised_of reply promise each e w answered.c r answered.out);
 }
 
 -- The same where the work stopped.
-pub stopped_at_election : {A : Type 0} (states : Instance → Delivery → Stated A → Type 0) (reply : Instance → List Bool → A → Reply) (promise : Status → Instance → List Bool → A → Type 0)
+pub stopped_at_election : {A : Type 0} (states : Instance → Delivery → Stated A → Type 0)
+    (reply : Instance → List Bool → A → Reply) (promise : Status → Instance → List Bool → A → Type 0)
     (election : Delivery) (outcome : Option Delivery) (certificate : Delivery) (why : Stop)
-    → IfTaken {A = Instance} (Err why) (StatesElection election) → IfSome (stopped why) (AnswersAudit states reply promise election outcome certificate)
+    → IfTaken {A = Instance} (Err why) (StatesElection election)
+    → IfSome (stopped why) (AnswersAudit states reply promise election outcome certificate)
 stopped_at_election states reply promise election outcome certificate (stop.Refused input fault) given =
     election_refused states reply promise election outcome certificate (refusal_of input fault) given
 stopped_at_election states reply promise election outcome certificate stop.Memory given = tt
 
-pub stopped_at_outcome : {A : Type 0} (states : Instance → Delivery → Stated A → Type 0) (reply : Instance → List Bool → A → Reply) (promise : Status → Instance → List Bool → A → Type 0)
+pub stopped_at_outcome : {A : Type 0} (states : Instance → Delivery → Stated A → Type 0)
+    (reply : Instance → List Bool → A → Reply) (promise : Status → Instance → List Bool → A → Type 0)
     (election : Delivery) (outcome : Option Delivery) (certificate : Delivery) (e : Instance) (why : Stop)
-    → StatesElection election (Ok e) → IfTaken {A = List Bool} (Err why) (AuditsOutcome e outcome) → IfSome (stopped why) (AnswersAudit states reply promise election outcome certificate)
+    → StatesElection election (Ok e) → IfTaken {A = List Bool} (Err why) (AuditsOutcome e outcome)
+    → IfSome (stopped why) (AnswersAudit states reply promise election outcome certificate)
 stopped_at_outcome states reply promise election outcome certificate e (stop.Refused input fault) given taken =
     outcome_refused states reply promise election outcome certificate e (refusal_of input fault) given taken
 stopped_at_outcome states reply promise election outcome certificate e stop.Memory given taken = tt
 
-pub certificate_settled : {A : Type 0} (states : Instance → Delivery → Stated A → Type 0) (reply : Instance → List Bool → A → Reply) (promise : Status → Instance → List Bool → A → Type 0) → Promised reply promise
-    → (election : Delivery) (outcome : Option Delivery) (certificate : Delivery) (e : Instance) (w : List Bool) (work : Option Reply)
-    → StatesElection election (Ok e) → AuditsOutcome e outcome (Ok w) → IfSome work (AnswersCertificate states reply e w certificate) → IfSome work (AnswersAudit states reply promise election outcome certificate)
+pub certificate_settled : {A : Type 0} (states : Instance → Delivery → Stated A → Type 0)
+    (reply : Instance → List Bool → A → Reply) (promise : Status → Instance → List Bool → A → Type 0)
+    → Promised reply promise
+    → (election : Delivery) (outcome : Option Delivery) (certificate : Delivery) (e : Instance) (w : List Bool)
+    (work : Option Reply)
+    → StatesElection election (Ok e) → AuditsOutcome e outcome (Ok w)
+    → IfSome work (AnswersCertificate states reply e w certificate)
+    → IfSome work (AnswersAudit states reply promise election outcome certificate)
 certificate_settled states reply promise each election outcome certificate e w None given taken answered = tt
 certificate_settled states reply promise each election outcome certificate e w (Some r) given taken answered =
     certificate_answered states reply promise each election outcome certificate e w r given taken answered
 
 -- The same over readers.
-pub readers_stopped_at_election : {A : Type 0} (states : Instance → Delivery → Stated A → Type 0) (reply : Instance → List Bool → A → Reply) (promise : Status → Instance → List Bool → A → Type 0)
+pub readers_stopped_at_election : {A : Type 0} (states : Instance → Delivery → Stated A → Type 0)
+    (reply : Instance → List Bool → A → Reply) (promise : Status → Instance → List Bool → A → Type 0)
     (inputs : AuditReadings) (why : Stop)
-    → IfTaken {A = Instance} (Err why) (Gives StatesElection inputs.election) → inputs.outcome.after ≡ inputs.outcome.before → IsUntouched inputs.certificate → IfSome (stopped why) (ReadsAudit states reply promise inputs)
+    → IfTaken {A = Instance} (Err why) (Gives StatesElection inputs.election)
+    → inputs.outcome.after ≡ inputs.outcome.before → IsUntouched inputs.certificate
+    → IfSome (stopped why) (ReadsAudit states reply promise inputs)
 readers_stopped_at_election states reply promise inputs (stop.Refused input fault) given same untouched = record {
   of_election = given.delivery;
   of_outcome = None;
   of_certificate = delivery.Read;
-  answers = election_refused states reply promise given.delivery None delivery.Read (refusal_of input fault) given.stating;
+  answers = election_refused states reply promise given.delivery None delivery.Read (refusal_of input fault)
+      given.stating;
   election_delivered = given.delivered;
   outcome_delivered = same;
   certificate_delivered = untouched;
 }
 readers_stopped_at_election states reply promise inputs stop.Memory given same untouched = tt
 
-pub readers_stopped_at_outcome : {A : Type 0} (states : Instance → Delivery → Stated A → Type 0) (reply : Instance → List Bool → A → Reply) (promise : Status → Instance → List Bool → A → Type 0)
+pub readers_stopped_at_outcome : {A : Type 0} (states : Instance → Delivery → Stated A → Type 0)
+    (reply : Instance → List Bool → A → Reply) (promise : Status → Instance → List Bool → A → Type 0)
     (inputs : AuditReadings) (e : Instance) (why : Stop)
-    → Gives StatesElection inputs.election (Ok e) → IfTaken {A = List Bool} (Err why) (ReadsOutcome e inputs.outcome) → IsUntouched inputs.certificate → IfSome (stopped why) (ReadsAudit states reply promise inputs)
+    → Gives StatesElection inputs.election (Ok e) → IfTaken {A = List Bool} (Err why) (ReadsOutcome e inputs.outcome)
+    → IsUntouched inputs.certificate → IfSome (stopped why) (ReadsAudit states reply promise inputs)
 readers_stopped_at_outcome states reply promise inputs e (stop.Refused input fault) given taken untouched = record {
   of_election = given.delivery;
   of_outcome = taken.delivery;
   of_certificate = delivery.Read;
-  answers = outcome_refused states reply promise given.delivery taken.delivery delivery.Read e (refusal_of input fault) given.stating taken.audits;
+  answers = outcome_refused states reply promise given.delivery taken.delivery delivery.Read e (refusal_of input fault)
+      given.stating taken.audits;
   election_delivered = given.delivered;
   outcome_delivered = taken.delivered;
-  certificate_delivered = subst (λ (o : Stated (List Bool)). InTurn o (λ w. Delivers inputs.certificate delivery.Read) (IsUntouched inputs.certificate)) taken.audits.is untouched;
+  certificate_delivered =
+      subst
+      (λ (o : Stated (List Bool)). InTurn o (λ w. Delivers inputs.certificate delivery.Read)
+      (IsUntouched inputs.certificate)) taken.audits.is untouched;
 }
 readers_stopped_at_outcome states reply promise inputs e stop.Memory given taken untouched = tt
 
-pub readers_settled : {A : Type 0} (states : Instance → Delivery → Stated A → Type 0) (reply : Instance → List Bool → A → Reply) (promise : Status → Instance → List Bool → A → Type 0) → Promised reply promise
+pub readers_settled : {A : Type 0} (states : Instance → Delivery → Stated A → Type 0)
+    (reply : Instance → List Bool → A → Reply) (promise : Status → Instance → List Bool → A → Type 0)
+    → Promised reply promise
     → (inputs : AuditReadings) (e : Instance) (w : List Bool) (d : Delivery) (work : Option Reply)
-    → Gives StatesElection inputs.election (Ok e) → ReadsOutcome e inputs.outcome (Ok w) → Delivers inputs.certificate d → IfSome work (AnswersCertificate states reply e w d) → IfSome work (ReadsAudit states reply promise inputs)
+    → Gives StatesElection inputs.election (Ok e) → ReadsOutcome e inputs.outcome (Ok w) → Delivers inputs.certificate d
+    → IfSome work (AnswersCertificate states reply e w d) → IfSome work (ReadsAudit states reply promise inputs)
 readers_settled states reply promise each inputs e w d None given taken delivered answered = tt
 readers_settled states reply promise each inputs e w d (Some r) given taken delivered answered = record {
   of_election = given.delivery;
   of_outcome = taken.delivery;
   of_certificate = d;
-  answers = certificate_answered states reply promise each given.delivery taken.delivery d e w r given.stating taken.audits answered;
+  answers = certificate_answered states reply promise each given.delivery taken.delivery d e w r given.stating
+      taken.audits answered;
   election_delivered = given.delivered;
   outcome_delivered = taken.delivered;
-  certificate_delivered = subst (λ (o : Stated (List Bool)). InTurn o (λ w. Delivers inputs.certificate d) (IsUntouched inputs.certificate)) taken.audits.is delivered;
+  certificate_delivered =
+      subst (λ (o : Stated (List Bool)). InTurn o (λ w. Delivers inputs.certificate d) (IsUntouched inputs.certificate))
+      taken.audits.is delivered;
 }
 
 -- what is demanded is a set of projects
-pub demand_set : (bytes : List ℕ) (e : Instance) (m : Measure) (group demand : List ℕ) → IsViolationText (certificate_records bytes) e m group demand → IsSet 1 (projects e) demand
+pub demand_set : (bytes : List ℕ) (e : Instance) (m : Measure) (group demand : List ℕ)
+    → IsViolationText (certificate_records bytes) e m group demand → IsSet 1 (projects e) demand
 demand_set bytes e m group demand text = (group-text-sets (certificate_records bytes) e m group demand text).1
 
 -- the outcome that is audited, by the outcome file that was taken, or by the election's own
-pub file_audited : (e : Instance) (outcome : Option Delivery) (d : Delivery) (taken : Result (List Bool) Stop) → outcome ≡ Some d → IfTaken taken (StatesOutcome e d) → IfTaken taken (AuditsOutcome e outcome)
-file_audited e outcome d taken is states = subst (λ (o : Option Delivery). IfTaken taken (AuditsOutcome e o)) (sym is) (go taken states)
+pub file_audited : (e : Instance) (outcome : Option Delivery) (d : Delivery) (taken : Result (List Bool) Stop)
+    → outcome ≡ Some d → IfTaken taken (StatesOutcome e d) → IfTaken taken (AuditsOutcome e outcome)
+file_audited e outcome d taken is states =
+    subst (λ (o : Option Delivery). IfTaken taken (AuditsOutcome e o)) (sym is) (go taken states)
   where
     go : (r : Result (List Bool) Stop) → IfTaken r (StatesOutcome e d) → IfTaken r (AuditsOutcome e (Some d))
     go (Ok marks) s = record { file = Some (Ok marks); given = s; is = refl }
     go (Err (stop.Refused input why)) s = record { file = Some (Err (refusal_of input why)); given = s; is = refl }
     go (Err stop.Memory) s = tt
 
-pub own_audited : (e : Instance) (outcome : Option Delivery) (taken : Result (List Bool) Stop) → outcome ≡ None → IfTaken taken (λ stated. stated ≡ its_outcome e.selected) → IfTaken taken (AuditsOutcome e outcome)
-own_audited e outcome taken is states = subst (λ (o : Option Delivery). IfTaken taken (AuditsOutcome e o)) (sym is) (go taken states)
-  where
-    go : (r : Result (List Bool) Stop) → IfTaken r (λ stated. stated ≡ its_outcome e.selected) → IfTaken r (AuditsOutcome e None)
-    go (Ok marks) s = record { file = None; given = tt; is = s }
-    go (Err (stop.Refused input why)) s = record { file = None; given = tt; is = s }
-    go (Err stop.Memory) s = tt
-
 -- the same with a reader of the outcome file
-pub file_read : {R : Type 0} (source : Source R) (e : Instance) (old : Option R) (file new : R) (taken : Result (List Bool) Stop) → old ≡ Some file
-    → IfTaken taken (Gives (StatesOutcome e) (reading source file new)) → IfTaken taken (ReadsOutcome e (file_reading source old (Some new)))
-file_read {R} source e old file new taken is from = subst (λ (o : Option R). IfTaken taken (ReadsOutcome e (file_reading source o (Some new)))) (sym is) (go taken from)
+pub file_read : {R : Type 0} (source : Source R) (e : Instance) (old : Option R) (file new : R)
+    (taken : Result (List Bool) Stop) → old ≡ Some file
+    → IfTaken taken (Gives (StatesOutcome e) (reading source file new))
+    → IfTaken taken (ReadsOutcome e (file_reading source old (Some new)))
+file_read {R} source e old file new taken is from =
+    subst (λ (o : Option R). IfTaken taken (ReadsOutcome e (file_reading source o (Some new)))) (sym is) (go taken from)
   where
-    go : (r : Result (List Bool) Stop) → IfTaken r (Gives (StatesOutcome e) (reading source file new)) → IfTaken r (ReadsOutcome e (file_reading source (Some file) (Some new)))
-    go (Ok marks) g = record { delivery = Some g.delivery; delivered = g.delivered; audits = record { file = Some (Ok marks); given = g.stating; is = refl } }
-    go (Err (stop.Refused input why)) g = record { delivery = Some g.delivery; delivered = g.delivered; audits = record { file = Some (Err (refusal_of input why)); given = g.stating; is = refl } }
+    go : (r : Result (List Bool) Stop) → IfTaken r (Gives (StatesOutcome e) (reading source file new))
+        → IfTaken r (ReadsOutcome e (file_reading source (Some file) (Some new)))
+    go (Ok marks) g =
+        record {
+          delivery = Some g.delivery;
+          delivered = g.delivered;
+          audits = record { file = Some (Ok marks); given = g.stating; is = refl };
+        }
+    go (Err (stop.Refused input why)) g =
+        record {
+          delivery = Some g.delivery;
+          delivered = g.delivered;
+          audits = record { file = Some (Err (refusal_of input why)); given = g.stating; is = refl };
+        }
     go (Err stop.Memory) g = tt
 
-pub own_read : {R : Type 0} (source : Source R) (e : Instance) (old new : Option R) (taken : Result (List Bool) Stop) → old ≡ None → new ≡ None
-    → IfTaken taken (λ stated. stated ≡ its_outcome e.selected) → IfTaken taken (ReadsOutcome e (file_reading source old new))
-own_read {R} source e old new taken is then from =
-    subst (λ (o : Option R). IfTaken taken (ReadsOutcome e (file_reading source o new))) (sym is)
-    (subst (λ (n : Option R). IfTaken taken (ReadsOutcome e (file_reading source None n))) (sym then) (go taken from))
-  where
-    go : (r : Result (List Bool) Stop) → IfTaken r (λ stated. stated ≡ its_outcome e.selected) → IfTaken r (ReadsOutcome e (file_reading source None None))
-    go (Ok marks) s = record { delivery = None; delivered = tt; audits = record { file = None; given = tt; is = s } }
-    go (Err (stop.Refused input why)) s = record { delivery = None; delivered = tt; audits = record { file = None; given = tt; is = s } }
-    go (Err stop.Memory) s = tt
-
 -- Tidying. Where the election is refused, the certificate may state anything.
-pub tidy_stopped : (election certificate : Delivery) (why : Stop) → IfTaken {A = Instance} (Err why) (StatesElection election) → IfSome (settled_answer (Err why)) (AnswersTidy election certificate)
+pub tidy_stopped : (election certificate : Delivery) (why : Stop)
+    → IfTaken {A = Instance} (Err why) (StatesElection election)
+    → IfSome (settled_answer (Err why)) (AnswersTidy election certificate)
 tidy_stopped election certificate (stop.Refused input fault) given =
-    record { e = Err (refusal_of input fault); p = Err (refusal_of input fault); election_states = given; certificate_states = tt; out = refl }
+    record {
+      e = Err (refusal_of input fault);
+      p = Err (refusal_of input fault);
+      election_states = given;
+      certificate_states = tt;
+      out = refl;
+    }
 tidy_stopped election certificate stop.Memory given = tt
 
-abbrev pub tidy_answered : (election certificate : Delivery) (e : Instance) (work : Result Answer Stop) → StatesElection election (Ok e) → IfTaken work (TidiesPrices e certificate) → IfSome (settled_answer work) (AnswersTidy election certificate)
-tidy_answered election certificate e (Ok answer) given tidied = record { e = Ok e; p = Ok tidied.0; election_states = given; certificate_states = tidied.1.0; out = tidied.1.1 }
-tidy_answered election certificate e (Err (stop.Refused input fault)) given tidied =
-    record { e = Ok e; p = Err (refusal_of input fault); election_states = given; certificate_states = tidied; out = refl }
-tidy_answered election certificate e (Err stop.Memory) given tidied = tt
-
-pub readers_tidy_stopped : (election certificate : Reading) (why : Stop) → IfTaken {A = Instance} (Err why) (Gives StatesElection election) → IsUntouched certificate → IfSome (settled_answer (Err why)) (ReadsTidy election certificate)
+pub readers_tidy_stopped : (election certificate : Reading) (why : Stop)
+    → IfTaken {A = Instance} (Err why) (Gives StatesElection election) → IsUntouched certificate
+    → IfSome (settled_answer (Err why)) (ReadsTidy election certificate)
 readers_tidy_stopped election certificate (stop.Refused input fault) given untouched = record {
   of_election = given.delivery;
   of_certificate = delivery.Read;
-  answers = record { e = Err (refusal_of input fault); p = Err (refusal_of input fault); election_states = given.stating; certificate_states = tt; out = refl };
+  answers =
+      record {
+        e = Err (refusal_of input fault);
+        p = Err (refusal_of input fault);
+        election_states = given.stating;
+        certificate_states = tt;
+        out = refl;
+      };
   election_delivered = given.delivered;
   certificate_delivered = untouched;
 }
 readers_tidy_stopped election certificate stop.Memory given untouched = tt
 
-pub readers_tidy_answered : (election certificate : Reading) (e : Instance) (d : Delivery) (work : Result Answer Stop) → Gives StatesElection election (Ok e) → Delivers certificate d → IfTaken work (TidiesPrices e d) → IfSome (settled_answer work) (ReadsTidy election certificate)
+pub readers_tidy_answered : (election certificate : Reading) (e : Instance) (d : Delivery) (work : Result Answer Stop)
+    → Gives StatesElection election (Ok e) → Delivers certificate d → IfTaken work (TidiesPrices e d)
+    → IfSome (settled_answer work) (ReadsTidy election certificate)
 readers_tidy_answered election certificate e d (Ok answer) given delivered tidied = record {
   of_election = given.delivery;
   of_certificate = d;
-  answers = record { e = Ok e; p = Ok tidied.0; election_states = given.stating; certificate_states = tidied.1.0; out = tidied.1.1 };
+  answers =
+      record {
+        e = Ok e;
+        p = Ok tidied.0;
+        election_states = given.stating;
+        certificate_states = tidied.1.0;
+        out = tidied.1.1;
+      };
   election_delivered = given.delivered;
   certificate_delivered = delivered;
 }
 readers_tidy_answered election certificate e d (Err (stop.Refused input fault)) given delivered tidied = record {
   of_election = given.delivery;
   of_certificate = d;
-  answers = record { e = Ok e; p = Err (refusal_of input fault); election_states = given.stating; certificate_states = tidied; out = refl };
+  answers =
+      record {
+        e = Ok e;
+        p = Err (refusal_of input fault);
+        election_states = given.stating;
+        certificate_states = tidied;
+        out = refl;
+      };
   election_delivered = given.delivered;
   certificate_delivered = delivered;
 }

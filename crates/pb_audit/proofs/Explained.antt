@@ -26,7 +26,7 @@ use Rattle.pb_audit.specs.Answers.{Reply, verdict_reply, with_input}
 use Rattle.pb_audit.specs.Explained.{ExplainedPromise, OfPrices, OfViolation, StatesCertificate, explained_prices, explained_reply, explained_violation, is_violation, with_table}
 use Rattle.pb_audit.specs.Inputs.{Stated, StatesPrices, StatesViolation}
 use Rattle.pb_audit.specs.Named.{PricesNameProject}
-use Rattle.pb_audit.specs.Taking.{AnswersCertificate}
+use Rattle.pb_audit.specs.Inside.Taking.{AnswersCertificate}
 use Rattle.pb_audit.specs.declared.input.InputName.TheVariants.{Certificate}
 use Rattle.pb_audit.proofs.Audits.{Promised}
 use Rattle.pb_audit.proofs.Culprits.{all-filter, all-first, among-projects, missing-name, prices_name_projects, projects-are, unapproved-name}
@@ -38,71 +38,94 @@ explained_promise m e w (OfViolation v) = violation_promises e w v
 
 -- a certificate that is taken as prices, or as a violation, is one of either kind
 pub as_prices : (m : Mode) (e : Instance) (w : List Bool) (d : Delivery) (work : Option Reply) → is_violation d ≡ false
-    → IfSome work (AnswersCertificate (StatesPrices Certificate) (explained_prices m) e w d) → IfSome work (AnswersCertificate StatesCertificate (explained_reply m) e w d)
+    → IfSome work (AnswersCertificate (StatesPrices Certificate) (explained_prices m) e w d)
+    → IfSome work (AnswersCertificate StatesCertificate (explained_reply m) e w d)
 as_prices m e w d None is answers = tt
 as_prices m e w d (Some r) is answers = go answers.c answers.given answers.out
   where
-    go : (c : Stated Prices) → StatesPrices Certificate e d c → r ≡ with_input c (λ a. explained_prices m e w a) → AnswersCertificate StatesCertificate (explained_reply m) e w d r
+    go : (c : Stated Prices) → StatesPrices Certificate e d c → r ≡ with_input c (λ a. explained_prices m e w a)
+        → AnswersCertificate StatesCertificate (explained_reply m) e w d r
     go (Ok p) given out = record { c = Ok (OfPrices p); given = (is, given); out = out }
     go (Err why) given out = record { c = Err why; given = inl (is, given); out = out }
 
-pub as_violation : (m : Mode) (e : Instance) (w : List Bool) (d : Delivery) (work : Option Reply) → is_violation d ≡ true
-    → IfSome work (AnswersCertificate (StatesViolation Certificate) explained_violation e w d) → IfSome work (AnswersCertificate StatesCertificate (explained_reply m) e w d)
+pub as_violation : (m : Mode) (e : Instance) (w : List Bool) (d : Delivery) (work : Option Reply)
+    → is_violation d ≡ true
+    → IfSome work (AnswersCertificate (StatesViolation Certificate) explained_violation e w d)
+    → IfSome work (AnswersCertificate StatesCertificate (explained_reply m) e w d)
 as_violation m e w d None is answers = tt
 as_violation m e w d (Some r) is answers = go answers.c answers.given answers.out
   where
-    go : (c : Stated (Measure × List ℕ × List ℕ)) → StatesViolation Certificate e d c → r ≡ with_input c (λ a. explained_violation e w a) → AnswersCertificate StatesCertificate (explained_reply m) e w d r
+    go : (c : Stated (Measure × List ℕ × List ℕ)) → StatesViolation Certificate e d c
+        → r ≡ with_input c (λ a. explained_violation e w a)
+        → AnswersCertificate StatesCertificate (explained_reply m) e w d r
     go (Ok v) given out = record { c = Ok (OfViolation v); given = (is, given); out = out }
     go (Err why) given out = record { c = Err why; given = inr (is, given); out = out }
 
 -- the projects that the findings name
-named-first : (e : Instance) (bound : ℕ → ℕ) (amount : ℕ → ℤ) (o : Option ℕ) → IfSome o (IsProject e) → IfSome (option_map (comparison bound amount) o) (λ m. IsProject e m.at)
+named-first : (e : Instance) (bound : ℕ → ℕ) (amount : ℕ → ℤ) (o : Option ℕ) → IfSome o (IsProject e)
+    → IfSome (option_map (comparison bound amount) o) (λ m. IsProject e m.at)
 named-first e bound amount None h = tt
 named-first e bound amount (Some x) h = h
 
-named-either : (e : Instance) (o r : Option ℕ) → IfSome o (IsProject e) → IfSome r (IsProject e) → IfSome (option_or o r) (IsProject e)
+named-either : (e : Instance) (o r : Option ℕ) → IfSome o (IsProject e) → IfSome r (IsProject e)
+    → IfSome (option_or o r) (IsProject e)
 named-either e None r h k = k
 named-either e (Some x) r h k = h
 
-names-project : (e : Instance) (culprits candidates : List ℕ) (bound : ℕ → ℕ) (amount : ℕ → ℤ) → AllByRecursion (IsProject e) culprits → AllByRecursion (IsProject e) candidates
+names-project : (e : Instance) (culprits candidates : List ℕ) (bound : ℕ → ℕ) (amount : ℕ → ℤ)
+    → AllByRecursion (IsProject e) culprits → AllByRecursion (IsProject e) candidates
     → ShowsProject e (finding culprits candidates bound amount)
 names-project e culprits candidates bound amount of_culprits of_candidates =
-    named-first e bound amount (option_or (slice_get culprits 0) (closest candidates (λ x. excess (comparison bound amount x))))
+    named-first e bound amount
+    (option_or (slice_get culprits 0) (closest candidates (λ x. excess (comparison bound amount x))))
     (named-either e (slice_get culprits 0) (closest candidates (λ x. excess (comparison bound amount x)))
     (all-first (IsProject e) culprits of_culprits)
-    (all-first (IsProject e) (filter (λ x. list_all (λ y. int_le (excess (comparison bound amount y)) (excess (comparison bound amount x))) candidates) candidates)
+    (all-first (IsProject e)
+    (filter
+    (λ x. list_all (λ y. int_le (excess (comparison bound amount y)) (excess (comparison bound amount x)))
+    candidates) candidates)
     (all-filter (IsProject e) _ candidates of_candidates)))
 
 pub findings_name_projects : (e : Instance) (w : List Bool) (p : Prices) → NameProjects e (findings e w p)
 findings_name_projects e w p = record {
-  exhaustive = names-project e (culprits_of_Exhaustive e w) (unfunded e w) (cost e p) (λ c. pos (budget_limit e p) -ℤ pos (total_grains e w p)) (among-projects e _ _) unfunded-are;
+  exhaustive = names-project e (culprits_of_Exhaustive e w) (unfunded e w) (cost e p)
+      (λ c. pos (budget_limit e p) -ℤ pos (total_grains e w p)) (among-projects e _ _) unfunded-are;
   c1 = all-first (λ (q : ℕ × ℕ). IsProject e q.1) (culprits_of_C1 e p) (unapproved-name e p);
   c3 = names-project e (culprits_of_C3 e w p) [] (cost e p) (λ c. pos (paid e p c)) (among-projects e _ _) tt;
   c4 = names-project e (culprits_of_C4 e w p) [] (λ c. 0) (λ c. pos (paid e p c)) (among-projects e _ _) tt;
-  c5 = names-project e (culprits_of_C5 e w p) (unfunded e w) (cost e p) (λ c. sum_ℤ (left e p) (supporters e c)) (among-projects e _ _) unfunded-are;
-  s5 = names-project e (culprits_of_S5 e w p) (unfunded e w) (cost e p) (λ c. sum_ℤ (most_of e p) (supporters e c)) (among-projects e _ _) unfunded-are;
+  c5 = names-project e (culprits_of_C5 e w p) (unfunded e w) (cost e p) (λ c. sum_ℤ (left e p) (supporters e c))
+      (among-projects e _ _) unfunded-are;
+  s5 = names-project e (culprits_of_S5 e w p) (unfunded e w) (cost e p) (λ c. sum_ℤ (most_of e p) (supporters e c))
+      (among-projects e _ _) unfunded-are;
 }
   where
     unfunded-are : AllByRecursion (IsProject e) (unfunded e w)
     unfunded-are = all-filter (IsProject e) _ (all_projects e) (projects-are e)
 
-pub missing_names_projects : (e : Instance) (s t : List ℕ) → IsSet 1 (projects e) t → IfSome (slice_get (culprits_of_V2 e s t) 0) (λ q. IsProject e q.1)
-missing_names_projects e s t set = all-first (λ (q : ℕ × ℕ). IsProject e q.1) (culprits_of_V2 e s t) (missing-name e s t set)
+pub missing_names_projects : (e : Instance) (s t : List ℕ) → IsSet 1 (projects e) t
+    → IfSome (slice_get (culprits_of_V2 e s t) 0) (λ q. IsProject e q.1)
+missing_names_projects e s t set =
+    all-first (λ (q : ℕ × ℕ). IsProject e q.1) (culprits_of_V2 e s t) (missing-name e s t set)
 
 -- the denominator of prices that are stated
-pub denominator-low : (e : Instance) (d : Delivery) (p : Prices) → StatesPrices Certificate e d (Ok p) → 1 ≤ p.denominator
-denominator-low e (delivery.Bytes bytes) p given = (states-prices (certificate_records bytes) e p given).system.denominator.0
+pub denominator-low : (e : Instance) (d : Delivery) (p : Prices) → StatesPrices Certificate e d (Ok p)
+    → 1 ≤ p.denominator
+denominator-low e (delivery.Bytes bytes) p given =
+    (states-prices (certificate_records bytes) e p given).system.denominator.0
 denominator-low e delivery.Read p given = cc
 denominator-low e delivery.TooLong p given = cc
 
 -- the reply on the findings on prices is that on the prices
-pub findings_explain : (m : Mode) (e : Instance) (w : List Bool) (p : Prices) (f : Findings) → 1 ≤ p.denominator → f ≡ findings e w p
+pub findings_explain : (m : Mode) (e : Instance) (w : List Bool) (p : Prices) (f : Findings) → 1 ≤ p.denominator
+    → f ≡ findings e w p
     → with_table (price_table m e f) (verdict_reply m e (verdict_of (first_told m f))) ≡ explained_prices m e w p
 findings_explain m e w p f low is =
     ap (λ (x : Findings). with_table (price_table m e x) (verdict_reply m e (verdict_of (first_told m x)))) is
-    ∙ ap (λ (o : Option Failure). with_table (price_table m e (findings e w p)) (verdict_reply m e (verdict_of o))) (tell-first m e w p low)
+    ∙ ap (λ (o : Option Failure). with_table (price_table m e (findings e w p)) (verdict_reply m e (verdict_of o)))
+    (tell-first m e w p low)
 
-pub told_names_project : (m : Mode) (e : Instance) (w : List Bool) (p : Prices) (f : Findings) → 1 ≤ p.denominator → f ≡ findings e w p → PricesNameProject e (verdict_of (first_told m f))
+pub told_names_project : (m : Mode) (e : Instance) (w : List Bool) (p : Prices) (f : Findings) → 1 ≤ p.denominator
+    → f ≡ findings e w p → PricesNameProject e (verdict_of (first_told m f))
 told_names_project m e w p f low is =
     prices_name_projects m e w p (verdict_of (first_told m f))
     (ap (λ (x : Findings). verdict_of (first_told m x)) is ∙ ap verdict_of (tell-first m e w p low))

@@ -23,7 +23,7 @@ use Rattle.pb_audit.specs.Answers.{Answer, Reply, answer_of, refused, text_of}
 use Rattle.pb_audit.specs.Inputs.{StatesElection, StatesPrices, refusal_of}
 use Rattle.pb_audit.specs.Margins.{AlwaysYes, AnswersMargins, ReadsMargins, flag_of, margin_head, margin_rows, margins_reply, record_line, row_of, table_of}
 use Rattle.pb_audit.specs.Readers.{AuditReadings, Delivers, TellsReply}
-use Rattle.pb_audit.specs.Taking.{AnswersCertificate, AuditsOutcome, Gives, IfTaken, ReadsOutcome, TablesMargins, settled_answer, stopped}
+use Rattle.pb_audit.specs.Inside.Taking.{AnswersCertificate, AuditsOutcome, Gives, IfTaken, ReadsOutcome, TablesMargins, settled_answer, stopped}
 use Rattle.pb_audit.specs.declared.input.InputName.TheVariants.{Certificate}
 use Rattle.pb_audit.specs.declared.status.Status.TheVariants.{Yes}
 use Rattle.pb_audit.specs.declared.input.Stop.{Stop}
@@ -50,28 +50,39 @@ pub lines_are : (rs : List Rec) → lines rs ≡ text_of (map record_line rs)
 lines_are [] = refl
 lines_are (r ∷ rs) = rw (line_is r, lines_are rs) refl
 
-pub row_written : (id : Field) (m : ProjectMargins) → IsId id → IsPlain (decimal m.supporters) → IsPlain (decimal m.cost) → IsPlain (decimal m.paid) → IsPlain (signed_decimal m.left) → IsPlain (signed_decimal m.offer)
+pub row_written : (id : Field) (m : ProjectMargins) → IsId id → IsPlain (decimal m.supporters)
+    → IsPlain (decimal m.cost) → IsPlain (decimal m.paid) → IsPlain (signed_decimal m.left)
+    → IsPlain (signed_decimal m.offer)
     → row_text default_writer (row_of id m) ≡ line (row_of id m)
-row_written id m is s c p l o = row-line id (flag_of m.funded) _ (id-plain id is, (flag_plain m.funded, (s, (c, (p, (l, (o, tt)))))))
+row_written id m is s c p l o =
+    row-line id (flag_of m.funded) _ (id-plain id is, (flag_plain m.funded, (s, (c, (p, (l, (o, tt)))))))
 
 -- The head.
 
 pub head_written : (g : ℕ) (h0 h1 h2 h3 : Text) → g < 10 ^ 64
     → h1 ≡ h0 ++ row_text default_writer (codes "pb-margins" ∷ codes "1" ∷ [])
     → h2 ≡ h1 ++ row_text default_writer (codes "grains_per_unit" ∷ decimal g ∷ [])
-    → h3 ≡ h2 ++ row_text default_writer (codes "project" ∷ codes "funded" ∷ codes "supporters" ∷ codes "cost" ∷ codes "paid" ∷ codes "left" ∷ codes "offer" ∷ [])
+    → h3 ≡ h2 ++ row_text default_writer
+    (codes "project" ∷ codes "funded" ∷ codes "supporters" ∷ codes "cost" ∷ codes "paid" ∷ codes "left"
+    ∷ codes "offer" ∷ [])
     → h3 ≡ h0 ++ lines (margin_head g)
 head_written g h0 h1 h2 h3 small e1 e2 e3 =
     let name = row-line (codes "pb-margins") (codes "1") [] (refl, (refl, tt)) in
     let grains = row-line (codes "grains_per_unit") (decimal g) [] (refl, (decimal-plain g small, tt)) in
-    let columns = row-line (codes "project") (codes "funded") (codes "supporters" ∷ codes "cost" ∷ codes "paid" ∷ codes "left" ∷ codes "offer" ∷ []) (refl, (refl, (refl, (refl, (refl, (refl, (refl, tt))))))) in
-    pushed h0 h1 h2 h3 _ _ _ (e1 ∙ ap (λ (x : Text). h0 ++ x) name) (e2 ∙ ap (λ (x : Text). h1 ++ x) grains) (e3 ∙ ap (λ (x : Text). h2 ++ x) columns)
+    let columns =
+    row-line (codes "project") (codes "funded")
+    (codes "supporters" ∷ codes "cost" ∷ codes "paid" ∷ codes "left" ∷ codes "offer" ∷ [])
+    (refl, (refl, (refl, (refl, (refl, (refl, (refl, tt))))))) in
+    pushed h0 h1 h2 h3 _ _ _ (e1 ∙ ap (λ (x : Text). h0 ++ x) name) (e2 ∙ ap (λ (x : Text). h1 ++ x) grains)
+    (e3 ∙ ap (λ (x : Text). h2 ++ x) columns)
   where
     joined : (h a b c : Text) → ((h ++ a) ++ b) ++ c ≡ h ++ (a ++ (b ++ (c ++ [])))
     joined h a b c = simp (append_assoc, append-nil)
 
-    pushed : (h0 h1 h2 h3 a b c : Text) → h1 ≡ h0 ++ a → h2 ≡ h1 ++ b → h3 ≡ h2 ++ c → h3 ≡ h0 ++ (a ++ (b ++ (c ++ [])))
-    pushed h0 h1 h2 h3 a b c e1 e2 e3 = e3 ∙ ap (λ (x : Text). x ++ c) (e2 ∙ ap (λ (x : Text). x ++ b) e1) ∙ joined h0 a b c
+    pushed : (h0 h1 h2 h3 a b c : Text) → h1 ≡ h0 ++ a → h2 ≡ h1 ++ b → h3 ≡ h2 ++ c
+        → h3 ≡ h0 ++ (a ++ (b ++ (c ++ [])))
+    pushed h0 h1 h2 h3 a b c e1 e2 e3 = e3 ∙ ap (λ (x : Text). x ++ c) (e2 ∙ ap (λ (x : Text). x ++ b) e1)
+        ∙ joined h0 a b c
 
 -- The rows.
 
@@ -86,7 +97,8 @@ at_place f a (suc n) (suc k) d h =
 lines_push : (rows : List Rec) (r : Rec) → lines (rows ++ (r ∷ [])) ≡ lines rows ++ line r
 lines_push rows r = flat_map-append line rows (r ∷ []) ∙ ap (λ (x : Text). lines rows ++ x) (append-nil (line r))
 
-pub as_many_rows : (e : Instance) (w : List Bool) (p : Prices) (m : Margins) → AreMargins e w p m → length m.projects.items ≡ projects e
+pub as_many_rows : (e : Instance) (w : List Bool) (p : Prices) (m : Margins) → AreMargins e w p m
+    → length m.projects.items ≡ projects e
 as_many_rows e w p m are = ap length are.projects ∙ as_many (margins_of_project e w p) 1 (projects e)
   where
     as_many : {A : Type 0} (f : ℕ → A) (a n : ℕ) → length (map f (range_with_len a n)) ≡ n
@@ -94,7 +106,8 @@ as_many_rows e w p m are = ap length are.projects ∙ as_many (margins_of_projec
     as_many f a (suc n) = ap suc (as_many f (a + 1) n)
 
 -- one more row, that of project c
-pub row_pushed : (e : Instance) (w : List Bool) (p : Prices) (m : Margins) (c : ℕ) (d : ProjectMargins) (before after : Text) → AreMargins e w p m → 1 ≤ c → c ≤ projects e
+pub row_pushed : (e : Instance) (w : List Bool) (p : Prices) (m : Margins) (c : ℕ) (d : ProjectMargins)
+    (before after : Text) → AreMargins e w p m → 1 ≤ c → c ≤ projects e
     → before ≡ lines (margin_head m.grains_per_unit ++ margin_rows e w p (range_with_len 1 (c - 1)))
     → after ≡ before ++ line (row_of (id_of e c) (get_or m.projects.items (c - 1) d))
     → after ≡ lines (margin_head m.grains_per_unit ++ margin_rows e w p (range_with_len 1 c))
@@ -103,27 +116,37 @@ row_pushed e w p m c d before after are low high b a =
     let here : 1 + (c - 1) ≡ c = omega arith in
     let row : ℕ → Rec = λ j. row_of (id_of e j) (margins_of_project e w p j) in
     let figures : get_or m.projects.items (c - 1) d ≡ margins_of_project e w p c =
-    ap (λ (ms : List ProjectMargins). get_or ms (c - 1) d) are.projects ∙ (at_place (margins_of_project e w p) 1 (projects e) (c - 1) d (omega arith) ∙ ap (margins_of_project e w p) here) in
+    ap (λ (ms : List ProjectMargins). get_or ms (c - 1) d) are.projects
+    ∙ (at_place (margins_of_project e w p) 1 (projects e) (c - 1) d (omega arith)
+    ∙ ap (margins_of_project e w p) here) in
     let head : List Rec = margin_head m.grains_per_unit in
     let others : List Rec = margin_rows e w p (range_with_len 1 (c - 1)) in
     let range : range_with_len 1 c ≡ range_with_len 1 (c - 1) ++ (c ∷ []) =
-    ap (range_with_len 1) (sym past) ∙ (range-push 1 (c - 1) ∙ ap (λ (j : ℕ). range_with_len 1 (c - 1) ++ (j ∷ [])) here) in
-    let rows : margin_rows e w p (range_with_len 1 c) ≡ others ++ (row c ∷ []) = ap (margin_rows e w p) range ∙ map-append row (range_with_len 1 (c - 1)) (c ∷ []) in
-    a ∙ (ap (λ (x : Text). x ++ line (row_of (id_of e c) (get_or m.projects.items (c - 1) d))) b ∙ (ap (λ (f : ProjectMargins). lines (head ++ others) ++ line (row_of (id_of e c) f)) figures
-    ∙ (sym (lines_push (head ++ others) (row c)) ∙ ap lines (append_assoc head others (row c ∷ []) ∙ ap (λ (x : List Rec). head ++ x) (sym rows)))))
+    ap (range_with_len 1) (sym past)
+    ∙ (range-push 1 (c - 1) ∙ ap (λ (j : ℕ). range_with_len 1 (c - 1) ++ (j ∷ [])) here) in
+    let rows : margin_rows e w p (range_with_len 1 c) ≡ others ++ (row c ∷ []) =
+    ap (margin_rows e w p) range ∙ map-append row (range_with_len 1 (c - 1)) (c ∷ []) in
+    a ∙ (ap (λ (x : Text). x ++ line (row_of (id_of e c) (get_or m.projects.items (c - 1) d))) b
+    ∙ (ap (λ (f : ProjectMargins). lines (head ++ others) ++ line (row_of (id_of e c) f)) figures
+    ∙ (sym (lines_push (head ++ others) (row c))
+    ∙ ap lines (append_assoc head others (row c ∷ []) ∙ ap (λ (x : List Rec). head ++ x) (sym rows)))))
 
 -- all rows
-pub table_written : (e : Instance) (w : List Bool) (p : Prices) (m : Margins) (c : ℕ) (text : Text) → AreMargins e w p m → c ≡ projects e
-    → text ≡ lines (margin_head m.grains_per_unit ++ margin_rows e w p (range_with_len 1 c)) → text ≡ lines (table_of e w p)
+pub table_written : (e : Instance) (w : List Bool) (p : Prices) (m : Margins) (c : ℕ) (text : Text) → AreMargins e w p m
+    → c ≡ projects e
+    → text ≡ lines (margin_head m.grains_per_unit ++ margin_rows e w p (range_with_len 1 c))
+    → text ≡ lines (table_of e w p)
 table_written e w p m c text are all is =
-    is ∙ (ap (λ (g : ℕ). lines (margin_head g ++ margin_rows e w p (range_with_len 1 c))) are.grains_per_unit ∙ ap (λ (n : ℕ). lines (margin_head (10 ^ 6 * p.denominator) ++ margin_rows e w p (range_with_len 1 n))) all)
+    is ∙ (ap (λ (g : ℕ). lines (margin_head g ++ margin_rows e w p (range_with_len 1 c))) are.grains_per_unit
+    ∙ ap (λ (n : ℕ). lines (margin_head (10 ^ 6 * p.denominator) ++ margin_rows e w p (range_with_len 1 n))) all)
 
 -- The answers.
 
 abbrev answer_with : Text → Answer
 answer_with text = record { text = text; status = Yes }
 
-pub text_told : (e : Instance) (w : List Bool) (p : Prices) (text : Text) → text ≡ lines (table_of e w p) → answer_with text ≡ answer_of (margins_reply e w p)
+pub text_told : (e : Instance) (w : List Bool) (p : Prices) (text : Text) → text ≡ lines (table_of e w p)
+    → answer_with text ≡ answer_of (margins_reply e w p)
 text_told e w p text is = ap answer_with (is ∙ lines_are (table_of e w p))
 
 -- the text of a reply, as an answer
@@ -131,30 +154,41 @@ told : (is_reply : Reply → Type 0) (reply : Reply) → is_reply reply → Tell
 told is_reply reply of = record { reply = reply; of_inputs = of; out = refl }
 
 -- the work on the certificate as a reply, which the answer tells
-work_told : (is_reply : Reply → Type 0) (e : Instance) (w : List Bool) (certificate : Delivery) (work : Result Answer Stop) → IfTaken work (TablesMargins e w certificate)
-    → ((r : Reply) → AnswersCertificate (StatesPrices Certificate) margins_reply e w certificate r → is_reply r) → IfSome (settled_answer work) (TellsReply is_reply)
+work_told : (is_reply : Reply → Type 0) (e : Instance) (w : List Bool) (certificate : Delivery)
+    (work : Result Answer Stop) → IfTaken work (TablesMargins e w certificate)
+    → ((r : Reply) → AnswersCertificate (StatesPrices Certificate) margins_reply e w certificate r → is_reply r)
+    → IfSome (settled_answer work) (TellsReply is_reply)
 work_told is_reply e w certificate (Ok answer) tables each =
     let reply = margins_reply e w tables.0 in
-    subst (TellsReply is_reply) (sym tables.1.1) (told is_reply reply (each reply (record { c = Ok tables.0; given = tables.1.0; out = refl })))
+    subst (TellsReply is_reply) (sym tables.1.1)
+    (told is_reply reply (each reply (record { c = Ok tables.0; given = tables.1.0; out = refl })))
 work_told is_reply e w certificate (Err (stop.Refused input why)) tables each =
     let reply = refused (refusal_of input why) in
     told is_reply reply (each reply (record { c = Err (refusal_of input why); given = tables; out = refl }))
 work_told is_reply e w certificate (Err stop.Memory) tables each = tt
 
 -- an input that was refused before the certificate
-pub stop_told : (is_reply : Reply → Type 0) (why : Stop) → IfSome (stopped why) is_reply → IfSome (settled_answer (Err why)) (TellsReply is_reply)
+pub stop_told : (is_reply : Reply → Type 0) (why : Stop) → IfSome (stopped why) is_reply
+    → IfSome (settled_answer (Err why)) (TellsReply is_reply)
 stop_told is_reply (stop.Refused input why) of = told is_reply (refused (refusal_of input why)) of
 stop_told is_reply stop.Memory of = tt
 
 always_yes : Promised margins_reply AlwaysYes
 always_yes e w p = refl
 
-pub margins_answered : (election : Delivery) (outcome : Option Delivery) (certificate : Delivery) (e : Instance) (w : List Bool) (work : Result Answer Stop)
-    → StatesElection election (Ok e) → AuditsOutcome e outcome (Ok w) → IfTaken work (TablesMargins e w certificate) → IfSome (settled_answer work) (AnswersMargins election outcome certificate)
+pub margins_answered : (election : Delivery) (outcome : Option Delivery) (certificate : Delivery) (e : Instance)
+    (w : List Bool) (work : Result Answer Stop)
+    → StatesElection election (Ok e) → AuditsOutcome e outcome (Ok w) → IfTaken work (TablesMargins e w certificate)
+    → IfSome (settled_answer work) (AnswersMargins election outcome certificate)
 margins_answered election outcome certificate e w work given taken tables =
-    work_told _ e w certificate work tables (λ r answered. certificate_answered (StatesPrices Certificate) margins_reply AlwaysYes always_yes election outcome certificate e w r given taken answered)
+    work_told _ e w certificate work tables
+    (λ r answered. certificate_answered (StatesPrices Certificate) margins_reply AlwaysYes always_yes election
+    outcome certificate e w r given taken answered)
 
 pub margins_read : (inputs : AuditReadings) (e : Instance) (w : List Bool) (d : Delivery) (work : Result Answer Stop)
-    → Gives StatesElection inputs.election (Ok e) → ReadsOutcome e inputs.outcome (Ok w) → Delivers inputs.certificate d → IfTaken work (TablesMargins e w d) → IfSome (settled_answer work) (ReadsMargins inputs)
+    → Gives StatesElection inputs.election (Ok e) → ReadsOutcome e inputs.outcome (Ok w) → Delivers inputs.certificate d
+    → IfTaken work (TablesMargins e w d) → IfSome (settled_answer work) (ReadsMargins inputs)
 margins_read inputs e w d work given taken delivered tables =
-    work_told _ e w d work tables (λ r answered. readers_settled (StatesPrices Certificate) margins_reply AlwaysYes always_yes inputs e w d (Some r) given taken delivered answered)
+    work_told _ e w d work tables
+    (λ r answered. readers_settled (StatesPrices Certificate) margins_reply AlwaysYes always_yes inputs e w d
+    (Some r) given taken delivered answered)

@@ -24,19 +24,23 @@ of-violation (Ok v) = Ok (OfViolation v)
 of-violation (Err r) = Err r
 
 -- a certificate that is taken as prices states prices, and one that is taken as a violation states a violation
-as-prices : (e : Instance) (d : Delivery) → is_violation d ≡ false → (s : Stated Certificate) → StatesCertificate e d s → (p : Stated Prices) × StatesPrices name.Certificate e d p × (s ≡ of-prices p)
+as-prices : (e : Instance) (d : Delivery) → is_violation d ≡ false → (s : Stated Certificate) → StatesCertificate e d s
+    → (p : Stated Prices) × StatesPrices name.Certificate e d p × (s ≡ of-prices p)
 as-prices e d is (Ok (OfPrices p)) h = (Ok p, h.1, refl)
 as-prices e d is (Ok (OfViolation v)) h = cc
 as-prices e d is (Err r) (inl h) = (Err r, h.1, refl)
 as-prices e d is (Err r) (inr h) = cc
 
-as-violation : (e : Instance) (d : Delivery) → is_violation d ≡ true → (s : Stated Certificate) → StatesCertificate e d s → (v : Stated GroupAndDemand) × StatesViolation name.Certificate e d v × (s ≡ of-violation v)
+as-violation : (e : Instance) (d : Delivery) → is_violation d ≡ true → (s : Stated Certificate)
+    → StatesCertificate e d s → (v : Stated GroupAndDemand) × StatesViolation name.Certificate e d v
+    × (s ≡ of-violation v)
 as-violation e d is (Ok (OfPrices p)) h = cc
 as-violation e d is (Ok (OfViolation v)) h = (Ok v, h.1, refl)
 as-violation e d is (Err r) (inl h) = cc
 as-violation e d is (Err r) (inr h) = (Err r, h.1, refl)
 
-certificate-same : (e : Instance) (d : Delivery) (b : Bool) → is_violation d ≡ b → (s t : Stated Certificate) → StatesCertificate e d s → StatesCertificate e d t → s ≡ t
+certificate-same : (e : Instance) (d : Delivery) (b : Bool) → is_violation d ≡ b → (s t : Stated Certificate)
+    → StatesCertificate e d s → StatesCertificate e d t → s ≡ t
 certificate-same e d false is s t h k =
     let p = as-prices e d is s h in
     let q = as-prices e d is t k in
@@ -46,20 +50,28 @@ certificate-same e d true is s t h k =
     let u = as-violation e d is t k in
     v.2 ∙ ap of-violation ((violation-one name.Certificate e d).no_other v.0 u.0 v.1 u.1) ∙ sym u.2
 
-from-prices : (e : Instance) (d : Delivery) → is_violation d ≡ false → (p : Stated Prices) → StatesPrices name.Certificate e d p → StatesCertificate e d (of-prices p)
+from-prices : (e : Instance) (d : Delivery) → is_violation d ≡ false → (p : Stated Prices)
+    → StatesPrices name.Certificate e d p → StatesCertificate e d (of-prices p)
 from-prices e d is (Ok p) h = (is, h)
 from-prices e d is (Err r) h = inl (is, h)
 
-from-violation : (e : Instance) (d : Delivery) → is_violation d ≡ true → (v : Stated GroupAndDemand) → StatesViolation name.Certificate e d v → StatesCertificate e d (of-violation v)
+from-violation : (e : Instance) (d : Delivery) → is_violation d ≡ true → (v : Stated GroupAndDemand)
+    → StatesViolation name.Certificate e d v → StatesCertificate e d (of-violation v)
 from-violation e d is (Ok v) h = (is, h)
 from-violation e d is (Err r) h = inr (is, h)
 
-certificate-some : (e : Instance) (d : Delivery) (b : Bool) → is_violation d ≡ b → (s : Stated Certificate) × StatesCertificate e d s
-certificate-some e d false is = let p = (prices-one name.Certificate e d).one in (of-prices p.0, from-prices e d is p.0 p.1)
-certificate-some e d true is = let v = (violation-one name.Certificate e d).one in (of-violation v.0, from-violation e d is v.0 v.1)
+certificate-some : (e : Instance) (d : Delivery) (b : Bool) → is_violation d ≡ b
+    → (s : Stated Certificate) × StatesCertificate e d s
+certificate-some e d false is = let p = (prices-one name.Certificate e d).one in
+    (of-prices p.0, from-prices e d is p.0 p.1)
+certificate-some e d true is = let v = (violation-one name.Certificate e d).one in
+    (of-violation v.0, from-violation e d is v.0 v.1)
 
 certificate-one : (e : Instance) (d : Delivery) → JustOne (StatesCertificate e d)
-certificate-one e d = record { one = certificate-some e d (is_violation d) refl; no_other = certificate-same e d (is_violation d) refl }
+certificate-one e d =
+    record { one = certificate-some e d (is_violation d) refl; no_other = certificate-same e d (is_violation d) refl }
 
-pub explained-one : (m : Mode) (election : Delivery) (outcome : Option Delivery) (certificate : Delivery) → JustOne (AnswersExplained m election outcome certificate)
-explained-one m = audit-one StatesCertificate certificate-one (explained_reply m) (ExplainedPromise m) (explained_promise m)
+pub explained-one : (m : Mode) (election : Delivery) (outcome : Option Delivery) (certificate : Delivery)
+    → JustOne (AnswersExplained m election outcome certificate)
+explained-one m =
+    audit-one StatesCertificate certificate-one (explained_reply m) (ExplainedPromise m) (explained_promise m)

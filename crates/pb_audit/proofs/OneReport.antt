@@ -8,11 +8,14 @@ use Rattle.pb_audit.specs.Reports.{Files, Finds, FindsCertificate, FindsEach, Fo
 use Rattle.pb_audit.proofs.OneAnswer.{price-reply-one, read-one, violation-reply-one}
 
 -- what is found of a certificate
-certificate-some : (answers : Delivery → Reply → Type 0) → ((d : Delivery) → JustOne (answers d)) → (certificate : Option Delivery) → (found : Option Reply) × FindsCertificate answers certificate found
+certificate-some : (answers : Delivery → Reply → Type 0) → ((d : Delivery) → JustOne (answers d))
+    → (certificate : Option Delivery) → (found : Option Reply) × FindsCertificate answers certificate found
 certificate-some answers one None = (None, tt)
 certificate-some answers one (Some d) = let r = (one d).one in (Some r.0, r.1)
 
-certificate-same : (answers : Delivery → Reply → Type 0) → ((d : Delivery) → JustOne (answers d)) → (certificate : Option Delivery) (r s : Option Reply) → FindsCertificate answers certificate r → FindsCertificate answers certificate s → r ≡ s
+certificate-same : (answers : Delivery → Reply → Type 0) → ((d : Delivery) → JustOne (answers d))
+    → (certificate : Option Delivery) (r s : Option Reply) → FindsCertificate answers certificate r
+    → FindsCertificate answers certificate s → r ≡ s
 certificate-same answers one None None None h k = refl
 certificate-same answers one None None (Some s) h k = absurd k
 certificate-same answers one None (Some r) s h k = absurd h
@@ -24,18 +27,34 @@ certificate-same answers one (Some d) (Some r) (Some s) h k = ap Some ((one d).n
 finds-some : (m : Mode) (files : Files) → (found : Found) × Finds m files found
 finds-some m files =
     let read = (read-one files.election).one in
-    let prices = certificate-some (AnswersPrices m files.election None) (price-reply-one m files.election None) (where_accepted read.0.status files.prices) in
-    let violation = certificate-some (AnswersViolation files.election None) (violation-reply-one files.election None) (where_accepted read.0.status files.violation) in
-    (record { name = files.name; read = read.0; prices = prices.0; violation = violation.0 }, record { name = refl; read = read.1; prices = prices.1; violation = violation.1 })
+    let prices =
+    certificate-some (AnswersPrices m files.election None) (price-reply-one m files.election None)
+    (where_accepted read.0.status files.prices) in
+    let violation =
+    certificate-some (AnswersViolation files.election None) (violation-reply-one files.election None)
+    (where_accepted read.0.status files.violation) in (
+      record { name = files.name; read = read.0; prices = prices.0; violation = violation.0 },
+      record { name = refl; read = read.1; prices = prices.1; violation = violation.1 },
+    )
 
 finds-same : (m : Mode) (files : Files) (f g : Found) → Finds m files f → Finds m files g → f ≡ g
 finds-same m files f g h k =
     let read : g.read ≡ f.read = (read-one files.election).no_other g.read f.read k.read h.read in
-    let prices = subst (λ (r : Reply). FindsCertificate (AnswersPrices m files.election None) (where_accepted r.status files.prices) g.prices) read k.prices in
-    let violation = subst (λ (r : Reply). FindsCertificate (AnswersViolation files.election None) (where_accepted r.status files.violation) g.violation) read k.violation in
+    let prices =
+    subst
+    (λ (r : Reply). FindsCertificate (AnswersPrices m files.election None) (where_accepted r.status files.prices)
+    g.prices) read k.prices in
+    let violation =
+    subst
+    (λ (r : Reply). FindsCertificate (AnswersViolation files.election None)
+    (where_accepted r.status files.violation) g.violation) read k.violation in
     let names : f.name ≡ g.name = h.name ∙ sym k.name in
-    let same_prices = certificate-same (AnswersPrices m files.election None) (price-reply-one m files.election None) (where_accepted f.read.status files.prices) f.prices g.prices h.prices prices in
-    let same_violation = certificate-same (AnswersViolation files.election None) (violation-reply-one files.election None) (where_accepted f.read.status files.violation) f.violation g.violation h.violation violation in
+    let same_prices =
+    certificate-same (AnswersPrices m files.election None) (price-reply-one m files.election None)
+    (where_accepted f.read.status files.prices) f.prices g.prices h.prices prices in
+    let same_violation =
+    certificate-same (AnswersViolation files.election None) (violation-reply-one files.election None)
+    (where_accepted f.read.status files.violation) f.violation g.violation h.violation violation in
     λ i. record { name = names i; read = sym read i; prices = same_prices i; violation = same_violation i }
 
 -- and of all files

@@ -43,12 +43,15 @@ record Decides {A : Type 0} (is_text : List ℕ → A → Type 0) (is_refused : 
   first : (bytes : List ℕ) (r s : Refusal) → is_refused bytes r → is_refused bytes s → r ≡ s
 
 -- So does what is delivered.
-states-some : {A : Type 0} (input : InputName) (is_text : List ℕ → A → Type 0) (is_refused : List ℕ → Refusal → Type 0) → Decides is_text is_refused → (d : Delivery) → (stated : Stated A) × States input is_text is_refused d stated
-states-some input is_text is_refused k (delivery.Bytes bytes) = elim (k.answered bytes) [ inl text ↦ (Ok text.0, text.1) | inr why ↦ (Err why.0, why.1) ]
+states-some : {A : Type 0} (input : InputName) (is_text : List ℕ → A → Type 0) (is_refused : List ℕ → Refusal → Type 0)
+    → Decides is_text is_refused → (d : Delivery) → (stated : Stated A) × States input is_text is_refused d stated
+states-some input is_text is_refused k (delivery.Bytes bytes) =
+    elim (k.answered bytes) [ inl text ↦ (Ok text.0, text.1) | inr why ↦ (Err why.0, why.1) ]
 states-some input is_text is_refused k delivery.Read = (Err (refusal_of input fault.Unread), refl)
 states-some input is_text is_refused k delivery.TooLong = (Err (refusal_of input fault.TooLong), refl)
 
-states-same : {A : Type 0} (input : InputName) (is_text : List ℕ → A → Type 0) (is_refused : List ℕ → Refusal → Type 0) → Decides is_text is_refused → (d : Delivery) (s t : Stated A)
+states-same : {A : Type 0} (input : InputName) (is_text : List ℕ → A → Type 0) (is_refused : List ℕ → Refusal → Type 0)
+    → Decides is_text is_refused → (d : Delivery) (s t : Stated A)
     → States input is_text is_refused d s → States input is_text is_refused d t → s ≡ t
 states-same input is_text is_refused k (delivery.Bytes bytes) (Ok a) (Ok b) h i = ap Ok (k.alone bytes a b h i)
 states-same input is_text is_refused k (delivery.Bytes bytes) (Ok a) (Err r) h i = absurd (k.apart bytes a r h i)
@@ -57,8 +60,10 @@ states-same input is_text is_refused k (delivery.Bytes bytes) (Err r) (Err s) h 
 states-same input is_text is_refused k delivery.Read s t h i = h ∙ sym i
 states-same input is_text is_refused k delivery.TooLong s t h i = h ∙ sym i
 
-states-one : {A : Type 0} (input : InputName) (is_text : List ℕ → A → Type 0) (is_refused : List ℕ → Refusal → Type 0) → Decides is_text is_refused → (d : Delivery) → JustOne (States input is_text is_refused d)
-states-one input is_text is_refused k d = record { one = states-some input is_text is_refused k d; no_other = states-same input is_text is_refused k d }
+states-one : {A : Type 0} (input : InputName) (is_text : List ℕ → A → Type 0) (is_refused : List ℕ → Refusal → Type 0)
+    → Decides is_text is_refused → (d : Delivery) → JustOne (States input is_text is_refused d)
+states-one input is_text is_refused k d =
+    record { one = states-some input is_text is_refused k d; no_other = states-same input is_text is_refused k d }
 
 -- Elections.
 
@@ -72,10 +77,12 @@ election-decides = record {
     | inl text ↦ inl text
     | inr why ↦ inr (election_refusal why.1 why.0, (record { fault = why.1; place = why.0 }, why.2, refl))
   ];
-  apart = λ bytes e r text refused. election_laws.apart (election_records bytes) e refused.0.place refused.0.fault text refused.1;
+  apart = λ bytes e r text refused. election_laws.apart (election_records bytes) e refused.0.place refused.0.fault text
+      refused.1;
   alone = λ bytes e d t u. one-election (election_records bytes) e d t u;
   first = λ bytes r s h k. (
-      let same = one-first elections.election_form (election_records bytes) h.0.place k.0.place h.0.fault k.0.fault h.1 k.1 in
+      let same =
+      one-first elections.election_form (election_records bytes) h.0.place k.0.place h.0.fault k.0.fault h.1 k.1 in
       h.2 ∙ ap (λ f. election_refusal f h.0.place) same.1 ∙ ap (election_refusal k.0.fault) same.0 ∙ sym k.2
       );
 }
@@ -89,50 +96,69 @@ file_refusal : InputName → CertFault → ℕ → Refusal
 file_refusal input f place = refusal_of input (fault.Certificate (record { fault = f; place = place }))
 
 -- where a first fault stands, the file is refused for it
-file-refused : (input : InputName) (form : Form CertFault) (bytes : List ℕ) → HasFirst form (certificate_records bytes) → (r : Refusal) × IsRefusedFile input form bytes r
+file-refused : (input : InputName) (form : Form CertFault) (bytes : List ℕ) → HasFirst form (certificate_records bytes)
+    → (r : Refusal) × IsRefusedFile input form bytes r
 unfolding file_refusal
-file-refused input form bytes why = (file_refusal input why.1 why.0, (record { fault = why.1; place = why.0 }, why.2, refl))
+file-refused input form bytes why =
+    (file_refusal input why.1 why.0, (record { fault = why.1; place = why.0 }, why.2, refl))
 
-refusals-same : (input : InputName) (form : Form CertFault) (bytes : List ℕ) (r s : Refusal) → IsRefusedFile input form bytes r → IsRefusedFile input form bytes s → r ≡ s
+refusals-same : (input : InputName) (form : Form CertFault) (bytes : List ℕ) (r s : Refusal)
+    → IsRefusedFile input form bytes r → IsRefusedFile input form bytes s → r ≡ s
 unfolding file_refusal
 refusals-same input form bytes r s h k =
     let same = one-first form (certificate_records bytes) h.0.place k.0.place h.0.fault k.0.fault h.1 k.1 in
     h.2 ∙ ap (λ f. file_refusal input f h.0.place) same.1 ∙ ap (file_refusal input k.0.fault) same.0 ∙ sym k.2
 
 pub prices-one : (input : InputName) (e : Instance) (d : Delivery) → JustOne (StatesPrices input e d)
-prices-one input e = states-one input (λ bytes p. IsPriceText (certificate_records bytes) e p) (IsRefusedFile input (price_form e)) (record {
-  answered = λ bytes. elim (price-answered (certificate_records bytes) e) [ inl text ↦ inl text | inr why ↦ inr (file-refused input (price_form e) bytes why) ];
-  apart = λ bytes p r text refused. price-clear (certificate_records bytes) e p text refused.0.place refused.0.fault refused.1;
-  alone = λ bytes p q t u. price-text-same (certificate_records bytes) e p q t u;
-  first = refusals-same input (price_form e);
-})
+prices-one input e =
+    states-one input (λ bytes p. IsPriceText (certificate_records bytes) e p) (IsRefusedFile input (price_form e))
+    (record {
+      answered = λ bytes. elim (price-answered (certificate_records bytes) e)
+          [ inl text ↦ inl text | inr why ↦ inr (file-refused input (price_form e) bytes why) ];
+      apart = λ bytes p r text refused. price-clear (certificate_records bytes) e p text refused.0.place refused.0.fault
+          refused.1;
+      alone = λ bytes p q t u. price-text-same (certificate_records bytes) e p q t u;
+      first = refusals-same input (price_form e);
+    })
 
 -- the three parts of a claim are the claim
 claims-same : (a b : GroupAndDemand) → (a.0 ≡ b.0) × (a.1 ≡ b.1) × (a.2 ≡ b.2) → a ≡ b
 claims-same a b h = λ i. (h.0 i, h.1 i, h.2 i)
 
 pub violation-one : (input : InputName) (e : Instance) (d : Delivery) → JustOne (StatesViolation input e d)
-violation-one input e = states-one input (λ bytes v. IsViolationText (certificate_records bytes) e v.0 v.1 v.2) (IsRefusedFile input (violation_form e)) (record {
-  answered = λ bytes. elim (group-answered (certificate_records bytes) e) [ inl text ↦ inl ((text.0, text.1, text.2), text.3) | inr why ↦ inr (file-refused input (violation_form e) bytes why) ];
-  apart = λ bytes v r text refused. group-clear (certificate_records bytes) e v.0 v.1 v.2 text refused.0.place refused.0.fault refused.1;
-  alone = λ bytes v w t u. claims-same v w (group-text-same (certificate_records bytes) e v.0 w.0 v.1 v.2 w.1 w.2 t u);
-  first = refusals-same input (violation_form e);
-})
+violation-one input e =
+    states-one input (λ bytes v. IsViolationText (certificate_records bytes) e v.0 v.1 v.2)
+    (IsRefusedFile input (violation_form e)) (record {
+      answered = λ bytes. elim (group-answered (certificate_records bytes) e) [
+        | inl text ↦ inl ((text.0, text.1, text.2), text.3)
+        | inr why ↦ inr
+            (file-refused input (violation_form e) bytes why)
+      ];
+      apart = λ bytes v r text refused. group-clear (certificate_records bytes) e v.0 v.1 v.2 text refused.0.place
+          refused.0.fault refused.1;
+      alone = λ bytes v w t u. claims-same v w (group-text-same (certificate_records bytes) e v.0 w.0 v.1 v.2 w.1 w.2 t u);
+      first = refusals-same input (violation_form e);
+    })
 
 pub outcome-one : (e : Instance) (d : Delivery) → JustOne (StatesOutcome e d)
-outcome-one e = states-one name.Outcome (λ bytes marks. IsOutcomeText (certificate_records bytes) e marks) (IsRefusedFile name.Outcome (outcome_form e)) (record {
-  answered = λ bytes. elim (outcome-answered (certificate_records bytes) e) [ inl text ↦ inl text | inr why ↦ inr (file-refused name.Outcome (outcome_form e) bytes why) ];
-  apart = λ bytes w r text refused. outcome-clear (certificate_records bytes) e w text refused.0.place refused.0.fault refused.1;
-  alone = λ bytes w v t u. outcome-text-same (certificate_records bytes) e w v t u;
-  first = refusals-same name.Outcome (outcome_form e);
-})
+outcome-one e = states-one name.Outcome (λ bytes marks. IsOutcomeText (certificate_records bytes) e marks)
+    (IsRefusedFile name.Outcome (outcome_form e)) (record {
+      answered = λ bytes. elim (outcome-answered (certificate_records bytes) e)
+          [ inl text ↦ inl text | inr why ↦ inr (file-refused name.Outcome (outcome_form e) bytes why) ];
+      apart = λ bytes w r text refused. outcome-clear (certificate_records bytes) e w text refused.0.place refused.0.fault
+          refused.1;
+      alone = λ bytes w v t u. outcome-text-same (certificate_records bytes) e w v t u;
+      first = refusals-same name.Outcome (outcome_form e);
+    })
 
 -- a file that is given or not
-file-some : {A : Type 0} (states : Delivery → Stated A → Type 0) → ((d : Delivery) → JustOne (states d)) → (file : Option Delivery) → (stated : Option (Stated A)) × StatesFile states file stated
+file-some : {A : Type 0} (states : Delivery → Stated A → Type 0) → ((d : Delivery) → JustOne (states d))
+    → (file : Option Delivery) → (stated : Option (Stated A)) × StatesFile states file stated
 file-some states one None = (None, tt)
 file-some states one (Some d) = let s = (one d).one in (Some s.0, s.1)
 
-file-same : {A : Type 0} (states : Delivery → Stated A → Type 0) → ((d : Delivery) → JustOne (states d)) → (file : Option Delivery) (s t : Option (Stated A)) → StatesFile states file s → StatesFile states file t → s ≡ t
+file-same : {A : Type 0} (states : Delivery → Stated A → Type 0) → ((d : Delivery) → JustOne (states d))
+    → (file : Option Delivery) (s t : Option (Stated A)) → StatesFile states file s → StatesFile states file t → s ≡ t
 file-same states one None None None h k = refl
 file-same states one None None (Some t) h k = absurd k
 file-same states one None (Some s) t h k = absurd h
@@ -140,5 +166,6 @@ file-same states one (Some d) None t h k = absurd h
 file-same states one (Some d) (Some s) None h k = absurd k
 file-same states one (Some d) (Some s) (Some t) h k = ap Some ((one d).no_other s t h k)
 
-pub file-one : {A : Type 0} (states : Delivery → Stated A → Type 0) → ((d : Delivery) → JustOne (states d)) → (file : Option Delivery) → JustOne (StatesFile states file)
+pub file-one : {A : Type 0} (states : Delivery → Stated A → Type 0) → ((d : Delivery) → JustOne (states d))
+    → (file : Option Delivery) → JustOne (StatesFile states file)
 file-one states one file = record { one = file-some states one file; no_other = file-same states one file }

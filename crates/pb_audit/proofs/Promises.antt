@@ -21,7 +21,8 @@ pub no-yes : {A : Type 0} → No ≡ Yes → A
 no-yes h = cc
 
 -- what a verdict on prices promises
-pub prices_promise : (m : Mode) (e : Instance) (w : List Bool) (p : Prices) → PricesPromise m (price_reply m e w p).status e w p
+pub prices_promise : (m : Mode) (e : Instance) (w : List Bool) (p : Prices)
+    → PricesPromise m (price_reply m e w p).status e w p
 prices_promise m e w p = by_first (First m e w p) refl
   where
     by_first : (f : Option Failure) → First m e w p ≡ f → PricesPromise m (price_status (verdict_of f)) e w p
@@ -47,9 +48,15 @@ prices_promise m e w p = by_first (First m e w p) refl
     }
 
 -- what a verdict on a group and its demand promises
-pub violation_promises : (e : Instance) (w : List Bool) (claim : Measure × List ℕ × List ℕ) → ViolationPromises (violation_reply e w claim).status e w claim
+pub violation_promises : (e : Instance) (w : List Bool) (claim : Measure × List ℕ × List ℕ)
+    → ViolationPromises (violation_reply e w claim).status e w claim
 violation_promises e w claim = by_first (FirstV (worth_by claim.0 e) e w claim.1 claim.2) refl
   where
-    by_first : (f : Option ViolationFailure) → FirstV (worth_by claim.0 e) e w claim.1 claim.2 ≡ f → ViolationPromises (violation_status (violation_verdict_of f)) e w claim
+    by_first : (f : Option ViolationFailure) → FirstV (worth_by claim.0 e) e w claim.1 claim.2 ≡ f
+        → ViolationPromises (violation_status (violation_verdict_of f)) e w claim
     by_first None is = (λ yes'. (violates-iff (worth_by claim.0 e) e w claim.1 claim.2).0 is, λ v. refl)
-    by_first (Some f) is = (λ yes'. no-yes yes', λ v. let none : FirstV (worth_by claim.0 e) e w claim.1 claim.2 ≡ None = (violates-iff (worth_by claim.0 e) e w claim.1 claim.2).1 v in cc)
+    by_first (Some f) is = (
+      λ yes'. no-yes yes',
+      λ v. let none : FirstV (worth_by claim.0 e) e w claim.1 claim.2
+          ≡ None = (violates-iff (worth_by claim.0 e) e w claim.1 claim.2).1 v in cc,
+    )

@@ -20,7 +20,8 @@ pub takes_more : (old new : Progress) (entries : List Files) (files : Files) (fo
     → Finds old.mode files found → HasTaken old entries → HasTaken new (entries ++ files ∷ [])
 takes_more old new entries files found mode text endings last taken = record {
   found = taken.found ++ found ∷ [];
-  each = subst (λ (m : Mode). FindsEach m (entries ++ files ∷ []) (taken.found ++ found ∷ [])) (sym mode) (finds_more old.mode entries taken.found files found taken.each last);
+  each = subst (λ (m : Mode). FindsEach m (entries ++ files ∷ []) (taken.found ++ found ∷ [])) (sym mode)
+      (finds_more old.mode entries taken.found files found taken.each last);
   text = text
       ∙ (ap (λ (t : Text). t ++ text_of (lines_of found)) taken.text
       ∙ (sym (flat_map-append _ (flat_map lines_of taken.found) (lines_of found))

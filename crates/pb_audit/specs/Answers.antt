@@ -75,10 +75,12 @@ price_reply m e w p = verdict_reply m e (verdict_of (First m e w p))
 
 -- the verdict on a group and its demand, by the measure that the certificate states
 abbrev pub violation_reply : Instance → List Bool → Measure × List ℕ × List ℕ → Reply
-violation_reply e w v = let found = violation_verdict_of (FirstV (worth_by v.0 e) e w v.1 v.2) in record { lines = violation_line e found ∷ []; status = violation_status found }
+violation_reply e w v = let found = violation_verdict_of (FirstV (worth_by v.0 e) e w v.1 v.2) in
+    record { lines = violation_line e found ∷ []; status = violation_status found }
 
 -- the reply on an election, an outcome and a certificate
-abbrev pub audit_reply : {A : Type 0} → (Instance → List Bool → A → Reply) → Stated Instance → Option (Stated (List Bool)) → Stated A → Reply
+abbrev pub audit_reply : {A : Type 0} → (Instance → List Bool → A → Reply) → Stated Instance
+    → Option (Stated (List Bool)) → Stated A → Reply
 audit_reply reply election outcome certificate =
     with_input election (λ e. with_input (audited e outcome) (λ w. with_input certificate (λ c. reply e w c)))
 
@@ -99,19 +101,22 @@ pub record AnswersTidy (election certificate : Delivery) (answer : Answer) : Typ
 
 -- What an election, an outcome file where one is given, and a certificate of a kind state. Each counts where those before
 -- it are accepted.
-pub record FilesState {A : Type 0} (states : Instance → Delivery → Stated A → Type 0) (election : Delivery) (outcome : Option Delivery) (certificate : Delivery)
+pub record FilesState {A : Type 0} (states : Instance → Delivery → Stated A → Type 0) (election : Delivery)
+    (outcome : Option Delivery) (certificate : Delivery)
     (e : Stated Instance) (o : Option (Stated (List Bool))) (c : Stated A) : Type 0 where
   pub election_states : StatesElection election e
   pub outcome_states : IfOk e (λ instance. StatesFile (StatesOutcome instance) outcome o)
   pub certificate_states : IfOk e (λ instance. IfOk (audited instance o) (λ w. states instance certificate c))
 
 -- where all are accepted, this holds of the election, the outcome and the certificate
-abbrev pub OfAccepted : {A : Type 0} → (Instance → List Bool → A → Type 0) → Stated Instance → Option (Stated (List Bool)) → Stated A → Type 0
+abbrev pub OfAccepted : {A : Type 0} → (Instance → List Bool → A → Type 0) → Stated Instance
+    → Option (Stated (List Bool)) → Stated A → Type 0
 OfAccepted holds election outcome certificate =
     IfOk election (λ e. IfOk (audited e outcome) (λ w. IfOk certificate (λ c. holds e w c)))
 
 -- The reply on them, and what its status promises where all are accepted.
-pub record AnswersAudit {A : Type 0} (states : Instance → Delivery → Stated A → Type 0) (reply : Instance → List Bool → A → Reply) (promise : Status → Instance → List Bool → A → Type 0)
+pub record AnswersAudit {A : Type 0} (states : Instance → Delivery → Stated A → Type 0)
+    (reply : Instance → List Bool → A → Reply) (promise : Status → Instance → List Bool → A → Type 0)
     (election : Delivery) (outcome : Option Delivery) (certificate : Delivery) (r : Reply) : Type 0 where
   pub e : Stated Instance
   pub o : Option (Stated (List Bool))
@@ -121,20 +126,24 @@ pub record AnswersAudit {A : Type 0} (states : Instance → Delivery → Stated 
   pub promised : OfAccepted (promise r.status) e o c
 
 abbrev pub AnswersPrices : Mode → Delivery → Option Delivery → Delivery → Reply → Type 0
-AnswersPrices m election outcome certificate r = AnswersAudit (StatesPrices name.Certificate) (price_reply m) (PricesPromise m) election outcome certificate r
+AnswersPrices m election outcome certificate r =
+    AnswersAudit (StatesPrices name.Certificate) (price_reply m) (PricesPromise m) election outcome certificate r
 
 abbrev pub AnswersViolation : Delivery → Option Delivery → Delivery → Reply → Type 0
-AnswersViolation election outcome certificate r = AnswersAudit (StatesViolation name.Certificate) violation_reply ViolationPromises election outcome certificate r
+AnswersViolation election outcome certificate r =
+    AnswersAudit (StatesViolation name.Certificate) violation_reply ViolationPromises election outcome certificate r
 
 -- The same over files in memory, by their bytes alone.
 abbrev pub AnswersElectionFile : List ℕ → Reply → Type 0
 AnswersElectionFile election r = AnswersElection (in_memory election) r
 
 abbrev pub AnswersPriceFiles : Mode → List ℕ → Option (List ℕ) → List ℕ → Reply → Type 0
-AnswersPriceFiles m election outcome certificate r = AnswersPrices m (in_memory election) (option_map in_memory outcome) (in_memory certificate) r
+AnswersPriceFiles m election outcome certificate r =
+    AnswersPrices m (in_memory election) (option_map in_memory outcome) (in_memory certificate) r
 
 abbrev pub AnswersViolationFiles : List ℕ → Option (List ℕ) → List ℕ → Reply → Type 0
-AnswersViolationFiles election outcome certificate r = AnswersViolation (in_memory election) (option_map in_memory outcome) (in_memory certificate) r
+AnswersViolationFiles election outcome certificate r =
+    AnswersViolation (in_memory election) (option_map in_memory outcome) (in_memory certificate) r
 
 abbrev pub AnswersTidyFiles : List ℕ → List ℕ → Answer → Type 0
 AnswersTidyFiles election certificate answer = AnswersTidy (in_memory election) (in_memory certificate) answer

@@ -41,22 +41,26 @@ abbrev pub beside : Mode → Verdict → Instance → List Bool → GroupAndDema
 beside m verdict e w claim = joined (verdict_reply m e verdict) (violation_reply e w claim)
 
 -- the reply on an election, an outcome and both certificates
-abbrev pub both_reply : Mode → Stated Instance → Option (Stated (List Bool)) → Stated Prices → Stated GroupAndDemand → Reply
+abbrev pub both_reply : Mode → Stated Instance → Option (Stated (List Bool)) → Stated Prices → Stated GroupAndDemand
+    → Reply
 both_reply m election outcome prices violation =
     audit_reply (λ e w p. with_input violation (λ claim. both_on m e w p claim)) election outcome prices
 
 -- The status is yes exactly where the prices support the outcome and the group and its demand are a violation. Each line
 -- promises what it promises alone. What is more, where the stable form and Cover are asked for, prices that support the
 -- outcome never stand beside a violation by counting.
-pub record BothPromise (m : Mode) (status : Status) (e : Instance) (w : List Bool) (p : Prices) (claim : GroupAndDemand) : Type 0 where
-  pub exactly : (status ≡ Yes) ↔ (Supports m.stable m.exhaustive m.cover e w p × Violates (worth_by claim.0 e) e w claim.1 claim.2)
+pub record BothPromise (m : Mode) (status : Status) (e : Instance) (w : List Bool) (p : Prices)
+    (claim : GroupAndDemand) : Type 0 where
+  pub exactly : (status ≡ Yes) ↔
+      (Supports m.stable m.exhaustive m.cover e w p × Violates (worth_by claim.0 e) e w claim.1 claim.2)
   pub prices : PricesPromise m (price_reply m e w p).status e w p
   pub violation : ViolationPromises (violation_reply e w claim).status e w claim
   pub never_both : IsTrue m.stable → IsTrue m.cover → claim.0 ≡ ByCount
       → Supports m.stable m.exhaustive m.cover e w p → Violates (worth_by claim.0 e) e w claim.1 claim.2 → ⊥
 
 -- The reply on them. The violation certificate counts where the prices are accepted.
-pub record AnswersBoth (m : Mode) (election : Delivery) (outcome : Option Delivery) (prices violation : Delivery) (r : Reply) : Type 0 where
+pub record AnswersBoth (m : Mode) (election : Delivery) (outcome : Option Delivery) (prices violation : Delivery)
+    (r : Reply) : Type 0 where
   pub e : Stated Instance
   pub o : Option (Stated (List Bool))
   pub p : Stated Prices
@@ -64,7 +68,8 @@ pub record AnswersBoth (m : Mode) (election : Delivery) (outcome : Option Delive
   pub given : FilesState (StatesPrices name.Prices) election outcome prices e o p
   pub violation_states : OfAccepted (λ instance w prices'. StatesViolation name.Violation instance violation v) e o p
   pub out : r ≡ both_reply m e o p v
-  pub promised : OfAccepted (λ instance w prices'. IfOk v (λ claim. BothPromise m r.status instance w prices' claim)) e o p
+  pub promised : OfAccepted (λ instance w prices'. IfOk v (λ claim. BothPromise m r.status instance w prices' claim)) e
+      o p
 
 -- the same over files in memory, by their bytes alone
 abbrev pub AnswersBothFiles : Mode → List ℕ → Option (List ℕ) → List ℕ → List ℕ → Reply → Type 0
@@ -72,7 +77,8 @@ AnswersBothFiles m election outcome prices violation r =
     AnswersBoth m (in_memory election) (option_map in_memory outcome) (in_memory prices) (in_memory violation) r
 
 -- An input was taken where those before it were accepted, and else it is as it was.
-abbrev pub AfterPrices : {A : Type 0} → Stated Instance → Option (Stated (List Bool)) → Stated A → Type 0 → Type 0 → Type 0
+abbrev pub AfterPrices : {A : Type 0} → Stated Instance → Option (Stated (List Bool)) → Stated A → Type 0 → Type 0
+    → Type 0
 AfterPrices election outcome prices taken untouched =
     InTurn election (λ e. InTurn (audited e outcome) (λ w. InTurn prices (λ p. taken) untouched) untouched) untouched
 
@@ -85,6 +91,10 @@ pub record ReadsBoth (m : Mode) (inputs : AuditReadings) (violation : Reading) (
   pub of_violation : Delivery
   pub answers : AnswersBoth m of_election of_outcome of_prices of_violation r
   pub election_delivered : Delivers inputs.election of_election
-  pub outcome_delivered : InTurn answers.e (λ instance. DeliversFile inputs.outcome.before inputs.outcome.after of_outcome) (inputs.outcome.after ≡ inputs.outcome.before)
-  pub prices_delivered : AfterOutcome answers.e answers.o (Delivers inputs.certificate of_prices) (IsUntouched inputs.certificate)
-  pub violation_delivered : AfterPrices answers.e answers.o answers.p (Delivers violation of_violation) (IsUntouched violation)
+  pub outcome_delivered : InTurn answers.e
+      (λ instance. DeliversFile inputs.outcome.before inputs.outcome.after of_outcome)
+      (inputs.outcome.after ≡ inputs.outcome.before)
+  pub prices_delivered : AfterOutcome answers.e answers.o (Delivers inputs.certificate of_prices)
+      (IsUntouched inputs.certificate)
+  pub violation_delivered : AfterPrices answers.e answers.o answers.p (Delivers violation of_violation)
+      (IsUntouched violation)

@@ -50,7 +50,8 @@ abbrev pub explained_prices : Mode → Instance → List Bool → Prices → Rep
 explained_prices m e w p = with_table (price_table m e (findings e w p)) (price_reply m e w p)
 
 abbrev pub explained_violation : Instance → List Bool → Measure × List ℕ × List ℕ → Reply
-explained_violation e w v = with_table (violation_table v.0 e (violation_findings (worth_by v.0 e) e w v.1 v.2)) (violation_reply e w v)
+explained_violation e w v =
+    with_table (violation_table v.0 e (violation_findings (worth_by v.0 e) e w v.1 v.2)) (violation_reply e w v)
 
 abbrev pub explained_reply : Mode → Instance → List Bool → Certificate → Reply
 explained_reply m e w (OfPrices p) = explained_prices m e w p
@@ -63,7 +64,8 @@ ExplainedPromise m status e w (OfViolation v) = ViolationPromises status e w v
 
 -- the reply on an election, an outcome file where one is given, and a certificate of either kind
 abbrev pub AnswersExplained : Mode → Delivery → Option Delivery → Delivery → Reply → Type 0
-AnswersExplained m election outcome certificate r = AnswersAudit StatesCertificate (explained_reply m) (ExplainedPromise m) election outcome certificate r
+AnswersExplained m election outcome certificate r =
+    AnswersAudit StatesCertificate (explained_reply m) (ExplainedPromise m) election outcome certificate r
 
 -- the same over files in memory, by their bytes alone
 abbrev pub AnswersExplainedFiles : Mode → List ℕ → Option (List ℕ) → List ℕ → Reply → Type 0

@@ -41,9 +41,19 @@ abbrev pub refusal_of : InputName → InputFault → Refusal
 refusal_of input fault.Unread = record { input = name_of input; number = 18; name = codes "Read"; place = 0 }
 refusal_of input fault.TooLong = record { input = name_of input; number = 19; name = codes "TooLong"; place = 0 }
 refusal_of input (fault.Election r) =
-    record { input = name_of input; number = elections.fault_number r.fault; name = elections.fault_name r.fault; place = r.place }
+    record {
+      input = name_of input;
+      number = elections.fault_number r.fault;
+      name = elections.fault_name r.fault;
+      place = r.place;
+    }
 refusal_of input (fault.Certificate r) =
-    record { input = name_of input; number = certificates.fault_number r.fault; name = certificates.fault_name r.fault; place = r.place }
+    record {
+      input = name_of input;
+      number = certificates.fault_number r.fault;
+      name = certificates.fault_name r.fault;
+      place = r.place;
+    }
 
 -- the most bytes of an input
 abbrev pub most_bytes : ℕ
@@ -55,7 +65,8 @@ in_memory bytes = if nat_lt most_bytes (length bytes) then delivery.TooLong else
 
 -- What an input states, by what was delivered of it, where a kind of input says which values are stated by bytes and why
 -- bytes are refused. The delivery `Read` says that the reader failed, and `TooLong` that it had more bytes than are allowed.
-abbrev pub States : {A : Type 0} → InputName → (List ℕ → A → Type 0) → (List ℕ → Refusal → Type 0) → Delivery → Stated A → Type 0
+abbrev pub States : {A : Type 0} → InputName → (List ℕ → A → Type 0) → (List ℕ → Refusal → Type 0) → Delivery → Stated A
+    → Type 0
 States input is_text is_refused (delivery.Bytes bytes) (Ok a) = is_text bytes a
 States input is_text is_refused (delivery.Bytes bytes) (Err r) = is_refused bytes r
 States input is_text is_refused delivery.Read stated = stated ≡ Err (refusal_of input fault.Unread)
@@ -63,29 +74,34 @@ States input is_text is_refused delivery.TooLong stated = stated ≡ Err (refusa
 
 -- an election
 abbrev pub IsRefusedElection : List ℕ → Refusal → Type 0
-IsRefusedElection bytes r = (first : election.Refusal) × Refuses bytes first × (r ≡ refusal_of name.Election (fault.Election first))
+IsRefusedElection bytes r = (first : election.Refusal) × Refuses bytes first
+    × (r ≡ refusal_of name.Election (fault.Election first))
 
 abbrev pub StatesElection : Delivery → Stated Instance → Type 0
 StatesElection delivered stated = States name.Election IsTextOf IsRefusedElection delivered stated
 
 -- a file of this form beside an election
 abbrev pub IsRefusedFile : InputName → Form CertFault → List ℕ → Refusal → Type 0
-IsRefusedFile input form bytes r = (first : CertRefusal) × certificates.Refuses form bytes first × (r ≡ refusal_of input (fault.Certificate first))
+IsRefusedFile input form bytes r = (first : CertRefusal) × certificates.Refuses form bytes first
+    × (r ≡ refusal_of input (fault.Certificate first))
 
 -- a price certificate for an election, as the input of this name
 abbrev pub StatesPrices : InputName → Instance → Delivery → Stated Prices → Type 0
 StatesPrices input e delivered stated =
-    States input (λ bytes p. IsPriceText (certificate_records bytes) e p) (IsRefusedFile input (price_form e)) delivered stated
+    States input (λ bytes p. IsPriceText (certificate_records bytes) e p) (IsRefusedFile input (price_form e)) delivered
+    stated
 
 -- a violation certificate for an election: its measure, a group and what it demands, as the input of this name
 abbrev pub StatesViolation : InputName → Instance → Delivery → Stated (Measure × List ℕ × List ℕ) → Type 0
 StatesViolation input e delivered stated =
-    States input (λ bytes v. IsViolationText (certificate_records bytes) e v.0 v.1 v.2) (IsRefusedFile input (violation_form e)) delivered stated
+    States input (λ bytes v. IsViolationText (certificate_records bytes) e v.0 v.1 v.2)
+    (IsRefusedFile input (violation_form e)) delivered stated
 
 -- an outcome file for an election: which projects are funded
 abbrev pub StatesOutcome : Instance → Delivery → Stated (List Bool) → Type 0
 StatesOutcome e delivered stated =
-    States name.Outcome (λ bytes marks. IsOutcomeText (certificate_records bytes) e marks) (IsRefusedFile name.Outcome (outcome_form e)) delivered stated
+    States name.Outcome (λ bytes marks. IsOutcomeText (certificate_records bytes) e marks)
+    (IsRefusedFile name.Outcome (outcome_form e)) delivered stated
 
 -- the outcome that is audited: that of the outcome file where one is given, and else that of the election, which may
 -- state none

@@ -8,8 +8,6 @@ pub mod Readers
 pub mod Both
 pub mod Margins
 pub mod Explained
-pub mod Loaded
 pub mod Reports
-pub mod Folders
-pub mod Taking
 pub mod Writing
+pub mod Inside

@@ -22,12 +22,14 @@ outcome_words (Some count) = decimal count ++ codes " funded"
 
 -- the line on an election that was read
 abbrev pub read_line : Instance → Text
-read_line e = codes "read " ++ decimal (voters e) ++ codes " voters " ++ decimal (projects e) ++ codes " projects " ++ outcome_words (number_of_funded e)
+read_line e = codes "read " ++ decimal (voters e) ++ codes " voters " ++ decimal (projects e) ++ codes " projects "
+    ++ outcome_words (number_of_funded e)
 
 -- the notes on an election, in their order: a declared count is not the counted one, and some fields of the column
 -- `selected` are neither 0 nor 1
 abbrev pub count_words : Text → ℕ → ℕ → Text
-count_words key said counted = codes "note: " ++ key ++ codes " says " ++ decimal said ++ codes ", counted " ++ decimal counted
+count_words key said counted = codes "note: " ++ key ++ codes " says " ++ decimal said ++ codes ", counted "
+    ++ decimal counted
 
 abbrev pub count_note : Text → Option ℕ → ℕ → List Text
 count_note key None counted = []
@@ -98,4 +100,5 @@ pub record Refusal : Type 0 where
 
 -- the line of a refusal
 abbrev pub refusal_line : Refusal → Text
-refusal_line r = codes "refused " ++ r.input ++ codes " " ++ decimal r.number ++ codes " " ++ r.name ++ codes " record " ++ decimal r.place
+refusal_line r = codes "refused " ++ r.input ++ codes " " ++ decimal r.number ++ codes " " ++ r.name ++ codes " record "
+    ++ decimal r.place

@@ -23,7 +23,8 @@ abbrev pub margin_head : ℕ → List Rec
 margin_head grains_per_unit =
     (codes "pb-margins" ∷ codes "1" ∷ [])
     ∷ (codes "grains_per_unit" ∷ decimal grains_per_unit ∷ [])
-    ∷ (codes "project" ∷ codes "funded" ∷ codes "supporters" ∷ codes "cost" ∷ codes "paid" ∷ codes "left" ∷ codes "offer" ∷ [])
+    ∷ (codes "project" ∷ codes "funded" ∷ codes "supporters" ∷ codes "cost" ∷ codes "paid" ∷ codes "left"
+    ∷ codes "offer" ∷ [])
     ∷ []
 
 abbrev pub flag_of : Bool → Field
@@ -32,7 +33,8 @@ flag_of funded = if funded then codes "1" else codes "0"
 -- the row of a project, by its id and its figures
 abbrev pub row_of : Field → ProjectMargins → Rec
 row_of id m =
-    id ∷ flag_of m.funded ∷ decimal m.supporters ∷ decimal m.cost ∷ decimal m.paid ∷ signed_decimal m.left ∷ signed_decimal m.offer ∷ []
+    id ∷ flag_of m.funded ∷ decimal m.supporters ∷ decimal m.cost ∷ decimal m.paid ∷ signed_decimal m.left
+    ∷ signed_decimal m.offer ∷ []
 
 -- the rows of some projects by a price system
 abbrev pub margin_rows : Instance → List Bool → Prices → List ℕ → List Rec
@@ -58,7 +60,8 @@ AlwaysYes status e w p = status ≡ Yes
 -- line of the input that is refused.
 abbrev pub AnswersMargins : Delivery → Option Delivery → Delivery → Answer → Type 0
 AnswersMargins election outcome certificate answer =
-    TellsReply (AnswersAudit (StatesPrices name.Certificate) margins_reply AlwaysYes election outcome certificate) answer
+    TellsReply (AnswersAudit (StatesPrices name.Certificate) margins_reply AlwaysYes election outcome certificate)
+    answer
 
 -- the same over files in memory, by their bytes alone
 abbrev pub AnswersMarginFiles : List ℕ → Option (List ℕ) → List ℕ → Answer → Type 0
@@ -67,4 +70,5 @@ AnswersMarginFiles election outcome certificate answer =
 
 -- the same on what readers delivered
 abbrev pub ReadsMargins : AuditReadings → Answer → Type 0
-ReadsMargins inputs answer = TellsReply (ReadsAudit (StatesPrices name.Certificate) margins_reply AlwaysYes inputs) answer
+ReadsMargins inputs answer =
+    TellsReply (ReadsAudit (StatesPrices name.Certificate) margins_reply AlwaysYes inputs) answer

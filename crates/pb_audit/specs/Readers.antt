@@ -43,7 +43,8 @@ pub record AuditReadings : Type 0 where
   pub certificate : Reading
 
 -- three for each: the trait's word on it, the reader before, and the reader after
-abbrev pub audit_readings : {E O C : Type 0} → Source E → E → E → Source O → Option O → Option O → Source C → C → C → AuditReadings
+abbrev pub audit_readings : {E O C : Type 0} → Source E → E → E → Source O → Option O → Option O → Source C → C → C
+    → AuditReadings
 audit_readings e old_election new_election o old_outcome new_outcome c old_certificate new_certificate = record {
   election = reading e old_election new_election;
   outcome = file_reading o old_outcome new_outcome;
@@ -83,23 +84,29 @@ pub record ReadsTidy (election certificate : Reading) (answer : Answer) : Type 0
   pub of_certificate : Delivery
   pub answers : AnswersTidy of_election of_certificate answer
   pub election_delivered : Delivers election of_election
-  pub certificate_delivered : InTurn answers.e (λ instance. Delivers certificate of_certificate) (IsUntouched certificate)
+  pub certificate_delivered : InTurn answers.e (λ instance. Delivers certificate of_certificate)
+      (IsUntouched certificate)
 
 -- An input was taken where the election and the outcome were accepted, and else it is as it was.
 abbrev pub AfterOutcome : Stated Instance → Option (Stated (List Bool)) → Type 0 → Type 0 → Type 0
-AfterOutcome election outcome taken untouched = InTurn election (λ e. InTurn (audited e outcome) (λ w. taken) untouched) untouched
+AfterOutcome election outcome taken untouched =
+    InTurn election (λ e. InTurn (audited e outcome) (λ w. taken) untouched) untouched
 
 -- The reply on the election, the outcome file where one is given, and the certificate that readers delivered. Each is
 -- taken where those before it are accepted, and else it is as it was.
-pub record ReadsAudit {A : Type 0} (states : Instance → Delivery → Stated A → Type 0) (reply : Instance → List Bool → A → Reply) (promise : Status → Instance → List Bool → A → Type 0)
+pub record ReadsAudit {A : Type 0} (states : Instance → Delivery → Stated A → Type 0)
+    (reply : Instance → List Bool → A → Reply) (promise : Status → Instance → List Bool → A → Type 0)
     (inputs : AuditReadings) (r : Reply) : Type 0 where
   pub of_election : Delivery
   pub of_outcome : Option Delivery
   pub of_certificate : Delivery
   pub answers : AnswersAudit states reply promise of_election of_outcome of_certificate r
   pub election_delivered : Delivers inputs.election of_election
-  pub outcome_delivered : InTurn answers.e (λ instance. DeliversFile inputs.outcome.before inputs.outcome.after of_outcome) (inputs.outcome.after ≡ inputs.outcome.before)
-  pub certificate_delivered : AfterOutcome answers.e answers.o (Delivers inputs.certificate of_certificate) (IsUntouched inputs.certificate)
+  pub outcome_delivered : InTurn answers.e
+      (λ instance. DeliversFile inputs.outcome.before inputs.outcome.after of_outcome)
+      (inputs.outcome.after ≡ inputs.outcome.before)
+  pub certificate_delivered : AfterOutcome answers.e answers.o (Delivers inputs.certificate of_certificate)
+      (IsUntouched inputs.certificate)
 
 abbrev pub ReadsPrices : Mode → AuditReadings → Reply → Type 0
 ReadsPrices m inputs r = ReadsAudit (StatesPrices name.Certificate) (price_reply m) (PricesPromise m) inputs r

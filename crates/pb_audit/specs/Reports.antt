@@ -39,8 +39,10 @@ FindsCertificate answers _ _ = ⊥
 pub record Finds (m : Mode) (files : Files) (found : Found) : Type 0 where
   pub name : found.name ≡ files.name
   pub read : AnswersElection files.election found.read
-  pub prices : FindsCertificate (AnswersPrices m files.election None) (where_accepted found.read.status files.prices) found.prices
-  pub violation : FindsCertificate (AnswersViolation files.election None) (where_accepted found.read.status files.violation) found.violation
+  pub prices : FindsCertificate (AnswersPrices m files.election None) (where_accepted found.read.status files.prices)
+      found.prices
+  pub violation : FindsCertificate (AnswersViolation files.election None)
+      (where_accepted found.read.status files.violation) found.violation
 
 -- the same of each entry of a folder
 abbrev pub FindsEach : Mode → List Files → List Found → Type 0

@@ -37,7 +37,8 @@ writer sink w = record { holds = sink.holds w; counts = sink.counts w }
 
 -- How a call ends that writes one of these answers: it is written, or it is cut short, or memory was wanted and the writer
 -- is as it was.
-pub record Writes {W : Type 0} (sink : Sink W) (is_answer : Answer → Type 0) (result : Result Status Fault) (old new : W) : Type 0 where
+pub record Writes {W : Type 0} (sink : Sink W) (is_answer : Answer → Type 0) (result : Result Status Fault)
+    (old new : W) : Type 0 where
   pub written : IfOk result (λ status. IsWritten is_answer status (writer sink old) (writer sink new))
   pub cut_short : IsErrOf result fault.Write → IsCutShort is_answer (writer sink old) (writer sink new)
   pub untouched : IsErrOf result fault.Memory → new ≡ old

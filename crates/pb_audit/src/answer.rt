@@ -1,7 +1,7 @@
 //! Replies, the texts that are made of them, and how a text is written.
 ghost use Rattle.std.specs.Prelude.{◌≡◌, ◌∷◌, ◌++◌, [], IfOk, OnOk, Some, map, string_bytes};
 ghost use Rattle.pb_audit.specs.Answers.{answer_of, text_of};
-ghost use Rattle.pb_audit.specs.Taking as spec;
+ghost use Rattle.pb_audit.specs.Inside.Taking as spec;
 ghost use Rattle.pb_audit.specs.Writing.{Writes};
 
 use crate::input::Stop;

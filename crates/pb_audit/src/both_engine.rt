@@ -3,10 +3,10 @@ ghost use Rattle.std.specs.Prelude.{◌≡◌, IfOk, IfSome, option_copied, opti
 ghost use Rattle.pb_audit.specs.Both.{AnswersBoth, AnswersBothFiles, ReadsBoth};
 ghost use Rattle.pb_audit.specs.Both as spec;
 ghost use Rattle.pb_audit.specs.Inputs.{StatesViolation};
-ghost use Rattle.pb_audit.specs.Loaded.{lent};
+ghost use Rattle.pb_audit.specs.Inside.Loaded.{lent};
 ghost use Rattle.pb_audit.specs.Named.{PricesNameProject};
 ghost use Rattle.pb_audit.specs.Readers.{audit_readings, reading};
-ghost use Rattle.pb_audit.specs.Taking.{AnswersCertificate, Gives, IfTaken, JudgesPrices, settled};
+ghost use Rattle.pb_audit.specs.Inside.Taking.{AnswersCertificate, Gives, IfTaken, JudgesPrices, settled};
 ghost use Rattle.pb_audit.specs.Writing.{WritesReply};
 ghost use Rattle.pb_election.specs.Outcome.{Fits};
 

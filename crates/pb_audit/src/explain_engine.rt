@@ -3,10 +3,10 @@ ghost use Rattle.std.specs.Prelude.{◌≡◌, ◌≤◌, ◌^◌, IfOk, IfSome,
 ghost use Rattle.pb_audit.specs.Answers.{verdict_reply};
 ghost use Rattle.pb_audit.specs.Explained.{AnswersExplained, AnswersExplainedFiles, ReadsExplained, StatesCertificate, explained_prices, explained_reply, explained_violation, is_violation, with_table};
 ghost use Rattle.pb_audit.specs.Inputs.{StatesPrices, StatesViolation};
-ghost use Rattle.pb_audit.specs.Loaded.{lent};
+ghost use Rattle.pb_audit.specs.Inside.Loaded.{lent};
 ghost use Rattle.pb_audit.specs.Named.{PricesNameProject};
 ghost use Rattle.pb_audit.specs.Readers.{audit_readings};
-ghost use Rattle.pb_audit.specs.Taking.{AnswersCertificate, FindsPrices, IfTaken, settled};
+ghost use Rattle.pb_audit.specs.Inside.Taking.{AnswersCertificate, FindsPrices, IfTaken, settled};
 ghost use Rattle.pb_audit.specs.Writing.{WritesReply};
 ghost use Rattle.pb_certificate.specs.Claim as claims;
 ghost use Rattle.pb_election.specs.Instance.{IsSet, projects};

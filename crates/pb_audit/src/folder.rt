@@ -1,6 +1,6 @@
 //! A folder of elections and their certificates.
 ghost use Rattle.std.specs.Prelude.{IfOk, map};
-ghost use Rattle.pb_audit.specs.Folders.{files_of};
+ghost use Rattle.pb_audit.specs.Inside.Folders.{files_of};
 ghost use Rattle.pb_audit.specs.Reports.{ReportOf};
 
 use crate::folder_report::FolderReport;

@@ -1,7 +1,7 @@
 //! The report on a folder, made of one entry after the other.
 ghost use Rattle.std.specs.Prelude.{◌≡◌, ◌∷◌, ◌++◌, [], List, IfOk, OnOk, string_bytes};
 ghost use Rattle.pb_audit.specs.Answers.{text_of};
-ghost use Rattle.pb_audit.specs.Folders.{files_of, found_as};
+ghost use Rattle.pb_audit.specs.Inside.Folders.{files_of, found_as};
 ghost use Rattle.pb_audit.specs.Reports.{Files, HasTaken, ReportOf, certificate_endings, certificate_lines, file_lines};
 ghost use Rattle.pb_audit.specs.Reports as spec;
 

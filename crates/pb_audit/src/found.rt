@@ -1,9 +1,9 @@
 //! What is found of the files of one name.
 ghost use Rattle.std.specs.Prelude.{◌≡◌, IfOk, Ok, None, option_map};
 ghost use Rattle.pb_audit.specs.Answers.{AnswersPrices, AnswersViolation};
-ghost use Rattle.pb_audit.specs.Folders.{files_of, found_as};
+ghost use Rattle.pb_audit.specs.Inside.Folders.{files_of, found_as};
 ghost use Rattle.pb_audit.specs.Inputs.{StatesElection};
-ghost use Rattle.pb_audit.specs.Loaded.{delivery_of};
+ghost use Rattle.pb_audit.specs.Inside.Loaded.{delivery_of};
 ghost use Rattle.pb_audit.specs.Reports.{Finds, FindsCertificate};
 ghost use Rattle.pb_records.specs.Loading.{Delivery};
 

@@ -1,8 +1,8 @@
 //! Inputs: their names, and why the work on them stops.
 ghost use Rattle.std.specs.Prelude.{◌≡◌};
 ghost use Rattle.pb_audit.specs.Inputs.{name_of, refusal_of};
-ghost use Rattle.pb_audit.specs.Taking.{wants_memory};
-ghost use Rattle.pb_audit.specs.Taking as spec;
+ghost use Rattle.pb_audit.specs.Inside.Taking.{wants_memory};
+ghost use Rattle.pb_audit.specs.Inside.Taking as spec;
 ghost use Rattle.pb_audit.specs.declared.input.Stop.TheVariants.{Memory};
 
 use pb_certificate::{CertFault, CertRefusal};

@@ -3,8 +3,8 @@ ghost use Rattle.std.specs.Prelude.{◌≡◌, IfOk, IfErr, option_copied, optio
 ghost use Rattle.pb_records.specs.Loading.{Delivered};
 ghost use Rattle.pb_records.specs.Loading as delivery;
 ghost use Rattle.pb_audit.specs.Inputs.{in_memory, most_bytes};
-ghost use Rattle.pb_audit.specs.Loaded.{delivery_of, lent};
-ghost use Rattle.pb_audit.specs.Taking.{IsUnloaded};
+ghost use Rattle.pb_audit.specs.Inside.Loaded.{delivery_of, lent};
+ghost use Rattle.pb_audit.specs.Inside.Taking.{IsUnloaded};
 
 use crate::input::{InputFault, InputName, Stop};
 use pb_election::{LoadFault, Source, load};

@@ -1,9 +1,9 @@
 //! The margins of a price certificate.
 ghost use Rattle.std.specs.Prelude.{◌≡◌, IfOk, IfSome, option_copied, option_map};
-ghost use Rattle.pb_audit.specs.Loaded.{lent};
+ghost use Rattle.pb_audit.specs.Inside.Loaded.{lent};
 ghost use Rattle.pb_audit.specs.Margins.{AnswersMarginFiles, AnswersMargins, ReadsMargins};
 ghost use Rattle.pb_audit.specs.Readers.{audit_readings};
-ghost use Rattle.pb_audit.specs.Taking.{IfTaken, TablesMargins, settled_answer};
+ghost use Rattle.pb_audit.specs.Inside.Taking.{IfTaken, TablesMargins, settled_answer};
 ghost use Rattle.pb_audit.specs.Writing.{Writes};
 ghost use Rattle.pb_election.specs.Outcome.{Fits};
 

@@ -7,7 +7,7 @@ ghost use Rattle.pb_election.specs.Rows.{is_control};
 ghost use Rattle.pb_election.specs.Text.{IsElection, IsId};
 ghost use Rattle.pb_certificate.specs.Canon.{line, lines};
 ghost use Rattle.pb_certificate.specs.Prices.{Prices};
-ghost use Rattle.pb_certificate.specs.RecordWriter.{IsOpen, held};
+ghost use Rattle.pb_certificate.specs.Inside.RecordWriter.{IsOpen, held};
 ghost use Rattle.pb_price.specs.Margins.{AreMargins};
 ghost use Rattle.pb_audit.specs.Margins.{flag_of, margin_head, row_of, table_of};
 

@@ -3,10 +3,10 @@ ghost use Rattle.std.specs.Prelude.{◌≡◌, IfOk, IfSome, Ok, option_copied, 
 ghost use Rattle.pb_audit.specs.Answers.{AnswersPriceFiles, AnswersPrices, price_reply};
 ghost use Rattle.pb_audit.specs.Answers as spec;
 ghost use Rattle.pb_audit.specs.Inputs.{StatesElection, StatesPrices};
-ghost use Rattle.pb_audit.specs.Loaded.{lent};
+ghost use Rattle.pb_audit.specs.Inside.Loaded.{lent};
 ghost use Rattle.pb_audit.specs.Named.{PricesNameProject};
 ghost use Rattle.pb_audit.specs.Readers.{ReadsPrices, audit_readings};
-ghost use Rattle.pb_audit.specs.Taking.{AnswersCertificate, IfTaken, JudgesPrices, settled};
+ghost use Rattle.pb_audit.specs.Inside.Taking.{AnswersCertificate, IfTaken, JudgesPrices, settled};
 ghost use Rattle.pb_audit.specs.Writing.{WritesReply};
 ghost use Rattle.pb_election.specs.Outcome.{Fits};
 ghost use Rattle.pb_records.specs.Loading.{Delivery};

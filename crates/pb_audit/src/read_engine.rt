@@ -2,9 +2,9 @@
 ghost use Rattle.std.specs.Prelude.{◌≡◌, IfOk, IfSome};
 ghost use Rattle.pb_audit.specs.Answers.{AnswersElection, AnswersElectionFile, read_reply};
 ghost use Rattle.pb_audit.specs.Lines as spec;
-ghost use Rattle.pb_audit.specs.Loaded.{lent};
+ghost use Rattle.pb_audit.specs.Inside.Loaded.{lent};
 ghost use Rattle.pb_audit.specs.Readers.{ReadsElection, reading};
-ghost use Rattle.pb_audit.specs.Taking.{settled};
+ghost use Rattle.pb_audit.specs.Inside.Taking.{settled};
 ghost use Rattle.pb_audit.specs.Writing.{WritesReply};
 
 use crate::answer::{Reply, settled, write_reply};

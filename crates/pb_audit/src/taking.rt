@@ -4,9 +4,9 @@ ghost use Rattle.pb_election.specs.Instance.{IsSet, projects};
 ghost use Rattle.pb_election.specs.Outcome as outcomes;
 ghost use Rattle.pb_certificate.specs.Claim as claims;
 ghost use Rattle.pb_audit.specs.Inputs.{StatesElection, StatesOutcome, StatesViolation, its_outcome};
-ghost use Rattle.pb_audit.specs.Loaded.{lent};
+ghost use Rattle.pb_audit.specs.Inside.Loaded.{lent};
 ghost use Rattle.pb_audit.specs.Readers.{file_reading, reading};
-ghost use Rattle.pb_audit.specs.Taking.{AuditsOutcome, Gives, IfTaken, ReadsOutcome, as_marks, claimed};
+ghost use Rattle.pb_audit.specs.Inside.Taking.{AuditsOutcome, Gives, IfTaken, ReadsOutcome, as_marks, claimed};
 
 use crate::input::{InputFault, InputName, Stop, stop_at};
 use crate::loaded::{File, Loaded, bytes_of};

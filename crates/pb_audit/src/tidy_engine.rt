@@ -1,9 +1,9 @@
 //! Writing a price certificate in its canonical form.
 ghost use Rattle.std.specs.Prelude.{IfOk, IfSome};
 ghost use Rattle.pb_audit.specs.Answers.{AnswersTidy, AnswersTidyFiles};
-ghost use Rattle.pb_audit.specs.Loaded.{lent};
+ghost use Rattle.pb_audit.specs.Inside.Loaded.{lent};
 ghost use Rattle.pb_audit.specs.Readers.{ReadsTidy, reading};
-ghost use Rattle.pb_audit.specs.Taking.{IfTaken, TidiesPrices, settled_answer};
+ghost use Rattle.pb_audit.specs.Inside.Taking.{IfTaken, TidiesPrices, settled_answer};
 ghost use Rattle.pb_audit.specs.Writing.{Writes};
 
 use crate::answer::{Answer, settled_answer};

@@ -2,9 +2,9 @@
 ghost use Rattle.std.specs.Prelude.{◌≡◌, IfOk, IfSome, Ok, option_copied, option_map};
 ghost use Rattle.pb_audit.specs.Answers.{AnswersViolation, AnswersViolationFiles, violation_reply};
 ghost use Rattle.pb_audit.specs.Inputs.{StatesElection, StatesViolation};
-ghost use Rattle.pb_audit.specs.Loaded.{lent};
+ghost use Rattle.pb_audit.specs.Inside.Loaded.{lent};
 ghost use Rattle.pb_audit.specs.Readers.{ReadsViolation, audit_readings};
-ghost use Rattle.pb_audit.specs.Taking.{AnswersCertificate, settled};
+ghost use Rattle.pb_audit.specs.Inside.Taking.{AnswersCertificate, settled};
 ghost use Rattle.pb_audit.specs.Writing.{WritesReply};
 ghost use Rattle.pb_certificate.specs.Claim as claims;
 ghost use Rattle.pb_election.specs.Instance.{IsSet, projects};

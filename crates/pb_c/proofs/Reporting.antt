@@ -6,8 +6,10 @@ use Rattle.pb_audit.specs.Answers.{Answer}
 use Rattle.pb_c.specs.Reports.{IsReported, memory_code}
 
 -- an answer of a kind is reported as one of that kind
-pub reported_as : (is_answer : Answer → Type 0) (made : Result Answer AllocError) (code : ℕ) (old new : List ℕ) (needed : ℕ)
-    → IfOk made is_answer → IfOk made (λ own. IsReported (λ a. a ≡ own) code old new needed) → IfErr made (λ e. code ≡ memory_code)
+pub reported_as : (is_answer : Answer → Type 0) (made : Result Answer AllocError) (code : ℕ) (old new : List ℕ)
+    (needed : ℕ)
+    → IfOk made is_answer → IfOk made (λ own. IsReported (λ a. a ≡ own) code old new needed)
+    → IfErr made (λ e. code ≡ memory_code)
     → code ≢ memory_code → IsReported is_answer code old new needed
 reported_as is_answer (Ok own) code old new needed of told memory some = record {
   answer = told.answer;

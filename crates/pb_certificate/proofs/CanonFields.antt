@@ -31,7 +31,8 @@ pub decimal-some : (n : ℕ) → n < 10 ^ 64 → is_empty (decimal n) ≡ false
 decimal-some n h = full-empty (decimal n) (decimal_is_IsNumeral_wide n h).0.0
 
 by_digits : IsNumeralModel (λ ds. all_ascii_digits ds ≡ true) number_of
-by_digits = numerals_by_fold (λ ds. all_ascii_digits ds ≡ true) tells_all_ascii_digits (λ n ds. fold (λ m d. m * 10 + (d - byte "0")) n ds) (record { empty = λ n. refl; more = λ n c cs k. refl })
+by_digits = numerals_by_fold (λ ds. all_ascii_digits ds ≡ true) tells_all_ascii_digits
+    (λ n ds. fold (λ m d. m * 10 + (d - byte "0")) n ds) (record { empty = λ n. refl; more = λ n c cs k. refl })
 
 number-is : (n : ℕ) → n < 10 ^ 64 → whole_in (decimal n) ≡ Some n
 unfolding whole_in
@@ -41,7 +42,8 @@ number-is n h =
     let value : number_of (decimal n) ≡ n = by_digits.same (decimal n) d.0.1 ∙ d.1 in
     rw (decimal-some n h, digits) (ap Some value)
 
-pub number-within : (least most n : ℕ) → least ≤ n → n ≤ most → n < 10 ^ 64 → whole_within least most (decimal n) ≡ Some n
+pub number-within : (least most n : ℕ) → least ≤ n → n ≤ most → n < 10 ^ 64
+    → whole_within least most (decimal n) ≡ Some n
 number-within least most n low high h = within-bounds least most n (decimal n) (number-is n h) low high
 
 digit-no-space : (c : ℕ) → IsInRange 48 57 c → is_space c ≡ false
@@ -74,7 +76,8 @@ and-false false = refl
 pub fields-two : (a b : Field) → clean a ≡ a → clean b ≡ b → is_empty b ≡ false → fields (a ∷ b ∷ []) ≡ a ∷ b ∷ []
 fields-two a b ca cb s = rw (ca, cb, s, and-false (is_empty a)) refl
 
-pub fields-three : (a b c : Field) → clean a ≡ a → clean b ≡ b → clean c ≡ c → is_empty c ≡ false → fields (a ∷ b ∷ c ∷ []) ≡ a ∷ b ∷ c ∷ []
+pub fields-three : (a b c : Field) → clean a ≡ a → clean b ≡ b → clean c ≡ c → is_empty c ≡ false
+    → fields (a ∷ b ∷ c ∷ []) ≡ a ∷ b ∷ c ∷ []
 fields-three a b c ca cb cc s = rw (ca, cb, cc, s, and-false (is_empty b), and-false (is_empty a)) refl
 
 -- a record that is text, and is not blank
@@ -82,11 +85,13 @@ pub record IsShown (r : Rec) : Type 0 where
   pub text : is_text r ≡ true
   pub some : is_blank r ≡ false
 
-pub two-shown : (a b : Field) → is_utf8 a ≡ true → is_utf8 b ≡ true → clean a ≡ a → is_empty a ≡ false → IsShown (a ∷ b ∷ [])
+pub two-shown : (a b : Field) → is_utf8 a ≡ true → is_utf8 b ≡ true → clean a ≡ a → is_empty a ≡ false
+    → IsShown (a ∷ b ∷ [])
 unfolding is_text is_blank
 two-shown a b ta tb ca s = record { text = rw (ta, tb) refl; some = rw (ca, s) refl }
 
-pub three-shown : (a b c : Field) → is_utf8 a ≡ true → is_utf8 b ≡ true → is_utf8 c ≡ true → clean a ≡ a → is_empty a ≡ false → IsShown (a ∷ b ∷ c ∷ [])
+pub three-shown : (a b c : Field) → is_utf8 a ≡ true → is_utf8 b ≡ true → is_utf8 c ≡ true → clean a ≡ a
+    → is_empty a ≡ false → IsShown (a ∷ b ∷ c ∷ [])
 unfolding is_text is_blank
 three-shown a b c ta tb tc ca s = record { text = rw (ta, tb, tc) refl; some = rw (ca, s) refl }
 
@@ -106,7 +111,8 @@ same-bytes x = grind (arith, bytes_eq-Decides)
 other-bytes : (x y : Field) → bytes_eq x y ≡ false → bytes_eq y x ≡ false
 other-bytes x y h = grind (arith, bytes_eq-Decides)
 
-place-at : (start : ℕ) (ids : List Field) (k : ℕ) → IsDistinct bytes_eq ids → k < length ids → position_from (bytes_eq (get_or ids k [])) start ids ≡ Some (start + k)
+place-at : (start : ℕ) (ids : List Field) (k : ℕ) → IsDistinct bytes_eq ids → k < length ids
+    → position_from (bytes_eq (get_or ids k [])) start ids ≡ Some (start + k)
 unfolding IsDistinct
 place-at start [] k d h = absurd (omega arith)
 place-at start (x ∷ xs) zero d h =
@@ -126,20 +132,25 @@ project-is e j s p =
 
 -- The rows.
 
-pub row-shown : (e : Instance) (i : ℕ) (q : ℕ × ℕ) → IsElection e → i < 10 ^ 64 → IsPayment (projects e) q → IsShown (row_of e i q)
+pub row-shown : (e : Instance) (i : ℕ) (q : ℕ × ℕ) → IsElection e → i < 10 ^ 64 → IsPayment (projects e) q
+    → IsShown (row_of e i q)
 row-shown e i q s v h =
     let small : q.1 ≤ 10 ^ 21 = h.small in
-    three-shown (decimal i) (id_of e q.0) (decimal q.1) (decimal-text i v) (id-at e q.0 s (h.low, h.high)).text (decimal-text q.1 (omega arith)) (decimal-clean i v) (decimal-some i v)
+    three-shown (decimal i) (id_of e q.0) (decimal q.1) (decimal-text i v) (id-at e q.0 s (h.low, h.high)).text
+    (decimal-text q.1 (omega arith)) (decimal-clean i v) (decimal-some i v)
 
-pub row-states : (e : Instance) (i : ℕ) (q : ℕ × ℕ) → IsElection e → IsVoter e i → IsPayment (projects e) q → payment_of e (row_of e i q) ≡ Some (payment_at i q)
+pub row-states : (e : Instance) (i : ℕ) (q : ℕ × ℕ) → IsElection e → IsVoter e i → IsPayment (projects e) q
+    → payment_of e (row_of e i q) ≡ Some (payment_at i q)
 row-states e i q s v h =
     let small : q.1 ≤ 10 ^ 21 = h.small in
     let few : voters e ≤ 1000000 = s.few_voters in
     let high : i ≤ voters e = v.1 in
     let small_voter : i < 10 ^ 64 = omega arith in
     let small_number : q.1 < 10 ^ 64 = omega arith in
-    let shown = fields-three (decimal i) (id_of e q.0) (decimal q.1) (decimal-clean i small_voter) (id-at e q.0 s (h.low, h.high)).clean (decimal-clean q.1 small_number) (decimal-some q.1 small_number) in
+    let shown = fields-three (decimal i) (id_of e q.0) (decimal q.1) (decimal-clean i small_voter)
+    (id-at e q.0 s (h.low, h.high)).clean (decimal-clean q.1 small_number) (decimal-some q.1 small_number) in
     let voter : voter_in e (decimal i) ≡ Some i = number-within 1 (voters e) i v.0 v.1 small_voter in
     let project : project_in e (id_of e q.0) ≡ Some q.0 = project-is e q.0 s (h.low, h.high) in
-    let number : numerator_of (decimal q.1) ≡ Some q.1 = number-within 0 (10 ^ 21) q.1 (omega arith) small small_number in
+    let number : numerator_of (decimal q.1) ≡ Some q.1 =
+    number-within 0 (10 ^ 21) q.1 (omega arith) small small_number in
     rw (shown, voter, project, number) refl

@@ -25,7 +25,8 @@ use Rattle.pb_certificate.proofs.Written.{IsPayment, each-payment, row_of}
 
 -- Texts of the head.
 
-head-text : (is_utf8 (codes "pb-prices") ≡ true) × (is_utf8 (codes "1") ≡ true) × (is_utf8 (codes "denominator") ≡ true) × (is_utf8 (codes "voter_budget") ≡ true)
+head-text : (is_utf8 (codes "pb-prices") ≡ true) × (is_utf8 (codes "1") ≡ true) × (is_utf8 (codes "denominator") ≡ true)
+    × (is_utf8 (codes "voter_budget") ≡ true)
 unfolding lib.Utf8.encode
 head-text = (
   is_utf8-from_IsUtf8 (codes "pb-prices") (codes "pb-prices", (refl, refl)),
@@ -34,7 +35,8 @@ head-text = (
   is_utf8-from_IsUtf8 (codes "voter_budget") (codes "voter_budget", (refl, refl)),
 )
 
-columns-text : (is_utf8 (codes "voter") ≡ true) × (is_utf8 (codes "project") ≡ true) × (is_utf8 (codes "payment") ≡ true)
+columns-text : (is_utf8 (codes "voter") ≡ true) × (is_utf8 (codes "project") ≡ true)
+    × (is_utf8 (codes "payment") ≡ true)
 unfolding lib.Utf8.encode
 columns-text = (
   is_utf8-from_IsUtf8 (codes "voter") (codes "voter", (refl, refl)),
@@ -50,39 +52,50 @@ heads-shown d b hd hb = (
     two-shown (codes "denominator") (decimal d) head-text.2 (decimal-text d hd) refl refl,
     (
       two-shown (codes "voter_budget") (decimal b) head-text.3 (decimal-text b hb) refl refl,
-      (three-shown (codes "voter") (codes "project") (codes "payment") columns-text.0 columns-text.1 columns-text.2 refl refl, tt),
+      (
+        three-shown (codes "voter") (codes "project") (codes "payment") columns-text.0 columns-text.1 columns-text.2 refl
+            refl,
+        tt,
+      ),
     ),
   ),
 )
 
 -- Lists over a range.
 
-map-range : {A : Type 0} (f g : ℕ → A) (n a : ℕ) → ((i : ℕ) → a ≤ i → i < a + n → f i ≡ g i) → map f (range_with_len a n) ≡ map g (range_with_len a n)
+map-range : {A : Type 0} (f g : ℕ → A) (n a : ℕ) → ((i : ℕ) → a ≤ i → i < a + n → f i ≡ g i)
+    → map f (range_with_len a n) ≡ map g (range_with_len a n)
 map-range f g zero a h = refl
 map-range f g (suc n) a h =
     let first = h a (omega arith) (omega arith) in
     let rest = map-range f g n (a + 1) (λ i low high. h i (omega arith) (omega arith)) in
     λ k. first k ∷ rest k
 
-indexed : {A : Type 0} (f : ℕ → A) (d : A) (xs : List A) (a : ℕ) → ((k : ℕ) → k < length xs → f (a + k) ≡ get_or xs k d) → xs ≡ map f (range_with_len a (length xs))
+indexed : {A : Type 0} (f : ℕ → A) (d : A) (xs : List A) (a : ℕ) → ((k : ℕ) → k < length xs → f (a + k) ≡ get_or xs k d)
+    → xs ≡ map f (range_with_len a (length xs))
 indexed f d [] a h = refl
 indexed f d (x ∷ xs) a h =
     let here : a + 0 ≡ a = omega arith in
     let first : x ≡ f a = sym (h 0 (omega arith)) ∙ ap f here in
-    let rest = indexed f d xs (a + 1) (λ k l. (let past : a + 1 + k ≡ a + suc k = omega arith in ap f past ∙ h (suc k) (omega arith))) in
+    let rest =
+    indexed f d xs (a + 1)
+    (λ k l. (let past : a + 1 + k ≡ a + suc k = omega arith in ap f past ∙ h (suc k) (omega arith))) in
     λ k. first k ∷ rest k
 
-stated-range : {A B : Type 0} (g : A → Option B) (rows : ℕ → List A) (pays : ℕ → List B) (n a : ℕ) → ((i : ℕ) → a ≤ i → i < a + n → map g (rows i) ≡ map Some (pays i))
+stated-range : {A B : Type 0} (g : A → Option B) (rows : ℕ → List A) (pays : ℕ → List B) (n a : ℕ)
+    → ((i : ℕ) → a ≤ i → i < a + n → map g (rows i) ≡ map Some (pays i))
     → map g (flat_map rows (range_with_len a n)) ≡ map Some (flat_map pays (range_with_len a n))
 stated-range g rows pays zero a h = refl
 stated-range g rows pays (suc n) a h =
     let first = h a (omega arith) (omega arith) in
     let rest = stated-range g rows pays n (a + 1) (λ i low high. h i (omega arith) (omega arith)) in
-    map-append g (rows a) (flat_map rows (range_with_len (a + 1) n)) ∙ (λ k. first k ++ rest k) ∙ sym (map-append Some (pays a) (flat_map pays (range_with_len (a + 1) n)))
+    map-append g (rows a) (flat_map rows (range_with_len (a + 1) n)) ∙ (λ k. first k ++ rest k)
+    ∙ sym (map-append Some (pays a) (flat_map pays (range_with_len (a + 1) n)))
 
 sum-mapped : {A B : Type 0} (f : B → ℕ) (g : A → B) (xs : List A) → sum_by f (map g xs) ≡ sum_by (λ x. f (g x)) xs
 sum-mapped f g [] = refl
-sum-mapped f g (x ∷ xs) = sum_by-cons f (g x) (map g xs) ∙ ap (λ n. f (g x) + n) (sum-mapped f g xs) ∙ sym (sum_by-cons (λ y. f (g y)) x xs)
+sum-mapped f g (x ∷ xs) = sum_by-cons f (g x) (map g xs) ∙ ap (λ n. f (g x) + n) (sum-mapped f g xs)
+    ∙ sym (sum_by-cons (λ y. f (g y)) x xs)
 
 -- The payments of some prices for an election.
 
@@ -90,40 +103,55 @@ by-voter : (e : Instance) (p : Prices) → ArePrices e p → p.payments ≡ map 
 by-voter e p a =
     let many : length p.payments ≡ voters e = a.fits.each_voter in
     let each : p.payments ≡ map (payments_of p) (range_with_len 1 (length p.payments)) =
-    indexed (payments_of p) [] p.payments 1 (λ k l. (let past : 1 + k - 1 ≡ k = omega arith in ap (λ (n : ℕ). slice_index_or p.payments n []) past)) in
+    indexed (payments_of p) [] p.payments 1
+    (λ k l. (let past : 1 + k - 1 ≡ k = omega arith in ap (λ (n : ℕ). slice_index_or p.payments n []) past)) in
     each ∙ ap (λ (n : ℕ). map (payments_of p) (range_with_len 1 n)) many
 
 abbrev paid : Instance → Prices → List Payment
 paid e p = of_voters (payments_of p) 1 (voters e)
 
-voter-states : (e : Instance) (i : ℕ) (qs : List (ℕ × ℕ)) → IsElection e → 1 ≤ i → i ≤ voters e → AllByRecursion (IsPayment (projects e)) qs → map (payment_of e) (rows_of_voter e i qs) ≡ map Some (of_voter i qs)
+voter-states : (e : Instance) (i : ℕ) (qs : List (ℕ × ℕ)) → IsElection e → 1 ≤ i → i ≤ voters e
+    → AllByRecursion (IsPayment (projects e)) qs → map (payment_of e) (rows_of_voter e i qs) ≡ map Some (of_voter i qs)
 voter-states e i [] s low high h = refl
 voter-states e i (q ∷ qs) s low high h =
     let first = row-states e i q s (low, high) h.0 in
     let rest = voter-states e i qs s low high h.1 in
     λ k. first k ∷ rest k
 
-rows-state : (e : Instance) (p : Prices) → IsElection e → ArePrices e p → map (payment_of e) (payment_rows e p) ≡ map Some (paid e p)
+rows-state : (e : Instance) (p : Prices) → IsElection e → ArePrices e p
+    → map (payment_of e) (payment_rows e p) ≡ map Some (paid e p)
 rows-state e p s a =
-    stated-range (payment_of e) (λ i. rows_of_voter e i (payments_of p i)) (λ i. of_voter i (payments_of p i)) (voters e) 1
-    (λ i low high. voter-states e i (payments_of p i) s low (omega arith) (each-payment (projects e) (payments_of p i) (voter-map e p i a low (omega arith))))
+    stated-range (payment_of e) (λ i. rows_of_voter e i (payments_of p i)) (λ i. of_voter i (payments_of p i))
+    (voters e) 1
+    (λ i low high. voter-states e i (payments_of p i) s low (omega arith)
+    (each-payment (projects e) (payments_of p i) (voter-map e p i a low (omega arith))))
 
 rows-many : (e : Instance) (p : Prices) → ArePrices e p → length (payment_rows e p) ≤ 10000000
 rows-many e p a =
     let few : sum_by length p.payments ≤ 10000000 = a.system.few in
-    let rows : length (payment_rows e p) ≡ sum_by (λ i. length (rows_of_voter e i (payments_of p i))) (all_voters e) = length-flat_map (λ i. rows_of_voter e i (payments_of p i)) (all_voters e) in
-    let each : sum_by (λ i. length (rows_of_voter e i (payments_of p i))) (all_voters e) ≡ sum_by (λ i. length (payments_of p i)) (all_voters e) = λ k. sum_by (λ i. length-map (payments_of p i) (row_of e i) k) (all_voters e) in
-    let lists : sum_by length p.payments ≡ sum_by (λ i. length (payments_of p i)) (all_voters e) = ap (sum_by length) (by-voter e p a) ∙ sum-mapped length (payments_of p) (all_voters e) in
+    let rows : length (payment_rows e p) ≡ sum_by (λ i. length (rows_of_voter e i (payments_of p i))) (all_voters e) =
+    length-flat_map (λ i. rows_of_voter e i (payments_of p i)) (all_voters e) in
+    let each : sum_by (λ i. length (rows_of_voter e i (payments_of p i))) (all_voters e)
+    ≡ sum_by (λ i. length (payments_of p i)) (all_voters e) =
+    λ k. sum_by (λ i. length-map (payments_of p i) (row_of e i) k) (all_voters e) in
+    let lists : sum_by length p.payments ≡ sum_by (λ i. length (payments_of p i)) (all_voters e) =
+    ap (sum_by length) (by-voter e p a) ∙ sum-mapped length (payments_of p) (all_voters e) in
     omega arith
 
-voter-stated : (e : Instance) (p : Prices) (i : ℕ) → ArePrices e p → 1 ≤ i → i ≤ voters e → payments_of p i ≡ payments_stated e (paid e p) i
+voter-stated : (e : Instance) (p : Prices) (i : ℕ) → ArePrices e p → 1 ≤ i → i ≤ voters e
+    → payments_of p i ≡ payments_stated e (paid e p) i
 voter-stated e p i a low high =
     let is_map = voter-map e p i a low high in
-    let back = pairs-back (projects e) 1 (projects e) (payments_of p i) (omega arith) is_map.projects_rise (each-of (λ q. 0 < q.1) (payments_of p i) is_map.none_zero) in
-    sym ((λ k. filter_map (λ j. above_0 j (stated-all (payments_of p) (voters e) 1 i j low (omega arith) k)) (all_projects e)) ∙ back)
+    let back = pairs-back (projects e) 1 (projects e) (payments_of p i) (omega arith) is_map.projects_rise
+    (each-of (λ q. 0 < q.1) (payments_of p i) is_map.none_zero) in
+    sym ((λ k. filter_map (λ j. above_0 j (stated-all (payments_of p) (voters e) 1 i j low (omega arith) k))
+    (all_projects e)) ∙ back)
 
-all-stated : (e : Instance) (p : Prices) → ArePrices e p → p.payments ≡ map (payments_stated e (paid e p)) (all_voters e)
-all-stated e p a = by-voter e p a ∙ map-range (payments_of p) (payments_stated e (paid e p)) (voters e) 1 (λ i low high. voter-stated e p i a low (omega arith))
+all-stated : (e : Instance) (p : Prices) → ArePrices e p
+    → p.payments ≡ map (payments_stated e (paid e p)) (all_voters e)
+all-stated e p a = by-voter e p a
+    ∙ map-range (payments_of p) (payments_stated e (paid e p)) (voters e) 1
+    (λ i low high. voter-stated e p i a low (omega arith))
 
 -- The law.
 
@@ -132,7 +160,8 @@ shown e p s a =
     let d : p.denominator ≤ 10 ^ 9 = a.system.denominator.1 in
     let b : p.budget ≤ 10 ^ 21 = a.system.budget in
     let few : voters e ≤ 1000000 = s.few_voters in
-    all-records IsShown e p a (heads-shown p.denominator p.budget (omega arith) (omega arith)) (λ i q low high h. row-shown e i q s (omega arith) h)
+    all-records IsShown e p a (heads-shown p.denominator p.budget (omega arith) (omega arith))
+    (λ i q low high h. row-shown e i q s (omega arith) h)
 
 pub records-state : (e : Instance) (p : Prices) → IsElection e → ArePrices e p → IsPriceText (canonical_records e p) e p
 unfolding drop_back drop_front
@@ -143,7 +172,8 @@ records-state e p s a =
     let small_b : p.budget < 10 ^ 64 = omega arith in
     let all = shown e p s a in
     let same = nonblank-all (canonical_records e p) all in
-    let order = ordered (payments_of p) (projects e) (voters e) 1 (λ i low high. (voter-map e p i a low (omega arith)).projects_rise) in
+    let order = ordered (payments_of p) (projects e) (voters e) 1
+    (λ i low high. (voter-map e p i a low (omega arith)).projects_rise) in
     record {
       head = codes "pb-prices" ∷ codes "1" ∷ [];
       denominator = codes "denominator" ∷ decimal p.denominator ∷ [];
@@ -156,12 +186,14 @@ records-state e p s a =
       is_head = refl;
       is_denominator = (
         decimal p.denominator,
-        fields-two (codes "denominator") (decimal p.denominator) refl (decimal-clean p.denominator small_d) (decimal-some p.denominator small_d),
+        fields-two (codes "denominator") (decimal p.denominator) refl (decimal-clean p.denominator small_d)
+            (decimal-some p.denominator small_d),
         number-within 1 (10 ^ 9) p.denominator a.system.denominator.0 d small_d,
       );
       is_budget = (
         decimal p.budget,
-        fields-two (codes "voter_budget") (decimal p.budget) refl (decimal-clean p.budget small_b) (decimal-some p.budget small_b),
+        fields-two (codes "voter_budget") (decimal p.budget) refl (decimal-clean p.budget small_b)
+            (decimal-some p.budget small_b),
         number-within 0 (10 ^ 21) p.budget (omega arith) b small_b,
       );
       is_columns = refl;
@@ -173,8 +205,10 @@ records-state e p s a =
       same_payments = all-stated e p a;
     }
 
-pub states : (e : Instance) (p : Prices) → IsElection e → ArePrices e p → IsPriceText (certificate_records (Canon e p)) e p
+pub states : (e : Instance) (p : Prices) → IsElection e → ArePrices e p
+    → IsPriceText (certificate_records (Canon e p)) e p
 states e p s a = subst (λ (recs : List Rec). IsPriceText recs e p) (sym (read-back e p s a)) (records-state e p s a)
 
-pub no-other : (e : Instance) (p q : Prices) → IsElection e → ArePrices e p → IsPriceText (certificate_records (Canon e p)) e q → q ≡ p
+pub no-other : (e : Instance) (p q : Prices) → IsElection e → ArePrices e p
+    → IsPriceText (certificate_records (Canon e p)) e q → q ≡ p
 no-other e p q s a t = price-text-same (certificate_records (Canon e p)) e q p t (states e p s a)

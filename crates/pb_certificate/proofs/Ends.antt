@@ -5,7 +5,7 @@ use Rattle.std.proofs.lemmas.List.{take_all}
 use Rattle.std.proofs.lemmas.Option.{slice_get_past}
 use Rattle.pb_records.specs.Records.{Rec}
 use Rattle.pb_records.specs.Cells.{nonblank}
-use Rattle.pb_records.specs.Drafts.{StopsFirst}
+use Rattle.pb_records.specs.Inside.Drafts.{StopsFirst}
 use Rattle.pb_records.specs.FirstFault.{Form, IsFirstFault, NoFault, fault_at}
 use Rattle.pb_records.specs.declared.drafts.FaultAt.{FaultAt}
 use Rattle.pb_records.specs.declared.drafts.Stop.{Stop}
@@ -13,7 +13,8 @@ use Rattle.pb_records.specs.declared.drafts.Stop.TheVariants.{Fault, Memory}
 use Rattle.pb_certificate.specs.Faults.{no_memory, refusal_where_stopped}
 use Rattle.pb_certificate.specs.declared.refusal.CertFault.{CertFault}
 
-pub fault-last : {F : Type 0} (form : Form F) (recs : List Rec) → fault_at form recs (suc (length recs)) ≡ form (nonblank recs) None
+pub fault-last : {F : Type 0} (form : Form F) (recs : List Rec)
+    → fault_at form recs (suc (length recs)) ≡ form (nonblank recs) None
 fault-last form recs =
     let same : take (length recs) recs ≡ recs = take_all (length recs) recs (omega arith) in
     rw (slice_get_past recs (length recs) (omega arith), same) refl
@@ -23,13 +24,16 @@ pub none-at-end : {F : Type 0} (form : Form F) (recs : List Rec) → NoFault for
 none-at-end form recs none = sym (fault-last form recs) ∙ none (suc (length recs))
 
 -- a reading that stopped refuses the file
-pub stop-refuses : (form : Form CertFault) (recs : List Rec) (stop : Stop (FaultAt CertFault)) → StopsFirst form recs stop
-    → (refusal_where_stopped stop ≡ no_memory) ⊎ IsFirstFault form recs (refusal_where_stopped stop).place (refusal_where_stopped stop).fault
+pub stop-refuses : (form : Form CertFault) (recs : List Rec) (stop : Stop (FaultAt CertFault))
+    → StopsFirst form recs stop
+    → (refusal_where_stopped stop ≡ no_memory)
+    ⊎ IsFirstFault form recs (refusal_where_stopped stop).place (refusal_where_stopped stop).fault
 stop-refuses form recs (Fault f) first = inr first
 stop-refuses form recs Memory first = inl refl
 
 -- and where no fault can be the first, it was want of memory
-pub stop-is-memory : (form : Form CertFault) (recs : List Rec) (stop : Stop (FaultAt CertFault)) → StopsFirst form recs stop
+pub stop-is-memory : (form : Form CertFault) (recs : List Rec) (stop : Stop (FaultAt CertFault))
+    → StopsFirst form recs stop
     → ((f : FaultAt CertFault) → IsFirstFault form recs f.place f.fault → ⊥) → refusal_where_stopped stop ≡ no_memory
 stop-is-memory form recs (Fault f) first none = absurd (none f first)
 stop-is-memory form recs Memory first none = refl

@@ -18,7 +18,8 @@ HasFirst form recs = (place : ℕ) × (f : CertFault) × IsFirstFault form recs 
 abbrev Clear : Form CertFault → List Rec → ℕ → Type 0
 Clear form recs n = (k : ℕ) → k < n → fault_at form recs k ≡ None
 
-clear-more : (form : Form CertFault) (recs : List Rec) (n : ℕ) → Clear form recs n → fault_at form recs n ≡ None → Clear form recs (suc n)
+clear-more : (form : Form CertFault) (recs : List Rec) (n : ℕ) → Clear form recs n → fault_at form recs n ≡ None
+    → Clear form recs (suc n)
 clear-more form recs n h here k l = elim (cases_lt k n) [
   | inl less ↦ h k less
   | inr more ↦ let same : n ≡ k = omega arith in subst (λ (i : ℕ). fault_at form recs i ≡ None) same here
@@ -35,11 +36,14 @@ none-behind form recs h (suc k) = elim (cases_lt k (length recs + 1)) [
       rw (slice_get_past recs k (omega arith), all) (sym (fault-last form recs) ∙ end)
 ]
 
-search-from : (form : Form CertFault) (recs : List Rec) (left n : ℕ) → n + left ≡ length recs + 2 → Clear form recs n → NoFault form recs ⊎ HasFirst form recs
+search-from : (form : Form CertFault) (recs : List Rec) (left n : ℕ) → n + left ≡ length recs + 2 → Clear form recs n
+    → NoFault form recs ⊎ HasFirst form recs
 search-from form recs zero n e h = inl (none-behind form recs (λ k l. h k (omega arith)))
-search-from form recs (suc left) n e h = by (fault_at form recs n) refl (λ more. search-from form recs left (suc n) (omega arith) more)
+search-from form recs (suc left) n e h =
+    by (fault_at form recs n) refl (λ more. search-from form recs left (suc n) (omega arith) more)
   where
-    by : (o : Option CertFault) → fault_at form recs n ≡ o → (Clear form recs (suc n) → NoFault form recs ⊎ HasFirst form recs) → NoFault form recs ⊎ HasFirst form recs
+    by : (o : Option CertFault) → fault_at form recs n ≡ o
+        → (Clear form recs (suc n) → NoFault form recs ⊎ HasFirst form recs) → NoFault form recs ⊎ HasFirst form recs
     by None here go = go (clear-more form recs n h here)
     by (Some f) here go = inr (n, f, record { within = omega arith; here = here; none_before = h })
 
@@ -51,9 +55,12 @@ pub record Kept (form : Form CertFault) (Holds : List Rec → Type 0) : Type 0 w
   pub start : Holds []
   pub more : (before : List Rec) (r : Rec) → Holds before → form before (Some r) ≡ None → Holds (before ++ (r ∷ []))
 
-kept-from : (form : Form CertFault) (Holds : List Rec → Type 0) (recs taken left : List Rec) → Kept form Holds → NoFault form recs → recs ≡ taken ++ left → Holds (nonblank taken) → Holds (nonblank recs)
+kept-from : (form : Form CertFault) (Holds : List Rec → Type 0) (recs taken left : List Rec) → Kept form Holds
+    → NoFault form recs → recs ≡ taken ++ left → Holds (nonblank taken) → Holds (nonblank recs)
 kept-from form Holds recs taken [] kept none cut h = rw (cut ∙ append-nil taken) h
-kept-from form Holds recs taken (r ∷ rest) kept none cut h = kept-from form Holds recs (taken ++ (r ∷ [])) rest kept none (cut ∙ sym (append_assoc taken (r ∷ []) rest)) (by (is_blank r) refl)
+kept-from form Holds recs taken (r ∷ rest) kept none cut h =
+    kept-from form Holds recs (taken ++ (r ∷ [])) rest kept none (cut ∙ sym (append_assoc taken (r ∷ []) rest))
+    (by (is_blank r) refl)
   where
     by : (b : Bool) → is_blank r ≡ b → Holds (nonblank (taken ++ (r ∷ [])))
     by true blank = rw (nonblank-joined taken (r ∷ []), blank, append-nil (nonblank taken)) h
@@ -61,5 +68,6 @@ kept-from form Holds recs taken (r ∷ rest) kept none cut h = kept-from form Ho
         let clear = sym (form-here form recs taken rest (nonblank taken) r cut refl full) ∙ none (length taken + 1) in
         rw (nonblank-joined taken (r ∷ []), full) (kept.more (nonblank taken) r h clear)
 
-pub kept-to-end : (form : Form CertFault) (Holds : List Rec → Type 0) (recs : List Rec) → Kept form Holds → NoFault form recs → Holds (nonblank recs)
+pub kept-to-end : (form : Form CertFault) (Holds : List Rec → Type 0) (recs : List Rec) → Kept form Holds
+    → NoFault form recs → Holds (nonblank recs)
 kept-to-end form Holds recs kept none = kept-from form Holds recs [] recs kept none refl kept.start

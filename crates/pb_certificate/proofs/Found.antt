@@ -7,11 +7,13 @@ use Rattle.pb_election.specs.Instance.{Instance, id_of, position_of}
 use Rattle.pb_records.specs.Records.{Field}
 
 -- what stands at the first place, from n, that passes
-position-at : (test : Field → Bool) (n : ℕ) (xs : List Field) (k : ℕ) → position_from test n xs ≡ Some k → (n ≤ k) × (test (slice_index_or xs (k - n) []) ≡ true)
+position-at : (test : Field → Bool) (n : ℕ) (xs : List Field) (k : ℕ) → position_from test n xs ≡ Some k
+    → (n ≤ k) × (test (slice_index_or xs (k - n) []) ≡ true)
 position-at test n [] k e = cc e
 position-at test n (x ∷ xs) k e = by (test x) refl e (position-at test (n + 1) xs k)
   where
-    by : (b : Bool) → test x ≡ b → cond b (Some n) (position_from test (n + 1) xs) ≡ Some k → (position_from test (n + 1) xs ≡ Some k → (n + 1 ≤ k) × (test (slice_index_or xs (k - (n + 1)) []) ≡ true))
+    by : (b : Bool) → test x ≡ b → cond b (Some n) (position_from test (n + 1) xs) ≡ Some k
+        → (position_from test (n + 1) xs ≡ Some k → (n + 1 ≤ k) × (test (slice_index_or xs (k - (n + 1)) []) ≡ true))
         → (n ≤ k) × (test (slice_index_or (x ∷ xs) (k - n) []) ≡ true)
     by true t s behind =
         let same : n ≡ k = cc s in

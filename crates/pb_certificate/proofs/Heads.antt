@@ -29,25 +29,38 @@ three-plain true true false = refl
 three-plain true false z = refl
 three-plain false y z = refl
 
-two-by : (fs : List Field) (a b : Field) → same_fields fs (a ∷ b ∷ []) ≡ ((length fs == 2) && bytes_eq (slice_index_or fs 0 []) a && bytes_eq (slice_index_or fs 1 []) b)
+two-by : (fs : List Field) (a b : Field) → same_fields fs (a ∷ b ∷ [])
+    ≡ ((length fs == 2) && bytes_eq (slice_index_or fs 0 []) a && bytes_eq (slice_index_or fs 1 []) b)
 two-by [] a b = refl
 two-by (x ∷ []) a b = and-false (bytes_eq x a)
 two-by (x ∷ y ∷ []) a b = two-plain (bytes_eq x a) (bytes_eq y b)
-two-by (x ∷ y ∷ z ∷ zs) a b = rw (ne_eqb (length (x ∷ y ∷ z ∷ zs)) 2 (λ e. omega arith), and-false (bytes_eq y b), and-false (bytes_eq x a)) refl
+two-by (x ∷ y ∷ z ∷ zs) a b =
+    rw (ne_eqb (length (x ∷ y ∷ z ∷ zs)) 2 (λ e. omega arith), and-false (bytes_eq y b), and-false (bytes_eq x a)) refl
 
 three-by : (fs : List Field) (a b c : Field)
-    → same_fields fs (a ∷ b ∷ c ∷ []) ≡ ((length fs == 3) && bytes_eq (slice_index_or fs 0 []) a && bytes_eq (slice_index_or fs 1 []) b && bytes_eq (slice_index_or fs 2 []) c)
+    → same_fields fs (a ∷ b ∷ c ∷ [])
+    ≡ ((length fs == 3) && bytes_eq (slice_index_or fs 0 []) a && bytes_eq (slice_index_or fs 1 []) b && bytes_eq
+    (slice_index_or fs 2 []) c)
 three-by [] a b c = refl
 three-by (x ∷ []) a b c = and-false (bytes_eq x a)
 three-by (x ∷ y ∷ []) a b c = rw (and-false (bytes_eq y b), and-false (bytes_eq x a)) refl
 three-by (x ∷ y ∷ z ∷ []) a b c = three-plain (bytes_eq x a) (bytes_eq y b) (bytes_eq z c)
-three-by (x ∷ y ∷ z ∷ w ∷ ws) a b c = rw (ne_eqb (length (x ∷ y ∷ z ∷ w ∷ ws)) 3 (λ e. omega arith), and-false (bytes_eq z c), and-false (bytes_eq y b), and-false (bytes_eq x a)) refl
+three-by (x ∷ y ∷ z ∷ w ∷ ws) a b c =
+    rw (
+      ne_eqb (length (x ∷ y ∷ z ∷ w ∷ ws)) 3 (λ e. omega arith),
+      and-false (bytes_eq z c),
+      and-false (bytes_eq y b),
+      and-false (bytes_eq x a),
+    ) refl
 
 -- the same by the record's cells
-pub two_cells : (r : Rec) (a b : Field) → same_fields (fields r) (a ∷ b ∷ []) ≡ ((length (fields r) == 2) && bytes_eq (cell 0 r) a && bytes_eq (cell 1 r) b)
+pub two_cells : (r : Rec) (a b : Field) → same_fields (fields r) (a ∷ b ∷ [])
+    ≡ ((length (fields r) == 2) && bytes_eq (cell 0 r) a && bytes_eq (cell 1 r) b)
 two_cells r a b = two-by (fields r) a b ∙ rw (field-cell r 0, field-cell r 1) refl
 
-pub three_cells : (r : Rec) (a b c : Field) → same_fields (fields r) (a ∷ b ∷ c ∷ []) ≡ ((length (fields r) == 3) && bytes_eq (cell 0 r) a && bytes_eq (cell 1 r) b && bytes_eq (cell 2 r) c)
+pub three_cells : (r : Rec) (a b c : Field)
+    → same_fields (fields r) (a ∷ b ∷ c ∷ [])
+    ≡ ((length (fields r) == 3) && bytes_eq (cell 0 r) a && bytes_eq (cell 1 r) b && bytes_eq (cell 2 r) c)
 three_cells r a b c = three-by (fields r) a b c ∙ rw (field-cell r 0, field-cell r 1, field-cell r 2) refl
 
 pub same-is : (fs gs : List Field) → same_fields fs gs ≡ true → fs ≡ gs
@@ -88,10 +101,12 @@ triple-is r three = by (fields r) refl (eqb-true (length (fields r)) 3 three)
     by (x ∷ y ∷ z ∷ w ∷ ws) is e = absurd (omega arith)
 
 -- the number of a head record
-pub number-taken : (name : Field) (least most n : ℕ) (r : Rec) → Ok n ≡ head_number name least most r → (is_value_of name r ≡ true) × (whole_within least most (cell 1 r) ≡ Some n)
+pub number-taken : (name : Field) (least most n : ℕ) (r : Rec) → Ok n ≡ head_number name least most r
+    → (is_value_of name r ≡ true) × (whole_within least most (cell 1 r) ≡ Some n)
 number-taken name least most n r h = by (is_value_of name r) (whole_within least most (cell 1 r)) refl refl h
   where
-    by : (v : Bool) (o : Option ℕ) → is_value_of name r ≡ v → whole_within least most (cell 1 r) ≡ o → Ok n ≡ cond v (ok_or o fault.BadNumber) (Err fault.BadHead)
+    by : (v : Bool) (o : Option ℕ) → is_value_of name r ≡ v → whole_within least most (cell 1 r) ≡ o
+        → Ok n ≡ cond v (ok_or o fault.BadNumber) (Err fault.BadHead)
         → (is_value_of name r ≡ true) × (whole_within least most (cell 1 r) ≡ Some n)
     by true None is value k = cc k
     by true (Some m) is value k = let same : n ≡ m = cc k in (is, value ∙ ap Some (sym same))
@@ -101,12 +116,14 @@ pub number-refused : (name : Field) (least most : ℕ) (r : Rec) (f : CertFault)
     → number_fault (is_value_of name r) (is_none (whole_within least most (cell 1 r))) ≡ Some f
 number-refused name least most r f h = by (is_value_of name r) (whole_within least most (cell 1 r)) h
   where
-    by : (v : Bool) (o : Option ℕ) → Err f ≡ cond v (ok_or o fault.BadNumber) (Err fault.BadHead) → number_fault v (is_none o) ≡ Some f
+    by : (v : Bool) (o : Option ℕ) → Err f ≡ cond v (ok_or o fault.BadNumber) (Err fault.BadHead)
+        → number_fault v (is_none o) ≡ Some f
     by true None k = let same : f ≡ fault.BadNumber = cc k in ap Some (sym same)
     by true (Some m) k = cc k
     by false o k = let same : f ≡ fault.BadHead = cc k in ap Some (sym same)
 
-pub states-number : (name : Field) (least most n : ℕ) (r : Rec) → is_value_of name r ≡ true → whole_within least most (cell 1 r) ≡ Some n → StatesNumber name least most r n
+pub states-number : (name : Field) (least most n : ℕ) (r : Rec) → is_value_of name r ≡ true
+    → whole_within least most (cell 1 r) ≡ Some n → StatesNumber name least most r n
 states-number name least most n r is value =
     let parts = and_parts (length (fields r) == 2) (bytes_eq (cell 0 r) name) is in
     let named : cell 0 r ≡ name = (bytes_eq-Decides (cell 0 r) name).0 parts.1 in

@@ -58,9 +58,11 @@ same-need b h =
     let n : (b == 10) ≡ false = ne_eqb b 10 (λ e. absurd (omega arith)) in
     rw (r, n) (grind arith)
 
-same-needs : (f : Field) → IsPlain f → list_any (needs_byte default_writer) f ≡ list_any (λ b. (b == comma) || (b == quote)) f
+same-needs : (f : Field) → IsPlain f → list_any (needs_byte default_writer) f
+    ≡ list_any (λ b. (b == comma) || (b == quote)) f
 same-needs [] h = refl
-same-needs (b ∷ bs) h = let parts = or-false (is_control b) (list_any is_control bs) h in rw (same-need b (not-control b parts.0), same-needs bs parts.1) refl
+same-needs (b ∷ bs) h = let parts = or-false (is_control b) (list_any is_control bs) h in
+    rw (same-need b (not-control b parts.0), same-needs bs parts.1) refl
 
 -- a byte between quotes
 abbrev doubled_byte : ℕ → List ℕ
@@ -74,7 +76,8 @@ unfolding escaped
 same-escaped-text [] = refl
 same-escaped-text (b ∷ bs) = rw (same-escaped-text bs) (by (b == 34) refl)
   where
-    by : (t : Bool) → (b == 34) ≡ t → (if t then 34 ∷ b ∷ flat_map doubled_byte bs else b ∷ flat_map doubled_byte bs) ≡ (if t then quote ∷ quote ∷ [] else b ∷ []) ++ flat_map doubled_byte bs
+    by : (t : Bool) → (b == 34) ≡ t → (if t then 34 ∷ b ∷ flat_map doubled_byte bs else b ∷ flat_map doubled_byte bs)
+        ≡ (if t then quote ∷ quote ∷ [] else b ∷ []) ++ flat_map doubled_byte bs
     by true e = ap (λ (x : ℕ). 34 ∷ x ∷ flat_map doubled_byte bs) (quote-is b e)
     by false e = refl
 
@@ -101,19 +104,23 @@ not-true false h = refl
 
 pub id-plain : (id : Field) → IsId id → IsPlain id
 unfolding is_id
-id-plain id h = not-true (list_any is_control id) (and_parts (not (is_empty id)) (not (list_any is_control id)) h.bytes).1
+id-plain id h =
+    not-true (list_any is_control id) (and_parts (not (is_empty id)) (not (list_any is_control id)) h.bytes).1
 
 -- Records of plain fields.
 
 abbrev pub ArePlain : Rec → Type 0
 ArePlain r = AllByRecursion IsPlain r
 
-fields-joined : (f : Field) (fs : Rec) → ArePlain (f ∷ fs) → field_text default_writer f ++ fields_text default_writer fs ≡ join_with_byte comma (map written (f ∷ fs))
+fields-joined : (f : Field) (fs : Rec) → ArePlain (f ∷ fs)
+    → field_text default_writer f ++ fields_text default_writer fs ≡ join_with_byte comma (map written (f ∷ fs))
 unfolding fields_text
 fields-joined f [] h = append-nil (field_text default_writer f) ∙ field-written f h.0
-fields-joined f (g ∷ fs) h = rw (field-written f h.0) (ap (λ (x : List ℕ). written f ++ (44 ∷ x)) (fields-joined g fs h.1))
+fields-joined f (g ∷ fs) h =
+    rw (field-written f h.0) (ap (λ (x : List ℕ). written f ++ (44 ∷ x)) (fields-joined g fs h.1))
 
 -- a record of two fields or more
-pub row-line : (f g : Field) (fs : Rec) → ArePlain (f ∷ g ∷ fs) → row_text default_writer (f ∷ g ∷ fs) ≡ line (f ∷ g ∷ fs)
+pub row-line : (f g : Field) (fs : Rec) → ArePlain (f ∷ g ∷ fs)
+    → row_text default_writer (f ∷ g ∷ fs) ≡ line (f ∷ g ∷ fs)
 unfolding is_blank line
 row-line f g fs h = ap (λ (x : List ℕ). x ++ (10 ∷ [])) (fields-joined f (g ∷ fs) h)

@@ -6,7 +6,7 @@ use Rattle.std.proofs.Math.ListN.{set}
 use Rattle.std.proofs.lemmas.List.Elements.{filter-append}
 use Rattle.std.proofs.lemmas.List.FromFn.{get_or-map-range_with_len, length-map-range_with_len}
 use Rattle.pb_election.specs.Instance.{IsSet}
-use Rattle.pb_certificate.specs.Marks.{is_marked, marked, marks_after, marks_of, with_mark}
+use Rattle.pb_certificate.specs.Inside.Marks.{is_marked, marked, marks_after, marks_of, with_mark}
 use Rattle.pb_certificate.specs.declared.refusal.CertFault.{CertFault}
 use Rattle.pb_certificate.specs.declared.refusal.CertFault.TheVariants as fault
 use Rattle.pb_certificate.proofs.Unique.{filter-set}
@@ -24,7 +24,8 @@ pub mark-is : (f : ℕ → Bool) (n j : ℕ) → 1 ≤ j → j ≤ n → is_mark
 mark-is f n j low high = get_or-map-range_with_len f 1 n (j - 1) j true (omega arith) (omega arith)
 
 -- a list over a range, changed at one place
-set-range : (f g : ℕ → Bool) (n a k : ℕ) → k < n → g (a + k) ≡ true → ((i : ℕ) → i ≢ a + k → g i ≡ f i) → set (map f (range_with_len a n)) k true ≡ map g (range_with_len a n)
+set-range : (f g : ℕ → Bool) (n a k : ℕ) → k < n → g (a + k) ≡ true → ((i : ℕ) → i ≢ a + k → g i ≡ f i)
+    → set (map f (range_with_len a n)) k true ≡ map g (range_with_len a n)
 set-range f g zero a k within here other = absurd (omega arith)
 set-range f g (suc n) a zero within here other =
     let e : a + 0 ≡ a = omega arith in
@@ -35,10 +36,13 @@ set-range f g (suc n) a zero within here other =
     rest (suc m) b l = rw (other b (λ e. omega arith), rest m (b + 1) (omega arith)) refl
 set-range f g (suc n) a (suc k) within here other =
     let e : a + suc k ≡ a + 1 + k = omega arith in
-    rw (other a (λ e. omega arith)) (ap (λ xs. f a ∷ xs) (set-range f g n (a + 1) k (omega arith) (rw e at here) (λ i ne. other i (λ q. ne (q ∙ e)))))
+    rw (other a (λ e. omega arith))
+    (ap (λ xs. f a ∷ xs)
+    (set-range f g n (a + 1) k (omega arith) (rw e at here) (λ i ne. other i (λ q. ne (q ∙ e)))))
 
 -- one more mark, where one more number passes the test
-pub one-more-mark : (f g : ℕ → Bool) (n j : ℕ) → 1 ≤ j → j ≤ n → g j ≡ true → ((i : ℕ) → i ≢ j → g i ≡ f i) → with_mark (marks_of f n) j ≡ marks_of g n
+pub one-more-mark : (f g : ℕ → Bool) (n j : ℕ) → 1 ≤ j → j ≤ n → g j ≡ true → ((i : ℕ) → i ≢ j → g i ≡ f i)
+    → with_mark (marks_of f n) j ≡ marks_of g n
 one-more-mark f g n j low high here other =
     let e : 1 + (j - 1) ≡ j = omega arith in
     set-range f g n 1 (j - 1) (omega arith) (rw e here) (λ i ne. other i (λ q. ne (q ∙ sym e)))
@@ -51,37 +55,45 @@ same-marks f g n h = go n 1
     go (suc m) a = rw (h a, go m (a + 1)) refl
 
 -- what was marked
-pub was-marked : (unknown : CertFault) (place : Option ℕ) (old new : List Bool) → marks_after unknown place old ≡ Ok new → (j : ℕ) × (place ≡ Some j) × (is_marked old j ≡ false) × (new ≡ with_mark old j)
+pub was-marked : (unknown : CertFault) (place : Option ℕ) (old new : List Bool) → marks_after unknown place old ≡ Ok new
+    → (j : ℕ) × (place ≡ Some j) × (is_marked old j ≡ false) × (new ≡ with_mark old j)
 was-marked unknown None old new h = cc h
 was-marked unknown (Some j) old new h = by (is_marked old j) refl h
   where
-    by : (b : Bool) → is_marked old j ≡ b → cond b (Err fault.Repeated) (Ok (with_mark old j)) ≡ Ok new → (k : ℕ) × (Some j ≡ Some k) × (is_marked old k ≡ false) × (new ≡ with_mark old k)
+    by : (b : Bool) → is_marked old j ≡ b → cond b (Err fault.Repeated) (Ok (with_mark old j)) ≡ Ok new
+        → (k : ℕ) × (Some j ≡ Some k) × (is_marked old k ≡ false) × (new ≡ with_mark old k)
     by true is e = cc e
     by false is e = (j, refl, is, cc e)
 
 -- names that differ from one more
-pub distinct-push : {A : Type 0} (eq : A → A → Bool) (xs : List A) (x : A) → IsDistinct eq xs → AllByRecursion (λ y. eq y x ≡ false) xs → IsDistinct eq (xs ++ (x ∷ []))
+pub distinct-push : {A : Type 0} (eq : A → A → Bool) (xs : List A) (x : A) → IsDistinct eq xs
+    → AllByRecursion (λ y. eq y x ≡ false) xs → IsDistinct eq (xs ++ (x ∷ []))
 unfolding IsDistinct
 distinct-push eq [] x h k = (tt, tt)
 distinct-push {A} eq (y ∷ ys) x h k = (apart ys h.0 k.0, distinct-push eq ys x h.1 k.1)
   where
-    apart : (zs : List A) → AllByRecursion (λ z. eq y z ≡ false) zs → eq y x ≡ false → AllByRecursion (λ z. eq y z ≡ false) (zs ++ (x ∷ []))
+    apart : (zs : List A) → AllByRecursion (λ z. eq y z ≡ false) zs → eq y x ≡ false
+        → AllByRecursion (λ z. eq y z ≡ false) (zs ++ (x ∷ []))
     apart [] l e = (e, tt)
     apart (z ∷ zs) l e = (l.0, apart zs l.1 e)
 
-pub all-push : {A : Type 0} (P : A → Type 0) (xs : List A) (x : A) → AllByRecursion P xs → P x → AllByRecursion P (xs ++ (x ∷ []))
+pub all-push : {A : Type 0} (P : A → Type 0) (xs : List A) (x : A) → AllByRecursion P xs → P x
+    → AllByRecursion P (xs ++ (x ∷ []))
 all-push P [] x h k = (k, tt)
 all-push P (y ∷ ys) x h k = (h.0, all-push P ys x h.1 k)
 
 -- the numbers that are marked are those that pass the test
-same-filter : (p q : ℕ → Bool) (n a : ℕ) → ((i : ℕ) → a ≤ i → i < a + n → p i ≡ q i) → filter p (range_with_len a n) ≡ filter q (range_with_len a n)
+same-filter : (p q : ℕ → Bool) (n a : ℕ) → ((i : ℕ) → a ≤ i → i < a + n → p i ≡ q i)
+    → filter p (range_with_len a n) ≡ filter q (range_with_len a n)
 same-filter p q zero a h = refl
 same-filter p q (suc n) a h =
     let rest = same-filter p q n (a + 1) (λ i low high. h i (omega arith) (omega arith)) in
     rw (h a (omega arith) (omega arith), rest) refl
 
 pub marked-are : (f : ℕ → Bool) (n : ℕ) → marked (marks_of f n) ≡ filter f (range_with_len 1 n)
-marked-are f n = rw (length-map-range_with_len f 1 n) (same-filter (is_marked (marks_of f n)) f n 1 (λ i low high. mark-is f n i low (omega arith)))
+marked-are f n =
+    rw (length-map-range_with_len f 1 n)
+    (same-filter (is_marked (marks_of f n)) f n 1 (λ i low high. mark-is f n i low (omega arith)))
 
 -- the numbers that are marked, step by step
 range-more : (a n : ℕ) → range_with_len a (suc n) ≡ range_with_len a n ++ ((a + n) ∷ [])
@@ -90,22 +102,32 @@ range-more a (suc n) =
     let e : a + 1 + n ≡ a + suc n = omega arith in
     ap (λ (xs : List ℕ). a ∷ xs) (range-more (a + 1) n ∙ ap (λ b. range_with_len (a + 1) n ++ (b ∷ [])) e)
 
-more-marked : (marks : List Bool) (i : ℕ) → filter (is_marked marks) (range_with_len 1 (i + 1)) ≡ filter (is_marked marks) (range_with_len 1 i) ++ filter (is_marked marks) ((1 + i) ∷ [])
-more-marked marks i = rw (add-one i) (ap (filter (is_marked marks)) (range-more 1 i) ∙ filter-append (is_marked marks) (range_with_len 1 i) ((1 + i) ∷ []))
+more-marked : (marks : List Bool) (i : ℕ)
+    → filter (is_marked marks) (range_with_len 1 (i + 1))
+    ≡ filter (is_marked marks) (range_with_len 1 i) ++ filter (is_marked marks) ((1 + i) ∷ [])
+more-marked marks i =
+    rw (add-one i)
+    (ap (filter (is_marked marks)) (range-more 1 i)
+    ∙ filter-append (is_marked marks) (range_with_len 1 i) ((1 + i) ∷ []))
 
 mark-at : (marks : List Bool) (i : ℕ) (b : Bool) → get_or marks i true ≡ b → is_marked marks (1 + i) ≡ b
 mark-at marks i b is = let e : 1 + i - 1 ≡ i = omega arith in rw e is
 
-pub one-more-marked : (marks : List Bool) (i number : ℕ) → number ≡ i → get_or marks i true ≡ true → filter (is_marked marks) (range_with_len 1 i) ++ ((number + 1) ∷ []) ≡ filter (is_marked marks) (range_with_len 1 (i + 1))
+pub one-more-marked : (marks : List Bool) (i number : ℕ) → number ≡ i → get_or marks i true ≡ true
+    → filter (is_marked marks) (range_with_len 1 i) ++ ((number + 1) ∷ [])
+    ≡ filter (is_marked marks) (range_with_len 1 (i + 1))
 one-more-marked marks i number same is =
     let e : number + 1 ≡ 1 + i = omega arith in
     let one : filter (is_marked marks) ((1 + i) ∷ []) ≡ (1 + i) ∷ [] = rw (mark-at marks i true is) refl in
-    rw e (ap (λ (xs : List ℕ). filter (is_marked marks) (range_with_len 1 i) ++ xs) (sym one) ∙ sym (more-marked marks i))
+    rw e (ap (λ (xs : List ℕ). filter (is_marked marks) (range_with_len 1 i) ++ xs) (sym one)
+    ∙ sym (more-marked marks i))
 
-pub none-more-marked : (marks : List Bool) (i : ℕ) → get_or marks i true ≡ false → filter (is_marked marks) (range_with_len 1 i) ≡ filter (is_marked marks) (range_with_len 1 (i + 1))
+pub none-more-marked : (marks : List Bool) (i : ℕ) → get_or marks i true ≡ false
+    → filter (is_marked marks) (range_with_len 1 i) ≡ filter (is_marked marks) (range_with_len 1 (i + 1))
 none-more-marked marks i is =
     let none : filter (is_marked marks) ((1 + i) ∷ []) ≡ [] = rw (mark-at marks i false is) refl in
-    sym (more-marked marks i ∙ ap (λ (xs : List ℕ). filter (is_marked marks) (range_with_len 1 i) ++ xs) none ∙ append-nil (filter (is_marked marks) (range_with_len 1 i)))
+    sym (more-marked marks i ∙ ap (λ (xs : List ℕ). filter (is_marked marks) (range_with_len 1 i) ++ xs) none
+    ∙ append-nil (filter (is_marked marks) (range_with_len 1 i)))
 
 -- they are a set
 pub marked-set : (marks : List Bool) (n : ℕ) → length marks ≡ n → IsSet 1 n (marked marks)

@@ -37,9 +37,15 @@ row-by e r x [] s h = cc
 row-by e r x (k ∷ []) s h = cc
 row-by e r x (k ∷ f ∷ []) s h = go (bytes_eq k (codes "voter")) refl (bytes_eq k (codes "project")) refl h
   where
-    go : (a : Bool) → bytes_eq k (codes "voter") ≡ a → (b : Bool) → bytes_eq k (codes "project") ≡ b → cond a (option_map Voter (voter_in e f)) (cond b (option_map Project (project_in e f)) None) ≡ Some x → Row e r x
-    go true is b is_b l = let found = map-some Voter (voter_in e f) x l in subst (Row e r) found.2 (record { kind = k; f = f; shape = s; says = ((bytes_eq-Decides k (codes "voter")).0 is, found.1) })
-    go false no' true is l = let found = map-some Project (project_in e f) x l in subst (Row e r) found.2 (record { kind = k; f = f; shape = s; says = ((bytes_eq-Decides k (codes "project")).0 is, found.1) })
+    go : (a : Bool) → bytes_eq k (codes "voter") ≡ a → (b : Bool) → bytes_eq k (codes "project") ≡ b
+        → cond a (option_map Voter (voter_in e f)) (cond b (option_map Project (project_in e f)) None) ≡ Some x
+        → Row e r x
+    go true is b is_b l = let found = map-some Voter (voter_in e f) x l in
+        subst (Row e r) found.2
+        (record { kind = k; f = f; shape = s; says = ((bytes_eq-Decides k (codes "voter")).0 is, found.1) })
+    go false no' true is l = let found = map-some Project (project_in e f) x l in
+        subst (Row e r) found.2
+        (record { kind = k; f = f; shape = s; says = ((bytes_eq-Decides k (codes "project")).0 is, found.1) })
     go false no' false no'' l = cc
 row-by e r x (k ∷ f ∷ g ∷ gs) s h = cc
 
@@ -50,14 +56,23 @@ pub two-fields : (e : Instance) (r : Rec) (x : Named) → Row e r x → not (len
 two-fields e r x row = ap (λ (fs : List Field). not (length fs == 2)) row.shape
 
 -- the kind of a row, tested
-kind-is : (e : Instance) (r : Rec) (x : Named) (row : Row e r x) (name word : Field) → row.kind ≡ word → is_kind name r ≡ bytes_eq word name
+kind-is : (e : Instance) (r : Rec) (x : Named) (row : Row e r x) (name word : Field) → row.kind ≡ word
+    → is_kind name r ≡ bytes_eq word name
 kind-is e r x row name word h = ap (λ k. bytes_eq k name) (cell-is r (row.kind ∷ row.f ∷ []) 0 row.shape ∙ h)
 
-pub voter-kind : (e : Instance) (r : Rec) (i : ℕ) → Row e r (Voter i) → (is_kind (codes "voter") r ≡ true) × (is_kind (codes "project") r ≡ false)
-voter-kind e r i row = (kind-is e r (Voter i) row (codes "voter") (codes "voter") row.says.0, kind-is e r (Voter i) row (codes "project") (codes "voter") row.says.0)
+pub voter-kind : (e : Instance) (r : Rec) (i : ℕ) → Row e r (Voter i)
+    → (is_kind (codes "voter") r ≡ true) × (is_kind (codes "project") r ≡ false)
+voter-kind e r i row = (
+  kind-is e r (Voter i) row (codes "voter") (codes "voter") row.says.0,
+  kind-is e r (Voter i) row (codes "project") (codes "voter") row.says.0,
+)
 
-pub project-kind : (e : Instance) (r : Rec) (j : ℕ) → Row e r (Project j) → (is_kind (codes "voter") r ≡ false) × (is_kind (codes "project") r ≡ true)
-project-kind e r j row = (kind-is e r (Project j) row (codes "voter") (codes "project") row.says.0, kind-is e r (Project j) row (codes "project") (codes "project") row.says.0)
+pub project-kind : (e : Instance) (r : Rec) (j : ℕ) → Row e r (Project j)
+    → (is_kind (codes "voter") r ≡ false) × (is_kind (codes "project") r ≡ true)
+project-kind e r j row = (
+  kind-is e r (Project j) row (codes "voter") (codes "project") row.says.0,
+  kind-is e r (Project j) row (codes "project") (codes "project") row.says.0,
+)
 
 pub row-voter : (e : Instance) (r : Rec) (i : ℕ) (row : Row e r (Voter i)) → voter_in e (cell 1 r) ≡ Some i
 row-voter e r i row = ap (voter_in e) (cell-is r (row.kind ∷ row.f ∷ []) 1 row.shape) ∙ row.says.1
@@ -80,11 +95,13 @@ or-both a b c d first rest = rw (first, rest) refl
 voter-is : (e : Instance) (r : Rec) (i : ℕ) → Row e r (Voter i) → number (cell 1 r) ≡ i
 voter-is e r i row = ap (λ o. unwrap_or o 0) (row-number e r i row)
 
-ids-same : (e : Instance) (r d : Rec) (j k : ℕ) → Row e r (Project j) → Row e d (Project k) → bytes_eq (cell 1 r) (cell 1 d) ≡ (j == k)
+ids-same : (e : Instance) (r d : Rec) (j k : ℕ) → Row e r (Project j) → Row e d (Project k)
+    → bytes_eq (cell 1 r) (cell 1 d) ≡ (j == k)
 ids-same e r d j k a b =
     elim (cases_eq j k) [
       | inl same ↦
-          let ids : cell 1 r ≡ cell 1 d = sym (found-project e (cell 1 r) j (row-project e r j a)).1 ∙ ap (id_of e) same ∙ (found-project e (cell 1 d) k (row-project e d k b)).1 in
+          let ids : cell 1 r ≡ cell 1 d = sym (found-project e (cell 1 r) j (row-project e r j a)).1 ∙ ap (id_of e) same
+          ∙ (found-project e (cell 1 d) k (row-project e d k b)).1 in
           (bytes_eq-Decides (cell 1 r) (cell 1 d)).1 ids ∙ sym (eq-eqb j k same)
       | inr other ↦ elim (cases_Bool (bytes_eq (cell 1 r) (cell 1 d))) [
         | inl equal ↦ absurd (other (clash ((bytes_eq-Decides (cell 1 r) (cell 1 d)).0 equal)))
@@ -98,50 +115,70 @@ ids-same e r d j k a b =
         cc
 
 names-same : (e : Instance) (r d : Rec) (x m : Named) → Row e r x → Row e d m → same_name r d ≡ same_named x m
-names-same e r d (Voter i) (Voter k) a b = rw ((voter-kind e r i a).0, (voter-kind e r i a).1, (voter-kind e d k b).0, voter-is e r i a, voter-is e d k b) (plain (i == k))
-names-same e r d (Voter i) (Project k) a b = rw ((voter-kind e r i a).0, (voter-kind e r i a).1, (project-kind e d k b).0) refl
-names-same e r d (Project j) (Voter k) a b = rw ((project-kind e r j a).0, (project-kind e r j a).1, (voter-kind e d k b).1) refl
-names-same e r d (Project j) (Project k) a b = rw ((project-kind e r j a).0, (project-kind e r j a).1, (project-kind e d k b).1) (ids-same e r d j k a b)
+names-same e r d (Voter i) (Voter k) a b =
+    rw ((voter-kind e r i a).0, (voter-kind e r i a).1, (voter-kind e d k b).0, voter-is e r i a, voter-is e d k b)
+    (plain (i == k))
+names-same e r d (Voter i) (Project k) a b =
+    rw ((voter-kind e r i a).0, (voter-kind e r i a).1, (project-kind e d k b).0) refl
+names-same e r d (Project j) (Voter k) a b =
+    rw ((project-kind e r j a).0, (project-kind e r j a).1, (voter-kind e d k b).1) refl
+names-same e r d (Project j) (Project k) a b =
+    rw ((project-kind e r j a).0, (project-kind e r j a).1, (project-kind e d k b).1) (ids-same e r d j k a b)
 
 -- a row names what a row before it named exactly where that was named
-pub stood-before : (e : Instance) (r : Rec) (x : Named) (done : List Rec) (names : List Named) → Row e r x → map (named_of e) done ≡ map Some names → list_any (same_name r) done ≡ was_named names x
+pub stood-before : (e : Instance) (r : Rec) (x : Named) (done : List Rec) (names : List Named) → Row e r x
+    → map (named_of e) done ≡ map Some names → list_any (same_name r) done ≡ was_named names x
 stood-before e r x [] [] row h = refl
 stood-before e r x [] (m ∷ ms) row h = cc
 stood-before e r x (d ∷ ds) [] row h = cc
 stood-before e r x (d ∷ ds) (m ∷ ms) row h =
     let first : named_of e d ≡ Some m = cc in
     let rest : map (named_of e) ds ≡ map Some ms = cc in
-    or-both (same_name r d) (same_named x m) (list_any (same_name r) ds) (was_named ms x) (names-same e r d x m row (row-of e d m first)) (stood-before e r x ds ms row rest)
+    or-both (same_name r d) (same_named x m) (list_any (same_name r) ds) (was_named ms x)
+    (names-same e r d x m row (row-of e d m first)) (stood-before e r x ds ms row rest)
 
 turn : (x y : Named) → same_named x y ≡ same_named y x
-turn (Voter i) (Voter k) = elim (cases_eq i k) [ inl e ↦ eq-eqb i k e ∙ sym (eq-eqb k i (sym e)) | inr e ↦ ne_eqb i k e ∙ sym (ne_eqb k i (λ q. e (sym q))) ]
+turn (Voter i) (Voter k) =
+    elim (cases_eq i k)
+    [ inl e ↦ eq-eqb i k e ∙ sym (eq-eqb k i (sym e)) | inr e ↦ ne_eqb i k e ∙ sym (ne_eqb k i (λ q. e (sym q))) ]
 turn (Voter i) (Project k) = refl
 turn (Project j) (Voter k) = refl
-turn (Project j) (Project k) = elim (cases_eq j k) [ inl e ↦ eq-eqb j k e ∙ sym (eq-eqb k j (sym e)) | inr e ↦ ne_eqb j k e ∙ sym (ne_eqb k j (λ q. e (sym q))) ]
+turn (Project j) (Project k) =
+    elim (cases_eq j k)
+    [ inl e ↦ eq-eqb j k e ∙ sym (eq-eqb k j (sym e)) | inr e ↦ ne_eqb j k e ∙ sym (ne_eqb k j (λ q. e (sym q))) ]
 
 -- what was not named is apart from all that were, and what is apart was not named
 pub apart : (x : Named) (ms : List Named) → was_named ms x ≡ false → AllByRecursion (λ m. same_named m x ≡ false) ms
 apart x [] h = tt
-apart x (m ∷ ms) h = let parts = or_parts (same_named x m) (was_named ms x) h in (turn m x ∙ parts.0, apart x ms parts.1)
+apart x (m ∷ ms) h = let parts = or_parts (same_named x m) (was_named ms x) h in
+    (turn m x ∙ parts.0, apart x ms parts.1)
 
 not-named : (x : Named) (ms : List Named) → AllByRecursion (λ m. same_named m x ≡ false) ms → was_named ms x ≡ false
 not-named x [] h = refl
 not-named x (m ∷ ms) h = or-false (same_named x m) (was_named ms x) (turn x m ∙ h.0) (not-named x ms h.1)
 
 -- Behind any head records, no fault stands among rows that name each thing once: where each such row is clear, and the end.
-pub rows-clear : (e : Instance) (stands : List Rec → Option Rec → CertFault → Bool) (heads : List Rec) (IsNamed : Named → Type 0)
-    → ((done : List Rec) (r : Rec) (x : Named) → is_text r ≡ true → Row e r x → IsNamed x → list_any (same_name r) done ≡ false → (f : CertFault) → stands (heads ++ done) (Some r) f ≡ false)
+pub rows-clear : (e : Instance) (stands : List Rec → Option Rec → CertFault → Bool) (heads : List Rec)
+    (IsNamed : Named → Type 0)
+    → ((done : List Rec) (r : Rec) (x : Named) → is_text r ≡ true → Row e r x → IsNamed x
+    → list_any (same_name r) done ≡ false → (f : CertFault) → stands (heads ++ done) (Some r) f ≡ false)
     → ((done : List Rec) (f : CertFault) → stands (heads ++ done) None f ≡ false)
-    → (done rows : List Rec) (ms xs : List Named) → AllByRecursion (λ r. is_text r ≡ true) rows → AllByRecursion IsNamed xs → map (named_of e) rows ≡ map Some xs → map (named_of e) done ≡ map Some ms
-    → AllByRecursion (λ x. AllByRecursion (λ m. same_named m x ≡ false) ms) xs → IsDistinct same_named xs → ClearFrom (λ before here. find (stands before here) in_order) (heads ++ done) rows
+    → (done rows : List Rec) (ms xs : List Named) → AllByRecursion (λ r. is_text r ≡ true) rows
+    → AllByRecursion IsNamed xs → map (named_of e) rows ≡ map Some xs → map (named_of e) done ≡ map Some ms
+    → AllByRecursion (λ x. AllByRecursion (λ m. same_named m x ≡ false) ms) xs → IsDistinct same_named xs
+    → ClearFrom (λ before here. find (stands before here) in_order) (heads ++ done) rows
 unfolding IsDistinct
-rows-clear e stands heads IsNamed row end done [] ms xs text are h k apart_all once = no-fault stands (heads ++ done) None (end done)
+rows-clear e stands heads IsNamed row end done [] ms xs text are h k apart_all once =
+    no-fault stands (heads ++ done) None (end done)
 rows-clear e stands heads IsNamed row end done (r ∷ rs) ms [] text are h k apart_all once = cc
 rows-clear e stands heads IsNamed row end done (r ∷ rs) ms (x ∷ xs) text are h k apart_all once =
     let first : named_of e r ≡ Some x = cc in
     let rest : map (named_of e) rs ≡ map Some xs = cc in
     let this = row-of e r x first in
-    let more = rows-clear e stands heads IsNamed row end (done ++ (r ∷ [])) rs (ms ++ (x ∷ [])) xs text.1 are.1 rest (joined-by (named_of e) done r ms x k first) (apart-more same_named ms x xs apart_all.1 once.0) once.1 in (
-      no-fault stands (heads ++ done) (Some r) (row done r x text.0 this are.0 (stood-before e r x done ms this k ∙ not-named x ms apart_all.0)),
-      subst (λ (before : List Rec). ClearFrom (λ b here. find (stands b here) in_order) before rs) (sym (append_assoc heads done (r ∷ []))) more,
+    let more = rows-clear e stands heads IsNamed row end (done ++ (r ∷ [])) rs (ms ++ (x ∷ [])) xs text.1 are.1 rest
+    (joined-by (named_of e) done r ms x k first) (apart-more same_named ms x xs apart_all.1 once.0) once.1 in (
+      no-fault stands (heads ++ done) (Some r)
+          (row done r x text.0 this are.0 (stood-before e r x done ms this k ∙ not-named x ms apart_all.0)),
+      subst (λ (before : List Rec). ClearFrom (λ b here. find (stands b here) in_order) before rs)
+          (sym (append_assoc heads done (r ∷ []))) more,
     )

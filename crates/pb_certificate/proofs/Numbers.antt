@@ -13,43 +13,53 @@ use Rattle.pb_certificate.specs.declared.refusal.CertFault.TheVariants as fault
 
 -- what `read_whole` answers
 answer : Bool → Bool → Bool → ℕ → Result ℕ WholeFault
-answer empty digits large n = cond empty (Err whole.Empty) (cond (not digits) (Err whole.NotDigits) (cond large (Err whole.TooLarge) (Ok n)))
+answer empty digits large n =
+    cond empty (Err whole.Empty) (cond (not digits) (Err whole.NotDigits) (cond large (Err whole.TooLarge) (Ok n)))
 
 pub number-read : (most n : ℕ) (f : Field) → Ok n ≡ whole_of most f → (whole_in f ≡ Some n) × (n ≤ most)
 unfolding whole_of whole_in answer
 number-read most n f h = by (is_empty f) (are_digits f) (nat_lt most (number_of f)) refl refl h
   where
-    by : (e d l : Bool) → are_digits f ≡ d → nat_lt most (number_of f) ≡ l → Ok n ≡ answer e d l (number_of f) → (cond d (Some (number_of f)) None ≡ Some n) × (n ≤ most)
+    by : (e d l : Bool) → are_digits f ≡ d → nat_lt most (number_of f) ≡ l → Ok n ≡ answer e d l (number_of f)
+        → (cond d (Some (number_of f)) None ≡ Some n) × (n ≤ most)
     by true d l is_d is_l k = cc
     by false false l is_d is_l k = cc
     by false true true is_d is_l k = cc
-    by false true false is_d is_l k = let same : n ≡ number_of f = cc in (ap Some (sym same), let high = ltb-false most (number_of f) is_l in omega arith)
+    by false true false is_d is_l k = let same : n ≡ number_of f = cc in
+        (ap Some (sym same), let high = ltb-false most (number_of f) is_l in omega arith)
 
-pub large-read : (most : ℕ) (f : Field) → Err whole.TooLarge ≡ whole_of most f → (n : ℕ) × (whole_in f ≡ Some n) × (most < n)
+pub large-read : (most : ℕ) (f : Field) → Err whole.TooLarge ≡ whole_of most f
+    → (n : ℕ) × (whole_in f ≡ Some n) × (most < n)
 unfolding whole_of whole_in answer
 large-read most f h = by (is_empty f) (are_digits f) (nat_lt most (number_of f)) refl refl h
   where
-    by : (e d l : Bool) → are_digits f ≡ d → nat_lt most (number_of f) ≡ l → Err whole.TooLarge ≡ answer e d l (number_of f) → (n : ℕ) × (cond d (Some (number_of f)) None ≡ Some n) × (most < n)
+    by : (e d l : Bool) → are_digits f ≡ d → nat_lt most (number_of f) ≡ l
+        → Err whole.TooLarge ≡ answer e d l (number_of f)
+        → (n : ℕ) × (cond d (Some (number_of f)) None ≡ Some n) × (most < n)
     by true d l is_d is_l k = cc
     by false false l is_d is_l k = cc
     by false true true is_d is_l k = (number_of f, refl, ltb-true most (number_of f) is_l)
     by false true false is_d is_l k = cc
 
 -- each other fault says that the field is not in digits
-pub no-number-read : (most : ℕ) (f : Field) (w : WholeFault) → Err w ≡ whole_of most f → (w ≡ whole.TooLarge → ⊥) → whole_in f ≡ None
+pub no-number-read : (most : ℕ) (f : Field) (w : WholeFault) → Err w ≡ whole_of most f → (w ≡ whole.TooLarge → ⊥)
+    → whole_in f ≡ None
 unfolding whole_of whole_in answer
 no-number-read most f w h other = by f (nat_lt most (number_of f)) h
   where
-    by : (g : Field) (l : Bool) → Err w ≡ answer (is_empty g) (are_digits g) l (number_of g) → cond (are_digits g) (Some (number_of g)) None ≡ None
+    by : (g : Field) (l : Bool) → Err w ≡ answer (is_empty g) (are_digits g) l (number_of g)
+        → cond (are_digits g) (Some (number_of g)) None ≡ None
     by [] l k = refl
     by (b ∷ bs) l k = digits (are_digits (b ∷ bs)) l k
       where
-        digits : (d l : Bool) → Err w ≡ answer false d l (number_of (b ∷ bs)) → cond d (Some (number_of (b ∷ bs))) None ≡ None
+        digits : (d l : Bool) → Err w ≡ answer false d l (number_of (b ∷ bs))
+            → cond d (Some (number_of (b ∷ bs))) None ≡ None
         digits false l k = refl
         digits true true k = absurd (other cc)
         digits true false k = cc
 
-pub within-bounds : (least most n : ℕ) (f : Field) → whole_in f ≡ Some n → least ≤ n → n ≤ most → whole_within least most f ≡ Some n
+pub within-bounds : (least most n : ℕ) (f : Field) → whole_in f ≡ Some n → least ≤ n → n ≤ most
+    → whole_within least most f ≡ Some n
 within-bounds least most n f is low high = rw (is, le-leb least n low, le-leb n most high) refl
 
 pub too-low : (least most n : ℕ) (f : Field) → whole_in f ≡ Some n → n < least → whole_within least most f ≡ None
@@ -66,29 +76,41 @@ pub no-number : (least most : ℕ) (f : Field) → whole_in f ≡ None → whole
 no-number least most f is = rw is refl
 
 -- no number up to `most` was read
-pub none-read : (least most : ℕ) (f : Field) (w : WholeFault) → Err w ≡ whole_of most f → whole_within least most f ≡ None
+pub none-read : (least most : ℕ) (f : Field) (w : WholeFault) → Err w ≡ whole_of most f
+    → whole_within least most f ≡ None
 none-read least most f whole.Empty read = no-number least most f (no-number-read most f whole.Empty read (λ e. cc e))
-none-read least most f whole.NotDigits read = no-number least most f (no-number-read most f whole.NotDigits read (λ e. cc e))
-none-read least most f whole.TooLarge read = let large = large-read most f read in too-high least most large.0 f large.1 large.2
+none-read least most f whole.NotDigits read =
+    no-number least most f (no-number-read most f whole.NotDigits read (λ e. cc e))
+none-read least most f whole.TooLarge read = let large = large-read most f read in
+    too-high least most large.0 f large.1 large.2
 
 -- a call of `read_whole`, at the values that are known of its arguments
-pub read-of : (result known : Result ℕ WholeFault) (most most' : ℕ) (text text' : Field) → result ≡ known → result ≡ whole_of most text → most ≡ most' → text ≡ text' → known ≡ whole_of most' text'
-read-of result known most most' text text' is read same same_text = sym is ∙ read ∙ ap (λ (n : ℕ). whole_of n text) same ∙ ap (whole_of most') same_text
+pub read-of : (result known : Result ℕ WholeFault) (most most' : ℕ) (text text' : Field) → result ≡ known
+    → result ≡ whole_of most text → most ≡ most' → text ≡ text' → known ≡ whole_of most' text'
+read-of result known most most' text text' is read same same_text =
+    sym is ∙ read ∙ ap (λ (n : ℕ). whole_of n text) same ∙ ap (whole_of most') same_text
 
 -- what a voter's field gives
-pub voter-read : (most n : ℕ) (f : Field) → Ok n ≡ whole_of most f → 0 < n → Ok (Some n) ≡ cond (is_some (whole_in f)) (Ok (whole_within 1 most f)) (Err fault.BadNumber)
-voter-read most n f read some = let number = number-read most n f read in rw (number.0, le-leb 1 n some, le-leb n most number.1) refl
+pub voter-read : (most n : ℕ) (f : Field) → Ok n ≡ whole_of most f → 0 < n
+    → Ok (Some n) ≡ cond (is_some (whole_in f)) (Ok (whole_within 1 most f)) (Err fault.BadNumber)
+voter-read most n f read some = let number = number-read most n f read in
+    rw (number.0, le-leb 1 n some, le-leb n most number.1) refl
 
-pub voter-0-read : (most n : ℕ) (f : Field) → Ok n ≡ whole_of most f → n ≤ 0 → Ok None ≡ cond (is_some (whole_in f)) (Ok (whole_within 1 most f)) (Err fault.BadNumber)
+pub voter-0-read : (most n : ℕ) (f : Field) → Ok n ≡ whole_of most f → n ≤ 0
+    → Ok None ≡ cond (is_some (whole_in f)) (Ok (whole_within 1 most f)) (Err fault.BadNumber)
 voter-0-read most n f read none = let number = number-read most n f read in rw (number.0, lt-leb 1 n (omega arith)) refl
 
-pub voter-large-read : (most : ℕ) (f : Field) → Err whole.TooLarge ≡ whole_of most f → Ok None ≡ cond (is_some (whole_in f)) (Ok (whole_within 1 most f)) (Err fault.BadNumber)
-voter-large-read most f read = let large = large-read most f read in rw (large.1, lt-leb large.0 most large.2, and-false (nat_le 1 large.0)) refl
+pub voter-large-read : (most : ℕ) (f : Field) → Err whole.TooLarge ≡ whole_of most f
+    → Ok None ≡ cond (is_some (whole_in f)) (Ok (whole_within 1 most f)) (Err fault.BadNumber)
+voter-large-read most f read = let large = large-read most f read in
+    rw (large.1, lt-leb large.0 most large.2, and-false (nat_le 1 large.0)) refl
 
-pub voter-not-read : (most : ℕ) (f : Field) (w : WholeFault) → Err w ≡ whole_of most f → (w ≡ whole.TooLarge → ⊥) → Err fault.BadNumber ≡ cond (is_some (whole_in f)) (Ok (whole_within 1 most f)) (Err fault.BadNumber)
+pub voter-not-read : (most : ℕ) (f : Field) (w : WholeFault) → Err w ≡ whole_of most f → (w ≡ whole.TooLarge → ⊥)
+    → Err fault.BadNumber ≡ cond (is_some (whole_in f)) (Ok (whole_within 1 most f)) (Err fault.BadNumber)
 voter-not-read most f w read other = rw (no-number-read most f w read other) refl
 
 -- what a voter's field gave
-pub voter-was : (o : Option ℕ) (f : Field) (e : Instance) (number : Option ℕ) → Ok o ≡ cond (is_some number) (Ok (voter_in e f)) (Err fault.BadNumber) → o ≡ voter_in e f
+pub voter-was : (o : Option ℕ) (f : Field) (e : Instance) (number : Option ℕ)
+    → Ok o ≡ cond (is_some number) (Ok (voter_in e f)) (Err fault.BadNumber) → o ≡ voter_in e f
 voter-was o f e (Some n) h = cc
 voter-was o f e None h = cc

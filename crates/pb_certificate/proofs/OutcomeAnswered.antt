@@ -7,8 +7,8 @@ use Rattle.pb_records.specs.Cells.{is_text, nonblank}
 use Rattle.pb_records.specs.FirstFault.{NoFault}
 use Rattle.pb_certificate.specs.Fields.{fields, same_fields}
 use Rattle.pb_certificate.specs.Faults.{outcome_form}
-use Rattle.pb_certificate.specs.Marks.{project_marks}
-use Rattle.pb_certificate.specs.OutcomeDrafts.{OutcomeTaken, after_outcome_row}
+use Rattle.pb_certificate.specs.Inside.Marks.{project_marks}
+use Rattle.pb_certificate.specs.Inside.OutcomeDrafts.{OutcomeTaken, after_outcome_row}
 use Rattle.pb_certificate.specs.OutcomeText.{IsOutcomeText}
 use Rattle.pb_certificate.specs.declared.refusal.CertFault.{CertFault}
 use Rattle.pb_certificate.specs.declared.refusal.CertFault.TheVariants as fault
@@ -26,7 +26,8 @@ is-text e before r none = by (is_text r) refl
     by true is = is
     by false is = let refused : outcome_form e before (Some r) ≡ Some fault.NotUtf8 = rw is refl in cc (none, refused)
 
-after-nothing : (e : Instance) (before : List Rec) (r : Rec) (marks : List Bool) → OutcomeTaken e false marks before → outcome_form e before (Some r) ≡ None → Taken e (before ++ (r ∷ []))
+after-nothing : (e : Instance) (before : List Rec) (r : Rec) (marks : List Bool) → OutcomeTaken e false marks before
+    → outcome_form e before (Some r) ≡ None → Taken e (before ++ (r ∷ []))
 after-nothing e before r marks h none = by (same_fields (fields r) (codes "pb-outcome" ∷ codes "1" ∷ [])) refl
   where
     text : is_text r ≡ true
@@ -36,7 +37,8 @@ after-nothing e before r marks h none = by (same_fields (fields r) (codes "pb-ou
     by true is = (true, marks, (head-taken e false marks r text refl is before h).1)
     by false is = let refused = head-refused e false marks r text refl is before h in cc (none, refused)
 
-after-rows : (e : Instance) (before : List Rec) (r : Rec) (marks : List Bool) → OutcomeTaken e true marks before → outcome_form e before (Some r) ≡ None → Taken e (before ++ (r ∷ []))
+after-rows : (e : Instance) (before : List Rec) (r : Rec) (marks : List Bool) → OutcomeTaken e true marks before
+    → outcome_form e before (Some r) ≡ None → Taken e (before ++ (r ∷ []))
 after-rows e before r marks h none = by (after_outcome_row e marks r) refl
   where
     text : is_text r ≡ true
@@ -46,7 +48,8 @@ after-rows e before r marks h none = by (after_outcome_row e marks r) refl
     by (Ok new) is = (true, new, (row-taken e true true marks new r text refl refl is before h).1)
     by (Err f) is = let refused = row-refused e true marks r f text refl is before h in cc (none, refused)
 
-one-more : (e : Instance) (before : List Rec) (r : Rec) (begun : Bool) (marks : List Bool) → OutcomeTaken e begun marks before → outcome_form e before (Some r) ≡ None → Taken e (before ++ (r ∷ []))
+one-more : (e : Instance) (before : List Rec) (r : Rec) (begun : Bool) (marks : List Bool)
+    → OutcomeTaken e begun marks before → outcome_form e before (Some r) ≡ None → Taken e (before ++ (r ∷ []))
 one-more e before r false marks h none = after-nothing e before r marks h none
 one-more e before r true marks h none = after-rows e before r marks h none
 
@@ -61,5 +64,7 @@ whole e recs none =
     let taken : Taken e (nonblank recs) = kept-to-end (outcome_form e) (Taken e) recs (kept e) none in
     (taken.1, whole-outcome e taken.0 taken.1 recs taken.2 none)
 
-pub outcome-answered : (recs : List Rec) (e : Instance) → ((w : List Bool) × IsOutcomeText recs e w) ⊎ HasFirst (outcome_form e) recs
-outcome-answered recs e = elim (first-or-none (outcome_form e) recs) [ inl none ↦ inl (whole e recs none) | inr first ↦ inr first ]
+pub outcome-answered : (recs : List Rec) (e : Instance)
+    → ((w : List Bool) × IsOutcomeText recs e w) ⊎ HasFirst (outcome_form e) recs
+outcome-answered recs e =
+    elim (first-or-none (outcome_form e) recs) [ inl none ↦ inl (whole e recs none) | inr first ↦ inr first ]

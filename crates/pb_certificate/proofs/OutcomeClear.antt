@@ -18,7 +18,8 @@ use Rattle.pb_certificate.proofs.HeadRecords.{not-cut, past}
 use Rattle.pb_certificate.proofs.NamedRows.{Row, project-kind, row-project, rows-clear, two-fields}
 use Rattle.pb_certificate.proofs.Sweep.{ClearFrom, each-nil, no-fault, none-refused, or-false}
 
-head-clear : (e : Instance) (head : Rec) → is_text head ≡ true → fields head ≡ codes "pb-outcome" ∷ codes "1" ∷ [] → (f : CertFault) → outcome_fault_stands e [] (Some head) f ≡ false
+head-clear : (e : Instance) (head : Rec) → is_text head ≡ true → fields head ≡ codes "pb-outcome" ∷ codes "1" ∷ []
+    → (f : CertFault) → outcome_fault_stands e [] (Some head) f ≡ false
 head-clear e head text is fault.NotUtf8 = rw text refl
 head-clear e head text is fault.BadHead = rw is refl
 head-clear e head text is fault.BadRow = refl
@@ -30,23 +31,31 @@ head-clear e head text is fault.Repeated = refl
 head-clear e head text is fault.TooMany = refl
 head-clear e head text is fault.Memory = refl
 
-shape-fits : (e : Instance) (r : Rec) (j : ℕ) → Row e r (Project j) → (not (length (fields r) == 2) || not (is_kind (codes "project") r)) ≡ false
-shape-fits e r j row = or-false (not (length (fields r) == 2)) (not (is_kind (codes "project") r)) (two-fields e r (Project j) row) (ap not (project-kind e r j row).1)
+shape-fits : (e : Instance) (r : Rec) (j : ℕ) → Row e r (Project j)
+    → (not (length (fields r) == 2) || not (is_kind (codes "project") r)) ≡ false
+shape-fits e r j row =
+    or-false (not (length (fields r) == 2)) (not (is_kind (codes "project") r)) (two-fields e r (Project j) row)
+    (ap not (project-kind e r j row).1)
 
-row-clear : (e : Instance) (head : Rec) (done : List Rec) (r : Rec) (x : Named) → is_text r ≡ true → Row e r x → is_project x ≡ true → list_any (same_name r) done ≡ false → (f : CertFault) → outcome_fault_stands e (head ∷ done) (Some r) f ≡ false
+row-clear : (e : Instance) (head : Rec) (done : List Rec) (r : Rec) (x : Named) → is_text r ≡ true → Row e r x
+    → is_project x ≡ true → list_any (same_name r) done ≡ false → (f : CertFault)
+    → outcome_fault_stands e (head ∷ done) (Some r) f ≡ false
 row-clear e head done r (Voter i) text row is new f = cc
 row-clear e head done r (Project j) text row is new fault.NotUtf8 = rw text refl
-row-clear e head done r (Project j) text row is new fault.BadHead = or-false _ _ (and_left _ _ (past (head ∷ []) done 0 (omega arith))) (and_right _ _ refl)
+row-clear e head done r (Project j) text row is new fault.BadHead =
+    or-false _ _ (and_left _ _ (past (head ∷ []) done 0 (omega arith))) (and_right _ _ refl)
 row-clear e head done r (Project j) text row is new fault.BadRow = and_right _ _ (shape-fits e r j row)
 row-clear e head done r (Project j) text row is new fault.BadNumber = refl
 row-clear e head done r (Project j) text row is new fault.UnknownVoter = refl
-row-clear e head done r (Project j) text row is new fault.UnknownProject = and_right _ _ (ap is_none (row-project e r j row))
+row-clear e head done r (Project j) text row is new fault.UnknownProject =
+    and_right _ _ (ap is_none (row-project e r j row))
 row-clear e head done r (Project j) text row is new fault.OutOfOrder = refl
 row-clear e head done r (Project j) text row is new fault.Repeated = and_right _ _ new
 row-clear e head done r (Project j) text row is new fault.TooMany = refl
 row-clear e head done r (Project j) text row is new fault.Memory = refl
 
-end-clear : (e : Instance) (head : Rec) (done : List Rec) (f : CertFault) → outcome_fault_stands e (head ∷ done) None f ≡ false
+end-clear : (e : Instance) (head : Rec) (done : List Rec) (f : CertFault)
+    → outcome_fault_stands e (head ∷ done) None f ≡ false
 end-clear e head done fault.NotUtf8 = refl
 end-clear e head done fault.BadHead = or-false _ _ (and_right _ _ refl) (and_left _ _ (not-cut (head ∷ []) done))
 end-clear e head done fault.BadRow = and_right _ _ refl
@@ -58,10 +67,13 @@ end-clear e head done fault.Repeated = and_right _ _ refl
 end-clear e head done fault.TooMany = refl
 end-clear e head done fault.Memory = refl
 
-pub outcome-clear : (recs : List Rec) (e : Instance) (w : List Bool) → IsOutcomeText recs e w → (k : ℕ) (f : CertFault) → IsFirstFault (outcome_form e) recs k f → ⊥
+pub outcome-clear : (recs : List Rec) (e : Instance) (w : List Bool) → IsOutcomeText recs e w → (k : ℕ) (f : CertFault)
+    → IsFirstFault (outcome_form e) recs k f → ⊥
 outcome-clear recs e w t = none-refused (outcome_form e) recs (subst (ClearFrom (outcome_form e) []) (sym t.cut) (
   no-fault (outcome_fault_stands e) [] (Some t.head) (head-clear e t.head text.0 t.is_head),
-  rows-clear e (outcome_fault_stands e) (t.head ∷ []) (λ x. is_project x ≡ true) (row-clear e t.head) (end-clear e t.head) [] t.rows [] t.names text.1 t.projects_alone t.named.each_row refl (each-nil same_named t.names) t.named.once,
+  rows-clear e (outcome_fault_stands e) (t.head ∷ []) (λ x. is_project x ≡ true) (row-clear e t.head)
+      (end-clear e t.head) [] t.rows [] t.names text.1 t.projects_alone t.named.each_row refl
+      (each-nil same_named t.names) t.named.once,
 ))
   where
     text : AllByRecursion (λ r. is_text r ≡ true) (t.head ∷ t.rows)

@@ -8,5 +8,6 @@ pub each-of : {X : Type 0} (P : X → Type 0) (xs : List X) → All P xs → All
 each-of P [] h = tt
 each-of P (x ∷ xs) h = (h 0 x (omega arith), each-of P xs (λ i d within. h (suc i) d (omega arith)))
 
-pub map-at : (p : Prices) (i : ℕ) → IsPriceSystem p → 1 ≤ i → i ≤ length p.payments → IsPaymentMap p.projects (payments_of p i)
+pub map-at : (p : Prices) (i : ℕ) → IsPriceSystem p → 1 ≤ i → i ≤ length p.payments
+    → IsPaymentMap p.projects (payments_of p i)
 map-at p i s low high = s.maps (i - 1) [] (omega arith)

@@ -9,11 +9,11 @@ use Rattle.pb_records.specs.Cells.{cell, is_text, nonblank}
 use Rattle.pb_records.specs.FirstFault.{NoFault}
 use Rattle.pb_certificate.specs.Fields.{StatesNumber, fields, project_in, same_fields, voter_in, whole_in, whole_within}
 use Rattle.pb_certificate.specs.Faults.{is_value_of, price_form}
-use Rattle.pb_certificate.specs.PriceHead.{column_fields, name_fields}
+use Rattle.pb_certificate.specs.Inside.PriceHead.{column_fields, name_fields}
 use Rattle.pb_certificate.specs.PriceRows.{last_voter, payment_fault, row_fault}
 use Rattle.pb_certificate.specs.Prices.{Prices}
 use Rattle.pb_certificate.specs.PriceText.{IsPriceText, Payment, numerator_of, payment_by, payment_of, payments_stated, same_pair}
-use Rattle.pb_certificate.specs.PriorRows.{RiseFrom}
+use Rattle.pb_certificate.specs.Inside.PriorRows.{RiseFrom}
 use Rattle.pb_certificate.specs.declared.refusal.CertFault.{CertFault}
 use Rattle.pb_certificate.specs.declared.refusal.CertFault.TheVariants as fault
 use Rattle.pb_certificate.proofs.Ends.{none-at-end}
@@ -48,7 +48,8 @@ TakenParts e [] = Unit {0}
 TakenParts e (h ∷ []) = fields h ≡ name_fields
 TakenParts e (h ∷ d ∷ []) = (fields h ≡ name_fields) × IsDenominator d
 TakenParts e (h ∷ d ∷ b ∷ []) = (fields h ≡ name_fields) × IsDenominator d × IsBudget b
-TakenParts e (h ∷ d ∷ b ∷ c ∷ rows) = (fields h ≡ name_fields) × IsDenominator d × IsBudget b × (fields c ≡ column_fields) × TakenRows e rows
+TakenParts e (h ∷ d ∷ b ∷ c ∷ rows) = (fields h ≡ name_fields) × IsDenominator d × IsBudget b
+    × (fields c ≡ column_fields) × TakenRows e rows
 
 abbrev Taken : Instance → List Rec → Type 0
 Taken e before = AllByRecursion (λ r. is_text r ≡ true) before × TakenParts e before
@@ -67,10 +68,13 @@ passes : (test : Bool) → cond test None (Some fault.BadHead) ≡ None → test
 passes true h = refl
 passes false h = cc h
 
-number-stated : (name : List ℕ) (least most : ℕ) (r : Rec) → number_fault (is_value_of name r) (is_none (whole_within least most (cell 1 r))) ≡ None → (n : ℕ) × StatesNumber name least most r n
+number-stated : (name : List ℕ) (least most : ℕ) (r : Rec)
+    → number_fault (is_value_of name r) (is_none (whole_within least most (cell 1 r))) ≡ None
+    → (n : ℕ) × StatesNumber name least most r n
 number-stated name least most r h = by (is_value_of name r) (whole_within least most (cell 1 r)) refl refl h
   where
-    by : (v : Bool) (o : Option ℕ) → is_value_of name r ≡ v → whole_within least most (cell 1 r) ≡ o → number_fault v (is_none o) ≡ None → (n : ℕ) × StatesNumber name least most r n
+    by : (v : Bool) (o : Option ℕ) → is_value_of name r ≡ v → whole_within least most (cell 1 r) ≡ o
+        → number_fault v (is_none o) ≡ None → (n : ℕ) × StatesNumber name least most r n
     by true (Some n) is value k = (n, states-number name least most n r is value)
     by true None is value k = cc k
     by false o is value k = cc k
@@ -82,17 +86,24 @@ neither (Some f) b h = cc h
 
 -- a row without a fault of its own states a payment
 payment-stated : (e : Instance) (r : Rec) → row_fault e r ≡ None → (q : Payment) × (payment_of e r ≡ Some q)
-payment-stated e r h = by (length (fields r) == 3) (whole_in (cell 0 r)) (numerator_of (cell 2 r)) (voter_in e (cell 0 r)) (project_in e (cell 1 r)) refl refl refl refl h
+payment-stated e r h =
+    by (length (fields r) == 3) (whole_in (cell 0 r)) (numerator_of (cell 2 r)) (voter_in e (cell 0 r))
+    (project_in e (cell 1 r)) refl refl refl refl h
   where
-    by : (three : Bool) (whole numerator voter project : Option ℕ) → (length (fields r) == 3) ≡ three → numerator_of (cell 2 r) ≡ numerator → voter_in e (cell 0 r) ≡ voter → project_in e (cell 1 r) ≡ project
-        → cond (not three) (Some fault.BadRow) (cond (is_none whole || is_none numerator) (Some fault.BadNumber) (cond (is_none voter) (Some fault.UnknownVoter) (cond (is_none project) (Some fault.UnknownProject) None))) ≡ None
+    by : (three : Bool) (whole numerator voter project : Option ℕ) → (length (fields r) == 3) ≡ three
+        → numerator_of (cell 2 r) ≡ numerator → voter_in e (cell 0 r) ≡ voter → project_in e (cell 1 r) ≡ project
+        → cond (not three) (Some fault.BadRow)
+        (cond (is_none whole || is_none numerator) (Some fault.BadNumber)
+        (cond (is_none voter) (Some fault.UnknownVoter) (cond (is_none project) (Some fault.UnknownProject) None)))
+        ≡ None
         → (q : Payment) × (payment_of e r ≡ Some q)
     by false whole numerator voter project is n v j k = cc k
     by true None numerator voter project is n v j k = cc k
     by true (Some x) None voter project is n v j k = cc k
     by true (Some x) (Some y) None project is n v j k = cc k
     by true (Some x) (Some y) (Some i) None is n v j k = cc k
-    by true (Some x) (Some y) (Some i) (Some c) is n v j k = (record { voter = i; project = c; numerator = y }, ap (payment_by e) (triple-is r is) ∙ rw (v, j, n) refl)
+    by true (Some x) (Some y) (Some i) (Some c) is n v j k =
+        (record { voter = i; project = c; numerator = y }, ap (payment_by e) (triple-is r is) ∙ rw (v, j, n) refl)
 
 -- what a payment keeps that has no fault after some others
 record Follows (qs : List Payment) (q : Payment) : Type 0 where
@@ -101,16 +112,20 @@ record Follows (qs : List Payment) (q : Payment) : Type 0 where
   few : nat_le 10000000 (length qs) ≡ false
 
 follows : (qs : List Payment) (q : Payment) → payment_fault qs q ≡ None → Follows qs q
-follows qs q h = by (nat_lt q.voter (last_voter qs)) (list_any (same_pair q) qs) (nat_le 10000000 (length qs)) refl refl refl h
+follows qs q h =
+    by (nat_lt q.voter (last_voter qs)) (list_any (same_pair q) qs) (nat_le 10000000 (length qs)) refl refl refl h
   where
-    by : (a b c : Bool) → nat_lt q.voter (last_voter qs) ≡ a → list_any (same_pair q) qs ≡ b → nat_le 10000000 (length qs) ≡ c
-        → cond a (Some fault.OutOfOrder) (cond b (Some fault.Repeated) (cond c (Some fault.TooMany) None)) ≡ None → Follows qs q
+    by : (a b c : Bool) → nat_lt q.voter (last_voter qs) ≡ a → list_any (same_pair q) qs ≡ b
+        → nat_le 10000000 (length qs) ≡ c
+        → cond a (Some fault.OutOfOrder) (cond b (Some fault.Repeated) (cond c (Some fault.TooMany) None)) ≡ None
+        → Follows qs q
     by true b c is_a is_b is_c k = cc k
     by false true c is_a is_b is_c k = cc k
     by false false true is_a is_b is_c k = cc k
     by false false false is_a is_b is_c k = record { not_lower = is_a; new = is_b; few = is_c }
 
-row-more : (e : Instance) (h d b c : Rec) (rows : List Rec) (r : Rec) → is_text r ≡ true → TakenRows e rows → price_form e (h ∷ d ∷ b ∷ c ∷ rows) (Some r) ≡ None → TakenRows e (rows ++ (r ∷ []))
+row-more : (e : Instance) (h d b c : Rec) (rows : List Rec) (r : Rec) → is_text r ≡ true → TakenRows e rows
+    → price_form e (h ∷ d ∷ b ∷ c ∷ rows) (Some r) ≡ None → TakenRows e (rows ++ (r ∷ []))
 row-more e h d b c rows r text taken none =
     let qs = taken.payments in
     let parts = neither (row_fault e r) (place_fault r rows) (sym (form-at-row e h d b c rows r text) ∙ none) in
@@ -131,27 +146,43 @@ no-rows : (e : Instance) → TakenRows e []
 unfolding IsDistinct
 no-rows e = record { payments = []; each_row = refl; few = omega arith; in_order = tt; once = tt }
 
-one-more : (e : Instance) (before : List Rec) (r : Rec) → is_text r ≡ true → TakenParts e before → price_form e before (Some r) ≡ None → TakenParts e (before ++ (r ∷ []))
+one-more : (e : Instance) (before : List Rec) (r : Rec) → is_text r ≡ true → TakenParts e before
+    → price_form e before (Some r) ≡ None → TakenParts e (before ++ (r ∷ []))
 one-more e [] r text h none =
     let is = same_fields (fields r) name_fields in
     same-is (fields r) name_fields (passes is (sym (form-at-name e r is text refl) ∙ none))
 one-more e (n ∷ []) r text h none =
     let named = is_value_of (codes "denominator") r in
-    let bad = is_none (whole_within 1 (10 ^ 9) (cell 1 r)) in
-    (h, number-stated (codes "denominator") 1 (10 ^ 9) r (sym (form-at-denominator e n r named bad text refl refl) ∙ none))
+    let bad = is_none (whole_within 1 (10 ^ 9) (cell 1 r)) in (
+      h,
+      number-stated (codes "denominator") 1 (10 ^ 9) r
+          (sym (form-at-denominator e n r named bad text refl refl) ∙ none),
+    )
 one-more e (n ∷ d ∷ []) r text h none =
     let named = is_value_of (codes "voter_budget") r in
-    let bad = is_none (whole_within 0 (10 ^ 21) (cell 1 r)) in
-    (h.0, h.1, number-stated (codes "voter_budget") 0 (10 ^ 21) r (sym (form-at-budget e n d r named bad text refl refl) ∙ none))
+    let bad = is_none (whole_within 0 (10 ^ 21) (cell 1 r)) in (
+      h.0,
+      h.1,
+      number-stated (codes "voter_budget") 0 (10 ^ 21) r
+          (sym (form-at-budget e n d r named bad text refl refl) ∙ none),
+    )
 one-more e (n ∷ d ∷ b ∷ []) r text h none =
-    let are = same_fields (fields r) column_fields in
-    (h.0, h.1, h.2, same-is (fields r) column_fields (passes are (sym (form-at-columns e n d b r are text refl) ∙ none)), no-rows e)
+    let are = same_fields (fields r) column_fields in (
+      h.0,
+      h.1,
+      h.2,
+      same-is (fields r) column_fields (passes are (sym (form-at-columns e n d b r are text refl) ∙ none)),
+      no-rows e,
+    )
 one-more e (n ∷ d ∷ b ∷ c ∷ rows) r text h none = (h.0, h.1, h.2, h.3, row-more e n d b c rows r text h.4 none)
 
 kept : (e : Instance) → Kept (price_form e) (Taken e)
 kept e = record {
   start = (tt, tt);
-  more = λ before r h none. (let text = is-text e before r none in (all-push (λ x. is_text x ≡ true) before r h.0 text, one-more e before r text h.1 none));
+  more =
+      λ before r h none.
+      (let text = is-text e before r none in
+      (all-push (λ x. is_text x ≡ true) before r h.0 text, one-more e before r text h.1 none));
 }
 
 -- The prices that all of them state.
@@ -159,7 +190,8 @@ kept e = record {
 cut-short : (e : Instance) (before : List Rec) → length before < 4 → price_form e before None ≡ None → ⊥
 cut-short e before few none = let refused = end-form e before few in cc (none, refused)
 
-whole-by : (e : Instance) (recs all : List Rec) → nonblank recs ≡ all → AllByRecursion (λ r. is_text r ≡ true) all → TakenParts e all → price_form e all None ≡ None → (p : Prices) × IsPriceText recs e p
+whole-by : (e : Instance) (recs all : List Rec) → nonblank recs ≡ all → AllByRecursion (λ r. is_text r ≡ true) all
+    → TakenParts e all → price_form e all None ≡ None → (p : Prices) × IsPriceText recs e p
 whole-by e recs [] cut text h none = absurd (cut-short e [] (omega arith) none)
 whole-by e recs (n ∷ []) cut text h none = absurd (cut-short e (n ∷ []) (omega arith) none)
 whole-by e recs (n ∷ d ∷ []) cut text h none = absurd (cut-short e (n ∷ d ∷ []) (omega arith) none)
@@ -169,7 +201,12 @@ whole-by e recs (n ∷ d ∷ b ∷ c ∷ rows) cut text h none =
     let qs = taken.payments in
     let many = stated-length (payment_of e) rows qs taken.each_row in
     let most : length qs ≤ 10000000 = taken.few in (
-      record { projects = projects e; denominator = h.1.0; budget = h.2.0; payments = map (payments_stated e qs) (all_voters e) },
+      record {
+        projects = projects e;
+        denominator = h.1.0;
+        budget = h.2.0;
+        payments = map (payments_stated e qs) (all_voters e);
+      },
       record {
         head = n;
         denominator = d;
@@ -197,5 +234,7 @@ whole e recs none =
     let taken : Taken e (nonblank recs) = kept-to-end (price_form e) (Taken e) recs (kept e) none in
     whole-by e recs (nonblank recs) refl taken.0 taken.1 (none-at-end (price_form e) recs none)
 
-pub price-answered : (recs : List Rec) (e : Instance) → ((p : Prices) × IsPriceText recs e p) ⊎ HasFirst (price_form e) recs
-price-answered recs e = elim (first-or-none (price_form e) recs) [ inl none ↦ inl (whole e recs none) | inr first ↦ inr first ]
+pub price-answered : (recs : List Rec) (e : Instance)
+    → ((p : Prices) × IsPriceText recs e p) ⊎ HasFirst (price_form e) recs
+price-answered recs e =
+    elim (first-or-none (price_form e) recs) [ inl none ↦ inl (whole e recs none) | inr first ↦ inr first ]

@@ -24,16 +24,21 @@ IsWritable (f ∷ []) = ⊥
 IsWritable (f ∷ g ∷ fs) = ArePlain (f ∷ g ∷ fs)
 
 -- such a record is read back, whatever follows it
-read-line : (r : Rec) (tail : List ℕ) → IsWritable r → next_record default_config st.StartRecord [] [] (line r ++ tail) ≡ Some (r, st.StartRecord, tail)
+read-line : (r : Rec) (tail : List ℕ) → IsWritable r
+    → next_record default_config st.StartRecord [] [] (line r ++ tail) ≡ Some (r, st.StartRecord, tail)
 read-line [] tail h = absurd h
 read-line (f ∷ []) tail h = absurd h
-read-line (f ∷ g ∷ fs) tail h = ap (λ (x : List ℕ). next_record default_config st.StartRecord [] [] (x ++ tail)) (sym (row-line f g fs h)) ∙ read-write (f ∷ g ∷ fs) tail
+read-line (f ∷ g ∷ fs) tail h =
+    ap (λ (x : List ℕ). next_record default_config st.StartRecord [] [] (x ++ tail)) (sym (row-line f g fs h))
+    ∙ read-write (f ∷ g ∷ fs) tail
 
-read-lines : (rows : List Rec) (n : ℕ) → AllByRecursion IsWritable rows → length rows < n → records_from default_config n st.StartRecord (lines rows) ≡ rows
+read-lines : (rows : List Rec) (n : ℕ) → AllByRecursion IsWritable rows → length rows < n
+    → records_from default_config n st.StartRecord (lines rows) ≡ rows
 unfolding records_from next_record
 read-lines rows zero h l = absurd (omega arith)
 read-lines [] (suc n) h l = refl
-read-lines (r ∷ rs) (suc n) h l = rw (read-line r (lines rs) h.0) (ap (λ (xs : List Rec). r ∷ xs) (read-lines rs n h.1 (omega arith)))
+read-lines (r ∷ rs) (suc n) h l =
+    rw (read-line r (lines rs) h.0) (ap (λ (xs : List Rec). r ∷ xs) (read-lines rs n h.1 (omega arith)))
 
 line-some : (r : Rec) → 1 ≤ length (line r)
 unfolding line
@@ -47,46 +52,63 @@ lines-longer (r ∷ rs) = omega (arith, length-append (line r) (lines rs), line-
 
 -- Each record of the canonical text.
 
-all-append : {A : Type 0} (P : A → Type 0) (xs ys : List A) → AllByRecursion P xs → AllByRecursion P ys → AllByRecursion P (xs ++ ys)
+all-append : {A : Type 0} (P : A → Type 0) (xs ys : List A) → AllByRecursion P xs → AllByRecursion P ys
+    → AllByRecursion P (xs ++ ys)
 all-append P [] ys h k = k
 all-append P (x ∷ xs) ys h k = (h.0, all-append P xs ys h.1 k)
 
-pub all-flat : {A B : Type 0} (P : B → Type 0) (f : A → List B) (xs : List A) → AllByRecursion (λ x. AllByRecursion P (f x)) xs → AllByRecursion P (flat_map f xs)
+pub all-flat : {A B : Type 0} (P : B → Type 0) (f : A → List B) (xs : List A)
+    → AllByRecursion (λ x. AllByRecursion P (f x)) xs → AllByRecursion P (flat_map f xs)
 all-flat P f [] h = tt
 all-flat P f (x ∷ xs) h = all-append P (f x) (flat_map f xs) h.0 (all-flat P f xs h.1)
 
 pub all-range : (P : ℕ → Type 0) (a n : ℕ) → ((i : ℕ) → a ≤ i → i < a + n → P i) → AllByRecursion P (range_with_len a n)
 all-range P a zero h = tt
-all-range P a (suc n) h = (h a (omega arith) (omega arith), all-range P (a + 1) n (λ i low high. h i (omega arith) (omega arith)))
+all-range P a (suc n) h =
+    (h a (omega arith) (omega arith), all-range P (a + 1) n (λ i low high. h i (omega arith) (omega arith)))
 
-pub all-map : {A B : Type 0} (P : A → Type 0) (Q : B → Type 0) (f : A → B) (xs : List A) → ((x : A) → P x → Q (f x)) → AllByRecursion P xs → AllByRecursion Q (map f xs)
+pub all-map : {A B : Type 0} (P : A → Type 0) (Q : B → Type 0) (f : A → B) (xs : List A) → ((x : A) → P x → Q (f x))
+    → AllByRecursion P xs → AllByRecursion Q (map f xs)
 all-map P Q f [] g h = tt
 all-map P Q f (x ∷ xs) g h = (g x h.0, all-map P Q f xs g h.1)
 
 -- what one voter pays is a map over the projects of the election
-pub voter-map : (e : Instance) (p : Prices) (i : ℕ) → ArePrices e p → 1 ≤ i → i ≤ voters e → IsPaymentMap (projects e) (payments_of p i)
+pub voter-map : (e : Instance) (p : Prices) (i : ℕ) → ArePrices e p → 1 ≤ i → i ≤ voters e
+    → IsPaymentMap (projects e) (payments_of p i)
 voter-map e p i a low high =
     let many : length p.payments ≡ voters e = a.fits.each_voter in
     rw a.fits.each_project at (map-at p i a.system low (omega arith))
 
 -- what holds of each row of the canonical text
-pub all-rows : (Q : Rec → Type 0) (e : Instance) (p : Prices) → ArePrices e p → ((i : ℕ) (q : ℕ × ℕ) → 1 ≤ i → i ≤ voters e → IsPayment (projects e) q → Q (row_of e i q)) → AllByRecursion Q (payment_rows e p)
+pub all-rows : (Q : Rec → Type 0) (e : Instance) (p : Prices) → ArePrices e p
+    → ((i : ℕ) (q : ℕ × ℕ) → 1 ≤ i → i ≤ voters e → IsPayment (projects e) q → Q (row_of e i q))
+    → AllByRecursion Q (payment_rows e p)
 all-rows Q e p a h =
     all-flat Q (λ i. rows_of_voter e i (payments_of p i)) (range_with_len 1 (voters e))
     (all-range (λ i. AllByRecursion Q (rows_of_voter e i (payments_of p i))) 1 (voters e)
-    (λ i low high. all-map (IsPayment (projects e)) Q (row_of e i) (payments_of p i) (λ q k. h i q low (omega arith) k) (each-payment (projects e) (payments_of p i) (voter-map e p i a low (omega arith)))))
+    (λ i low high. all-map (IsPayment (projects e)) Q (row_of e i) (payments_of p i) (λ q k. h i q low (omega arith) k)
+    (each-payment (projects e) (payments_of p i) (voter-map e p i a low (omega arith)))))
 
-pub all-records : (Q : Rec → Type 0) (e : Instance) (p : Prices) → ArePrices e p → AllByRecursion Q (head_records p.denominator p.budget)
-    → ((i : ℕ) (q : ℕ × ℕ) → 1 ≤ i → i ≤ voters e → IsPayment (projects e) q → Q (row_of e i q)) → AllByRecursion Q (canonical_records e p)
-all-records Q e p a heads h = all-append Q (head_records p.denominator p.budget) (payment_rows e p) heads (all-rows Q e p a h)
+pub all-records : (Q : Rec → Type 0) (e : Instance) (p : Prices) → ArePrices e p
+    → AllByRecursion Q (head_records p.denominator p.budget)
+    → ((i : ℕ) (q : ℕ × ℕ) → 1 ≤ i → i ≤ voters e → IsPayment (projects e) q → Q (row_of e i q))
+    → AllByRecursion Q (canonical_records e p)
+all-records Q e p a heads h =
+    all-append Q (head_records p.denominator p.budget) (payment_rows e p) heads (all-rows Q e p a h)
 
-writable : (e : Instance) (p : Prices) → IsElection e → ArePrices e p → AllByRecursion IsWritable (canonical_records e p)
+writable : (e : Instance) (p : Prices) → IsElection e → ArePrices e p
+    → AllByRecursion IsWritable (canonical_records e p)
 writable e p s a =
     let d : p.denominator ≤ 10 ^ 9 = a.system.denominator.1 in
     let b : p.budget ≤ 10 ^ 21 = a.system.budget in
     let few : voters e ≤ 1000000 = s.few_voters in
-    all-records IsWritable e p a
-    ((refl, (refl, tt)), ((refl, (decimal-plain p.denominator (omega arith), tt)), ((refl, (decimal-plain p.budget (omega arith), tt)), ((refl, (refl, (refl, tt))), tt))))
+    all-records IsWritable e p a (
+      (refl, (refl, tt)),
+      (
+        (refl, (decimal-plain p.denominator (omega arith), tt)),
+        ((refl, (decimal-plain p.budget (omega arith), tt)), ((refl, (refl, (refl, tt))), tt)),
+      ),
+    )
     (λ i q low high h. row-plain e i q s (omega arith) h)
 
 -- the text starts with no byte order mark
@@ -94,7 +116,9 @@ no-mark : (e : Instance) (p : Prices) → drop_marks (Canon e p) ≡ Canon e p
 unfolding drop_marks line
 no-mark e p = refl
 
-pub read-back : (e : Instance) (p : Prices) → IsElection e → ArePrices e p → certificate_records (Canon e p) ≡ canonical_records e p
+pub read-back : (e : Instance) (p : Prices) → IsElection e → ArePrices e p
+    → certificate_records (Canon e p) ≡ canonical_records e p
 read-back e p s a =
     ap (λ (x : List ℕ). records_from default_config (length x + 1) st.StartRecord x) (no-mark e p)
-    ∙ read-lines (canonical_records e p) (length (Canon e p) + 1) (writable e p s a) (omega (arith, lines-longer (canonical_records e p)))
+    ∙ read-lines (canonical_records e p) (length (Canon e p) + 1) (writable e p s a)
+    (omega (arith, lines-longer (canonical_records e p)))

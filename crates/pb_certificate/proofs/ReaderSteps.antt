@@ -9,15 +9,15 @@ use Rattle.pb_election.specs.Instance.{Instance, all_voters}
 use Rattle.pb_records.specs.Records.{Rec}
 use Rattle.pb_records.specs.Cells.{is_text, nonblank}
 use Rattle.pb_records.specs.FirstFault.{fault_at}
-use Rattle.pb_records.specs.Position.{MeetsEnd, MeetsRecord, Position}
+use Rattle.pb_records.specs.Inside.Position.{MeetsEnd, MeetsRecord, Position}
 use Rattle.pb_records.proofs.BlankText.{not-text-is-full}
 use Rattle.pb_certificate.specs.Faults.{certificate_records, no_memory, price_form}
-use Rattle.pb_certificate.specs.Places.{Comes, StandsBehind}
-use Rattle.pb_certificate.specs.PriceHead.{ReadsHead}
+use Rattle.pb_certificate.specs.Inside.Places.{Comes, StandsBehind}
+use Rattle.pb_certificate.specs.Inside.PriceHead.{ReadsHead}
 use Rattle.pb_certificate.specs.PriceRows.{as_payment, payment_fault, row_fault}
 use Rattle.pb_certificate.specs.PriceText.{Payment, payment_of, payments_stated}
-use Rattle.pb_certificate.specs.PriorRows.{RefusesPayment, RiseFrom, TakesPayment}
-use Rattle.pb_certificate.specs.RowReader.{Advances, IsReading, place_of}
+use Rattle.pb_certificate.specs.Inside.PriorRows.{RefusesPayment, RiseFrom, TakesPayment}
+use Rattle.pb_certificate.specs.Inside.RowReader.{Advances, IsReading, place_of}
 use Rattle.pb_certificate.specs.Rows.{IsInHead, RefusesNext, given}
 use Rattle.pb_certificate.specs.declared.price_row.PriceRow.{PriceRow}
 use Rattle.pb_certificate.specs.declared.prior_rows.PriorRows.{PriorRows}
@@ -33,7 +33,8 @@ use Rattle.pb_certificate.proofs.RowSteps.{voters_of}
 use Rattle.pb_certificate.proofs.Texts.{stated-length}
 
 -- whether a record comes, where that is known
-pub comes-record : (old from new : Position) (b : Bool) → Comes from new (Ok b) → from ≡ old → b ≡ true → MeetsRecord old new
+pub comes-record : (old from new : Position) (b : Bool) → Comes from new (Ok b) → from ≡ old → b ≡ true
+    → MeetsRecord old new
 comes-record old from new true c same is = subst (λ (x : Position). MeetsRecord x new) same c
 comes-record old from new false c same is = absurd (false≢true is)
 
@@ -44,18 +45,24 @@ comes-end old from new true c same is = absurd (false≢true (sym is))
 -- what a reader has given
 pub given-is : (r : RowReader) (h : IsReading r) → given (place_of r) ≡ h.payments
 given-is r h =
-    ap (λ (recs : List Rec). filter_map (payment_of r.election.now) (drop 4 recs)) h.stands.behind ∙ given-behind r.election.now r.denominator r.budget h.heads h.rows h.payments h.is_head h.each_row
+    ap (λ (recs : List Rec). filter_map (payment_of r.election.now) (drop 4 recs)) h.stands.behind
+    ∙ given-behind r.election.now r.denominator r.budget h.heads h.rows h.payments h.is_head h.each_row
 
 -- a row is given
-pub row-taken : (old : RowReader) (cursor : Box Position) (prior : PriorRows) (q : PriceRow) → IsReading old → MeetsRecord old.cursor.value cursor.value → TakesPayment old.election.now cursor.value.row old.prior prior q
-    → length prior.last_payers.items ≡ length old.prior.last_payers.items → Advances old (record old { cursor = cursor; prior = prior }) (Ok (Some q))
+pub row-taken : (old : RowReader) (cursor : Box Position) (prior : PriorRows) (q : PriceRow) → IsReading old
+    → MeetsRecord old.cursor.value cursor.value → TakesPayment old.election.now cursor.value.row old.prior prior q
+    → length prior.last_payers.items ≡ length old.prior.last_payers.items
+    → Advances old (record old { cursor = cursor; prior = prior }) (Ok (Some q))
 row-taken old cursor prior q h m t many =
     let e = old.election.now in
     let recs = certificate_records old.bytes.now in
     let r = cursor.value.row in
     let admitted = t.admits h.payments h.remembers in
-    let clear = form-of-payment e old.denominator old.budget h.heads h.rows h.payments r (as_payment q) h.is_head h.each_row m.is_utf8 t.no_fault t.states ∙ admitted.0 in
-    let stands = subst (StandsBehind (price_form e) recs cursor.value) (append_assoc h.heads h.rows (r ∷ [])) (goes-behind (price_form e) recs old.cursor.value cursor.value (h.heads ++ h.rows) h.stands m clear) in
+    let clear = form-of-payment e old.denominator old.budget h.heads h.rows h.payments r (as_payment q) h.is_head
+    h.each_row m.is_utf8 t.no_fault t.states ∙ admitted.0 in
+    let stands =
+    subst (StandsBehind (price_form e) recs cursor.value) (append_assoc h.heads h.rows (r ∷ []))
+    (goes-behind (price_form e) recs old.cursor.value cursor.value (h.heads ++ h.rows) h.stands m clear) in
     let reading : IsReading (record old { cursor = cursor; prior = prior }) =
     record {
       heads = h.heads;
@@ -69,49 +76,83 @@ row-taken old cursor prior q h m t many =
     } in (
       record {
         record_of = r;
-        next = record { blanks = m.blanks; rest = cursor.value.left; are_blank = m.are_blank; is_full = m.is_full; cut = sym h.stands.left ∙ m.cut; at = m.at };
+        next =
+            record {
+              blanks = m.blanks;
+              rest = cursor.value.left;
+              are_blank = m.are_blank;
+              is_full = m.is_full;
+              cut = sym h.stands.left ∙ m.cut;
+              at = m.at;
+            };
         states = t.states;
         same = refl;
-        given_then = given-is (record old { cursor = cursor; prior = prior }) reading ∙ ap (λ (qs : List Payment). qs ++ (as_payment q ∷ [])) (sym (given-is old h));
+        given_then = given-is (record old { cursor = cursor; prior = prior }) reading
+            ∙ ap (λ (qs : List Payment). qs ++ (as_payment q ∷ [])) (sym (given-is old h));
         voter = t.voter;
         project = t.project;
         small = t.small;
-        follows = subst (λ (qs : List Payment). payment_fault qs (as_payment q) ≡ None) (sym (given-is old h)) admitted.0;
+        follows =
+            subst (λ (qs : List Payment). payment_fault qs (as_payment q) ≡ None) (sym (given-is old h)) admitted.0;
       },
       reading,
     )
 
 -- a row is refused
-row-form : (old : RowReader) (r : Rec) (f : CertFault) (h : IsReading old) → is_text r ≡ true → (row_fault old.election.now r ≡ Some f) ⊎ RefusesPayment old.election.now r old.prior f
+row-form : (old : RowReader) (r : Rec) (f : CertFault) (h : IsReading old) → is_text r ≡ true
+    → (row_fault old.election.now r ≡ Some f) ⊎ RefusesPayment old.election.now r old.prior f
     → price_form old.election.now (h.heads ++ h.rows) (Some r) ≡ Some f
 row-form old r f h text why = elim why [
   | inl by_itself ↦ form-of-row old.election.now old.denominator old.budget h.heads h.rows r f h.is_head text by_itself
   | inr by_place ↦
-      form-of-payment old.election.now old.denominator old.budget h.heads h.rows h.payments r by_place.payment h.is_head h.each_row text by_place.no_fault by_place.states ∙ by_place.stops h.payments h.remembers
+      form-of-payment old.election.now old.denominator old.budget h.heads h.rows h.payments r by_place.payment h.is_head
+      h.each_row text by_place.no_fault by_place.states ∙ by_place.stops h.payments h.remembers
 ]
 
-pub row-refused : (old : RowReader) (new : Position) (f : CertFault) → IsReading old → MeetsRecord old.cursor.value new → (row_fault old.election.now new.row ≡ Some f) ⊎ RefusesPayment old.election.now new.row old.prior f
+pub row-refused : (old : RowReader) (new : Position) (f : CertFault) → IsReading old → MeetsRecord old.cursor.value new
+    → (row_fault old.election.now new.row ≡ Some f) ⊎ RefusesPayment old.election.now new.row old.prior f
     → RefusesNext (place_of old) (record { fault = f; place = new.place })
 row-refused old new f h m why =
     let e = old.election.now in
     record {
       record_of = new.row;
-      next = record { blanks = m.blanks; rest = new.left; are_blank = m.are_blank; is_full = m.is_full; cut = sym h.stands.left ∙ m.cut; at = m.at };
-      first = (refused-at (price_form e) (certificate_records old.bytes.now) old.cursor.value new (h.heads ++ h.rows) f h.stands m (row-form old new.row f h m.is_utf8 why)).first;
+      next =
+          record {
+            blanks = m.blanks;
+            rest = new.left;
+            are_blank = m.are_blank;
+            is_full = m.is_full;
+            cut = sym h.stands.left ∙ m.cut;
+            at = m.at;
+          };
+      first =
+          (refused-at (price_form e) (certificate_records old.bytes.now) old.cursor.value new (h.heads ++ h.rows) f
+          h.stands m (row-form old new.row f h m.is_utf8 why)).first;
     }
 
 -- no record is met
-pub next-refused : (old : RowReader) (new : Position) (r : CertRefusal) → IsReading old → Comes old.cursor.value new (Err r) → (r ≡ no_memory) ⊎ RefusesNext (place_of old) r
+pub next-refused : (old : RowReader) (new : Position) (r : CertRefusal) → IsReading old
+    → Comes old.cursor.value new (Err r) → (r ≡ no_memory) ⊎ RefusesNext (place_of old) r
 next-refused old new r h comes = elim comes [
   | inl memory ↦ inl memory
-  | inr bad ↦ elim (bytes-refused old.election.now (certificate_records old.bytes.now) (h.heads ++ h.rows) old.cursor.value new r h.stands (inr bad)) [
-    | inl memory ↦ inl memory
-    | inr refused ↦ inr (record {
-      record_of = bad.2.bad;
-      next = record { blanks = bad.2.blanks; rest = bad.2.rest; are_blank = bad.2.are_blank; is_full = not-text-is-full bad.2.bad bad.2.is_not_utf8; cut = sym h.stands.left ∙ bad.2.cut; at = bad.1 ∙ bad.2.at };
-      first = refused.first;
-    })
-  ]
+  | inr bad ↦
+      elim (bytes-refused old.election.now (certificate_records old.bytes.now) (h.heads ++ h.rows) old.cursor.value new
+      r h.stands (inr bad)) [
+        | inl memory ↦ inl memory
+        | inr refused ↦ inr (record {
+          record_of = bad.2.bad;
+          next =
+              record {
+                blanks = bad.2.blanks;
+                rest = bad.2.rest;
+                are_blank = bad.2.are_blank;
+                is_full = not-text-is-full bad.2.bad bad.2.is_not_utf8;
+                cut = sym h.stands.left ∙ bad.2.cut;
+                at = bad.1 ∙ bad.2.at;
+              };
+          first = refused.first;
+        })
+      ]
 ]
 
 -- numbers that rise from one on do not fall
@@ -128,7 +169,8 @@ rises low [] h = nil-rises
 rises low (x ∷ xs) h = cons-rises x xs (rise-low x xs h.1) (rises x xs h.1)
 
 -- the end
-pub none-left : (old : RowReader) (cursor : Box Position) → IsReading old → MeetsEnd old.cursor.value cursor.value → Advances old (record old { cursor = cursor }) (Ok None)
+pub none-left : (old : RowReader) (cursor : Box Position) → IsReading old → MeetsEnd old.cursor.value cursor.value
+    → Advances old (record old { cursor = cursor }) (Ok None)
 none-left old cursor h m =
     let e = old.election.now in
     let recs = certificate_records old.bytes.now in
@@ -136,7 +178,16 @@ none-left old cursor h m =
     let rows = stated-length (payment_of e) h.rows h.payments h.each_row in
     let most : length h.payments ≤ 10000000 = h.remembers.few in
     let reading : IsReading (record old { cursor = cursor }) =
-    record { heads = h.heads; rows = h.rows; payments = h.payments; is_head = h.is_head; each_row = h.each_row; stands = end.0; remembers = h.remembers; each_project = h.each_project } in (
+    record {
+      heads = h.heads;
+      rows = h.rows;
+      payments = h.payments;
+      is_head = h.is_head;
+      each_row = h.each_row;
+      stands = end.0;
+      remembers = h.remembers;
+      each_project = h.each_project;
+    } in (
       record {
         no_row_left = ap nonblank (sym h.stands.left) ∙ m.are_blank;
         same = refl;
@@ -167,7 +218,8 @@ none-left old cursor h m =
     )
 
 -- the start
-pub opened : (e : Instance) (recs : List Rec) (c : Position) → c.place ≡ 0 → c.left ≡ recs → StandsBehind (price_form e) recs c []
+pub opened : (e : Instance) (recs : List Rec) (c : Position) → c.place ≡ 0 → c.left ≡ recs
+    → StandsBehind (price_form e) recs c []
 opened e recs c place left =
     record {
       within = omega arith;
@@ -177,5 +229,6 @@ opened e recs c place left =
       clear = λ k le. (let zero' : k ≡ 0 = omega arith in ap (fault_at (price_form e) recs) zero');
     }
 
-pub refused-in-head : (recs : List Rec) (e : Instance) (new : Position) (r : CertRefusal) → ReadsHead e recs new (Err r) → IsInHead recs r
+pub refused-in-head : (recs : List Rec) (e : Instance) (new : Position) (r : CertRefusal) → ReadsHead e recs new (Err r)
+    → IsInHead recs r
 refused-in-head recs e new r h = elim h [ inl memory ↦ inl memory | inr at ↦ inr at.1 ]

@@ -40,8 +40,13 @@ not-short h d b c done = le-ltb (length (h ∷ d ∷ b ∷ c ∷ done)) 4 (omega
 
 -- the four faults that a row has by itself, and the three that it has by its place
 by-parts : (a n1 n2 v1 v2 j : Bool) (rest : Option CertFault) → v1 ≡ not n1
-    → cond a (Some fault.BadRow) (cond (n1 || n2) (Some fault.BadNumber) (cond (v1 && v2) (Some fault.UnknownVoter) (cond j (Some fault.UnknownProject) rest)))
-    ≡ or_else (cond a (Some fault.BadRow) (cond (n1 || n2) (Some fault.BadNumber) (cond v2 (Some fault.UnknownVoter) (cond j (Some fault.UnknownProject) None)))) rest
+    → cond a (Some fault.BadRow)
+    (cond (n1 || n2) (Some fault.BadNumber)
+    (cond (v1 && v2) (Some fault.UnknownVoter) (cond j (Some fault.UnknownProject) rest)))
+    ≡ or_else
+    (cond a (Some fault.BadRow)
+    (cond (n1 || n2) (Some fault.BadNumber)
+    (cond v2 (Some fault.UnknownVoter) (cond j (Some fault.UnknownProject) None)))) rest
 by-parts true n1 n2 v1 v2 j rest e = refl
 by-parts false true n2 v1 v2 j rest e = refl
 by-parts false false true v1 v2 j rest e = refl
@@ -56,11 +61,23 @@ some-not-none (Some n) = refl
 pub form-at-row : (e : Instance) (h d b c : Rec) (done : List Rec) (r : Rec) → is_text r ≡ true
     → price_form e (h ∷ d ∷ b ∷ c ∷ done) (Some r) ≡ or_else (row_fault e r) (place_fault r done)
 form-at-row e h d b c done r text =
-    rw (text, past h d b c done 0 (omega arith), past h d b c done 1 (omega arith), past h d b c done 2 (omega arith), past h d b c done 3 (omega arith), not-short h d b c done, enough h d b c done)
-    (by-parts (not (length (fields r) == 3)) (is_none (whole_in (cell 0 r))) (is_none (numerator_of (cell 2 r))) (is_some (whole_in (cell 0 r))) (is_none (voter_in e (cell 0 r))) (is_none (project_in e (cell 1 r))) (place_fault r done) (some-not-none (whole_in (cell 0 r))))
+    rw (
+      text,
+      past h d b c done 0 (omega arith),
+      past h d b c done 1 (omega arith),
+      past h d b c done 2 (omega arith),
+      past h d b c done 3 (omega arith),
+      not-short h d b c done,
+      enough h d b c done,
+    )
+    (by-parts (not (length (fields r) == 3)) (is_none (whole_in (cell 0 r))) (is_none (numerator_of (cell 2 r)))
+    (is_some (whole_in (cell 0 r))) (is_none (voter_in e (cell 0 r))) (is_none (project_in e (cell 1 r)))
+    (place_fault r done) (some-not-none (whole_in (cell 0 r))))
 
 -- the head records
-pub form-at-name : (e : Instance) (r : Rec) (a : Bool) → is_text r ≡ true → same_fields (fields r) (codes "pb-prices" ∷ codes "1" ∷ []) ≡ a → price_form e [] (Some r) ≡ cond a None (Some fault.BadHead)
+pub form-at-name : (e : Instance) (r : Rec) (a : Bool) → is_text r ≡ true
+    → same_fields (fields r) (codes "pb-prices" ∷ codes "1" ∷ []) ≡ a
+    → price_form e [] (Some r) ≡ cond a None (Some fault.BadHead)
 form-at-name e r true text is = rw (text, is) refl
 form-at-name e r false text is = rw (text, is) refl
 
@@ -68,19 +85,22 @@ form-at-name e r false text is = rw (text, is) refl
 abbrev pub number_fault : Bool → Bool → Option CertFault
 number_fault named bad = cond named (cond bad (Some fault.BadNumber) None) (Some fault.BadHead)
 
-pub form-at-denominator : (e : Instance) (h r : Rec) (v w : Bool) → is_text r ≡ true → is_value_of (codes "denominator") r ≡ v → is_none (whole_within 1 (10 ^ 9) (cell 1 r)) ≡ w
+pub form-at-denominator : (e : Instance) (h r : Rec) (v w : Bool) → is_text r ≡ true
+    → is_value_of (codes "denominator") r ≡ v → is_none (whole_within 1 (10 ^ 9) (cell 1 r)) ≡ w
     → price_form e (h ∷ []) (Some r) ≡ number_fault v w
 form-at-denominator e h r true true text is bad = rw (text, is, bad) refl
 form-at-denominator e h r true false text is bad = rw (text, is, bad) refl
 form-at-denominator e h r false w text is bad = rw (text, is) refl
 
-pub form-at-budget : (e : Instance) (h d r : Rec) (v w : Bool) → is_text r ≡ true → is_value_of (codes "voter_budget") r ≡ v → is_none (whole_within 0 (10 ^ 21) (cell 1 r)) ≡ w
+pub form-at-budget : (e : Instance) (h d r : Rec) (v w : Bool) → is_text r ≡ true
+    → is_value_of (codes "voter_budget") r ≡ v → is_none (whole_within 0 (10 ^ 21) (cell 1 r)) ≡ w
     → price_form e (h ∷ d ∷ []) (Some r) ≡ number_fault v w
 form-at-budget e h d r true true text is bad = rw (text, is, bad) refl
 form-at-budget e h d r true false text is bad = rw (text, is, bad) refl
 form-at-budget e h d r false w text is bad = rw (text, is) refl
 
-pub form-at-columns : (e : Instance) (h d b r : Rec) (a : Bool) → is_text r ≡ true → same_fields (fields r) (codes "voter" ∷ codes "project" ∷ codes "payment" ∷ []) ≡ a
+pub form-at-columns : (e : Instance) (h d b r : Rec) (a : Bool) → is_text r ≡ true
+    → same_fields (fields r) (codes "voter" ∷ codes "project" ∷ codes "payment" ∷ []) ≡ a
     → price_form e (h ∷ d ∷ b ∷ []) (Some r) ≡ cond a None (Some fault.BadHead)
 form-at-columns e h d b r true text is = rw (text, is) refl
 form-at-columns e h d b r false text is = rw (text, is) refl

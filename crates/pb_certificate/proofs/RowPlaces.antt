@@ -12,7 +12,7 @@ use Rattle.pb_certificate.specs.Fields.{number, project_in}
 use Rattle.pb_certificate.specs.PriceText.{Payment, payment_of, same_pair}
 use Rattle.pb_certificate.specs.PriceRows.{last_number, last_voter, payment_fault, row_fault}
 use Rattle.pb_certificate.specs.Faults.{at_record, price_form, same_cells}
-use Rattle.pb_certificate.specs.PriceHead.{IsHead}
+use Rattle.pb_certificate.specs.Inside.PriceHead.{IsHead}
 use Rattle.pb_certificate.specs.declared.refusal.CertFault.{CertFault}
 use Rattle.pb_certificate.proofs.Cells.{cell-is}
 use Rattle.pb_certificate.proofs.Found.{found_is}
@@ -22,7 +22,8 @@ use Rattle.pb_certificate.proofs.RowSteps.{voters_of}
 use Rattle.pb_certificate.proofs.Texts.{stated-length}
 
 -- a row, among the rows before it
-lower-by : (v n : ℕ) (o : Option Rec) (e : Instance) (done : List Rec) (qs : List Payment) → at_record o (λ d. nat_lt v (number (cell 0 d))) ≡ nat_lt v n → map (payment_of e) done ≡ map Some qs
+lower-by : (v n : ℕ) (o : Option Rec) (e : Instance) (done : List Rec) (qs : List Payment)
+    → at_record o (λ d. nat_lt v (number (cell 0 d))) ≡ nat_lt v n → map (payment_of e) done ≡ map Some qs
     → at_record (last_or o done) (λ d. nat_lt v (number (cell 0 d))) ≡ nat_lt v (last_number n (voters_of qs))
 lower-by v n o e [] [] h k = h
 lower-by v n o e [] (q ∷ qs) h k = cc
@@ -33,7 +34,8 @@ lower-by v n o e (d ∷ ds) (q ∷ qs) h k =
     lower-by v q.voter (Some d) e ds qs (ap (nat_lt v) (row-number e d q (row-of e d q first))) rest
 
 -- two ids are the same where they are those of one project
-same-ids : (e : Instance) (a b : Field) (j k : ℕ) → project_in e a ≡ Some j → project_in e b ≡ Some k → bytes_eq a b ≡ (j == k)
+same-ids : (e : Instance) (a b : Field) (j k : ℕ) → project_in e a ≡ Some j → project_in e b ≡ Some k
+    → bytes_eq a b ≡ (j == k)
 same-ids e a b j k is_a is_b = elim (cases_Bool (bytes_eq a b)) [
   | inl same ↦
       let ids : a ≡ b = (bytes_eq-Decides a b).0 same in
@@ -48,15 +50,23 @@ same-ids e a b j k is_a is_b = elim (cases_Bool (bytes_eq a b)) [
       other ∙ sym differ
 ]
 
-same-by : (e : Instance) (r d : Rec) (q m : Payment) → payment_of e r ≡ Some q → payment_of e d ≡ Some m → same_cells r d ≡ same_pair q m
+same-by : (e : Instance) (r d : Rec) (q m : Payment) → payment_of e r ≡ Some q → payment_of e d ≡ Some m
+    → same_cells r d ≡ same_pair q m
 same-by e r d q m is_q is_m =
     let a = row-of e r q is_q in
     let b = row-of e d m is_m in
     let first : cell 1 r ≡ a.c = cell-is r (a.v ∷ a.c ∷ a.x ∷ []) 1 a.shape in
     let second : cell 1 d ≡ b.c = cell-is d (b.v ∷ b.c ∷ b.x ∷ []) 1 b.shape in
-    rw (row-number e r q a, row-number e d m b, first, second, same-ids e a.c b.c q.project m.project a.project b.project) refl
+    rw (
+      row-number e r q a,
+      row-number e d m b,
+      first,
+      second,
+      same-ids e a.c b.c q.project m.project a.project b.project,
+    ) refl
 
-any-by : (e : Instance) (r : Rec) (q : Payment) (done : List Rec) (qs : List Payment) → payment_of e r ≡ Some q → map (payment_of e) done ≡ map Some qs → list_any (same_cells r) done ≡ list_any (same_pair q) qs
+any-by : (e : Instance) (r : Rec) (q : Payment) (done : List Rec) (qs : List Payment) → payment_of e r ≡ Some q
+    → map (payment_of e) done ≡ map Some qs → list_any (same_cells r) done ≡ list_any (same_pair q) qs
 any-by e r q [] [] is k = refl
 any-by e r q [] (m ∷ ms) is k = cc
 any-by e r q (d ∷ ds) [] is k = cc
@@ -65,23 +75,33 @@ any-by e r q (d ∷ ds) (m ∷ ms) is k =
     let rest : map (payment_of e) ds ≡ map Some ms = cc in
     rw (same-by e r d q m is first, any-by e r q ds ms is rest) refl
 
-pub place-is : (e : Instance) (r : Rec) (q : Payment) (done : List Rec) (qs : List Payment) → payment_of e r ≡ Some q → map (payment_of e) done ≡ map Some qs → place_fault r done ≡ payment_fault qs q
+pub place-is : (e : Instance) (r : Rec) (q : Payment) (done : List Rec) (qs : List Payment) → payment_of e r ≡ Some q
+    → map (payment_of e) done ≡ map Some qs → place_fault r done ≡ payment_fault qs q
 place-is e r q done qs is k =
-    let lower : at_record (last_or None done) (λ d. nat_lt q.voter (number (cell 0 d))) ≡ nat_lt q.voter (last_voter qs) = lower-by q.voter 0 None e done qs (sym (le-ltb q.voter 0 (omega arith))) k in
-    rw (row-number e r q (row-of e r q is), lower, any-by e r q done qs is k, stated-length (payment_of e) done qs k) refl
+    let lower : at_record (last_or None done) (λ d. nat_lt q.voter (number (cell 0 d)))
+    ≡ nat_lt q.voter (last_voter qs) = lower-by q.voter 0 None e done qs (sym (le-ltb q.voter 0 (omega arith))) k in
+    rw (row-number e r q (row-of e r q is), lower, any-by e r q done qs is k, stated-length (payment_of e) done qs k)
+    refl
 
 -- the fault of a record behind the head
-pub form-of-row : (e : Instance) (d b : ℕ) (heads rows : List Rec) (r : Rec) (f : CertFault) → IsHead d b heads → is_text r ≡ true → row_fault e r ≡ Some f → price_form e (heads ++ rows) (Some r) ≡ Some f
-form-of-row e d b heads rows r f h text is = rw h.cut (form-at-row e h.name h.denominator_of h.budget_of h.columns rows r text ∙ rw is refl)
+pub form-of-row : (e : Instance) (d b : ℕ) (heads rows : List Rec) (r : Rec) (f : CertFault) → IsHead d b heads
+    → is_text r ≡ true → row_fault e r ≡ Some f → price_form e (heads ++ rows) (Some r) ≡ Some f
+form-of-row e d b heads rows r f h text is =
+    rw h.cut (form-at-row e h.name h.denominator_of h.budget_of h.columns rows r text ∙ rw is refl)
 
 -- and of one that states a payment
-pub form-of-payment : (e : Instance) (d b : ℕ) (heads rows : List Rec) (qs : List Payment) (r : Rec) (q : Payment) → IsHead d b heads → map (payment_of e) rows ≡ map Some qs
-    → is_text r ≡ true → row_fault e r ≡ None → payment_of e r ≡ Some q → price_form e (heads ++ rows) (Some r) ≡ payment_fault qs q
+pub form-of-payment : (e : Instance) (d b : ℕ) (heads rows : List Rec) (qs : List Payment) (r : Rec) (q : Payment)
+    → IsHead d b heads → map (payment_of e) rows ≡ map Some qs
+    → is_text r ≡ true → row_fault e r ≡ None → payment_of e r ≡ Some q
+    → price_form e (heads ++ rows) (Some r) ≡ payment_fault qs q
 form-of-payment e d b heads rows qs r q h each text none is =
-    rw h.cut (form-at-row e h.name h.denominator_of h.budget_of h.columns rows r text ∙ rw none (place-is e r q rows qs is each))
+    rw h.cut
+    (form-at-row e h.name h.denominator_of h.budget_of h.columns rows r text
+    ∙ rw none (place-is e r q rows qs is each))
 
 -- the payments that rows behind a head state
-payments-of : {A : Type 0} (f : Rec → Option A) (rows : List Rec) (qs : List A) → map f rows ≡ map Some qs → filter_map f rows ≡ qs
+payments-of : {A : Type 0} (f : Rec → Option A) (rows : List Rec) (qs : List A) → map f rows ≡ map Some qs
+    → filter_map f rows ≡ qs
 payments-of f [] [] h = refl
 payments-of f [] (q ∷ qs) h = cc h
 payments-of f (r ∷ rs) [] h = cc h
@@ -90,5 +110,6 @@ payments-of f (r ∷ rs) (q ∷ qs) h =
     let rest : map f rs ≡ map Some qs = cc in
     rw first (ap (λ (xs : List _). q ∷ xs) (payments-of f rs qs rest))
 
-pub given-behind : (e : Instance) (d b : ℕ) (heads rows : List Rec) (qs : List Payment) → IsHead d b heads → map (payment_of e) rows ≡ map Some qs → filter_map (payment_of e) (drop 4 (heads ++ rows)) ≡ qs
+pub given-behind : (e : Instance) (d b : ℕ) (heads rows : List Rec) (qs : List Payment) → IsHead d b heads
+    → map (payment_of e) rows ≡ map Some qs → filter_map (payment_of e) (drop 4 (heads ++ rows)) ≡ qs
 given-behind e d b heads rows qs h each = rw h.cut (payments-of (payment_of e) rows qs each)

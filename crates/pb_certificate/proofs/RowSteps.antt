@@ -8,7 +8,7 @@ use Rattle.std.proofs.lemmas.List.Elements.{filter-append}
 use Rattle.std.proofs.Math.ListN.{set}
 use Rattle.pb_certificate.specs.PriceText.{Payment, same_pair}
 use Rattle.pb_certificate.specs.PriceRows.{last_number, last_voter}
-use Rattle.pb_certificate.specs.PriorRows.{RiseFrom, last_payer}
+use Rattle.pb_certificate.specs.Inside.PriorRows.{RiseFrom, last_payer}
 
 abbrev pub voters_of : List Payment → List ℕ
 voters_of qs = map (λ q. q.voter) qs
@@ -18,14 +18,18 @@ last-push n x [] = refl
 last-push n x (y ∷ ys) = last-push y x ys
 
 pub last_voter-push : (qs : List Payment) (q : Payment) → last_voter (qs ++ (q ∷ [])) ≡ q.voter
-last_voter-push qs q = ap (last_number 0) (map-append (λ (p : Payment). p.voter) qs (q ∷ [])) ∙ last-push 0 q.voter (voters_of qs)
+last_voter-push qs q = ap (last_number 0) (map-append (λ (p : Payment). p.voter) qs (q ∷ []))
+    ∙ last-push 0 q.voter (voters_of qs)
 
 rise-push : (low x : ℕ) (xs : List ℕ) → RiseFrom low xs → last_number low xs ≤ x → RiseFrom low (xs ++ (x ∷ []))
 rise-push low x [] h l = (l, tt)
 rise-push low x (y ∷ ys) h l = (h.0, rise-push y x ys h.1 l)
 
-pub in-order-push : (qs : List Payment) (q : Payment) → RiseFrom 0 (voters_of qs) → last_voter qs ≤ q.voter → RiseFrom 0 (voters_of (qs ++ (q ∷ [])))
-in-order-push qs q h l = subst (RiseFrom 0) (sym (map-append (λ (p : Payment). p.voter) qs (q ∷ []))) (rise-push 0 q.voter (voters_of qs) h l)
+pub in-order-push : (qs : List Payment) (q : Payment) → RiseFrom 0 (voters_of qs) → last_voter qs ≤ q.voter
+    → RiseFrom 0 (voters_of (qs ++ (q ∷ [])))
+in-order-push qs q h l =
+    subst (RiseFrom 0) (sym (map-append (λ (p : Payment). p.voter) qs (q ∷ [])))
+    (rise-push 0 q.voter (voters_of qs) h l)
 
 -- a pair stood before exactly where its project was last named by its voter
 all-rise-low : (low n : ℕ) (xs : List ℕ) → RiseFrom low xs → n ≤ low → RiseFrom n xs
@@ -37,7 +41,8 @@ low-last low [] h = omega arith
 low-last low (x ∷ xs) h = let first : low ≤ x = h.0 in let rest = low-last x xs h.1 in omega arith
 
 stood-by : (d i j n : ℕ) (qs : List Payment) → d ≤ i → RiseFrom d (voters_of qs) → last_number d (voters_of qs) ≤ i
-    → (last_number d (map (λ q. q.voter) (filter (λ q. q.project == j) qs)) == i) ≡ (list_any (same_pair (record { voter = i; project = j; numerator = n })) qs || (d == i))
+    → (last_number d (map (λ q. q.voter) (filter (λ q. q.project == j) qs)) == i)
+    ≡ (list_any (same_pair (record { voter = i; project = j; numerator = n })) qs || (d == i))
 stood-by d i j n [] low h most = refl
 stood-by d i j n (q ∷ qs) low h most = elim (cases_Bool (q.project == j)) [
   | inl named ↦
@@ -49,15 +54,25 @@ stood-by d i j n (q ∷ qs) low h most = elim (cases_Bool (q.project == j)) [
   | inr other ↦
       let first : d ≤ q.voter = h.0 in
       let rest = stood-by d i j n qs low (all-rise-low q.voter d (voters_of qs) h.1 first) (most-low first) in
-      let turned : (j == q.project) ≡ false = ne_eqb j q.project (λ e. false≢true (sym other ∙ eq-eqb q.project j (sym e))) in
-      rw (other, turned) (rest ∙ past (i == q.voter) (list_any (same_pair (record { voter = i; project = j; numerator = n })) qs) (d == i))
+      let turned : (j == q.project) ≡ false =
+      ne_eqb j q.project (λ e. false≢true (sym other ∙ eq-eqb q.project j (sym e))) in
+      rw (other, turned)
+      (rest ∙ past (i == q.voter) (list_any (same_pair (record { voter = i; project = j; numerator = n })) qs)
+      (d == i))
 ]
   where
     turn : (a b : ℕ) → (a == b) ≡ (b == a)
-    turn a b = elim (cases_eq a b) [ inl e ↦ eq-eqb a b e ∙ sym (eq-eqb b a (sym e)) | inr e ↦ ne_eqb a b e ∙ sym (ne_eqb b a (λ k. e (sym k))) ]
+    turn a b =
+        elim (cases_eq a b)
+        [ inl e ↦ eq-eqb a b e ∙ sym (eq-eqb b a (sym e)) | inr e ↦ ne_eqb a b e ∙ sym (ne_eqb b a (λ k. e (sym k))) ]
 
-    here : d ≤ q.voter → (list_any (same_pair (record { voter = i; project = j; numerator = n })) qs || (q.voter == i)) ≡ ((((i == q.voter) && true) || list_any (same_pair (record { voter = i; project = j; numerator = n })) qs) || (d == i))
-    here first = rw (turn i q.voter) (by (q.voter == i) (list_any (same_pair (record { voter = i; project = j; numerator = n })) qs) (d == i) refl refl)
+    here : d ≤ q.voter → (list_any (same_pair (record { voter = i; project = j; numerator = n })) qs || (q.voter == i))
+        ≡ ((((i == q.voter) && true) || list_any (same_pair (record { voter = i; project = j; numerator = n }))
+        qs) || (d == i))
+    here first =
+        rw (turn i q.voter)
+        (by (q.voter == i) (list_any (same_pair (record { voter = i; project = j; numerator = n })) qs) (d == i) refl
+        refl)
       where
         by : (v s e : Bool) → (q.voter == i) ≡ v → (d == i) ≡ e → (s || v) ≡ (((v && true) || s) || e)
         by true true e is is_d = refl
@@ -81,7 +96,8 @@ stood-by d i j n (q ∷ qs) low h most = elim (cases_Bool (q.project == j)) [
         by [] k = low
         by (p ∷ ps) k = k
 
-pub stood : (qs : List Payment) (q : Payment) → 1 ≤ q.voter → RiseFrom 0 (voters_of qs) → last_voter qs ≤ q.voter → (last_payer qs q.project == q.voter) ≡ list_any (same_pair q) qs
+pub stood : (qs : List Payment) (q : Payment) → 1 ≤ q.voter → RiseFrom 0 (voters_of qs) → last_voter qs ≤ q.voter
+    → (last_payer qs q.project == q.voter) ≡ list_any (same_pair q) qs
 stood qs q some h most =
     let none : (0 == q.voter) ≡ false = ne_eqb 0 q.voter (λ e. omega arith) in
     stood-by 0 q.voter q.project q.numerator qs (omega arith) h most ∙ by none
@@ -94,7 +110,8 @@ stood qs q some h most =
         plain false = refl
 
 -- payments that differ from one more
-distinct-push : (qs : List Payment) (q : Payment) → IsDistinct same_pair qs → list_any (same_pair q) qs ≡ false → IsDistinct same_pair (qs ++ (q ∷ []))
+distinct-push : (qs : List Payment) (q : Payment) → IsDistinct same_pair qs → list_any (same_pair q) qs ≡ false
+    → IsDistinct same_pair (qs ++ (q ∷ []))
 unfolding IsDistinct
 distinct-push [] q h k = (tt, tt)
 distinct-push (p ∷ ps) q h k = (apart p ps h.0 (or-first k), distinct-push ps q h.1 (or-rest k))
@@ -118,25 +135,30 @@ distinct-push (p ∷ ps) q h k = (apart p ps h.0 (or-first k), distinct-push ps 
       | inl yes' ↦
           let parts = and_parts (b.voter == a.voter) (b.project == a.project) yes' in
           let v : (a.voter == b.voter) ≡ true = eq-eqb a.voter b.voter (sym (eqb-true b.voter a.voter parts.0)) in
-          let j : (a.project == b.project) ≡ true = eq-eqb a.project b.project (sym (eqb-true b.project a.project parts.1)) in
+          let j : (a.project == b.project) ≡ true =
+          eq-eqb a.project b.project (sym (eqb-true b.project a.project parts.1)) in
           let both : same_pair a b ≡ true = rw (v, j) refl in
           absurd (false≢true (sym e ∙ both))
       | inr no' ↦ no'
     ]
 
-    apart : (p : Payment) (rs : List Payment) → AllByRecursion (λ y. same_pair p y ≡ false) rs → same_pair q p ≡ false → AllByRecursion (λ y. same_pair p y ≡ false) (rs ++ (q ∷ []))
+    apart : (p : Payment) (rs : List Payment) → AllByRecursion (λ y. same_pair p y ≡ false) rs → same_pair q p ≡ false
+        → AllByRecursion (λ y. same_pair p y ≡ false) (rs ++ (q ∷ []))
     apart p [] h e = (turned q p e, tt)
     apart p (r ∷ rs) h e = (h.0, apart p rs h.1 e)
 
-pub once-push : (qs : List Payment) (q : Payment) → IsDistinct same_pair qs → list_any (same_pair q) qs ≡ false → IsDistinct same_pair (qs ++ (q ∷ []))
+pub once-push : (qs : List Payment) (q : Payment) → IsDistinct same_pair qs → list_any (same_pair q) qs ≡ false
+    → IsDistinct same_pair (qs ++ (q ∷ []))
 once-push = distinct-push
 
-pub all-push : {A : Type 0} (P : A → Type 0) (xs : List A) (x : A) → AllByRecursion P xs → P x → AllByRecursion P (xs ++ (x ∷ []))
+pub all-push : {A : Type 0} (P : A → Type 0) (xs : List A) (x : A) → AllByRecursion P xs → P x
+    → AllByRecursion P (xs ++ (x ∷ []))
 all-push P [] x h k = (k, tt)
 all-push P (y ∷ ys) x h k = (h.0, all-push P ys x h.1 k)
 
 -- a list over a range, changed at one place
-pub set-range : {A : Type 0} (f g : ℕ → A) (n a k : ℕ) (x : A) → k < n → g (a + k) ≡ x → ((i : ℕ) → i ≢ a + k → g i ≡ f i) → set (map f (range_with_len a n)) k x ≡ map g (range_with_len a n)
+pub set-range : {A : Type 0} (f g : ℕ → A) (n a k : ℕ) (x : A) → k < n → g (a + k) ≡ x
+    → ((i : ℕ) → i ≢ a + k → g i ≡ f i) → set (map f (range_with_len a n)) k x ≡ map g (range_with_len a n)
 set-range f g zero a k x within here other = absurd (omega arith)
 set-range f g (suc n) a zero x within here other =
     let e : a + 0 ≡ a = omega arith in
@@ -147,15 +169,22 @@ set-range f g (suc n) a zero x within here other =
     rest (suc m) b l = rw (other b (λ e. omega arith), rest m (b + 1) (omega arith)) refl
 set-range f g (suc n) a (suc k) x within here other =
     let e : a + suc k ≡ a + 1 + k = omega arith in
-    rw (other a (λ e. omega arith)) (ap (λ xs. f a ∷ xs) (set-range f g n (a + 1) k x (omega arith) (rw e at here) (λ i ne. other i (λ q. ne (q ∙ e)))))
+    rw (other a (λ e. omega arith))
+    (ap (λ xs. f a ∷ xs)
+    (set-range f g n (a + 1) k x (omega arith) (rw e at here) (λ i ne. other i (λ q. ne (q ∙ e)))))
 
 -- the last payers after one more
 pub payer-here : (qs : List Payment) (q : Payment) → last_payer (qs ++ (q ∷ [])) q.project ≡ q.voter
 payer-here qs q =
     let named : (q.project == q.project) ≡ true = eq-eqb q.project q.project refl in
-    ap (λ ps. last_number 0 (voters_of ps)) (filter-append (λ (p : Payment). p.project == q.project) qs (q ∷ [])) ∙ rw named (ap (last_number 0) (map-append (λ (p : Payment). p.voter) (filter (λ p. p.project == q.project) qs) (q ∷ [])) ∙ last-push 0 q.voter (voters_of (filter (λ p. p.project == q.project) qs)))
+    ap (λ ps. last_number 0 (voters_of ps)) (filter-append (λ (p : Payment). p.project == q.project) qs (q ∷ []))
+    ∙ rw named
+    (ap (last_number 0) (map-append (λ (p : Payment). p.voter) (filter (λ p. p.project == q.project) qs) (q ∷ []))
+    ∙ last-push 0 q.voter (voters_of (filter (λ p. p.project == q.project) qs)))
 
-pub payer-other : (qs : List Payment) (q : Payment) (j : ℕ) → j ≢ q.project → last_payer (qs ++ (q ∷ [])) j ≡ last_payer qs j
+pub payer-other : (qs : List Payment) (q : Payment) (j : ℕ) → j ≢ q.project
+    → last_payer (qs ++ (q ∷ [])) j ≡ last_payer qs j
 payer-other qs q j other =
     let past : (q.project == j) ≡ false = ne_eqb q.project j (λ e. other (sym e)) in
-    ap (λ ps. last_number 0 (voters_of ps)) (filter-append (λ (p : Payment). p.project == j) qs (q ∷ [])) ∙ rw past (ap (λ ps. last_number 0 (voters_of ps)) (append-nil (filter (λ (p : Payment). p.project == j) qs)))
+    ap (λ ps. last_number 0 (voters_of ps)) (filter-append (λ (p : Payment). p.project == j) qs (q ∷ []))
+    ∙ rw past (ap (λ ps. last_number 0 (voters_of ps)) (append-nil (filter (λ (p : Payment). p.project == j) qs)))

@@ -15,12 +15,14 @@ abbrev pub ClearFrom : Form CertFault → List Rec → List Rec → Type 0
 ClearFrom form before [] = form before None ≡ None
 ClearFrom form before (r ∷ rs) = (form before (Some r) ≡ None) × ClearFrom form (before ++ (r ∷ [])) rs
 
-pub none-anywhere : (form : Form CertFault) (pre recs : List Rec) → ClearFrom form (nonblank pre) (nonblank recs) → (k : ℕ) → k ≤ length recs → fault_after form (pre ++ take k recs) (slice_get recs k) ≡ None
+pub none-anywhere : (form : Form CertFault) (pre recs : List Rec) → ClearFrom form (nonblank pre) (nonblank recs)
+    → (k : ℕ) → k ≤ length recs → fault_after form (pre ++ take k recs) (slice_get recs k) ≡ None
 none-anywhere form pre [] h zero within = rw append-nil h
 none-anywhere form pre [] h (suc k) within = absurd (omega arith)
 none-anywhere form pre (r ∷ rs) h zero within = rw append-nil (go (is_blank r) refl h)
   where
-    go : (b : Bool) → is_blank r ≡ b → ClearFrom form (nonblank pre) (cond (not b) (r ∷ nonblank rs) (nonblank rs)) → cond b None (form (nonblank pre) (Some r)) ≡ None
+    go : (b : Bool) → is_blank r ≡ b → ClearFrom form (nonblank pre) (cond (not b) (r ∷ nonblank rs) (nonblank rs))
+        → cond b None (form (nonblank pre) (Some r)) ≡ None
     go true e k = refl
     go false e k = k.0
 none-anywhere form pre (r ∷ rs) h (suc k) within =
@@ -30,12 +32,14 @@ none-anywhere form pre (r ∷ rs) h (suc k) within =
     joined : nonblank (pre ++ (r ∷ [])) ≡ nonblank pre ++ nonblank (r ∷ [])
     joined = filter-append (λ x. not (is_blank x)) pre (r ∷ [])
 
-    go : (b : Bool) → is_blank r ≡ b → ClearFrom form (nonblank pre) (cond (not b) (r ∷ nonblank rs) (nonblank rs)) → ClearFrom form (nonblank (pre ++ (r ∷ []))) (nonblank rs)
+    go : (b : Bool) → is_blank r ≡ b → ClearFrom form (nonblank pre) (cond (not b) (r ∷ nonblank rs) (nonblank rs))
+        → ClearFrom form (nonblank (pre ++ (r ∷ []))) (nonblank rs)
     go true e k = rw (joined, e, append-nil) k
     go false e k = rw (joined, e) k.1
 
 -- so nothing is refused
-pub none-refused : (form : Form CertFault) (recs : List Rec) → ClearFrom form [] (nonblank recs) → (place : ℕ) (f : CertFault) → IsFirstFault form recs place f → ⊥
+pub none-refused : (form : Form CertFault) (recs : List Rec) → ClearFrom form [] (nonblank recs)
+    → (place : ℕ) (f : CertFault) → IsFirstFault form recs place f → ⊥
 none-refused form recs h zero f r = let some : Some f ≡ None = sym r.here in cc
 none-refused form recs h (suc k) f r =
     let within : suc k ≤ length recs + 1 = r.within in
@@ -44,14 +48,27 @@ none-refused form recs h (suc k) f r =
     cc
 
 -- nothing is found where each fault fails
-pub no-fault : (stands : List Rec → Option Rec → CertFault → Bool) (before : List Rec) (o : Option Rec) → ((f : CertFault) → stands before o f ≡ false) → find (stands before o) in_order ≡ None
-no-fault stands before o h = rw (h fault.NotUtf8, h fault.BadHead, h fault.BadRow, h fault.BadNumber, h fault.UnknownVoter, h fault.UnknownProject, h fault.OutOfOrder, h fault.Repeated, h fault.TooMany) refl
+pub no-fault : (stands : List Rec → Option Rec → CertFault → Bool) (before : List Rec) (o : Option Rec)
+    → ((f : CertFault) → stands before o f ≡ false) → find (stands before o) in_order ≡ None
+no-fault stands before o h =
+    rw (
+      h fault.NotUtf8,
+      h fault.BadHead,
+      h fault.BadRow,
+      h fault.BadNumber,
+      h fault.UnknownVoter,
+      h fault.UnknownProject,
+      h fault.OutOfOrder,
+      h fault.Repeated,
+      h fault.TooMany,
+    ) refl
 
 pub or-false : (x y : Bool) → x ≡ false → y ≡ false → (x || y) ≡ false
 or-false x y h k = rw h k
 
 -- one more row that was taken
-pub joined-by : {A : Type 0} (f : Rec → Option A) (done : List Rec) (r : Rec) (ms : List A) (n : A) → map f done ≡ map Some ms → f r ≡ Some n → map f (done ++ (r ∷ [])) ≡ map Some (ms ++ (n ∷ []))
+pub joined-by : {A : Type 0} (f : Rec → Option A) (done : List Rec) (r : Rec) (ms : List A) (n : A)
+    → map f done ≡ map Some ms → f r ≡ Some n → map f (done ++ (r ∷ [])) ≡ map Some (ms ++ (n ∷ []))
 joined-by f [] r [] n h k = cc
 joined-by f [] r (m ∷ ms) n h k = cc
 joined-by f (d ∷ ds) r [] n h k = cc
@@ -62,14 +79,18 @@ joined-by f (d ∷ ds) r (m ∷ ms) n h k =
     cc
 
 -- what comes is apart from one more that was taken
-pub push-apart : {A : Type 0} (eq : A → A → Bool) (ms : List A) (n x : A) → AllByRecursion (λ m. eq m x ≡ false) ms → eq n x ≡ false → AllByRecursion (λ m. eq m x ≡ false) (ms ++ (n ∷ []))
+pub push-apart : {A : Type 0} (eq : A → A → Bool) (ms : List A) (n x : A) → AllByRecursion (λ m. eq m x ≡ false) ms
+    → eq n x ≡ false → AllByRecursion (λ m. eq m x ≡ false) (ms ++ (n ∷ []))
 push-apart eq [] n x h k = (k, tt)
 push-apart eq (m ∷ ms) n x h k = (h.0, push-apart eq ms n x h.1 k)
 
-pub apart-more : {A : Type 0} (eq : A → A → Bool) (ms : List A) (n : A) (ns : List A) → AllByRecursion (λ x. AllByRecursion (λ m. eq m x ≡ false) ms) ns → AllByRecursion (λ y. eq n y ≡ false) ns → AllByRecursion (λ x. AllByRecursion (λ m. eq m x ≡ false) (ms ++ (n ∷ []))) ns
+pub apart-more : {A : Type 0} (eq : A → A → Bool) (ms : List A) (n : A) (ns : List A)
+    → AllByRecursion (λ x. AllByRecursion (λ m. eq m x ≡ false) ms) ns → AllByRecursion (λ y. eq n y ≡ false) ns
+    → AllByRecursion (λ x. AllByRecursion (λ m. eq m x ≡ false) (ms ++ (n ∷ []))) ns
 apart-more eq ms n [] h k = tt
 apart-more eq ms n (x ∷ xs) h k = (push-apart eq ms n x h.0 k.0, apart-more eq ms n xs h.1 k.1)
 
-pub each-nil : {A : Type 0} (eq : A → A → Bool) (ns : List A) → AllByRecursion (λ x. AllByRecursion (λ m. eq m x ≡ false) []) ns
+pub each-nil : {A : Type 0} (eq : A → A → Bool) (ns : List A)
+    → AllByRecursion (λ x. AllByRecursion (λ m. eq m x ≡ false) []) ns
 each-nil eq [] = tt
 each-nil eq (x ∷ xs) = (tt, each-nil eq xs)

@@ -23,15 +23,18 @@ pub names-format-2 : (r : Rec) → fields r ≡ version_2 → (is_version_1 r ||
 names-format-2 r is = ap (λ (fs : List Field). same_fields fs version_1 || same_fields fs version_2) is
 
 pub names-measure : (m : Measure) (r : Rec) → fields r ≡ satisfaction_by m → states_measure r ≡ true
-names-measure ByCount r is = ap (λ (fs : List Field). same_fields fs (satisfaction_by ByCount) || same_fields fs (satisfaction_by ByCost)) is
-names-measure ByCost r is = ap (λ (fs : List Field). same_fields fs (satisfaction_by ByCount) || same_fields fs (satisfaction_by ByCost)) is
+names-measure ByCount r is =
+    ap (λ (fs : List Field). same_fields fs (satisfaction_by ByCount) || same_fields fs (satisfaction_by ByCost)) is
+names-measure ByCost r is =
+    ap (λ (fs : List Field). same_fields fs (satisfaction_by ByCount) || same_fields fs (satisfaction_by ByCost)) is
 
 -- there is one, and they are as many as the first of them says
 pub some-head : (m : Measure) (heads : List Rec) → StateMeasure m heads → 0 < length heads
 some-head m [] s = absurd s
 some-head m (h ∷ hs) s = omega arith
 
-pub heads-counted : (m : Measure) (heads done : List Rec) → StateMeasure m heads → violation_heads (heads ++ done) ≡ length heads
+pub heads-counted : (m : Measure) (heads done : List Rec) → StateMeasure m heads
+    → violation_heads (heads ++ done) ≡ length heads
 heads-counted m [] done s = absurd s
 heads-counted m (h ∷ []) done s = rw (not-version-2 h s.0) refl
 heads-counted m (h ∷ k ∷ []) done s = rw (is-version-2 h s.0) refl
@@ -41,7 +44,8 @@ pub rows-are : (m : Measure) (heads done : List Rec) → StateMeasure m heads �
 rows-are m heads done s = ap (λ n. drop n (heads ++ done)) (heads-counted m heads done s) ∙ rows-before heads done
 
 -- behind them no measure is awaited
-pub no-measure : (m : Measure) (heads done : List Rec) (here : Option Rec) (test : Rec → Bool) → StateMeasure m heads → at_measure (heads ++ done) here test ≡ false
+pub no-measure : (m : Measure) (heads done : List Rec) (here : Option Rec) (test : Rec → Bool) → StateMeasure m heads
+    → at_measure (heads ++ done) here test ≡ false
 no-measure m [] done here test s = absurd s
 no-measure m (h ∷ []) done here test s = rw (not-version-2 h s.0) refl
 no-measure m (h ∷ k ∷ []) done here test s = and_right _ _ (and_left _ _ (past (h ∷ k ∷ []) done 1 (omega arith)))

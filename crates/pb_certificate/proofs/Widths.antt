@@ -13,21 +13,26 @@ is-empty [] = refl
 is-empty (b ∷ bs) = grind (arith, nat_tests)
 
 -- an empty field at the end doesn't count
-pub drops-last : (r : Rec) (k : ℕ) → k < length r → is_empty (cell k r) ≡ true → fields (take (suc k) r) ≡ fields (take k r)
+pub drops-last : (r : Rec) (k : ℕ) → k < length r → is_empty (cell k r) ≡ true
+    → fields (take (suc k) r) ≡ fields (take k r)
 unfolding field_at
 drops-last [] k h e = absurd (omega arith)
 drops-last (f ∷ fs) zero h e = rw e refl
 drops-last (f ∷ fs) (suc k) h e =
-    ap (λ (rest : Rec). cond (is_empty (clean f) && is_empty rest) [] (clean f ∷ rest)) (drops-last fs k (omega arith) e)
+    ap (λ (rest : Rec). cond (is_empty (clean f) && is_empty rest) [] (clean f ∷ rest))
+    (drops-last fs k (omega arith) e)
 
 -- one that isn't empty does, with all before it
-pub keeps-last : (r : Rec) (k : ℕ) → k < length r → is_empty (cell k r) ≡ false → length (fields (take (suc k) r)) ≡ suc k
+pub keeps-last : (r : Rec) (k : ℕ) → k < length r → is_empty (cell k r) ≡ false
+    → length (fields (take (suc k) r)) ≡ suc k
 unfolding field_at
 keeps-last [] k h e = absurd (omega arith)
 keeps-last (f ∷ fs) zero h e = rw e refl
-keeps-last (f ∷ fs) (suc k) h e = after (is_empty (clean f)) (clean f) (fields (take (suc k) fs)) (keeps-last fs k (omega arith) e)
+keeps-last (f ∷ fs) (suc k) h e =
+    after (is_empty (clean f)) (clean f) (fields (take (suc k) fs)) (keeps-last fs k (omega arith) e)
   where
-    after : (b : Bool) (c : Field) (rest : Rec) → length rest ≡ suc k → length (cond (b && is_empty rest) [] (c ∷ rest)) ≡ suc (suc k)
+    after : (b : Bool) (c : Field) (rest : Rec) → length rest ≡ suc k
+        → length (cond (b && is_empty rest) [] (c ∷ rest)) ≡ suc (suc k)
     after true c [] many = absurd (omega arith)
     after false c [] many = absurd (omega arith)
     after true c (g ∷ gs) many = ap suc many

@@ -94,19 +94,25 @@ price_fault_stands e before here fault.BadHead =
     at_name before here (λ r. not (same_fields (fields r) (codes "pb-prices" ∷ codes "1" ∷ [])))
     || at_denominator before here (λ r. not (is_value_of (codes "denominator") r))
     || at_budget before here (λ r. not (is_value_of (codes "voter_budget") r))
-    || at_columns before here (λ r. not (same_fields (fields r) (codes "voter" ∷ codes "project" ∷ codes "payment" ∷ [])))
+    || at_columns before here
+    (λ r. not (same_fields (fields r) (codes "voter" ∷ codes "project" ∷ codes "payment" ∷ [])))
     || head_is_cut 4 before here
 price_fault_stands e before here fault.BadRow = at_price_row before here (λ r. not (width r == 3))
 price_fault_stands e before here fault.BadNumber =
     at_denominator before here (λ r. is_none (whole_within 1 most_denominator (value_field r)))
     || at_budget before here (λ r. is_none (whole_within 0 most_numerator (value_field r)))
     || at_price_row before here (λ r. is_none (whole_in (voter_field r)) || is_none (numerator_of (payment_field r)))
-price_fault_stands e before here fault.UnknownVoter = at_price_row before here (λ r. is_some (whole_in (voter_field r)) && is_none (voter_in e (voter_field r)))
-price_fault_stands e before here fault.UnknownProject = at_price_row before here (λ r. is_none (project_in e (project_field r)))
+price_fault_stands e before here fault.UnknownVoter =
+    at_price_row before here (λ r. is_some (whole_in (voter_field r)) && is_none (voter_in e (voter_field r)))
+price_fault_stands e before here fault.UnknownProject =
+    at_price_row before here (λ r. is_none (project_in e (project_field r)))
 price_fault_stands e before here fault.OutOfOrder =
-    at_price_row before here (λ r. at_record (last_price_row before) (λ last. nat_lt (number (voter_field r)) (number (voter_field last))))
-price_fault_stands e before here fault.Repeated = at_price_row before here (λ r. list_any (same_cells r) (price_rows before))
-price_fault_stands e before here fault.TooMany = at_price_row before here (λ r. nat_le most_rows (length (price_rows before)))
+    at_price_row before here
+    (λ r. at_record (last_price_row before) (λ last. nat_lt (number (voter_field r)) (number (voter_field last))))
+price_fault_stands e before here fault.Repeated =
+    at_price_row before here (λ r. list_any (same_cells r) (price_rows before))
+price_fault_stands e before here fault.TooMany =
+    at_price_row before here (λ r. nat_le most_rows (length (price_rows before)))
 price_fault_stands e before here fault.Memory = false
 
 -- Violation certificates and outcome files. Their first head record, and the two fields of a row, its kind and what it names:
@@ -160,12 +166,18 @@ violation_fault_stands e before here fault.BadHead =
     at_format before here (λ r. not (is_version_1 r || is_version_2 r))
     || at_measure before here (λ r. not (states_measure r))
     || head_is_cut (violation_heads before) before here
-violation_fault_stands e before here fault.BadRow = at_violation_row before here (λ r. not (width r == 2) || not (is_voter_row r || is_project_row r))
-violation_fault_stands e before here fault.BadNumber = at_violation_row before here (λ r. is_voter_row r && is_none (whole_in (named_field r)))
-violation_fault_stands e before here fault.UnknownVoter = at_violation_row before here (λ r. is_voter_row r && is_some (whole_in (named_field r)) && is_none (voter_in e (named_field r)))
-violation_fault_stands e before here fault.UnknownProject = at_violation_row before here (λ r. is_project_row r && is_none (project_in e (named_field r)))
+violation_fault_stands e before here fault.BadRow =
+    at_violation_row before here (λ r. not (width r == 2) || not (is_voter_row r || is_project_row r))
+violation_fault_stands e before here fault.BadNumber =
+    at_violation_row before here (λ r. is_voter_row r && is_none (whole_in (named_field r)))
+violation_fault_stands e before here fault.UnknownVoter =
+    at_violation_row before here
+    (λ r. is_voter_row r && is_some (whole_in (named_field r)) && is_none (voter_in e (named_field r)))
+violation_fault_stands e before here fault.UnknownProject =
+    at_violation_row before here (λ r. is_project_row r && is_none (project_in e (named_field r)))
 violation_fault_stands e before here fault.OutOfOrder = false
-violation_fault_stands e before here fault.Repeated = at_violation_row before here (λ r. list_any (same_name r) (violation_rows before))
+violation_fault_stands e before here fault.Repeated =
+    at_violation_row before here (λ r. list_any (same_name r) (violation_rows before))
 violation_fault_stands e before here fault.TooMany = false
 violation_fault_stands e before here fault.Memory = false
 
@@ -183,18 +195,22 @@ outcome_fault_stands e before here fault.NotUtf8 = at_record here (λ r. not (is
 outcome_fault_stands e before here fault.BadHead =
     at_format before here (λ r. not (same_fields (fields r) (codes "pb-outcome" ∷ codes "1" ∷ [])))
     || head_is_cut 1 before here
-outcome_fault_stands e before here fault.BadRow = at_outcome_row before here (λ r. not (width r == 2) || not (is_project_row r))
+outcome_fault_stands e before here fault.BadRow =
+    at_outcome_row before here (λ r. not (width r == 2) || not (is_project_row r))
 outcome_fault_stands e before here fault.BadNumber = false
 outcome_fault_stands e before here fault.UnknownVoter = false
-outcome_fault_stands e before here fault.UnknownProject = at_outcome_row before here (λ r. is_none (project_in e (named_field r)))
+outcome_fault_stands e before here fault.UnknownProject =
+    at_outcome_row before here (λ r. is_none (project_in e (named_field r)))
 outcome_fault_stands e before here fault.OutOfOrder = false
-outcome_fault_stands e before here fault.Repeated = at_outcome_row before here (λ r. list_any (same_name r) (outcome_rows before))
+outcome_fault_stands e before here fault.Repeated =
+    at_outcome_row before here (λ r. list_any (same_name r) (outcome_rows before))
 outcome_fault_stands e before here fault.TooMany = false
 outcome_fault_stands e before here fault.Memory = false
 
 -- the faults by their numbers
 abbrev pub in_order : List CertFault
-in_order = fault.NotUtf8 ∷ fault.BadHead ∷ fault.BadRow ∷ fault.BadNumber ∷ fault.UnknownVoter ∷ fault.UnknownProject ∷ fault.OutOfOrder ∷ fault.Repeated ∷ fault.TooMany ∷ []
+in_order = fault.NotUtf8 ∷ fault.BadHead ∷ fault.BadRow ∷ fault.BadNumber ∷ fault.UnknownVoter ∷ fault.UnknownProject
+    ∷ fault.OutOfOrder ∷ fault.Repeated ∷ fault.TooMany ∷ []
 
 -- the fault at a place is the one with the lowest number that stands there
 abbrev pub price_form : Instance → Form CertFault

@@ -55,5 +55,6 @@ StatesNumber name least most r n = (f : Field) × (fields r ≡ name ∷ f ∷ [
 -- the number between two bounds that a head record of this name states, or why it states none
 abbrev pub head_number : Field → ℕ → ℕ → Rec → Result ℕ CertFault
 head_number name least most r =
-    if (length (fields r) == 2) && bytes_eq (cell 0 r) name then ok_or (whole_within least most (cell 1 r)) fault.BadNumber
+    if (length (fields r) == 2) && bytes_eq (cell 0 r) name
+    then ok_or (whole_within least most (cell 1 r)) fault.BadNumber
     else Err fault.BadHead

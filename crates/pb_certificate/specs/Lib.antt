@@ -8,16 +8,6 @@ pub mod ViolationText
 pub mod OutcomeText
 pub mod Faults
 pub mod Rows
-pub mod Places
-pub mod PriceHead
-pub mod PriorRows
-pub mod RowReader
-pub mod Ledgers
-pub mod Gathering
 pub mod Canon
-pub mod RecordWriter
-pub mod CanonicalDrafts
 pub mod Samples
-pub mod Marks
-pub mod OutcomeDrafts
-pub mod ViolationDrafts
+pub mod Inside

@@ -27,7 +27,12 @@ given s = filter_map (payment_of s.election) (drop 4 (nonblank (take s.place s.r
 -- the prices that these rows state
 abbrev pub prices_given : Rows → Prices
 prices_given s =
-    record { projects = projects s.election; denominator = s.denominator; budget = s.budget; payments = map (payments_stated s.election (given s)) (all_voters s.election) }
+    record {
+      projects = projects s.election;
+      denominator = s.denominator;
+      budget = s.budget;
+      payments = map (payments_stated s.election (given s)) (all_voters s.election);
+    }
 
 -- behind some blank records, the next that is not blank is this one, at this place
 pub record ComesNext (s : Rows) (place : ℕ) (r : Rec) : Type 0 where

@@ -35,13 +35,20 @@ sample_outcome = true ∷ true ∷ false ∷ []
 
 -- with these costs of a, b and c
 abbrev pub sample_with_costs : ℕ → ℕ → ℕ → Instance
-sample_with_costs a b c = election 10 a_b_c (a ∷ b ∷ c ∷ []) sample_outcome ((1 ∷ 2 ∷ []) ∷ (1 ∷ []) ∷ (2 ∷ 3 ∷ []) ∷ [])
+sample_with_costs a b c =
+    election 10 a_b_c (a ∷ b ∷ c ∷ []) sample_outcome ((1 ∷ 2 ∷ []) ∷ (1 ∷ []) ∷ (2 ∷ 3 ∷ []) ∷ [])
 
 abbrev pub sample_election : Instance
 sample_election = sample_with_costs 6 4 9
 
 abbrev pub sample_prices : Prices
-sample_prices = record { projects = 3; denominator = 1; budget = 4; payments = ((1, 2) ∷ (2, 2) ∷ []) ∷ ((1, 4) ∷ []) ∷ ((2, 2) ∷ []) ∷ [] }
+sample_prices =
+    record {
+      projects = 3;
+      denominator = 1;
+      budget = 4;
+      payments = ((1, 2) ∷ (2, 2) ∷ []) ∷ ((1, 4) ∷ []) ∷ ((2, 2) ∷ []) ∷ [];
+    }
 
 -- their canonical text
 abbrev pub sample_text : List ℕ
@@ -75,7 +82,8 @@ shared_election = election 1 (codes "x" ∷ []) (1 ∷ []) (true ∷ []) ((1 ∷
 
 -- over this denominator, with this budget, each of the three pays this for it
 abbrev pub shared_prices : ℕ → ℕ → ℕ → Prices
-shared_prices d n x = record { projects = 1; denominator = d; budget = n; payments = ((1, x) ∷ []) ∷ ((1, x) ∷ []) ∷ ((1, x) ∷ []) ∷ [] }
+shared_prices d n x =
+    record { projects = 1; denominator = d; budget = n; payments = ((1, x) ∷ []) ∷ ((1, x) ∷ []) ∷ ((1, x) ∷ []) ∷ [] }
 
 -- two voters, each with a project of its own, of which one is funded
 abbrev pub split_outcome : List Bool
@@ -94,7 +102,9 @@ unfair_outcome = false ∷ false ∷ true ∷ []
 
 -- with these ballots of voters 1 and 2
 abbrev pub unfair_with_ballots : List ℕ → List ℕ → Instance
-unfair_with_ballots first second = election 8 (codes "x1" ∷ codes "x2" ∷ codes "y" ∷ []) (2 ∷ 2 ∷ 8 ∷ []) unfair_outcome (first ∷ second ∷ (3 ∷ []) ∷ (3 ∷ []) ∷ [])
+unfair_with_ballots first second =
+    election 8 (codes "x1" ∷ codes "x2" ∷ codes "y" ∷ []) (2 ∷ 2 ∷ 8 ∷ []) unfair_outcome
+    (first ∷ second ∷ (3 ∷ []) ∷ (3 ∷ []) ∷ [])
 
 -- with this ballot of voter 2
 abbrev pub unfair_with_ballot : List ℕ → Instance
@@ -116,7 +126,8 @@ dear_election = election 12 (codes "s" ∷ codes "t" ∷ []) (1 ∷ 6 ∷ []) de
 
 -- the first place at which a fault stands, counted from 1, with the fault of the lowest number there
 abbrev pub first_refusal : Form CertFault → List Rec → Option (CertFault × ℕ)
-first_refusal form recs = slice_get (filter_map (λ k. option_map (λ f. (f, k)) (fault_at form recs k)) (range_with_len 1 (length recs + 1))) 0
+first_refusal form recs =
+    slice_get (filter_map (λ k. option_map (λ f. (f, k)) (fault_at form recs k)) (range_with_len 1 (length recs + 1))) 0
 
 -- records of three and of two fields
 abbrev pub three : Field → Field → Field → Rec
@@ -130,7 +141,8 @@ price_columns = three (codes "voter") (codes "project") (codes "payment")
 
 -- a price certificate with these rows
 abbrev pub price_records : List Rec → List Rec
-price_records rows = two (codes "pb-prices") (codes "1") ∷ two (codes "denominator") (codes "1") ∷ two (codes "voter_budget") (codes "4") ∷ price_columns ∷ rows
+price_records rows = two (codes "pb-prices") (codes "1") ∷ two (codes "denominator") (codes "1")
+    ∷ two (codes "voter_budget") (codes "4") ∷ price_columns ∷ rows
 
 -- the rows of the sample prices
 abbrev pub row_1a : Rec

@@ -7,7 +7,7 @@ ghost use Rattle.pb_certificate.specs.Faults.{Refuses, certificate_records, no_m
 ghost use Rattle.pb_certificate.specs.PriceText.{IsPriceText};
 ghost use Rattle.pb_certificate.specs.Prices as spec;
 ghost use Rattle.pb_certificate.specs.Prices.{Fits};
-ghost use Rattle.pb_certificate.specs.RecordWriter.{IsOpen, held};
+ghost use Rattle.pb_certificate.specs.Inside.RecordWriter.{IsOpen, held};
 
 use crate::canonical_draft::CanonicalDraft;
 use crate::canonical_rows::{add_heads, add_payments};

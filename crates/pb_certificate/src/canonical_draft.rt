@@ -19,7 +19,7 @@ impl<'a> CanonicalDraft<'a> {
     ghost use Rattle.pb_election.specs.Instance.{Instance, projects, voters};
     ghost use Rattle.pb_election.specs.Text.{IsElection};
     ghost use Rattle.pb_certificate.specs.Canon.{Canon};
-    ghost use Rattle.pb_certificate.specs.CanonicalDrafts.{HasWritten};
+    ghost use Rattle.pb_certificate.specs.Inside.CanonicalDrafts.{HasWritten};
     ghost use Rattle.pb_certificate.specs.Prices.{Fits, Prices};
 
     /// The head alone.
@@ -50,7 +50,7 @@ impl<'a> CanonicalDraft<'a> {
 }
 
 impl<'a> Ledger for CanonicalDraft<'a> {
-    ghost use Rattle.pb_certificate.specs.CanonicalDrafts.{HasWritten};
+    ghost use Rattle.pb_certificate.specs.Inside.CanonicalDrafts.{HasWritten};
 
     ghost Has = { HasWritten };
 

@@ -4,7 +4,7 @@ ghost use Rattle.pb_election.specs.Instance.{projects};
 ghost use Rattle.pb_election.specs.Text.{IsElection};
 ghost use Rattle.pb_certificate.specs.Canon.{head_records, lines, rows_of_voter};
 ghost use Rattle.pb_certificate.specs.Prices.{IsPaymentMap};
-ghost use Rattle.pb_certificate.specs.RecordWriter.{IsOpen, held};
+ghost use Rattle.pb_certificate.specs.Inside.RecordWriter.{IsOpen, held};
 
 use crate::record_writer;
 use csv::Writer;

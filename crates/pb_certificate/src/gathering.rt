@@ -3,7 +3,7 @@ ghost use Rattle.std.specs.Prelude.{◌≡◌, ◌≤◌, ◌<◌, ◌+◌, ◌-
 ghost use Rattle.pb_election.specs.Instance as spec;
 ghost use Rattle.pb_records.specs.FirstFault.{IsFirstFault};
 ghost use Rattle.pb_certificate.specs.Faults.{no_memory, price_form};
-ghost use Rattle.pb_certificate.specs.Gathering.{GathersAll, HoldSome, Holds, HoldsAll, WhereNew, prices_up_to};
+ghost use Rattle.pb_certificate.specs.Inside.Gathering.{GathersAll, HoldSome, Holds, HoldsAll, WhereNew, prices_up_to};
 ghost use Rattle.pb_certificate.specs.PriceRows.{as_payment};
 ghost use Rattle.pb_certificate.specs.PriceText.{Payment};
 ghost use Rattle.pb_certificate.specs.Rows.{given, Rows as Place};

@@ -1,7 +1,7 @@
 //! What takes the payments of a price certificate, one voter after the other.
 ghost use Rattle.std.specs.Prelude.{◌≡◌, ◌+◌, length, OnOk};
 ghost use Rattle.pb_election.specs.Instance.{Instance};
-ghost use Rattle.pb_certificate.specs.Ledgers.{CanTake, with_voter};
+ghost use Rattle.pb_certificate.specs.Inside.Ledgers.{CanTake, with_voter};
 ghost use Rattle.pb_certificate.specs.Prices.{Prices};
 
 use pb_records::Runs;

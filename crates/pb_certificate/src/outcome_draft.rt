@@ -1,8 +1,8 @@
 //! An outcome file, as far as it has been read.
 ghost use Rattle.std.specs.Prelude.{◌≡◌, [], IfOk};
 ghost use Rattle.csv.specs.Records.{fields_of};
-ghost use Rattle.pb_certificate.specs.Marks.{EndsAs};
-ghost use Rattle.pb_certificate.specs.OutcomeDrafts.{OutcomeTaken, after_outcome_row};
+ghost use Rattle.pb_certificate.specs.Inside.Marks.{EndsAs};
+ghost use Rattle.pb_certificate.specs.Inside.OutcomeDrafts.{OutcomeTaken, after_outcome_row};
 
 use crate::CertFault;
 use crate::fields::{is_pair, width};
@@ -54,7 +54,7 @@ impl OutcomeDraft {
 
 impl Draft<Election> for OutcomeDraft {
     ghost use Rattle.pb_certificate.specs.Faults.{outcome_form};
-    ghost use Rattle.pb_certificate.specs.OutcomeDrafts.{OutcomeTaken};
+    ghost use Rattle.pb_certificate.specs.Inside.OutcomeDrafts.{OutcomeTaken};
 
     type Fault = CertFault;
 

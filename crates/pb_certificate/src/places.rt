@@ -1,5 +1,5 @@
 //! Going from record to record of a file.
-ghost use Rattle.pb_certificate.specs.Places.{Comes};
+ghost use Rattle.pb_certificate.specs.Inside.Places.{Comes};
 
 use crate::{CertFault, CertRefusal};
 use pb_records::{Cursor, Next};

@@ -4,8 +4,8 @@ ghost use Rattle.pb_election.specs.Instance.{Instance};
 ghost use Rattle.pb_records.specs.Records.{Rec};
 ghost use Rattle.pb_certificate.specs.Fields.{StatesNumber};
 ghost use Rattle.pb_certificate.specs.Faults.{price_form};
-ghost use Rattle.pb_certificate.specs.Places.{StandsBehind};
-ghost use Rattle.pb_certificate.specs.PriceHead.{HasFields, HeadGives, NextHead, ReadsHead, column_fields, name_fields};
+ghost use Rattle.pb_certificate.specs.Inside.Places.{StandsBehind};
+ghost use Rattle.pb_certificate.specs.Inside.PriceHead.{HasFields, HeadGives, NextHead, ReadsHead, column_fields, name_fields};
 ghost use Rattle.pb_certificate.specs.Prices.{most_denominator, most_numerator};
 
 use crate::fields::{MOST_NUMERATOR, head_number, is_pair, is_triple};

@@ -4,7 +4,7 @@ ghost use Rattle.csv.specs.Records.{fields_of};
 ghost use Rattle.pb_election.specs.Instance.{projects};
 ghost use Rattle.pb_certificate.specs.PriceRows.{as_payment};
 ghost use Rattle.pb_certificate.specs.PriceText.{Payment};
-ghost use Rattle.pb_certificate.specs.PriorRows.{Admits, Remembers, TakesRecord};
+ghost use Rattle.pb_certificate.specs.Inside.PriorRows.{Admits, Remembers, TakesRecord};
 
 use crate::CertFault;
 use crate::price_row::{PriceRow, price_row};

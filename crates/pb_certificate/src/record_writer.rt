@@ -2,7 +2,7 @@
 //! An error is want of memory.
 ghost use Rattle.std.specs.Prelude.{◌≡◌, ◌++◌, ◌∷◌, [], IfOk, OnOk, map};
 ghost use Rattle.csv.specs.Writing.{default_writer, row_text};
-ghost use Rattle.pb_certificate.specs.RecordWriter.{IsOpen, held};
+ghost use Rattle.pb_certificate.specs.Inside.RecordWriter.{IsOpen, held};
 
 use csv::{Writer, WriterBuilder};
 use std::alloc::{AllocError, Global};

@@ -28,7 +28,7 @@ impl<'a> RowReader<'a> {
     ghost use Rattle.std.specs.Prelude.{◌≡◌, [], ℕ};
     ghost use Rattle.pb_certificate.specs.Faults.{Refuses, certificate_records, no_memory, price_form};
     ghost use Rattle.pb_certificate.specs.Rows.{IsInHead, given};
-    ghost use Rattle.pb_certificate.specs.RowReader.{Advances, IsReading, place_of};
+    ghost use Rattle.pb_certificate.specs.Inside.RowReader.{Advances, IsReading, place_of};
 
     /// Behind the head of a price certificate, or its first fault where that stands in the head.
     pub fn open(

@@ -20,7 +20,7 @@ pub struct Rows<'a> {
 
 impl<'a> Model for Rows<'a> {
     ghost use Rattle.pb_certificate.specs.Rows as spec;
-    ghost use Rattle.pb_certificate.specs.RowReader.{IsReading, place_of};
+    ghost use Rattle.pb_certificate.specs.Inside.RowReader.{IsReading, place_of};
 
     ghost Value = { spec.Rows };
 

@@ -4,7 +4,7 @@ ghost use Rattle.pb_election.specs.Instance.{IsSet, projects, voters};
 ghost use Rattle.pb_certificate.specs.Claim.{Fits};
 ghost use Rattle.pb_certificate.specs.Faults.{Refuses, certificate_records, no_memory, violation_form};
 ghost use Rattle.pb_certificate.specs.ViolationText.{IsViolationText};
-ghost use Rattle.pb_certificate.specs.Marks.{marked};
+ghost use Rattle.pb_certificate.specs.Inside.Marks.{marked};
 ghost use Rattle.pb_certificate.specs.declared.measure.Measure.{Measure};
 
 use crate::marks::marked;

@@ -3,8 +3,8 @@ ghost use Rattle.std.specs.Prelude.{◌≡◌, [], true, IfOk};
 ghost use Rattle.csv.specs.Records.{fields_of};
 ghost use Rattle.pb_election.specs.Instance.{Instance};
 ghost use Rattle.pb_records.specs.Cells.{is_text};
-ghost use Rattle.pb_certificate.specs.Marks.{EndsAs};
-ghost use Rattle.pb_certificate.specs.ViolationDrafts.{Took, ViolationTaken, after_violation_row, taken_so_far};
+ghost use Rattle.pb_certificate.specs.Inside.Marks.{EndsAs};
+ghost use Rattle.pb_certificate.specs.Inside.ViolationDrafts.{Took, ViolationTaken, after_violation_row, taken_so_far};
 
 use crate::fields::{is_pair, width};
 use crate::marks::{mark_project, mark_voter};
@@ -122,7 +122,7 @@ impl ViolationDraft {
 
 impl Draft<Election> for ViolationDraft {
     ghost use Rattle.pb_certificate.specs.Faults.{violation_form};
-    ghost use Rattle.pb_certificate.specs.ViolationDrafts.{ViolationTaken, taken_so_far};
+    ghost use Rattle.pb_certificate.specs.Inside.ViolationDrafts.{ViolationTaken, taken_so_far};
 
     type Fault = CertFault;
 

@@ -31,9 +31,12 @@ and-turned false false = refl
 
 common : (n : ℕ) (s t : List ℕ) → IsSet 1 n s → IsSet 1 n t → filter (among t) s ≡ filter (among s) t
 common n s t hs ht =
-    ap (filter (among t)) (sym (set-is n 1 n s (omega arith) hs)) ∙ filter-filter (among t) (among s) (range_with_len 1 n)
-    ∙ filter-same (λ j. among s j && among t j) (λ j. among t j && among s j) n 1 (λ j low high. and-turned (among s j) (among t j))
-    ∙ sym (filter-filter (among s) (among t) (range_with_len 1 n)) ∙ ap (filter (among s)) (set-is n 1 n t (omega arith) ht)
+    ap (filter (among t)) (sym (set-is n 1 n s (omega arith) hs))
+    ∙ filter-filter (among t) (among s) (range_with_len 1 n)
+    ∙ filter-same (λ j. among s j && among t j) (λ j. among t j && among s j) n 1
+    (λ j low high. and-turned (among s j) (among t j))
+    ∙ sym (filter-filter (among s) (among t) (range_with_len 1 n))
+    ∙ ap (filter (among s)) (set-is n 1 n t (omega arith) ht)
 
 -- a count with one more, or without
 pub few-more : (b : Bool) (k n m : ℕ) → n ≤ k → m ≡ n + cond b 1 0 → m ≤ k + 1
@@ -45,21 +48,26 @@ pub record AreCommon (t s : List ℕ) (k n : ℕ) : Type 0 where
   pub many : n ≡ length (filter (among t) (take k s))
   pub few : n ≤ k
 
-pub common-more : (t s : List ℕ) (k n m : ℕ) (b : Bool) → AreCommon t s k n → k < length s → among t (get_or s k 0) ≡ b → m ≡ n + cond b 1 0 → AreCommon t s (k + 1) m
+pub common-more : (t s : List ℕ) (k n m : ℕ) (b : Bool) → AreCommon t s k n → k < length s → among t (get_or s k 0) ≡ b
+    → m ≡ n + cond b 1 0 → AreCommon t s (k + 1) m
 common-more t s k n m b h within here is = record {
-  many = is ∙ ap (λ i. i + cond b 1 0) h.many ∙ ap (λ x. length (filter (among t) (take k s)) + cond x 1 0) (sym here) ∙ sym (length-filter_more (among t) s k 0 within);
+  many = is ∙ ap (λ i. i + cond b 1 0) h.many ∙ ap (λ x. length (filter (among t) (take k s)) + cond x 1 0) (sym here)
+      ∙ sym (length-filter_more (among t) s k 0 within);
   few = few-more b k n m h.few is;
 }
 
 -- the demanded projects that a ballot doesn't have are all but those that it has
-pub missing-is : (e : Instance) (i : ℕ) (b t : List ℕ) (approved k : ℕ) → b ≡ ballot_of e i → IsSet 1 (projects e) b → IsSet 1 (projects e) t → AreCommon t b k approved → length b ≤ k
+pub missing-is : (e : Instance) (i : ℕ) (b t : List ℕ) (approved k : ℕ) → b ≡ ballot_of e i → IsSet 1 (projects e) b
+    → IsSet 1 (projects e) t → AreCommon t b k approved → length b ≤ k
     → approved + length (filter (λ j. not (approves e i j)) t) ≡ length t
 missing-is e i b t approved k is hb ht h end =
     ap (λ n. n + length (filter (λ j. not (approves e i j)) t))
-    (h.many ∙ ap (λ xs. length (filter (among t) xs)) (take_all k b end) ∙ ap (λ xs. length xs) (common (projects e) b t hb ht) ∙ ap (λ xs. length (filter (among xs) t)) is)
+    (h.many ∙ ap (λ xs. length (filter (among t) xs)) (take_all k b end)
+    ∙ ap (λ xs. length xs) (common (projects e) b t hb ht) ∙ ap (λ xs. length (filter (among xs) t)) is)
     ∙ length-filter_both (approves e i) (λ j. not (approves e i j)) (λ j. refl) t
 
-pub few-missing : (e : Instance) (i : ℕ) (t : List ℕ) (n : ℕ) → IsElection e → IsSet 1 (projects e) t → n ≡ length (filter (λ j. not (approves e i j)) t) → n ≤ 20000
+pub few-missing : (e : Instance) (i : ℕ) (t : List ℕ) (n : ℕ) → IsElection e → IsSet 1 (projects e) t
+    → n ≡ length (filter (λ j. not (approves e i j)) t) → n ≤ 20000
 few-missing e i t n sound set is =
     let few : length t ≤ projects e + 1 - 1 = set-length 1 (projects e) t set in
     omega (arith, sound.few_projects, length-filter_both (approves e i) (λ j. not (approves e i j)) (λ j. refl) t)
@@ -71,17 +79,27 @@ pair i j = (i, j)
 abbrev with_voter : Instance → List ℕ → ℕ → List (ℕ × ℕ)
 with_voter e t i = map (λ j. pair i j) (filter (λ j. not (approves e i j)) t)
 
-pub pairs-are : (e : Instance) (s t : List ℕ) → sum_by (λ i. length (filter (λ j. not (approves e i j)) t)) s ≡ length (culprits_of_V2 e s t)
+pub pairs-are : (e : Instance) (s t : List ℕ)
+    → sum_by (λ i. length (filter (λ j. not (approves e i j)) t)) s ≡ length (culprits_of_V2 e s t)
 pairs-are e s t = sums s ∙ sym (length-flat_map (with_voter e t) s)
   where
-    sums : (xs : List ℕ) → sum_by (λ i. length (filter (λ j. not (approves e i j)) t)) xs ≡ sum_by (λ i. length (with_voter e t i)) xs
+    sums : (xs : List ℕ) → sum_by (λ i. length (filter (λ j. not (approves e i j)) t)) xs
+        ≡ sum_by (λ i. length (with_voter e t i)) xs
     sums [] = refl
-    sums (x ∷ xs) = omega (arith, sums xs, length-map (filter (λ j. not (approves e x j)) t) (λ j. pair x j), sum_by-cons (λ i. length (filter (λ j. not (approves e i j)) t)) x xs, sum_by-cons (λ i. length (with_voter e t i)) x xs)
+    sums (x ∷ xs) =
+        omega (
+          arith,
+          sums xs,
+          length-map (filter (λ j. not (approves e x j)) t) (λ j. pair x j),
+          sum_by-cons (λ i. length (filter (λ j. not (approves e i j)) t)) x xs,
+          sum_by-cons (λ i. length (with_voter e t i)) x xs,
+        )
 
 -- one more member
 pub largest-push : (f : ℕ → ℕ) (xs : List ℕ) (x : ℕ) → largest_by f (xs ++ (x ∷ [])) ≡ max (largest_by f xs) (f x)
 largest-push f [] x = omega arith
-largest-push f (y ∷ xs) x = let rest : largest_by f (xs ++ (x ∷ [])) ≡ max (largest_by f xs) (f x) = largest-push f xs x in omega arith
+largest-push f (y ∷ xs) x = let rest : largest_by f (xs ++ (x ∷ [])) ≡ max (largest_by f xs) (f x) =
+    largest-push f xs x in omega arith
 
 -- what is known of the members in a list, where q tells the satisfied ones and f what each gets
 pub record Seen (q : ℕ → Bool) (f : ℕ → ℕ) (xs : List ℕ) (satisfied : SatisfiedMembers) (gets : ℕ) : Type 0 where
@@ -92,7 +110,8 @@ pub record Seen (q : ℕ → Bool) (f : ℕ → ℕ) (xs : List ℕ) (satisfied 
 pub none-seen : (q : ℕ → Bool) (f : ℕ → ℕ) → Seen q f [] (record { first = None; count = 0 }) 0
 none-seen q f = record { first = refl; count = refl; shown = refl }
 
-first-push : (ys : List ℕ) (b : Bool) (x : ℕ) (o : Option ℕ) → o ≡ slice_get ys 0 → option_or o (cond b (Some x) None) ≡ slice_get (ys ++ cond b (x ∷ []) []) 0
+first-push : (ys : List ℕ) (b : Bool) (x : ℕ) (o : Option ℕ) → o ≡ slice_get ys 0
+    → option_or o (cond b (Some x) None) ≡ slice_get (ys ++ cond b (x ∷ []) []) 0
 first-push [] true x o is = ap (λ z. option_or z (Some x)) is
 first-push [] false x o is = ap (λ z. option_or z None) is
 first-push (y ∷ ys) b x o is = ap (λ z. option_or z (cond b (Some x) None)) is
@@ -101,14 +120,18 @@ count-push : (ys : List ℕ) (b : Bool) (x n : ℕ) → n ≡ length ys → n + 
 count-push ys true x n is = omega (arith, length-append ys (x ∷ []))
 count-push ys false x n is = omega (arith, length-append ys [])
 
-shown-push : (f : ℕ → ℕ) (xs : List ℕ) (o : Option ℕ) (b : Bool) (x g : ℕ) → g ≡ shown_worth o f xs → cond (is_some o) g (cond b (f x) (max g (f x))) ≡ shown_worth (option_or o (cond b (Some x) None)) f (xs ++ (x ∷ []))
+shown-push : (f : ℕ → ℕ) (xs : List ℕ) (o : Option ℕ) (b : Bool) (x g : ℕ) → g ≡ shown_worth o f xs
+    → cond (is_some o) g (cond b (f x) (max g (f x)))
+    ≡ shown_worth (option_or o (cond b (Some x) None)) f (xs ++ (x ∷ []))
 shown-push f xs (Some y) b x g is = is
 shown-push f xs None true x g is = refl
 shown-push f xs None false x g is = ap (λ n. max n (f x)) is ∙ sym (largest-push f xs x)
 
 -- one more member
-seen-push : (q : ℕ → Bool) (f : ℕ → ℕ) (xs : List ℕ) (x : ℕ) (s s' : SatisfiedMembers) (g g' : ℕ) (b : Bool) → Seen q f xs s g → q x ≡ b
-    → s'.first ≡ option_or s.first (cond b (Some x) None) → s'.count ≡ s.count + cond b 1 0 → g' ≡ cond (is_some s.first) g (cond b (f x) (max g (f x))) → Seen q f (xs ++ (x ∷ [])) s' g'
+seen-push : (q : ℕ → Bool) (f : ℕ → ℕ) (xs : List ℕ) (x : ℕ) (s s' : SatisfiedMembers) (g g' : ℕ) (b : Bool)
+    → Seen q f xs s g → q x ≡ b
+    → s'.first ≡ option_or s.first (cond b (Some x) None) → s'.count ≡ s.count + cond b 1 0
+    → g' ≡ cond (is_some s.first) g (cond b (f x) (max g (f x))) → Seen q f (xs ++ (x ∷ [])) s' g'
 seen-push q f xs x s s' g g' b h is first count shown = record {
   first = first ∙ first-push (filter q xs) b x s.first h.first ∙ sym (ap (λ ys. slice_get ys 0) added);
   count = count ∙ count-push (filter q xs) b x s.count h.count ∙ sym (ap (λ ys. length ys) added);
@@ -118,36 +141,52 @@ seen-push q f xs x s s' g g' b h is first count shown = record {
     added : filter q (xs ++ (x ∷ [])) ≡ filter q xs ++ cond b (x ∷ []) []
     added = filter-append q xs (x ∷ []) ∙ ap (λ c. filter q xs ++ cond c (x ∷ []) []) is
 
-pub seen-more : (q : ℕ → Bool) (f : ℕ → ℕ) (xs : List ℕ) (k : ℕ) (s s' : SatisfiedMembers) (g g' n : ℕ) (b : Bool) → Seen q f (take k xs) s g → k < length xs → n ≡ f (get_or xs k 0) → q (get_or xs k 0) ≡ b
-    → s'.first ≡ option_or s.first (cond b (Some (get_or xs k 0)) None) → s'.count ≡ s.count + cond b 1 0 → g' ≡ cond (is_some s.first) g (cond b n (max g n)) → Seen q f (take (k + 1) xs) s' g'
+pub seen-more : (q : ℕ → Bool) (f : ℕ → ℕ) (xs : List ℕ) (k : ℕ) (s s' : SatisfiedMembers) (g g' n : ℕ) (b : Bool)
+    → Seen q f (take k xs) s g → k < length xs → n ≡ f (get_or xs k 0) → q (get_or xs k 0) ≡ b
+    → s'.first ≡ option_or s.first (cond b (Some (get_or xs k 0)) None) → s'.count ≡ s.count + cond b 1 0
+    → g' ≡ cond (is_some s.first) g (cond b n (max g n)) → Seen q f (take (k + 1) xs) s' g'
 seen-more q f xs k s s' g g' n b h within gets_is is first count shown =
     subst (λ ys. Seen q f ys s' g') (sym (take_more xs k 0 within))
-    (seen-push q f (take k xs) (get_or xs k 0) s s' g g' b h is first count (shown ∙ ap (λ m. cond (is_some s.first) g (cond b m (max g m))) gets_is))
+    (seen-push q f (take k xs) (get_or xs k 0) s s' g g' b h is first count
+    (shown ∙ ap (λ m. cond (is_some s.first) g (cond b m (max g m))) gets_is))
 
 -- all members
 abbrev members : Option ℕ → ℕ → SatisfiedMembers
 members first count = record { first = first; count = count }
 
-pub all-seen : (q : ℕ → Bool) (f : ℕ → ℕ) (xs : List ℕ) (k : ℕ) (s : SatisfiedMembers) (g : ℕ) → Seen q f (take k xs) s g → length xs ≤ k → (s ≡ satisfied_members (filter q xs)) × (g ≡ shown_worth (slice_get (filter q xs) 0) f xs)
+pub all-seen : (q : ℕ → Bool) (f : ℕ → ℕ) (xs : List ℕ) (k : ℕ) (s : SatisfiedMembers) (g : ℕ)
+    → Seen q f (take k xs) s g → length xs ≤ k → (s ≡ satisfied_members (filter q xs))
+    × (g ≡ shown_worth (slice_get (filter q xs) 0) f xs)
 all-seen q f xs k s g h end =
-    let whole : Seen q f xs s g = subst (λ ys. Seen q f ys s g) (take_all k xs end) h in
-    (ap (λ o. members o s.count) whole.first ∙ ap (members (slice_get (filter q xs) 0)) whole.count, whole.shown ∙ ap (λ o. shown_worth o f xs) whole.first)
+    let whole : Seen q f xs s g = subst (λ ys. Seen q f ys s g) (take_all k xs end) h in (
+      ap (λ o. members o s.count) whole.first ∙ ap (members (slice_get (filter q xs) 0)) whole.count,
+      whole.shown
+          ∙ ap (λ o. shown_worth o f xs) whole.first,
+    )
 
 -- findings of the same parts
 abbrev of : ℕ → ℕ → MissingApprovals → ℕ → SatisfiedMembers → ℕ → ViolationFindings
 of a b x c y d = record { members = a; cost = b; unapproved = x; demanded = c; satisfied = y; gets = d }
 
-of-parts : (a b b' c c' d d' : ℕ) (x x' : MissingApprovals) (y y' : SatisfiedMembers) → b ≡ b' → x ≡ x' → c ≡ c' → y ≡ y' → d ≡ d' → of a b x c y d ≡ of a b' x' c' y' d'
+of-parts : (a b b' c c' d d' : ℕ) (x x' : MissingApprovals) (y y' : SatisfiedMembers) → b ≡ b' → x ≡ x' → c ≡ c'
+    → y ≡ y' → d ≡ d' → of a b x c y d ≡ of a b' x' c' y' d'
 of-parts a b b' c c' d d' x x' y y' p q r s t = rw (p, q, r, s, t) refl
 
 abbrev missing : Option (ℕ × ℕ) → ℕ → MissingApprovals
 missing first count = record { first = first; count = count }
 
-pub findings-are : (worth : ℕ → ℕ) (e : Instance) (w : List Bool) (s t : List ℕ) (cost : ℕ) (first : Option (ℕ × ℕ)) (count demanded : ℕ) (satisfied : SatisfiedMembers) (shown : ℕ)
-    → cost ≡ cost_of_all e t → first ≡ slice_get (culprits_of_V2 e s t) 0 → count ≡ length (culprits_of_V2 e s t) → demanded ≡ sat worth t
-    → satisfied ≡ satisfied_members (filter (λ i. nat_le demanded (sat worth (gets e w i))) s) → shown ≡ shown_worth (slice_get (filter (λ i. nat_le demanded (sat worth (gets e w i))) s) 0) (λ i. sat worth (gets e w i)) s
+pub findings-are : (worth : ℕ → ℕ) (e : Instance) (w : List Bool) (s t : List ℕ) (cost : ℕ) (first : Option (ℕ × ℕ))
+    (count demanded : ℕ) (satisfied : SatisfiedMembers) (shown : ℕ)
+    → cost ≡ cost_of_all e t → first ≡ slice_get (culprits_of_V2 e s t) 0 → count ≡ length (culprits_of_V2 e s t)
+    → demanded ≡ sat worth t
+    → satisfied ≡ satisfied_members (filter (λ i. nat_le demanded (sat worth (gets e w i))) s)
+    → shown ≡ shown_worth (slice_get (filter (λ i. nat_le demanded (sat worth (gets e w i))) s) 0)
+    (λ i. sat worth (gets e w i)) s
     → of (length s) cost (missing first count) demanded satisfied shown ≡ violation_findings worth e w s t
 findings-are worth e w s t cost first count demanded satisfied shown p q r d m g =
-    of-parts (length s) cost _ demanded _ shown _ (missing first count) _ satisfied _ p (ap (λ o. missing o count) q ∙ ap (missing (slice_get (culprits_of_V2 e s t) 0)) r) d
+    of-parts (length s) cost _ demanded _ shown _ (missing first count) _ satisfied _ p
+    (ap (λ o. missing o count) q ∙ ap (missing (slice_get (culprits_of_V2 e s t) 0)) r) d
     (m ∙ ap (λ n. satisfied_members (filter (λ i. nat_le n (sat worth (gets e w i))) s)) d)
-    (g ∙ ap (λ n. shown_worth (slice_get (filter (λ i. nat_le n (sat worth (gets e w i))) s) 0) (λ i. sat worth (gets e w i)) s) d)
+    (g ∙ ap
+    (λ n. shown_worth (slice_get (filter (λ i. nat_le n (sat worth (gets e w i))) s) 0)
+    (λ i. sat worth (gets e w i)) s) d)

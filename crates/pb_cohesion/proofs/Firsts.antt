@@ -2,7 +2,6 @@
 use Rattle.std.proofs.Common.{◌≡◌, ℕ, zero, suc, ◌+◌, ◌<◌, ◌≤◌, Bool, true, false, cond, List, [], ◌∷◌, ◌++◌, length, get_or, take, refl, ◌∙◌, ap, arith}
 use Rattle.std.specs.Prelude.{Option, Some, None, filter, flat_map, map, slice_get}
 use Rattle.std.specs.List.{range_with_len}
-use Rattle.std.proofs.lemmas.List.{take_all}
 use Rattle.pb_cohesion.proofs.Culprits.{append-nil, nil-append}
 
 -- the first element of two lists joined is that of the first list, where this is not empty
@@ -15,7 +14,8 @@ first-right [] ys h = refl
 first-right (x ∷ xs) ys h = cc
 
 -- the first element of a list that is mapped
-pub first-mapped : {A B : Type 0} (f : A → B) (xs : List A) (a : A) → slice_get xs 0 ≡ Some a → slice_get (map f xs) 0 ≡ Some (f a)
+pub first-mapped : {A B : Type 0} (f : A → B) (xs : List A) (a : A) → slice_get xs 0 ≡ Some a
+    → slice_get (map f xs) 0 ≡ Some (f a)
 first-mapped f [] a h = cc
 first-mapped f (x ∷ xs) a h = let same : x ≡ a = cc in ap (λ y. Some (f y)) same
 
@@ -25,7 +25,8 @@ none-found None h = refl
 none-found (Some a) h = absurd (h a refl)
 
 -- the element at which a loop stops
-pub filter-first : (q : ℕ → Bool) (xs : List ℕ) (k : ℕ) → filter q (take k xs) ≡ [] → k < length xs → q (get_or xs k 0) ≡ true → slice_get (filter q xs) 0 ≡ Some (get_or xs k 0)
+pub filter-first : (q : ℕ → Bool) (xs : List ℕ) (k : ℕ) → filter q (take k xs) ≡ [] → k < length xs
+    → q (get_or xs k 0) ≡ true → slice_get (filter q xs) 0 ≡ Some (get_or xs k 0)
 filter-first q [] k h within pass = absurd (omega arith)
 filter-first q (x ∷ xs) zero h within pass = rw pass refl
 filter-first q (x ∷ xs) (suc k) h within pass = go (q x) refl h (λ rest. filter-first q xs k rest (omega arith) pass)
@@ -37,7 +38,8 @@ filter-first q (x ∷ xs) (suc k) h within pass = go (q x) refl h (λ rest. filt
     go false e none rest = rest none
 
 -- a loop goes on past an element that fails the test
-filter-suc : (q : ℕ → Bool) (xs : List ℕ) (k : ℕ) → filter q (take k xs) ≡ [] → k < length xs → q (get_or xs k 0) ≡ false → filter q (take (suc k) xs) ≡ []
+filter-suc : (q : ℕ → Bool) (xs : List ℕ) (k : ℕ) → filter q (take k xs) ≡ [] → k < length xs
+    → q (get_or xs k 0) ≡ false → filter q (take (suc k) xs) ≡ []
 filter-suc q [] k h within fail = absurd (omega arith)
 filter-suc q (x ∷ xs) zero h within fail = rw fail refl
 filter-suc q (x ∷ xs) (suc k) h within fail = go (q x) refl h (λ rest. filter-suc q xs k rest (omega arith) fail)
@@ -48,37 +50,34 @@ filter-suc q (x ∷ xs) (suc k) h within fail = go (q x) refl h (λ rest. filter
     go true e none rest = cc
     go false e none rest = rest none
 
-pub filter-more : (q : ℕ → Bool) (xs : List ℕ) (k : ℕ) → filter q (take k xs) ≡ [] → k < length xs → q (get_or xs k 0) ≡ false → filter q (take (k + 1) xs) ≡ []
+pub filter-more : (q : ℕ → Bool) (xs : List ℕ) (k : ℕ) → filter q (take k xs) ≡ [] → k < length xs
+    → q (get_or xs k 0) ≡ false → filter q (take (k + 1) xs) ≡ []
 filter-more q xs k h within fail =
     let next : k + 1 ≡ suc k = omega arith in
     ap (λ m. filter q (take m xs)) next ∙ filter-suc q xs k h within fail
 
--- at the end of a loop no element has passed
-pub filter-end : (q : ℕ → Bool) (xs : List ℕ) (k : ℕ) → filter q (take k xs) ≡ [] → length xs ≤ k → slice_get (filter q xs) 0 ≡ None
-filter-end q xs k h end = rw (rw (take_all k xs end) at h) refl
-
 -- the same where each element gives a list
-pub lists-first : {A : Type 0} (g : ℕ → List A) (xs : List ℕ) (k : ℕ) (a : A) → flat_map g (take k xs) ≡ [] → k < length xs → slice_get (g (get_or xs k 0)) 0 ≡ Some a → slice_get (flat_map g xs) 0 ≡ Some a
+pub lists-first : {A : Type 0} (g : ℕ → List A) (xs : List ℕ) (k : ℕ) (a : A) → flat_map g (take k xs) ≡ []
+    → k < length xs → slice_get (g (get_or xs k 0)) 0 ≡ Some a → slice_get (flat_map g xs) 0 ≡ Some a
 lists-first g [] k a h within found = absurd (omega arith)
 lists-first g (x ∷ xs) zero a h within found = first-left (g x) (flat_map g xs) a found
 lists-first g (x ∷ xs) (suc k) a h within found =
     let parts : (g x ≡ []) × (flat_map g (take k xs) ≡ []) = append-nil (g x) (flat_map g (take k xs)) h in
     first-right (g x) (flat_map g xs) parts.0 ∙ lists-first g xs k a parts.1 (omega arith) found
 
-lists-suc : {A : Type 0} (g : ℕ → List A) (xs : List ℕ) (k : ℕ) → flat_map g (take k xs) ≡ [] → k < length xs → g (get_or xs k 0) ≡ [] → flat_map g (take (suc k) xs) ≡ []
+lists-suc : {A : Type 0} (g : ℕ → List A) (xs : List ℕ) (k : ℕ) → flat_map g (take k xs) ≡ [] → k < length xs
+    → g (get_or xs k 0) ≡ [] → flat_map g (take (suc k) xs) ≡ []
 lists-suc g [] k h within none = absurd (omega arith)
 lists-suc g (x ∷ xs) zero h within none = nil-append (g x) (flat_map g []) none refl
 lists-suc g (x ∷ xs) (suc k) h within none =
     let parts : (g x ≡ []) × (flat_map g (take k xs) ≡ []) = append-nil (g x) (flat_map g (take k xs)) h in
     nil-append (g x) (flat_map g (take (suc k) xs)) parts.0 (lists-suc g xs k parts.1 (omega arith) none)
 
-pub lists-more : {A : Type 0} (g : ℕ → List A) (xs : List ℕ) (k : ℕ) → flat_map g (take k xs) ≡ [] → k < length xs → g (get_or xs k 0) ≡ [] → flat_map g (take (k + 1) xs) ≡ []
+pub lists-more : {A : Type 0} (g : ℕ → List A) (xs : List ℕ) (k : ℕ) → flat_map g (take k xs) ≡ [] → k < length xs
+    → g (get_or xs k 0) ≡ [] → flat_map g (take (k + 1) xs) ≡ []
 lists-more g xs k h within none =
     let next : k + 1 ≡ suc k = omega arith in
     ap (λ m. flat_map g (take m xs)) next ∙ lists-suc g xs k h within none
-
-pub lists-end : {A : Type 0} (g : ℕ → List A) (xs : List ℕ) (k : ℕ) → flat_map g (take k xs) ≡ [] → length xs ≤ k → slice_get (flat_map g xs) 0 ≡ None
-lists-end g xs k h end = rw (rw (take_all k xs end) at h) refl
 
 -- a list with no first element is empty
 pub none-first : {A : Type 0} (xs : List A) → slice_get xs 0 ≡ None → xs ≡ []
@@ -94,7 +93,8 @@ take-range (suc k) (suc n) a h = ap (λ xs. a ∷ xs) (take-range k n (a + 1) (o
 -- a range with one more number
 range-suc : (n a : ℕ) → range_with_len a (suc n) ≡ range_with_len a n ++ ((a + n) ∷ [])
 range-suc zero a = let is : a ≡ a + 0 = omega arith in ap (λ k. k ∷ []) is
-range-suc (suc n) a = let is : (a + 1) + n ≡ a + suc n = omega arith in ap (λ xs. a ∷ xs) (range-suc n (a + 1) ∙ ap (λ k. range_with_len (a + 1) n ++ (k ∷ [])) is)
+range-suc (suc n) a = let is : (a + 1) + n ≡ a + suc n = omega arith in
+    ap (λ xs. a ∷ xs) (range-suc n (a + 1) ∙ ap (λ k. range_with_len (a + 1) n ++ (k ∷ [])) is)
 
 pub range-next : (n a : ℕ) → range_with_len a (n + 1) ≡ range_with_len a n ++ ((a + n) ∷ [])
 range-next n a = let next : n + 1 ≡ suc n = omega arith in ap (λ m. range_with_len a m) next ∙ range-suc n a

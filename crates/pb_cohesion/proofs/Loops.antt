@@ -1,12 +1,12 @@
 -- Loops over all voters or all projects, which count from 1.
-use Rattle.std.proofs.Common.{◌≡◌, ℕ, zero, suc, ◌+◌, ◌-◌, ◌<◌, ◌≤◌, Bool, true, false, List, [], ◌∷◌, length, get_or, take, refl, sym, ◌∙◌, ap, subst, arith}
+use Rattle.std.proofs.Common.{◌≡◌, ℕ, zero, suc, ◌+◌, ◌-◌, ◌<◌, ◌≤◌, Bool, true, false, List, [], ◌∷◌, length, get_or, take, refl, ◌∙◌, ap, subst, arith}
 use Rattle.std.specs.Prelude.{Some, None, filter, flat_map, slice_get, sum_by}
 use Rattle.std.specs.List.{range_with_len}
 use Rattle.std.proofs.lemmas.List.Elements.{filter-append}
 use Rattle.std.proofs.lemmas.List.FromFn.{get_or-range_with_len, length-range_with_len}
 use Rattle.std.proofs.lemmas.List.Sums.{sum_by-append, sum_by_push}
 use Rattle.pb_election.specs.Instance.{IsSet}
-use Rattle.pb_cohesion.proofs.Firsts.{filter-first, lists-first, lists-more, range-next, take-range}
+use Rattle.pb_cohesion.proofs.Firsts.{filter-first, lists-first, range-next, take-range}
 
 -- the number at a place of a range that starts at 1
 at-place : (n j : ℕ) → 1 ≤ j → j ≤ n → get_or (range_with_len 1 n) (j - 1) 0 ≡ j
@@ -19,48 +19,41 @@ within : (n j : ℕ) → 1 ≤ j → j ≤ n → j - 1 < length (range_with_len 
 within n j low high = rw (length-range_with_len 1 n) (omega arith)
 
 -- the first number that passes a test
-pub range-first : (q : ℕ → Bool) (n j : ℕ) → filter q (range_with_len 1 (j - 1)) ≡ [] → 1 ≤ j → j ≤ n → q j ≡ true → slice_get (filter q (range_with_len 1 n)) 0 ≡ Some j
+pub range-first : (q : ℕ → Bool) (n j : ℕ) → filter q (range_with_len 1 (j - 1)) ≡ [] → 1 ≤ j → j ≤ n → q j ≡ true
+    → slice_get (filter q (range_with_len 1 n)) 0 ≡ Some j
 range-first q n j none low high pass =
-    let none_in : filter q (take (j - 1) (range_with_len 1 n)) ≡ [] = ap (filter q) (front n j low (omega arith)) ∙ none in
+    let none_in : filter q (take (j - 1) (range_with_len 1 n)) ≡ [] =
+    ap (filter q) (front n j low (omega arith)) ∙ none in
     let pass_at : q (get_or (range_with_len 1 n) (j - 1) 0) ≡ true = ap q (at-place n j low high) ∙ pass in
     filter-first q (range_with_len 1 n) (j - 1) none_in (within n j low high) pass_at ∙ ap Some (at-place n j low high)
 
-pub range-more : (q : ℕ → Bool) (j : ℕ) → filter q (range_with_len 1 (j - 1)) ≡ [] → 1 ≤ j → q j ≡ false → filter q (range_with_len 1 (j + 1 - 1)) ≡ []
+pub range-more : (q : ℕ → Bool) (j : ℕ) → filter q (range_with_len 1 (j - 1)) ≡ [] → 1 ≤ j → q j ≡ false
+    → filter q (range_with_len 1 (j + 1 - 1)) ≡ []
 range-more q j none low fail =
     let is : j + 1 - 1 ≡ (j - 1) + 1 = omega arith in
     let last : 1 + (j - 1) ≡ j = omega arith in
-    ap (λ n. filter q (range_with_len 1 n)) is ∙ ap (filter q) (range-next (j - 1) 1) ∙ filter-append q (range_with_len 1 (j - 1)) ((1 + (j - 1)) ∷ [])
+    ap (λ n. filter q (range_with_len 1 n)) is ∙ ap (filter q) (range-next (j - 1) 1)
+    ∙ filter-append q (range_with_len 1 (j - 1)) ((1 + (j - 1)) ∷ [])
     ∙ rw (none, last, fail) refl
 
-pub range-end : (q : ℕ → Bool) (n j : ℕ) → filter q (range_with_len 1 (j - 1)) ≡ [] → j ≡ n + 1 → slice_get (filter q (range_with_len 1 n)) 0 ≡ None
-range-end q n j none is = let end : j - 1 ≡ n = omega arith in rw (subst (λ k. filter q (range_with_len 1 k) ≡ []) end none) refl
+pub range-end : (q : ℕ → Bool) (n j : ℕ) → filter q (range_with_len 1 (j - 1)) ≡ [] → j ≡ n + 1
+    → slice_get (filter q (range_with_len 1 n)) 0 ≡ None
+range-end q n j none is = let end : j - 1 ≡ n = omega arith in
+    rw (subst (λ k. filter q (range_with_len 1 k) ≡ []) end none) refl
 
 -- the same where each number gives a list
-pub range-lists-first : {A : Type 0} (g : ℕ → List A) (n j : ℕ) (a : A) → flat_map g (range_with_len 1 (j - 1)) ≡ [] → 1 ≤ j → j ≤ n → slice_get (g j) 0 ≡ Some a → slice_get (flat_map g (range_with_len 1 n)) 0 ≡ Some a
+pub range-lists-first : {A : Type 0} (g : ℕ → List A) (n j : ℕ) (a : A) → flat_map g (range_with_len 1 (j - 1)) ≡ []
+    → 1 ≤ j → j ≤ n → slice_get (g j) 0 ≡ Some a → slice_get (flat_map g (range_with_len 1 n)) 0 ≡ Some a
 range-lists-first g n j a none low high found =
-    let none_in : flat_map g (take (j - 1) (range_with_len 1 n)) ≡ [] = ap (flat_map g) (front n j low (omega arith)) ∙ none in
-    let found_at : slice_get (g (get_or (range_with_len 1 n) (j - 1) 0)) 0 ≡ Some a = ap (λ k. slice_get (g k) 0) (at-place n j low high) ∙ found in
+    let none_in : flat_map g (take (j - 1) (range_with_len 1 n)) ≡ [] =
+    ap (flat_map g) (front n j low (omega arith)) ∙ none in
+    let found_at : slice_get (g (get_or (range_with_len 1 n) (j - 1) 0)) 0 ≡ Some a =
+    ap (λ k. slice_get (g k) 0) (at-place n j low high) ∙ found in
     lists-first g (range_with_len 1 n) (j - 1) a none_in (within n j low high) found_at
 
-pub range-lists-more : {A : Type 0} (g : ℕ → List A) (j : ℕ) → flat_map g (range_with_len 1 (j - 1)) ≡ [] → 1 ≤ j → g j ≡ [] → flat_map g (range_with_len 1 (j + 1 - 1)) ≡ []
-range-lists-more g j none low fail =
-    let range_is : take (j - 1) (range_with_len 1 j) ≡ range_with_len 1 (j - 1) = take-range (j - 1) j 1 (omega arith) in
-    let more : flat_map g (take (j - 1 + 1) (range_with_len 1 j)) ≡ [] = lists-more g (range_with_len 1 j) (j - 1) (ap (flat_map g) range_is ∙ none) (within j j low (omega arith)) (ap g (at-place j j low (omega arith)) ∙ fail) in
-    let is : j - 1 + 1 ≡ j + 1 - 1 = omega arith in
-    sym (ap (flat_map g) (take-range (j + 1 - 1) j 1 (omega arith))) ∙ ap (λ k. flat_map g (take k (range_with_len 1 j))) (sym is) ∙ more
-
-pub range-lists-end : {A : Type 0} (g : ℕ → List A) (n j : ℕ) → flat_map g (range_with_len 1 (j - 1)) ≡ [] → j ≡ n + 1 → slice_get (flat_map g (range_with_len 1 n)) 0 ≡ None
-range-lists-end g n j none is = let end : j - 1 ≡ n = omega arith in rw (subst (λ k. flat_map g (range_with_len 1 k) ≡ []) end none) refl
-
--- a sum with one more number
-pub sum-next : (f : ℕ → ℕ) (j : ℕ) → 1 ≤ j → sum_by f (range_with_len 1 (j + 1 - 1)) ≡ sum_by f (range_with_len 1 (j - 1)) + f j
-sum-next f j low =
-    let is : j + 1 - 1 ≡ (j - 1) + 1 = omega arith in
-    let last : 1 + (j - 1) ≡ j = omega arith in
-    ap (λ n. sum_by f (range_with_len 1 n)) is ∙ ap (sum_by f) (range-next (j - 1) 1) ∙ sum_by_push f (range_with_len 1 (j - 1)) (1 + (j - 1)) ∙ ap (λ k. sum_by f (range_with_len 1 (j - 1)) + f k) last
-
 -- a sum over the numbers that pass a test
-pub sum-passing : (f : ℕ → ℕ) (q : ℕ → Bool) (j : ℕ) → 1 ≤ j → q j ≡ true → sum_by f (filter q (range_with_len 1 (j + 1 - 1))) ≡ sum_by f (filter q (range_with_len 1 (j - 1))) + f j
+pub sum-passing : (f : ℕ → ℕ) (q : ℕ → Bool) (j : ℕ) → 1 ≤ j → q j ≡ true
+    → sum_by f (filter q (range_with_len 1 (j + 1 - 1))) ≡ sum_by f (filter q (range_with_len 1 (j - 1))) + f j
 sum-passing f q j low pass =
     let is : j + 1 - 1 ≡ (j - 1) + 1 = omega arith in
     let last : 1 + (j - 1) ≡ j = omega arith in
@@ -68,7 +61,8 @@ sum-passing f q j low pass =
     ∙ ap (sum_by f) (filter-append q (range_with_len 1 (j - 1)) ((1 + (j - 1)) ∷ []))
     ∙ rw (last, pass) (sum_by_push f (filter q (range_with_len 1 (j - 1))) j)
 
-pub sum-failing : (f : ℕ → ℕ) (q : ℕ → Bool) (j : ℕ) → 1 ≤ j → q j ≡ false → sum_by f (filter q (range_with_len 1 (j + 1 - 1))) ≡ sum_by f (filter q (range_with_len 1 (j - 1)))
+pub sum-failing : (f : ℕ → ℕ) (q : ℕ → Bool) (j : ℕ) → 1 ≤ j → q j ≡ false
+    → sum_by f (filter q (range_with_len 1 (j + 1 - 1))) ≡ sum_by f (filter q (range_with_len 1 (j - 1)))
 sum-failing f q j low fail =
     let is : j + 1 - 1 ≡ (j - 1) + 1 = omega arith in
     let last : 1 + (j - 1) ≡ j = omega arith in
@@ -77,7 +71,8 @@ sum-failing f q j low fail =
     ∙ rw (last, fail) (sum_by-append f (filter q (range_with_len 1 (j - 1))) [] ∙ (omega arith))
 
 -- an element of a set is between its bounds
-pub set-at : (low high : ℕ) (t : List ℕ) (k : ℕ) → IsSet low high t → k < length t → (low ≤ get_or t k 0) × (get_or t k 0 ≤ high)
+pub set-at : (low high : ℕ) (t : List ℕ) (k : ℕ) → IsSet low high t → k < length t
+    → (low ≤ get_or t k 0) × (get_or t k 0 ≤ high)
 set-at low high [] k h b = absurd (omega arith)
 set-at low high (x ∷ xs) zero h b = (h.0, h.1)
 set-at low high (x ∷ xs) (suc k) h b =

@@ -21,7 +21,9 @@ abbrev pub most_ℕ : Instance → Prices → ℕ → ℕ
 most_ℕ e p i = max (top e p i) (left_ℕ e p i)
 
 pub most-is : (e : Instance) (p : Prices) (s : List ℕ) → sum_ℤ (most_of e p) s ≡ pos (sum_by (most_ℕ e p) s)
-most-is e p s = sum_ℤ-is (most_of e p) (most_ℕ e p) s (all-every (λ i. most_of e p i ≡ pos (most_ℕ e p i)) s (λ i. max-is (top e p i) (beta p) (spent e p i)))
+most-is e p s =
+    sum_ℤ-is (most_of e p) (most_ℕ e p) s
+    (all-every (λ i. most_of e p i ≡ pos (most_ℕ e p i)) s (λ i. max-is (top e p i) (beta p) (spent e p i)))
 
 -- an offer is at most that
 pub offer-le : (e : Instance) (w : List Bool) (p : Prices) (i x : ℕ) → Offer e w p i x → x ≤ most_ℕ e p i
@@ -35,19 +37,26 @@ offer-le e w p i x (inr h) =
     omega arith
 
 pub offer-limited : (e : Instance) (w : List Bool) (p : Prices) (i x : ℕ) → Offer e w p i x → pos x ≤ℤ most_of e p i
-offer-limited e w p i x offer = rw (max-is (top e p i) (beta p) (spent e p i)) (le-pos x (most_ℕ e p i) (offer-le e w p i x offer))
+offer-limited e w p i x offer =
+    rw (max-is (top e p i) (beta p) (spent e p i)) (le-pos x (most_ℕ e p i) (offer-le e w p i x offer))
 
 -- what a group can offer is at most the cost
-pub group-offers : (e : Instance) (w : List Bool) (p : Prices) (s : List ℕ) (c : ℕ) → S5 e w p → IsUnfunded e w c → IsGroupWithin e s c → sum_by (most_ℕ e p) s ≤ cost e p c
+pub group-offers : (e : Instance) (w : List Bool) (p : Prices) (s : List ℕ) (c : ℕ) → S5 e w p → IsUnfunded e w c
+    → IsGroupWithin e s c → sum_by (most_ℕ e p) s ≤ cost e p c
 group-offers e w p s c stable unfunded group =
-    let whole : sum_by (most_ℕ e p) (supporters e c) ≤ cost e p c = pos-le _ _ (rw (most-is e p (supporters e c)) at (stable c unfunded)) in
+    let whole : sum_by (most_ℕ e p) (supporters e c) ≤ cost e p c =
+    pos-le _ _ (rw (most-is e p (supporters e c)) at (stable c unfunded)) in
     let part : sum_by (most_ℕ e p) s ≤ sum_by (most_ℕ e p) (supporters e c) = group-le e (most_ℕ e p) s c group in
     omega arith
 
-pub none_blocks : (e : Instance) (w : List Bool) (p : Prices) (s : List ℕ) (c : ℕ) (x : ℕ → ℕ) → S5 e w p → Blocks e w p s c x → ⊥
+pub none_blocks : (e : Instance) (w : List Bool) (p : Prices) (s : List ℕ) (c : ℕ) (x : ℕ → ℕ) → S5 e w p
+    → Blocks e w p s c x → ⊥
 none_blocks e w p s c x stable b =
     let most : sum_by (most_ℕ e p) s ≤ cost e p c = group-offers e w p s c stable b.unfunded b.group in
-    let offered : sum_by x s ≤ sum_by (most_ℕ e p) s = sum-le x (most_ℕ e p) s (all-weaker (λ i. Offer e w p i (x i)) (λ i. x i ≤ most_ℕ e p i) s (λ i o. offer-le e w p i (x i) o) (recursion_from_All (λ i. Offer e w p i (x i)) s b.offers)) in
+    let offered : sum_by x s ≤ sum_by (most_ℕ e p) s =
+    sum-le x (most_ℕ e p) s
+    (all-weaker (λ i. Offer e w p i (x i)) (λ i. x i ≤ most_ℕ e p i) s (λ i o. offer-le e w p i (x i) o)
+    (recursion_from_All (λ i. Offer e w p i (x i)) s b.offers)) in
     let more : cost e p c < sum_by x s = b.more in
     omega arith
 
@@ -58,14 +67,17 @@ pays-le e p i c v = term-le (λ k. pays p k c) (voters e) 1 i v.0 (let high : i 
 -- a voter whose largest payment is 0 spends nothing
 pub spends-none : (e : Instance) (p : Prices) (i : ℕ) → top e p i ≡ 0 → spent e p i ≡ 0
 spends-none e p i none =
-    let each : spent e p i ≤ sum_by (λ c. 0) (all_projects e) = range-le (λ c. pays p i c) (λ c. 0) 1 (projects e) nothing in
+    let each : spent e p i ≤ sum_by (λ c. 0) (all_projects e) =
+    range-le (λ c. pays p i c) (λ c. 0) 1 (projects e) nothing in
     omega (arith, sum-zero (all_projects e))
   where
     nothing : (c : ℕ) → 1 ≤ c → c < 1 + projects e → pays p i c ≤ 0
-    nothing c low high = let most : pays p i c ≤ top e p i = largest-at (λ j. pays p i j) (projects e) 1 c low high in omega arith
+    nothing c low high = let most : pays p i c ≤ top e p i = largest-at (λ j. pays p i j) (projects e) 1 c low high in
+        omega arith
 
 -- the most that a voter can offer is an offer, also of a voter that is over the budget
-pub most-offer : (e : Instance) (w : List Bool) (p : Prices) (i : ℕ) → C4 e w p → IsVoter e i → Offer e w p i (most_ℕ e p i)
+pub most-offer : (e : Instance) (w : List Bool) (p : Prices) (i : ℕ) → C4 e w p → IsVoter e i
+    → Offer e w p i (most_ℕ e p i)
 most-offer e w p i none_wasted v = elim (cases_lt (left_ℕ e p i) (top e p i)) [
   | inl less ↦
       elim (largest-reached (λ c. pays p i c) (projects e) 1) [
@@ -84,7 +96,8 @@ most-offer e w p i none_wasted v = elim (cases_lt (left_ℕ e p i) (top e p i)) 
       | inr within ↦ within
     ]
 
-    by_payment : left_ℕ e p i < top e p i → (j : ℕ) × (1 ≤ j) × (j < 1 + projects e) × (pays p i j ≡ top e p i) → Offer e w p i (most_ℕ e p i)
+    by_payment : left_ℕ e p i < top e p i → (j : ℕ) × (1 ≤ j) × (j < 1 + projects e) × (pays p i j ≡ top e p i)
+        → Offer e w p i (most_ℕ e p i)
     by_payment less some =
         let j : ℕ = some.0 in
         let is : pays p i some.0 ≡ top e p i = some.3 in
@@ -99,15 +112,19 @@ most-offer e w p i none_wasted v = elim (cases_lt (left_ℕ e p i) (top e p i)) 
         ]
 
 -- where the supporters can offer more than the cost, they block
-pub supporters_block : (e : Instance) (w : List Bool) (p : Prices) (c : ℕ) → C4 e w p → IsUnfunded e w c → cost e p c < sum_by (most_ℕ e p) (supporters e c) → Blocks e w p (supporters e c) c (most_ℕ e p)
+pub supporters_block : (e : Instance) (w : List Bool) (p : Prices) (c : ℕ) → C4 e w p → IsUnfunded e w c
+    → cost e p c < sum_by (most_ℕ e p) (supporters e c) → Blocks e w p (supporters e c) c (most_ℕ e p)
 supporters_block e w p c none_wasted unfunded more = record {
   unfunded = unfunded;
   group = supporters-group e c;
-  offers = All-from_recursion (λ i. Offer e w p i (most_ℕ e p i)) (supporters e c) (set-all (λ i. Offer e w p i (most_ℕ e p i)) 1 (voters e) (supporters e c) (supporters-group e c).0 (λ i low high. most-offer e w p i none_wasted (low, high)));
+  offers = All-from_recursion (λ i. Offer e w p i (most_ℕ e p i)) (supporters e c)
+      (set-all (λ i. Offer e w p i (most_ℕ e p i)) 1 (voters e) (supporters e c) (supporters-group e c).0
+      (λ i low high. most-offer e w p i none_wasted (low, high)));
   more = more;
 }
 
-pub stable_from_none : (e : Instance) (w : List Bool) (p : Prices) → C4 e w p → ((s : List ℕ) (c : ℕ) (x : ℕ → ℕ) → Blocks e w p s c x → ⊥) → S5 e w p
+pub stable_from_none : (e : Instance) (w : List Bool) (p : Prices) → C4 e w p
+    → ((s : List ℕ) (c : ℕ) (x : ℕ → ℕ) → Blocks e w p s c x → ⊥) → S5 e w p
 stable_from_none e w p none_wasted none c unfunded =
     rw (most-is e p (supporters e c)) (elim (cases_lt (cost e p c) (sum_by (most_ℕ e p) (supporters e c))) [
       | inl more ↦ absurd (none (supporters e c) c (most_ℕ e p) (supporters_block e w p c none_wasted unfunded more))
@@ -115,9 +132,16 @@ stable_from_none e w p none_wasted none c unfunded =
     ])
 
 -- a culprit of the stable form is an unfunded project whose supporters can offer more than it costs
-pub after_S5 : (e : Instance) (w : List Bool) (p : Prices) (c : ℕ) → C4 e w p → Contains (culprits_of_S5 e w p) c → (x : ℕ → ℕ) × Blocks e w p (supporters e c) c x
+pub after_S5 : (e : Instance) (w : List Bool) (p : Prices) (c : ℕ) → C4 e w p → Contains (culprits_of_S5 e w p) c
+    → (x : ℕ → ℕ) × Blocks e w p (supporters e c) c x
 after_S5 e w p c none_wasted found =
     let test : ℕ → Bool = λ j. int_lt (pos (cost e p j)) (sum_ℤ (most_of e p) (supporters e j)) in
-    let unfunded_is : IsUnfunded e w c = All-contains (IsUnfunded e w) (culprits_of_S5 e w p) c (All-filter test (IsUnfunded e w) (unfunded e w) (unfunded-all e w)) found in
-    let more : int_lt (pos (cost e p c)) (sum_ℤ (most_of e p) (supporters e c)) ≡ true = All-contains (λ j. test j ≡ true) (culprits_of_S5 e w p) c (filter_passes test (unfunded e w)) found in
-    (most_ℕ e p, supporters_block e w p c none_wasted unfunded_is (lt-pos _ _ (rw (most-is e p (supporters e c)) at more)))
+    let unfunded_is : IsUnfunded e w c =
+    All-contains (IsUnfunded e w) (culprits_of_S5 e w p) c
+    (All-filter test (IsUnfunded e w) (unfunded e w) (unfunded-all e w)) found in
+    let more : int_lt (pos (cost e p c)) (sum_ℤ (most_of e p) (supporters e c)) ≡ true =
+    All-contains (λ j. test j ≡ true) (culprits_of_S5 e w p) c (filter_passes test (unfunded e w)) found in (
+      most_ℕ e p,
+      supporters_block e w p c none_wasted unfunded_is
+          (lt-pos _ _ (rw (most-is e p (supporters e c)) at more)),
+    )

@@ -10,17 +10,20 @@ use Rattle.pb_election.specs.Instance.{IsSet}
 -- a sum of larger terms is larger
 pub sum-le : (f g : ℕ → ℕ) (xs : List ℕ) → AllByRecursion (λ x. f x ≤ g x) xs → sum_by f xs ≤ sum_by g xs
 sum-le f g [] h = omega arith
-sum-le f g (x ∷ xs) h = let here : f x ≤ g x = h.0 in let rest : sum_by f xs ≤ sum_by g xs = sum-le f g xs h.1 in omega (arith, sum_by-cons f x xs, sum_by-cons g x xs)
+sum-le f g (x ∷ xs) h = let here : f x ≤ g x = h.0 in let rest : sum_by f xs ≤ sum_by g xs = sum-le f g xs h.1 in
+    omega (arith, sum_by-cons f x xs, sum_by-cons g x xs)
 
 -- equal terms have equal sums
 pub sum-same : (f g : ℕ → ℕ) (xs : List ℕ) → AllByRecursion (λ x. f x ≡ g x) xs → sum_by f xs ≡ sum_by g xs
 sum-same f g [] h = refl
-sum-same f g (x ∷ xs) h = let here : f x ≡ g x = h.0 in let rest : sum_by f xs ≡ sum_by g xs = sum-same f g xs h.1 in omega (arith, sum_by-cons f x xs, sum_by-cons g x xs)
+sum-same f g (x ∷ xs) h = let here : f x ≡ g x = h.0 in let rest : sum_by f xs ≡ sum_by g xs = sum-same f g xs h.1 in
+    omega (arith, sum_by-cons f x xs, sum_by-cons g x xs)
 
 -- a sum of sums
 pub sum-add : (f g : ℕ → ℕ) (xs : List ℕ) → sum_by (λ x. f x + g x) xs ≡ sum_by f xs + sum_by g xs
 sum-add f g [] = refl
-sum-add f g (x ∷ xs) = omega (arith, sum-add f g xs, sum_by-cons f x xs, sum_by-cons g x xs, sum_by-cons (λ y. f y + g y) x xs)
+sum-add f g (x ∷ xs) =
+    omega (arith, sum-add f g xs, sum_by-cons f x xs, sum_by-cons g x xs, sum_by-cons (λ y. f y + g y) x xs)
 
 pub sum-zero : (xs : List ℕ) → sum_by (λ x. 0) xs ≡ 0
 sum-zero [] = refl
@@ -34,10 +37,13 @@ sum-mul k f (x ∷ xs) = rw (sum_by-cons (λ y. k * f y) x xs, sum_by-cons f x x
 -- a sum of one number
 pub sum-const : (k : ℕ) (xs : List ℕ) → sum_by (λ x. k) xs ≡ length xs * k
 sum-const k [] = omega arith
-sum-const k (x ∷ xs) = let e : suc (length xs) * k ≡ k + length xs * k = mul_comm (suc (length xs)) k ∙ (omega (arith, mul_comm k (length xs))) in omega (arith, e, sum-const k xs, sum_by-cons (λ y. k) x xs)
+sum-const k (x ∷ xs) = let e : suc (length xs) * k ≡ k + length xs * k =
+    mul_comm (suc (length xs)) k ∙ (omega (arith, mul_comm k (length xs))) in
+    omega (arith, e, sum-const k xs, sum_by-cons (λ y. k) x xs)
 
 -- the sums over rows and over columns are one
-pub sum-exchange : (f : ℕ → ℕ → ℕ) (xs ys : List ℕ) → sum_by (λ x. sum_by (f x) ys) xs ≡ sum_by (λ y. sum_by (λ x. f x y) xs) ys
+pub sum-exchange : (f : ℕ → ℕ → ℕ) (xs ys : List ℕ)
+    → sum_by (λ x. sum_by (f x) ys) xs ≡ sum_by (λ y. sum_by (λ x. f x y) xs) ys
 sum-exchange f [] ys = sym (sum-zero ys)
 sum-exchange f (x ∷ xs) ys =
     sum_by-cons (λ z. sum_by (f z) ys) x xs
@@ -54,11 +60,14 @@ abbrev pub where_passes : Bool → ℕ → ℕ
 where_passes b n = cond b n 0
 
 -- a sum over the elements that pass a test
-pub sum-filter : (f : ℕ → ℕ) (q : ℕ → Bool) (xs : List ℕ) → sum_by f (filter q xs) ≡ sum_by (λ x. where_passes (q x) (f x)) xs
+pub sum-filter : (f : ℕ → ℕ) (q : ℕ → Bool) (xs : List ℕ)
+    → sum_by f (filter q xs) ≡ sum_by (λ x. where_passes (q x) (f x)) xs
 sum-filter f q [] = refl
 sum-filter f q (x ∷ xs) =
     elim (cases_Bool (q x)) [
-      | inl e ↦ rw (sum_by-cons (λ y. where_passes (q y) (f y)) x xs, e, sum_by-cons f x (filter q xs), sum-filter f q xs) refl
+      | inl e ↦
+          rw (sum_by-cons (λ y. where_passes (q y) (f y)) x xs, e, sum_by-cons f x (filter q xs), sum-filter f q xs)
+          refl
       | inr e ↦ rw (sum_by-cons (λ y. where_passes (q y) (f y)) x xs, e, sum-filter f q xs) (omega arith)
     ]
 
@@ -71,18 +80,22 @@ part-le f q (x ∷ xs) = elim (cases_Bool (q x)) [
 ]
 
 -- a range, term by term
-pub range-le : (f g : ℕ → ℕ) (a n : ℕ) → ((j : ℕ) → a ≤ j → j < a + n → f j ≤ g j) → sum_by f (range_with_len a n) ≤ sum_by g (range_with_len a n)
+pub range-le : (f g : ℕ → ℕ) (a n : ℕ) → ((j : ℕ) → a ≤ j → j < a + n → f j ≤ g j)
+    → sum_by f (range_with_len a n) ≤ sum_by g (range_with_len a n)
 range-le f g a zero h = omega arith
 range-le f g a (suc n) h =
     let here : f a ≤ g a = h a (omega arith) (omega arith) in
-    let rest : sum_by f (range_with_len (a + 1) n) ≤ sum_by g (range_with_len (a + 1) n) = range-le f g (a + 1) n (λ j low high. h j (omega arith) (omega arith)) in
+    let rest : sum_by f (range_with_len (a + 1) n) ≤ sum_by g (range_with_len (a + 1) n) =
+    range-le f g (a + 1) n (λ j low high. h j (omega arith) (omega arith)) in
     omega (arith, sum_by-cons f a (range_with_len (a + 1) n), sum_by-cons g a (range_with_len (a + 1) n))
 
-pub range-same : (f g : ℕ → ℕ) (a n : ℕ) → ((j : ℕ) → a ≤ j → j < a + n → f j ≡ g j) → sum_by f (range_with_len a n) ≡ sum_by g (range_with_len a n)
+pub range-same : (f g : ℕ → ℕ) (a n : ℕ) → ((j : ℕ) → a ≤ j → j < a + n → f j ≡ g j)
+    → sum_by f (range_with_len a n) ≡ sum_by g (range_with_len a n)
 range-same f g a zero h = refl
 range-same f g a (suc n) h =
     let here : f a ≡ g a = h a (omega arith) (omega arith) in
-    let rest : sum_by f (range_with_len (a + 1) n) ≡ sum_by g (range_with_len (a + 1) n) = range-same f g (a + 1) n (λ j low high. h j (omega arith) (omega arith)) in
+    let rest : sum_by f (range_with_len (a + 1) n) ≡ sum_by g (range_with_len (a + 1) n) =
+    range-same f g (a + 1) n (λ j low high. h j (omega arith) (omega arith)) in
     omega (arith, sum_by-cons f a (range_with_len (a + 1) n), sum_by-cons g a (range_with_len (a + 1) n))
 
 -- whether a list has a number
@@ -114,21 +127,25 @@ past-first : (f : ℕ → ℕ) (x : ℕ) (xs : List ℕ) (j : ℕ) → x < j →
 past-first f x xs j h = rw (ne_eqb x j (λ e. omega arith)) refl
 
 -- a sum over a set is the sum over all numbers, where those outside count 0
-pub sum-set : (f : ℕ → ℕ) (n : ℕ) (a high : ℕ) (t : List ℕ) → high < a + n → IsSet a high t → sum_by f t ≡ sum_by (at f t) (range_with_len a n)
+pub sum-set : (f : ℕ → ℕ) (n : ℕ) (a high : ℕ) (t : List ℕ) → high < a + n → IsSet a high t
+    → sum_by f t ≡ sum_by (at f t) (range_with_len a n)
 sum-set f n a high [] b h = sym (sum-zero (range_with_len a n))
 sum-set f zero a high (x ∷ xs) b h = let p : a ≤ x = h.0 in let q : x ≤ high = h.1 in absurd (omega arith)
 sum-set f (suc n) a high (x ∷ xs) b h = elim (cases_eq x a) [
   | inl e ↦
       let rises : IsSet (a + 1) high xs = subst (λ k. IsSet (k + 1) high xs) e h.2 in
-      let rest : sum_by f xs ≡ sum_by (at f xs) (range_with_len (a + 1) n) = sum-set f n (a + 1) high xs (omega arith) rises in
-      let same : sum_by (at f xs) (range_with_len (a + 1) n) ≡ sum_by (at f (x ∷ xs)) (range_with_len (a + 1) n) = range-same (at f xs) (at f (x ∷ xs)) (a + 1) n (λ j low high'. past-first f x xs j (omega arith)) in
+      let rest : sum_by f xs ≡ sum_by (at f xs) (range_with_len (a + 1) n) =
+      sum-set f n (a + 1) high xs (omega arith) rises in
+      let same : sum_by (at f xs) (range_with_len (a + 1) n) ≡ sum_by (at f (x ∷ xs)) (range_with_len (a + 1) n) =
+      range-same (at f xs) (at f (x ∷ xs)) (a + 1) n (λ j low high'. past-first f x xs j (omega arith)) in
       let here : at f (x ∷ xs) a ≡ f x = rw (eq-eqb x a e) (ap f (sym e)) in
       omega (arith, sum_by-cons f x xs, sum_by-cons (at f (x ∷ xs)) a (range_with_len (a + 1) n))
   | inr e ↦
       let low_is : a ≤ x = h.0 in
       let above : a + 1 ≤ x = omega arith in
       let rises : IsSet (a + 1) high (x ∷ xs) = (above, h.1, h.2) in
-      let rest : sum_by f (x ∷ xs) ≡ sum_by (at f (x ∷ xs)) (range_with_len (a + 1) n) = sum-set f n (a + 1) high (x ∷ xs) (omega arith) rises in
+      let rest : sum_by f (x ∷ xs) ≡ sum_by (at f (x ∷ xs)) (range_with_len (a + 1) n) =
+      sum-set f n (a + 1) high (x ∷ xs) (omega arith) rises in
       let here : at f (x ∷ xs) a ≡ 0 = rw (among-below (x ∷ xs) (a + 1) high a rises (omega arith)) refl in
       omega (arith, sum_by-cons (at f (x ∷ xs)) a (range_with_len (a + 1) n))
 ]

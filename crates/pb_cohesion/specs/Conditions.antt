@@ -63,7 +63,9 @@ abbrev pub culprits_of_Exhaustive : Instance → List Bool → List ℕ
 culprits_of_Exhaustive e w = filter (λ c. nat_le (total e w + cost_of e c) e.limit) (unfunded e w)
 
 abbrev pub culprits_of_C1 : Instance → Prices → List (ℕ × ℕ)
-culprits_of_C1 e p = flat_map (λ i. map (λ c. (i, c)) (filter (λ c. nat_lt 0 (payment p i c) && not (approves e i c)) (all_projects e))) (all_voters e)
+culprits_of_C1 e p =
+    flat_map (λ i. map (λ c. (i, c)) (filter (λ c. nat_lt 0 (payment p i c) && not (approves e i c)) (all_projects e)))
+    (all_voters e)
 
 abbrev pub culprits_of_C2 : Instance → Prices → List ℕ
 culprits_of_C2 e p = filter (λ i. nat_lt (beta p) (spent e p i)) (all_voters e)

@@ -10,11 +10,13 @@ use Rattle.pb_cohesion.specs.Outcome.{IsUnfunded}
 
 -- no group of supporters of an unfunded project has more left than it costs
 abbrev pub NoGroupHasMoreLeft : Instance → List Bool → Prices → Type 0
-NoGroupHasMoreLeft e w p = (s : List ℕ) (c : ℕ) → IsUnfunded e w c → IsGroupWithin e s c → sum_ℤ (left e p) s ≤ℤ pos (cost e p c)
+NoGroupHasMoreLeft e w p = (s : List ℕ) (c : ℕ) → IsUnfunded e w c → IsGroupWithin e s c
+    → sum_ℤ (left e p) s ≤ℤ pos (cost e p c)
 
 -- the supporters of project c are a group that has more left than it costs
 abbrev pub SupportersHaveMoreLeft : Instance → Prices → ℕ → Type 0
-SupportersHaveMoreLeft e p c = IsGroupWithin e (supporters e c) c × (pos (cost e p c) <ℤ sum_ℤ (left e p) (supporters e c))
+SupportersHaveMoreLeft e p c = IsGroupWithin e (supporters e c) c
+    × (pos (cost e p c) <ℤ sum_ℤ (left e p) (supporters e c))
 
 -- no group blocks for any project, whatever its members offer
 abbrev pub NothingBlocks : Instance → List Bool → Prices → Type 0

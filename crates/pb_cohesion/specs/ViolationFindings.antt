@@ -45,7 +45,8 @@ violation_findings worth e w s t = record {
 
 -- What the findings tell: V1 holds where the group has members, V2 and V4 where they have no culprit, and V3 where the
 -- group's share of the limit covers what the demanded projects cost.
-pub record TellWhichTestsHold (worth : ℕ → ℕ) (e : Instance) (w : List Bool) (s t : List ℕ) (f : ViolationFindings) : Type 0 where
+pub record TellWhichTestsHold (worth : ℕ → ℕ) (e : Instance) (w : List Bool) (s t : List ℕ)
+    (f : ViolationFindings) : Type 0 where
   pub not_empty : (0 < f.members) ↔ (s ≢ [])
   pub approve : (f.unapproved.count ≡ 0) ↔ All (λ i. All (λ j. Approves e i j) t) s
   pub large : (voters e * f.cost ≤ f.members * e.limit) ↔ (voters e * cost_of_all e t ≤ length s * e.limit)

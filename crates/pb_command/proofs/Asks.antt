@@ -34,20 +34,25 @@ plain_word_step : (c : List Rule) (w : Waiting) (word : Text) (h : Held) → Has
 plain_word_step c (option a) word h = tt
 plain_word_step c _ word h = tt
 
-after_flag_step : (c : List Rule) (w : Waiting) (word : Text) (h : Held) (o : Outcome) → HasNoHelp (after_flag c w word h o).1
+after_flag_step : (c : List Rule) (w : Waiting) (word : Text) (h : Held) (o : Outcome)
+    → HasNoHelp (after_flag c w word h o).1
 after_flag_step c w word h done = tt
 after_flag_step c w word h (waits a) = tt
 after_flag_step c w word h _ = plain_word_step c w word h
 
-short_step : (c : List Rule) (w : Waiting) (word : Text) (o : Option Text) (h : Held) → HasNoHelp (short_or_plain c w word o h).1
+short_step : (c : List Rule) (w : Waiting) (word : Text) (o : Option Text) (h : Held)
+    → HasNoHelp (short_or_plain c w word o h).1
 short_step c w word None h = plain_word_step c w word h
 short_step c w word (Some flags) h = after_flag_step c w word (bundle c flags h).0 (bundle c flags h).1
 
-long_step : (c : List Rule) (w : Waiting) (word : Text) (o : Option (Text × Option Text)) (h : Held) → HasNoHelp (long_or_other c w word o h).1
+long_step : (c : List Rule) (w : Waiting) (word : Text) (o : Option (Text × Option Text)) (h : Held)
+    → HasNoHelp (long_or_other c w word o h).1
 long_step c w word None h = short_step c w word (short_of word) h
-long_step c w word (Some p) h = after_flag_step c w word (long_met c (arg_by_long c p.0) p.1 h).0 (long_met c (arg_by_long c p.0) p.1 h).1
+long_step c w word (Some p) h =
+    after_flag_step c w word (long_met c (arg_by_long c p.0) p.1 h).0 (long_met c (arg_by_long c p.0) p.1 h).1
 
-other_step : (s : Shape) (c : List Rule) (o : Option Text) (w : Waiting) (position : ℕ) (word : Text) (h : Held) → s.disable_help_subcommand ≡ false
+other_step : (s : Shape) (c : List Rule) (o : Option Text) (w : Waiting) (position : ℕ) (word : Text) (h : Held)
+    → s.disable_help_subcommand ≡ false
     → other_fault s o word h ≡ [] → HasNoHelp (subcommand_or_other c o w position word h).1
 other_step s c (Some name) w position word h helps e = go (bytes_eq name (codes "help")) refl
   where
@@ -55,43 +60,52 @@ other_step s c (Some name) w position word h helps e = go (bytes_eq name (codes 
     go false t = refl
     go true t = let bad : kind.DisplayHelp ∷ kind.InvalidSubcommand ∷ [] ≡ [] = rw (t, helps) at e in cc
 other_step s c None w position word h helps e =
-    elim (bytes_eq word (45 ∷ 45 ∷ [])) as (λ b. HasNoHelp (if b then (h, trailing position) else long_or_other c w word (long_of word) h).1) [
+    elim (bytes_eq word (45 ∷ 45 ∷ [])) as
+    (λ b. HasNoHelp (if b then (h, trailing position) else long_or_other c w word (long_of word) h).1) [
       | true ↦ tt
       | false ↦ long_step c w word (long_of word) h
     ]
 
-word_step : (s : Shape) (c : List Rule) (names : Names) (t : Bool) (w : Waiting) (position : ℕ) (word : Text) (h : Held) → s.disable_help_subcommand ≡ false
+word_step : (s : Shape) (c : List Rule) (names : Names) (t : Bool) (w : Waiting) (position : ℕ) (word : Text) (h : Held)
+    → s.disable_help_subcommand ≡ false
     → word_fault s names t w word h ≡ [] → HasNoHelp (word_met c names t w position word h).1
 word_step s c names true w position word h helps e = tt
-word_step s c names false w position word h helps e = other_step s c (subcommand_met names w word) w position word h helps e
+word_step s c names false w position word h helps e =
+    other_step s c (subcommand_met names w word) w position word h helps e
 
-to_positional_stop : (c : List Rule) (o : Option Rule) (word : Text) (w : Walk) (h : Held) → IsNotHelp w.stopped → IsNotHelp (to_positional c o word w h).stopped
+to_positional_stop : (c : List Rule) (o : Option Rule) (word : Text) (w : Walk) (h : Held) → IsNotHelp w.stopped
+    → IsNotHelp (to_positional c o word w h).stopped
 to_positional_stop c None word w h n = n
 to_positional_stop c (Some a) word w h n = tt
 
-after_step_stop : (c : List Rule) (word : Text) (w : Walk) (h : Held) (s : Step) → HasNoHelp s → IsNotHelp w.stopped → IsNotHelp (after_step c word w h s).stopped
+after_step_stop : (c : List Rule) (word : Text) (w : Walk) (h : Held) (s : Step) → HasNoHelp s → IsNotHelp w.stopped
+    → IsNotHelp (after_step c word w h s).stopped
 after_step_stop c word w h (next waiting) ok n = n
 after_step_stop c word w h (trailing position) ok n = n
 after_step_stop c word w h (subcommand name) ok n = ok
 after_step_stop c word w h value ok n = to_positional_stop c (arg_by_index c w.position) word w h n
 
-turn_stop : (s : Shape) (names : Names) (o : Option (Text × List Text)) (w : Walk) (word : Text) → s.disable_help_subcommand ≡ false → w.stopped ≡ o
+turn_stop : (s : Shape) (names : Names) (o : Option (Text × List Text)) (w : Walk) (word : Text)
+    → s.disable_help_subcommand ≡ false → w.stopped ≡ o
     → turn_fault s names w word ≡ [] → IsNotHelp o → IsNotHelp (walked_from s.rules names o w word).stopped
 turn_stop s names (Some p) w word helps at_o e n = n
 turn_stop s names None w word helps at_o e n =
     let met = word_met s.rules names w.is_trailing w.waiting w.position word w.held in
-    let f : or_else (word_fault s names w.is_trailing w.waiting word w.held) (step_fault s w.position met.0 met.1) ≡ [] = rw at_o at e in
+    let f : or_else (word_fault s names w.is_trailing w.waiting word w.held) (step_fault s w.position met.0 met.1)
+    ≡ [] = rw at_o at e in
     after_step_stop s.rules word w met.0 met.1
     (word_step s s.rules names w.is_trailing w.waiting w.position word w.held helps (or_else_none _ _ f).0)
     (rw at_o tt)
 
-walk_stop : (s : Shape) (names : Names) (words : List Text) (w : Walk) → s.disable_help_subcommand ≡ false → walk_fault s names w words ≡ []
+walk_stop : (s : Shape) (names : Names) (words : List Text) (w : Walk) → s.disable_help_subcommand ≡ false
+    → walk_fault s names w words ≡ []
     → IsNotHelp w.stopped → IsNotHelp (fold (walked s.rules names) w words).stopped
 unfolding walked walk_fault
 walk_stop s names [] w helps e n = n
 walk_stop s names (word ∷ rest) w helps e n =
     let parts = or_else_none (turn_fault s names w word) (walk_fault s names (walked s.rules names w word) rest) e in
-    walk_stop s names rest (walked s.rules names w word) helps parts.1 (turn_stop s names w.stopped w word helps refl parts.0 n)
+    walk_stop s names rest (walked s.rules names w word) helps parts.1
+    (turn_stop s names w.stopped w word helps refl parts.0 n)
 
 -- ---- a level without a fault has its required arguments
 
@@ -113,13 +127,18 @@ first_full : (vs : List Text) → IsFull vs → is_some (slice_get vs 0) ≡ tru
 first_full [] h = absurd h
 first_full (v ∷ vs) h = refl
 
-given_first : (id : Text) (s : Shape) (words : List Text) → IsPlaced id s.rules → is_given id (rows_after s.rules [] words) ≡ true
+given_first : (id : Text) (s : Shape) (words : List Text) → IsPlaced id s.rules
+    → is_given id (rows_after s.rules [] words) ≡ true
     → is_some (first_of id (rows_after s.rules [] words)) ≡ true
 given_first id s words placed given = go (find (λ r. bytes_eq r.id id) (rows_after s.rules [] words)) refl
   where
-    go : (o : Option Row) → find (λ r. bytes_eq r.id id) (rows_after s.rules [] words) ≡ o → is_some (first_of id (rows_after s.rules [] words)) ≡ true
+    go : (o : Option Row) → find (λ r. bytes_eq r.id id) (rows_after s.rules [] words) ≡ o
+        → is_some (first_of id (rows_after s.rules [] words)) ≡ true
     go None e = let bad : false ≡ true = rw e at given in cc
-    go (Some r) e = rw e (first_full r.values (found_row_full id (rows_after s.rules [] words) r (level_full id s.rules [] words placed) e))
+    go (Some r) e =
+        rw e
+        (first_full r.values
+        (found_row_full id (rows_after s.rules [] words) r (level_full id s.rules [] words placed) e))
 
 -- ---- each command
 
@@ -132,14 +151,16 @@ AllAsk [] = Unit {0}
 AllAsk (s ∷ ss) = AsksByName s × AllAsk ss
 
 sub_asks : (subs : List Shape) (p : Text × List Text) → AllAsk subs → IsNotHelp (Some p)
-    → option_map_or (λ s. level_fault s [] nothing_held p.1 false []) (find (λ s. answers_to p.0 (label_of s)) subs) [] ≡ []
+    → option_map_or (λ s. level_fault s [] nothing_held p.1 false []) (find (λ s. answers_to p.0 (label_of s)) subs) []
+    ≡ []
     → is_some (asked_in (option_map (λ s. rows_at s p.1) (find (λ s. answers_to p.0 (label_of s)) subs))) ≡ true
 unfolding asked_in
 sub_asks [] p all n e = refl
 sub_asks (s ∷ ss) p all n e = go (answers_to p.0 (label_of s)) refl (sub_asks ss p all.1 n)
   where
     go : (b : Bool) → answers_to p.0 (label_of s) ≡ b
-        → (option_map_or (λ s. level_fault s [] nothing_held p.1 false []) (find (λ s. answers_to p.0 (label_of s)) ss) [] ≡ []
+        → (option_map_or (λ s. level_fault s [] nothing_held p.1 false []) (find (λ s. answers_to p.0 (label_of s)) ss)
+        [] ≡ []
         → is_some (asked_in (option_map (λ s. rows_at s p.1) (find (λ s. answers_to p.0 (label_of s)) ss))) ≡ true)
         → is_some (asked_in (option_map (λ s. rows_at s p.1) (find (λ s. answers_to p.0 (label_of s)) (s ∷ ss)))) ≡ true
     go true t rest = rw t (all.0 p.0 t n p.1 (rw t at e))
@@ -149,12 +170,14 @@ map_some : {X Y : Type 0} (f : X → Y) (o : Option X) → is_some o ≡ true �
 map_some f None e = cc
 map_some f (Some x) e = refl
 
-both_some : (f : Text → Text → Asked) (a b : Option Text) → is_some a ≡ true → is_some b ≡ true → is_some (from_both f a b) ≡ true
+both_some : (f : Text → Text → Asked) (a b : Option Text) → is_some a ≡ true → is_some b ≡ true
+    → is_some (from_both f a b) ≡ true
 both_some f None b ea eb = cc
 both_some f (Some x) None ea eb = cc
 both_some f (Some x) (Some y) ea eb = refl
 
-three_some : (f : Text → Text → Text → Asked) (a b d : Option Text) → is_some a ≡ true → is_some b ≡ true → is_some d ≡ true → is_some (from_three f a b d) ≡ true
+three_some : (f : Text → Text → Text → Asked) (a b d : Option Text) → is_some a ≡ true → is_some b ≡ true
+    → is_some d ≡ true → is_some (from_three f a b d) ≡ true
 three_some f None b d ea eb ed = cc
 three_some f (Some x) b d ea eb ed = both_some (f x) b d eb ed
 
@@ -183,7 +206,8 @@ read_asks n met other rest e =
     map_some _ (first_of (codes "election") rows) (given_first (codes "election") s rest refl given)
 
 -- a command of two paths
-pair_asks : (make : Text → Text → Asked) (s : Shape) (rest : List Text) → IsPlaced (codes "election") s.rules → IsPlaced (codes "certificate") s.rules
+pair_asks : (make : Text → Text → Asked) (s : Shape) (rest : List Text) → IsPlaced (codes "election") s.rules
+    → IsPlaced (codes "certificate") s.rules
     → let rows = rows_after s.rules [] rest in
     (not (is_given (codes "election") rows) || (not (is_given (codes "certificate") rows) || false)) ≡ false
     → is_some (from_both make (first_of (codes "election") rows) (first_of (codes "certificate") rows)) ≡ true
@@ -191,7 +215,8 @@ pair_asks make s rest election certificate e =
     let rows = rows_after s.rules [] rest in
     let given = two_given (is_given (codes "election") rows) (is_given (codes "certificate") rows) e in
     both_some make (first_of (codes "election") rows) (first_of (codes "certificate") rows)
-    (given_first (codes "election") s rest election given.0) (given_first (codes "certificate") s rest certificate given.1)
+    (given_first (codes "election") s rest election given.0)
+    (given_first (codes "certificate") s rest certificate given.1)
 
 prices_asks : AsksByName (sub_of (codes "prices"))
 unfolding sub_of commands_written
@@ -210,10 +235,12 @@ unfolding sub_of commands_written
 both_asks n met other rest e =
     let s = sub_of (codes "both") in
     let rows = rows_after s.rules [] rest in
-    let given = three_given (is_given (codes "election") rows) (is_given (codes "prices") rows) (is_given (codes "violation") rows)
+    let given = three_given (is_given (codes "election") rows) (is_given (codes "prices") rows)
+    (is_given (codes "violation") rows)
     (last_passes false false _ (level_check s [] rest e)) in
     three_some _ (first_of (codes "election") rows) (first_of (codes "prices") rows) (first_of (codes "violation") rows)
-    (given_first (codes "election") s rest refl given.0) (given_first (codes "prices") s rest refl given.1.0) (given_first (codes "violation") s rest refl given.1.1)
+    (given_first (codes "election") s rest refl given.0) (given_first (codes "prices") s rest refl given.1.0)
+    (given_first (codes "violation") s rest refl given.1.1)
 
 explain_asks : AsksByName (sub_of (codes "explain"))
 unfolding sub_of commands_written
@@ -254,9 +281,16 @@ help_asks n met other rest e =
 
 all_ask : AllAsk (built pbaudit).subs
 unfolding sub_of commands_written
-all_ask = (read_asks, (prices_asks, (violation_asks, (both_asks, (explain_asks, (margins_asks, (tidy_asks, (folder_asks, (help_asks, tt)))))))))
+all_ask = (
+  read_asks,
+  (
+    prices_asks,
+    (violation_asks, (both_asks, (explain_asks, (margins_asks, (tidy_asks, (folder_asks, (help_asks, tt))))))),
+  ),
+)
 
-stop_asks : (o : Option (Text × List Text)) → IsNotHelp o → entered_fault (built pbaudit) o ≡ [] → is_some (asked_in (entered (built pbaudit) o)) ≡ true
+stop_asks : (o : Option (Text × List Text)) → IsNotHelp o → entered_fault (built pbaudit) o ≡ []
+    → is_some (asked_in (entered (built pbaudit) o)) ≡ true
 unfolding asked_in
 stop_asks None n e = refl
 stop_asks (Some p) n e = sub_asks (built pbaudit).subs p all_ask n e

@@ -29,7 +29,8 @@ read_taken = refl
 abbrev stable_words : List Text
 stable_words = codes "pbaudit" ∷ codes "prices" ∷ codes "e.pb" ∷ codes "c.csv" ∷ codes "--stable" ∷ []
 
-stable_task : TaskOf stable_words ≡ Some (prices (codes "e.pb") (codes "c.csv") None (record { stable = true; exhaustive = true; cover = false }))
+stable_task : TaskOf stable_words
+    ≡ Some (prices (codes "e.pb") (codes "c.csv") None (record { stable = true; exhaustive = true; cover = false }))
 unfolding clap_on_literals commands_written asked_in
 stable_task = refl
 
@@ -38,9 +39,13 @@ unfolding clap_on_literals commands_written
 stable_taken = refl
 
 abbrev outcome_words : List Text
-outcome_words = codes "pbaudit" ∷ codes "prices" ∷ codes "e.pb" ∷ codes "c.csv" ∷ codes "--outcome" ∷ codes "o.csv" ∷ codes "--no-exhaustive" ∷ []
+outcome_words = codes "pbaudit" ∷ codes "prices" ∷ codes "e.pb" ∷ codes "c.csv" ∷ codes "--outcome" ∷ codes "o.csv"
+    ∷ codes "--no-exhaustive" ∷ []
 
-outcome_task : TaskOf outcome_words ≡ Some (prices (codes "e.pb") (codes "c.csv") (Some (codes "o.csv")) (record { stable = false; exhaustive = false; cover = false }))
+outcome_task : TaskOf outcome_words
+    ≡ Some
+    (prices (codes "e.pb") (codes "c.csv") (Some (codes "o.csv"))
+    (record { stable = false; exhaustive = false; cover = false }))
 unfolding clap_on_literals commands_written asked_in
 outcome_task = refl
 
@@ -49,7 +54,8 @@ unfolding clap_on_literals commands_written
 one_path = refl
 
 abbrev violation_words : List Text
-violation_words = codes "pbaudit" ∷ codes "violation" ∷ codes "e.pb" ∷ codes "v.csv" ∷ codes "--outcome" ∷ codes "o.csv" ∷ []
+violation_words = codes "pbaudit" ∷ codes "violation" ∷ codes "e.pb" ∷ codes "v.csv" ∷ codes "--outcome" ∷ codes "o.csv"
+    ∷ []
 
 violation_task : TaskOf violation_words ≡ Some (violation (codes "e.pb") (codes "v.csv") (Some (codes "o.csv")))
 unfolding clap_on_literals commands_written asked_in
@@ -73,7 +79,8 @@ tidy_taken = refl
 abbrev folder_words : List Text
 folder_words = codes "pbaudit" ∷ codes "folder" ∷ codes "d" ∷ codes "--no-exhaustive" ∷ []
 
-folder_task : TaskOf folder_words ≡ Some (folder (codes "d") (record { stable = false; exhaustive = false; cover = false }))
+folder_task : TaskOf folder_words
+    ≡ Some (folder (codes "d") (record { stable = false; exhaustive = false; cover = false }))
 unfolding clap_on_literals commands_written asked_in
 folder_task = refl
 

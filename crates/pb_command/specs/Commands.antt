@@ -36,7 +36,8 @@ read_app = command_of (codes "read") (path_rule (codes "election") ∷ [])
 -- `prices ELECTION CERTIFICATE [--stable] [--no-exhaustive] [--cover] [--outcome FILE]`
 unfoldable pub prices_app : App
 prices_app = command_of (codes "prices") (path_rule (codes "election") ∷ path_rule (codes "certificate")
-    ∷ switch_rule (codes "stable") ∷ switch_rule (codes "no-exhaustive") ∷ switch_rule (codes "cover") ∷ outcome_rule ∷ [])
+    ∷ switch_rule (codes "stable") ∷ switch_rule (codes "no-exhaustive") ∷ switch_rule (codes "cover") ∷ outcome_rule
+    ∷ [])
 
 -- `violation ELECTION CERTIFICATE [--outcome FILE]`
 unfoldable pub violation_app : App
@@ -47,12 +48,14 @@ violation_app = command_of (codes "violation")
 unfoldable pub both_app : App
 both_app = command_of (codes "both")
     (path_rule (codes "election") ∷ path_rule (codes "prices") ∷ path_rule (codes "violation")
-    ∷ switch_rule (codes "stable") ∷ switch_rule (codes "no-exhaustive") ∷ switch_rule (codes "cover") ∷ outcome_rule ∷ [])
+    ∷ switch_rule (codes "stable") ∷ switch_rule (codes "no-exhaustive") ∷ switch_rule (codes "cover") ∷ outcome_rule
+    ∷ [])
 
 -- `explain ELECTION CERTIFICATE [--stable] [--no-exhaustive] [--cover] [--outcome FILE]`
 unfoldable pub explain_app : App
 explain_app = command_of (codes "explain") (path_rule (codes "election") ∷ path_rule (codes "certificate")
-    ∷ switch_rule (codes "stable") ∷ switch_rule (codes "no-exhaustive") ∷ switch_rule (codes "cover") ∷ outcome_rule ∷ [])
+    ∷ switch_rule (codes "stable") ∷ switch_rule (codes "no-exhaustive") ∷ switch_rule (codes "cover") ∷ outcome_rule
+    ∷ [])
 
 -- `margins ELECTION CERTIFICATE [--outcome FILE]`
 unfoldable pub margins_app : App
@@ -66,7 +69,8 @@ tidy_app = command_of (codes "tidy") (path_rule (codes "election") ∷ path_rule
 -- `folder FOLDER [--stable] [--no-exhaustive] [--cover]`
 unfoldable pub folder_app : App
 folder_app = command_of (codes "folder")
-    (path_rule (codes "folder") ∷ switch_rule (codes "stable") ∷ switch_rule (codes "no-exhaustive") ∷ switch_rule (codes "cover") ∷ [])
+    (path_rule (codes "folder") ∷ switch_rule (codes "stable") ∷ switch_rule (codes "no-exhaustive")
+    ∷ switch_rule (codes "cover") ∷ [])
 
 -- `pbaudit`, with its commands
 unfoldable pub pbaudit : App

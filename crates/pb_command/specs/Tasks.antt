@@ -67,12 +67,14 @@ asked_by name rows =
     then from_both (λ e c. prices e c outcome (mode_in rows)) election certificate
     else (if bytes_eq name (codes "violation") then from_both (λ e c. violation e c outcome) election certificate
     else (if bytes_eq name (codes "both")
-    then from_three (λ e p v. both e p v outcome (mode_in rows)) election (first_of (codes "prices") rows) (first_of (codes "violation") rows)
+    then from_three (λ e p v. both e p v outcome (mode_in rows)) election (first_of (codes "prices") rows)
+    (first_of (codes "violation") rows)
     else (if bytes_eq name (codes "explain")
     then from_both (λ e c. explain e c outcome (mode_in rows)) election certificate
     else (if bytes_eq name (codes "margins") then from_both (λ e c. margins e c outcome) election certificate
     else (if bytes_eq name (codes "tidy") then from_both tidy election certificate
-    else (if bytes_eq name (codes "folder") then option_map (λ f. folder f (mode_in rows)) (first_of (codes "folder") rows)
+    else (if bytes_eq name (codes "folder")
+    then option_map (λ f. folder f (mode_in rows)) (first_of (codes "folder") rows)
     else None)))))))
 
 -- no command reads standard input

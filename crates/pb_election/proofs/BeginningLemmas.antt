@@ -11,17 +11,20 @@ use Rattle.pb_election.specs.Markers.{is_marker, marker_of, marks, same_section}
 use Rattle.pb_election.specs.Rows.{ballot_in, ballots_in, columns_of, ids_in, vote_column}
 use Rattle.pb_election.specs.Faults.{before_of, behind_marker, first_of, header_of, rest_of, role_of, rows_of, up_to_marker}
 use Rattle.pb_election.specs.Text.{IsPart, Part, part_records}
-use Rattle.pb_election.specs.SoFar.{before_next}
-use Rattle.pb_election.specs.Beginnings.{Beginning, AtStart, AfterMeta, InMeta, AfterProjects, InProjects, AfterVotes, InVotes, Good, no_part, so_far_in, so_far_of, beginning_records}
+use Rattle.pb_election.specs.Inside.SoFar.{before_next}
+use Rattle.pb_election.specs.Inside.Beginnings.{Beginning, AtStart, AfterMeta, InMeta, AfterProjects, InProjects, AfterVotes, InVotes, Good, no_part, so_far_in, so_far_of, beginning_records}
 use Rattle.pb_election.proofs.FoundParts.{behind, behind-here, found, past, up-all, up-part}
 use Rattle.pb_election.proofs.Spots.{count-append, count-behind, role-header, role-rows}
 
 -- by the header and the rows of each section
-seen-by : (recs : List Rec) (role : Role) (a b c : Part) → role_of recs ≡ role → rows_of Meta recs ≡ a.rows → header_of Projects recs ≡ b.header → rows_of Projects recs ≡ b.rows
-    → header_of Votes recs ≡ c.header → rows_of Votes recs ≡ c.rows → before_of recs ≡ before_next (so_far_in role a b c)
+seen-by : (recs : List Rec) (role : Role) (a b c : Part) → role_of recs ≡ role → rows_of Meta recs ≡ a.rows
+    → header_of Projects recs ≡ b.header → rows_of Projects recs ≡ b.rows
+    → header_of Votes recs ≡ c.header → rows_of Votes recs ≡ c.rows
+    → before_of recs ≡ before_next (so_far_in role a b c)
 unfolding before_of
 seen-by recs role a b c r am bh bm ch cm =
-    let size : length (ballots_in (vote_column c.header) (ids_in (columns_of b.header) b.rows) c.rows) ≡ length c.rows = length-map c.rows (ballot_in (vote_column c.header) (ids_in (columns_of b.header) b.rows)) in
+    let size : length (ballots_in (vote_column c.header) (ids_in (columns_of b.header) b.rows) c.rows) ≡ length c.rows =
+    length-map c.rows (ballot_in (vote_column c.header) (ids_in (columns_of b.header) b.rows)) in
     rw (r, am, bh, bm, ch, cm, size) refl
 
 marks-its : (s : Section) (r : Rec) → marker_of r ≡ Some s → marks s r ≡ true
@@ -35,10 +38,14 @@ found-nil s = refl
 
 -- the section that a list of records begins with, up to its end or up to the next marker
 found-all : (s : Section) (a : Part) → IsPart s a → found s (part_records a) ≡ behind a
-found-all s a h = ap up_to_marker (behind-here s a.marker (behind a) (marks-its s a.marker h.marker)) ∙ up-all (behind a) h.others
+found-all s a h = ap up_to_marker (behind-here s a.marker (behind a) (marks-its s a.marker h.marker))
+    ∙ up-all (behind a) h.others
 
-found-part : (s : Section) (a : Part) (m : Rec) (rest : List Rec) → IsPart s a → is_marker m ≡ true → found s (part_records a ++ m ∷ rest) ≡ behind a
-found-part s a m rest h e = ap up_to_marker (behind-here s a.marker (behind a ++ m ∷ rest) (marks-its s a.marker h.marker)) ∙ up-part (behind a) m rest h.others e
+found-part : (s : Section) (a : Part) (m : Rec) (rest : List Rec) → IsPart s a → is_marker m ≡ true
+    → found s (part_records a ++ m ∷ rest) ≡ behind a
+found-part s a m rest h e =
+    ap up_to_marker (behind-here s a.marker (behind a ++ m ∷ rest) (marks-its s a.marker h.marker))
+    ∙ up-part (behind a) m rest h.others e
 
 -- a marker with nothing behind it
 found-mark : (s : Section) (m : Rec) → found s (m ∷ []) ≡ []
@@ -56,7 +63,8 @@ found-none s t a h d =
     ap (found s) (sym e) ∙ ap up_to_marker (past s a t [] h d) ∙ found-nil s
 
 -- behind another section
-found-past : (s t : Section) (a : Part) (rest : List Rec) → IsPart t a → same_section s t ≡ false → found s (part_records a ++ rest) ≡ found s rest
+found-past : (s t : Section) (a : Part) (rest : List Rec) → IsPart t a → same_section s t ≡ false
+    → found s (part_records a ++ rest) ≡ found s rest
 found-past s t a rest h d = ap up_to_marker (past s a t rest h d)
 
 is-mark : (s : Section) (r : Rec) → marker_of r ≡ Some s → is_marker r ≡ true
@@ -66,37 +74,49 @@ count-part : (s : Section) (a : Part) → IsPart s a → count_by is_marker (par
 count-part s a h = count-behind s a.marker (behind a) h.marker h.others
 
 count-two : (a b : Part) → IsPart Meta a → IsPart Projects b → count_by is_marker (part_records a ++ part_records b) ≡ 2
-count-two a b h k = omega (arith, count-append (part_records a) (part_records b), count-part Meta a h, count-part Projects b k)
+count-two a b h k =
+    omega (arith, count-append (part_records a) (part_records b), count-part Meta a h, count-part Projects b k)
 
 role-first : role_of [] ≡ First
 unfolding role_of
 role-first = refl
 
 -- what is seen, by what is found of each section
-seen-found : (recs : List Rec) (role : Role) (a b c : Part) (A B C : List Rec) → role_of recs ≡ role → found Meta recs ≡ A → found Projects recs ≡ B → found Votes recs ≡ C
-    → rest_of A ≡ a.rows → first_of B ≡ b.header → rest_of B ≡ b.rows → first_of C ≡ c.header → rest_of C ≡ c.rows → before_of recs ≡ before_next (so_far_in role a b c)
+seen-found : (recs : List Rec) (role : Role) (a b c : Part) (A B C : List Rec) → role_of recs ≡ role
+    → found Meta recs ≡ A → found Projects recs ≡ B → found Votes recs ≡ C
+    → rest_of A ≡ a.rows → first_of B ≡ b.header → rest_of B ≡ b.rows → first_of C ≡ c.header → rest_of C ≡ c.rows
+    → before_of recs ≡ before_next (so_far_in role a b c)
 seen-found recs role a b c A B C r fa fb fc am bh bm ch cm =
-    seen-by recs role a b c r (ap rest_of fa ∙ am) (ap first_of fb ∙ bh) (ap rest_of fb ∙ bm) (ap first_of fc ∙ ch) (ap rest_of fc ∙ cm)
+    seen-by recs role a b c r (ap rest_of fa ∙ am) (ap first_of fb ∙ bh) (ap rest_of fb ∙ bm) (ap first_of fc ∙ ch)
+    (ap rest_of fc ∙ cm)
 
 pub before-text : (x : Beginning) → Good x → before_of (beginning_records x) ≡ before_next (so_far_of x)
 before-text AtStart h =
-    seen-found [] First no_part no_part no_part [] [] [] role-first (found-nil Meta) (found-nil Projects) (found-nil Votes) refl refl refl refl refl
+    seen-found [] First no_part no_part no_part [] [] [] role-first (found-nil Meta) (found-nil Projects)
+    (found-nil Votes) refl refl refl refl refl
 before-text (AfterMeta r) h =
-    seen-found (r ∷ []) (Header Meta) no_part no_part no_part [] [] [] (role-header [] Meta r h) (found-mark Meta r) (found-mark Projects r) (found-mark Votes r) refl refl refl refl refl
+    seen-found (r ∷ []) (Header Meta) no_part no_part no_part [] [] [] (role-header [] Meta r h) (found-mark Meta r)
+    (found-mark Projects r) (found-mark Votes r) refl refl refl refl refl
 before-text (InMeta a) h =
-    seen-found (part_records a) (Inside Meta) a no_part no_part (behind a) [] [] (role-rows [] Meta a.marker a.header a.rows h.part.marker h.part.others)
-    (found-all Meta a h.part) (found-none Projects Meta a h.part refl) (found-none Votes Meta a h.part refl) refl refl refl refl refl
+    seen-found (part_records a) (Inside Meta) a no_part no_part (behind a) [] []
+    (role-rows [] Meta a.marker a.header a.rows h.part.marker h.part.others)
+    (found-all Meta a h.part) (found-none Projects Meta a h.part refl) (found-none Votes Meta a h.part refl) refl refl
+    refl refl refl
 before-text (AfterProjects a r) h =
     let p = h.0.part in
-    seen-found (part_records a ++ (r ∷ [])) (Header Projects) a no_part no_part (behind a) [] [] (role-header (part_records a) Projects r h.1 ∙ rw (count-part Meta a p) refl)
-    (found-part Meta a r [] p (is-mark Projects r h.1)) (found-past Projects Meta a (r ∷ []) p refl ∙ found-mark Projects r) (found-past Votes Meta a (r ∷ []) p refl ∙ found-mark Votes r)
+    seen-found (part_records a ++ (r ∷ [])) (Header Projects) a no_part no_part (behind a) [] []
+    (role-header (part_records a) Projects r h.1 ∙ rw (count-part Meta a p) refl)
+    (found-part Meta a r [] p (is-mark Projects r h.1))
+    (found-past Projects Meta a (r ∷ []) p refl ∙ found-mark Projects r)
+    (found-past Votes Meta a (r ∷ []) p refl ∙ found-mark Votes r)
     refl refl refl refl refl
 before-text (InProjects a b) h =
     let p = h.0.part in
     let q = h.1.part in
     seen-found (part_records a ++ part_records b) (Inside Projects) a b no_part (behind a) (behind b) []
     (role-rows (part_records a) Projects b.marker b.header b.rows q.marker q.others ∙ rw (count-part Meta a p) refl)
-    (found-part Meta a b.marker (behind b) p (is-mark Projects b.marker q.marker)) (found-past Projects Meta a (part_records b) p refl ∙ found-all Projects b q)
+    (found-part Meta a b.marker (behind b) p (is-mark Projects b.marker q.marker))
+    (found-past Projects Meta a (part_records b) p refl ∙ found-all Projects b q)
     (found-past Votes Meta a (part_records b) p refl ∙ found-none Votes Projects b q refl)
     refl refl refl refl refl
 before-text (AfterVotes a b r) h =
@@ -104,7 +124,8 @@ before-text (AfterVotes a b r) h =
     let q = h.1.part in
     let rest = part_records b ++ (r ∷ []) in
     seen-found (part_records a ++ rest) (Header Votes) a b no_part (behind a) (behind b) []
-    (ap role_of (sym (append_assoc (part_records a) (part_records b) (r ∷ []))) ∙ role-header (part_records a ++ part_records b) Votes r h.2 ∙ rw (count-two a b p q) refl)
+    (ap role_of (sym (append_assoc (part_records a) (part_records b) (r ∷ [])))
+    ∙ role-header (part_records a ++ part_records b) Votes r h.2 ∙ rw (count-two a b p q) refl)
     (found-part Meta a b.marker (behind b ++ (r ∷ [])) p (is-mark Projects b.marker q.marker))
     (found-past Projects Meta a rest p refl ∙ found-part Projects b r [] q (is-mark Votes r h.2))
     (found-past Votes Meta a rest p refl ∙ found-past Votes Projects b (r ∷ []) q refl ∙ found-mark Votes r)
@@ -115,8 +136,11 @@ before-text (InVotes a b c) h =
     let v = h.2.part in
     let rest = part_records b ++ part_records c in
     seen-found (part_records a ++ rest) (Inside Votes) a b c (behind a) (behind b) (behind c)
-    (ap role_of (sym (append_assoc (part_records a) (part_records b) (part_records c))) ∙ role-rows (part_records a ++ part_records b) Votes c.marker c.header c.rows v.marker v.others ∙ rw (count-two a b p q) refl)
+    (ap role_of (sym (append_assoc (part_records a) (part_records b) (part_records c)))
+    ∙ role-rows (part_records a ++ part_records b) Votes c.marker c.header c.rows v.marker v.others
+    ∙ rw (count-two a b p q) refl)
     (found-part Meta a b.marker (behind b ++ part_records c) p (is-mark Projects b.marker q.marker))
-    (found-past Projects Meta a rest p refl ∙ found-part Projects b c.marker (behind c) q (is-mark Votes c.marker v.marker))
+    (found-past Projects Meta a rest p refl
+    ∙ found-part Projects b c.marker (behind c) q (is-mark Votes c.marker v.marker))
     (found-past Votes Meta a rest p refl ∙ found-past Votes Projects b (part_records c) q refl ∙ found-all Votes c v)
     refl refl refl refl refl

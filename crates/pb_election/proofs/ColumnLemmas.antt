@@ -19,10 +19,12 @@ drop-at [] i f e = cc e
 drop-at (x ∷ xs) zero f e = let s : x ≡ f = cc e in rw s refl
 drop-at (x ∷ xs) (suc i) f e = drop-at xs i f e
 
-pub column-here : (p : Field → Bool) (fs : Rec) (i : ℕ) (f : Field) → field_at fs i ≡ Some f → p f ≡ true → position_from p i (drop i fs) ≡ Some i
+pub column-here : (p : Field → Bool) (fs : Rec) (i : ℕ) (f : Field) → field_at fs i ≡ Some f → p f ≡ true
+    → position_from p i (drop i fs) ≡ Some i
 column-here p fs i f e h = rw (drop-at fs i f e, h) refl
 
-pub column-behind : (p : Field → Bool) (fs : Rec) (i : ℕ) (f : Field) → field_at fs i ≡ Some f → p f ≡ false → position_from p i (drop i fs) ≡ position_from p (i + 1) (drop (i + 1) fs)
+pub column-behind : (p : Field → Bool) (fs : Rec) (i : ℕ) (f : Field) → field_at fs i ≡ Some f → p f ≡ false
+    → position_from p i (drop i fs) ≡ position_from p (i + 1) (drop (i + 1) fs)
 column-behind p fs i f e h = rw (add-one i) (rw (drop-at fs i f e, h, add-one i) refl)
 
 pub column-none : (p : Field → Bool) (fs : Rec) (i : ℕ) → field_at fs i ≡ None → position_from p i (drop i fs) ≡ None
@@ -35,7 +37,8 @@ missing-is p n (x ∷ xs) =
     elim (cases_Bool (p x)) [
       | inl e ↦
           let one : count_by p (x ∷ []) ≡ 1 = rw e refl in
-          let some : (count_by p (x ∷ xs) == 0) ≡ false = positive (count_by p (x ∷ xs)) (count_by p xs) (omega (arith, count-cons p x xs, one)) in
+          let some : (count_by p (x ∷ xs) == 0) ≡ false =
+          positive (count_by p (x ∷ xs)) (count_by p xs) (omega (arith, count-cons p x xs, one)) in
           let found : is_none (position_from p n (x ∷ xs)) ≡ false = rw e refl in
           found ∙ sym some
       | inr e ↦
@@ -49,7 +52,8 @@ missing-is p n (x ∷ xs) =
     positive m n e = grind (arith, nat_tests)
 
 -- a column is repeated exactly where one is found behind the first
-pub repeated-is : (p : Field → Bool) (n k : ℕ) (xs : Rec) → position_from p n xs ≡ Some k → (n ≤ k) × (is_some (position_from p (k + 1) (drop (k + 1 - n) xs)) ≡ nat_lt 1 (count_by p xs))
+pub repeated-is : (p : Field → Bool) (n k : ℕ) (xs : Rec) → position_from p n xs ≡ Some k
+    → (n ≤ k) × (is_some (position_from p (k + 1) (drop (k + 1 - n) xs)) ≡ nat_lt 1 (count_by p xs))
 repeated-is p n k [] e = cc e
 repeated-is p n k (x ∷ xs) e =
     elim (cases_Bool (p x)) [
@@ -57,14 +61,19 @@ repeated-is p n k (x ∷ xs) e =
           let here : n ≡ k = cc (rw h at e) in
           let d : k + 1 - n ≡ 1 = omega arith in
           let one : count_by p (x ∷ []) ≡ 1 = rw h refl in
-          let behind : is_some (position_from p (k + 1) (drop (k + 1 - n) (x ∷ xs))) ≡ is_some (position_from p (k + 1) xs) = rw d refl in
-          (omega arith, behind ∙ some-is p (k + 1) xs ∙ more (count_by p (x ∷ xs)) (count_by p xs) (omega (arith, count-cons p x xs, one)))
+          let behind : is_some (position_from p (k + 1) (drop (k + 1 - n) (x ∷ xs)))
+          ≡ is_some (position_from p (k + 1) xs) = rw d refl in (
+            omega arith,
+            behind ∙ some-is p (k + 1) xs
+                ∙ more (count_by p (x ∷ xs)) (count_by p xs) (omega (arith, count-cons p x xs, one)),
+          )
       | inr h ↦
           let rest = repeated-is p (n + 1) k xs (rw h at e) in
           let d : k + 1 - n ≡ suc (k + 1 - (n + 1)) = omega (arith, rest.0) in
           let none : count_by p (x ∷ []) ≡ 0 = rw h refl in
           let same : count_by p (x ∷ xs) ≡ count_by p xs = omega (arith, count-cons p x xs, none) in
-          let on : is_some (position_from p (k + 1) (drop (k + 1 - n) (x ∷ xs))) ≡ is_some (position_from p (k + 1) (drop (k + 1 - (n + 1)) xs)) = rw d refl in
+          let on : is_some (position_from p (k + 1) (drop (k + 1 - n) (x ∷ xs)))
+          ≡ is_some (position_from p (k + 1) (drop (k + 1 - (n + 1)) xs)) = rw d refl in
           (omega (arith, rest.0), on ∙ rest.1 ∙ ap (λ m. nat_lt 1 m) (sym same))
     ]
   where
@@ -77,7 +86,8 @@ repeated-is p n k (x ∷ xs) e =
         elim (cases_Bool (p x)) [
           | inl e ↦
               let one : count_by p (x ∷ []) ≡ 1 = rw e refl in
-              let some : nat_lt 0 (count_by p (x ∷ xs)) ≡ true = positive (count_by p (x ∷ xs)) (count_by p xs) (omega (arith, count-cons p x xs, one)) in
+              let some : nat_lt 0 (count_by p (x ∷ xs)) ≡ true =
+              positive (count_by p (x ∷ xs)) (count_by p xs) (omega (arith, count-cons p x xs, one)) in
               let found : is_some (position_from p n (x ∷ xs)) ≡ true = rw e refl in
               found ∙ sym some
           | inr e ↦
@@ -98,7 +108,8 @@ none-repeated p xs e = few (count_by p xs) (sym (missing-is p 0 xs) ∙ rw e ref
     few n h = grind (arith, nat_tests)
 
 -- the same, with the search beginning at the first field
-pub repeated-all : (p : Field → Bool) (k : ℕ) (xs : Rec) → position_from p 0 xs ≡ Some k → is_some (position_from p (k + 1) (drop (k + 1) xs)) ≡ nat_lt 1 (count_by p xs)
+pub repeated-all : (p : Field → Bool) (k : ℕ) (xs : Rec) → position_from p 0 xs ≡ Some k
+    → is_some (position_from p (k + 1) (drop (k + 1) xs)) ≡ nat_lt 1 (count_by p xs)
 repeated-all p k xs e =
     let d : k + 1 - 0 ≡ k + 1 = omega arith in
     rw d at (repeated-is p 0 k xs e).1

@@ -7,23 +7,27 @@ use Rattle.pb_election.specs.Instance.{Instance, IsBallot, IsProject, IsVoter, b
 use Rattle.pb_election.specs.Text.{IsElection}
 
 -- what holds of each element holds at an index
-pub AllByRecursion-at : {X : Type 0} (P : X → Type 0) (xs : List X) (i : ℕ) (d : X) → i < length xs → AllByRecursion P xs → P (slice_index_or xs i d)
+pub AllByRecursion-at : {X : Type 0} (P : X → Type 0) (xs : List X) (i : ℕ) (d : X) → i < length xs
+    → AllByRecursion P xs → P (slice_index_or xs i d)
 AllByRecursion-at P [] i d h all = absurd (omega (arith, h))
 AllByRecursion-at P (x ∷ xs) zero d h all = all.0
 AllByRecursion-at P (x ∷ xs) (suc i) d h all = AllByRecursion-at P xs i d (omega (arith, h)) all.1
 
 -- each ballot is a set of projects
 pub ballot_is : (e : Instance) → IsElection e → (i : ℕ) → IsVoter e i → IsBallot e (ballot_of e i)
-ballot_is e sound i voter = AllByRecursion-at (IsBallot e) e.ballots (i - 1) [] (omega (arith, voter.0, voter.1)) sound.ballots
+ballot_is e sound i voter =
+    AllByRecursion-at (IsBallot e) e.ballots (i - 1) [] (omega (arith, voter.0, voter.1)) sound.ballots
 
 -- what stands at the first place, from n, that passes
-pub position_from-at : {X : Type 0} (test : X → Bool) (n : ℕ) (xs : List X) (d : X) (k : ℕ) → position_from test n xs ≡ Some k
+pub position_from-at : {X : Type 0} (test : X → Bool) (n : ℕ) (xs : List X) (d : X) (k : ℕ)
+    → position_from test n xs ≡ Some k
     → (n ≤ k) × (k < n + length xs) × (test (slice_index_or xs (k - n) d) ≡ true)
 position_from-at test n [] d k e = cc e
 position_from-at {X} test n (x ∷ xs) d k e = by (test x) refl e (position_from-at test (n + 1) xs d k)
   where
     by : (b : Bool) → test x ≡ b → cond b (Some n) (position_from test (n + 1) xs) ≡ Some k
-        → (position_from test (n + 1) xs ≡ Some k → (n + 1 ≤ k) × (k < n + 1 + length xs) × (test (slice_index_or xs (k - (n + 1)) d) ≡ true))
+        → (position_from test (n + 1) xs ≡ Some k → (n + 1 ≤ k) × (k < n + 1 + length xs)
+        × (test (slice_index_or xs (k - (n + 1)) d) ≡ true))
         → (n ≤ k) × (k < n + length (x ∷ xs)) × (test (slice_index_or (x ∷ xs) (k - n) d) ≡ true)
     by true t s behind =
         let same : n ≡ k = cc s in

@@ -25,8 +25,8 @@ use Rattle.pb_records.specs.Cells.{is_text}
 use Rattle.pb_election.specs.Rows.{ballot_in, ballots_in, columns_of, cost_in, costs_in, funded_in, has_key, id_in, ids_in, is_approval, is_id, is_known, key_in, others_in, says_funded, says_neither, selected_in, stated_value, value_in, vote_column}
 use Rattle.pb_election.specs.Faults.{has_stood, is_no_money, keys_in, lowest_fault}
 use Rattle.pb_election.specs.Text.{EachKeyOnce, IsPart, Part, part_records}
-use Rattle.pb_election.specs.SoFar.{before_next, next}
-use Rattle.pb_election.specs.Beginnings.{Beginning, AtStart, AfterMeta, InMeta, AfterProjects, InProjects, AfterVotes, InVotes, AllMeta, Good, GoodMeta, GoodProjects, GoodVotes, so_far_of, beginning_records}
+use Rattle.pb_election.specs.Inside.SoFar.{before_next, next}
+use Rattle.pb_election.specs.Inside.Beginnings.{Beginning, AtStart, AfterMeta, InMeta, AfterProjects, InProjects, AfterVotes, InVotes, AllMeta, Good, GoodMeta, GoodProjects, GoodVotes, so_far_of, beginning_records}
 use Rattle.pb_election.proofs.KeyLemmas.{count-append, has_stood-is, none-found, once-at, once-by, or-false}
 use Rattle.pb_election.proofs.Taken.{taken-first, taken-header, taken-meta-row, taken-project-row, taken-projects-marker, taken-vote-row, taken-votes-marker}
 
@@ -50,17 +50,25 @@ text-extend AtStart r = refl
 text-extend (AfterMeta m) r = refl
 text-extend (InMeta a) r = by (is_marker r)
   where
-    by : (t : Bool) → beginning_records (if t then AfterProjects a r else InMeta (more a r)) ≡ part_records a ++ (r ∷ [])
+    by : (t : Bool) → beginning_records (if t then AfterProjects a r else InMeta (more a r))
+        ≡ part_records a ++ (r ∷ [])
     by true = refl
     by false = refl
 text-extend (AfterProjects a m) r = sym (append_assoc (part_records a) (m ∷ []) (r ∷ []))
 text-extend (InProjects a b) r = by (is_marker r)
   where
-    by : (t : Bool) → beginning_records (if t then AfterVotes a b r else InProjects a (more b r)) ≡ (part_records a ++ part_records b) ++ (r ∷ [])
+    by : (t : Bool) → beginning_records (if t then AfterVotes a b r else InProjects a (more b r))
+        ≡ (part_records a ++ part_records b) ++ (r ∷ [])
     by true = sym (append_assoc (part_records a) (part_records b) (r ∷ []))
     by false = sym (append_assoc (part_records a) (part_records b) (r ∷ []))
-text-extend (AfterVotes a b m) r = sym (append_assoc (part_records a) (part_records b ++ (m ∷ [])) (r ∷ []) ∙ ap (λ l. part_records a ++ l) (append_assoc (part_records b) (m ∷ []) (r ∷ [])))
-text-extend (InVotes a b c) r = sym (append_assoc (part_records a) (part_records b ++ part_records c) (r ∷ []) ∙ ap (λ l. part_records a ++ l) (append_assoc (part_records b) (part_records c) (r ∷ [])))
+text-extend (AfterVotes a b m) r =
+    sym
+    (append_assoc (part_records a) (part_records b ++ (m ∷ [])) (r ∷ [])
+    ∙ ap (λ l. part_records a ++ l) (append_assoc (part_records b) (m ∷ []) (r ∷ [])))
+text-extend (InVotes a b c) r =
+    sym
+    (append_assoc (part_records a) (part_records b ++ part_records c) (r ∷ [])
+    ∙ ap (λ l. part_records a ++ l) (append_assoc (part_records b) (part_records c) (r ∷ [])))
 
 marks-section : (s : Section) (r : Rec) → marks s r ≡ true → marker_of r ≡ Some s
 marks-section s r h = by (marker_of r) s refl h
@@ -84,7 +92,8 @@ no-marker r h = by (marker_of r) refl h
     by None e h = e
     by (Some s) e h = cc (rw e at h)
 
-pub all-push : (P : Rec → Type 0) (xs : List Rec) (x : Rec) → AllByRecursion P xs → P x → AllByRecursion P (xs ++ (x ∷ []))
+pub all-push : (P : Rec → Type 0) (xs : List Rec) (x : Rec) → AllByRecursion P xs → P x
+    → AllByRecursion P (xs ++ (x ∷ []))
 all-push P [] x h p = (p, tt)
 all-push P (y ∷ ys) x h p = (h.0, all-push P ys x h.1 p)
 
@@ -110,21 +119,26 @@ any-new p xs r e = list_any-append p xs (r ∷ []) ∙ rw e (or-yes (list_any p 
     or-yes true = refl
     or-yes false = refl
 
-stated_value-other : (key : Key) (xs : List Rec) (r : Rec) → has_key key r ≡ false → stated_value key (xs ++ (r ∷ [])) ≡ stated_value key xs
+stated_value-other : (key : Key) (xs : List Rec) (r : Rec) → has_key key r ≡ false
+    → stated_value key (xs ++ (r ∷ [])) ≡ stated_value key xs
 stated_value-other key xs r e =
-    let found : find (has_key key) (xs ++ (r ∷ [])) ≡ find (has_key key) xs = find-append (has_key key) xs (r ∷ []) ∙ rw e (or-none (find (has_key key) xs)) in
+    let found : find (has_key key) (xs ++ (r ∷ [])) ≡ find (has_key key) xs =
+    find-append (has_key key) xs (r ∷ []) ∙ rw e (or-none (find (has_key key) xs)) in
     ap (option_map value_in) found
   where
     or-none : (o : Option Rec) → option_or o None ≡ o
     or-none None = refl
     or-none (Some x) = refl
 
-stated_value-new : (key : Key) (xs : List Rec) (r : Rec) → list_any (has_key key) xs ≡ false → has_key key r ≡ true → stated_value key (xs ++ (r ∷ [])) ≡ Some (value_in r)
+stated_value-new : (key : Key) (xs : List Rec) (r : Rec) → list_any (has_key key) xs ≡ false → has_key key r ≡ true
+    → stated_value key (xs ++ (r ∷ [])) ≡ Some (value_in r)
 stated_value-new key xs r none e =
-    let found : find (has_key key) (xs ++ (r ∷ [])) ≡ Some r = find-append (has_key key) xs (r ∷ []) ∙ rw (none-found (has_key key) xs none, e) refl in
+    let found : find (has_key key) (xs ++ (r ∷ [])) ≡ Some r =
+    find-append (has_key key) xs (r ∷ []) ∙ rw (none-found (has_key key) xs none, e) refl in
     ap (option_map value_in) found
 
-count-push : (p : Rec → Bool) (xs : List Rec) (r : Rec) → count_by p xs ≤ 1 → (p r ≡ true → list_any p xs ≡ false) → count_by p (xs ++ (r ∷ [])) ≤ 1
+count-push : (p : Rec → Bool) (xs : List Rec) (r : Rec) → count_by p xs ≤ 1 → (p r ≡ true → list_any p xs ≡ false)
+    → count_by p (xs ++ (r ∷ [])) ≤ 1
 count-push p xs r h new =
     elim (cases_Bool (p r)) [
       | inl e ↦
@@ -164,16 +178,20 @@ has-it r NumVotes (Some NumProjects) e h = cc (rw e at h)
 has-it r NumVotes (Some NumVotes) e h = refl
 
 -- a key that did not stand before
-new-key : (xs : List Rec) (r : Rec) (key : Key) → option_map_or (has_stood (keys_in xs)) (key_in r) false ≡ false → has_key key r ≡ true → list_any (has_key key) xs ≡ false
+new-key : (xs : List Rec) (r : Rec) (key : Key) → option_map_or (has_stood (keys_in xs)) (key_in r) false ≡ false
+    → has_key key r ≡ true → list_any (has_key key) xs ≡ false
 new-key xs r key h e =
     let k = has-it r key (key_in r) refl e in
     sym (has_stood-is xs key) ∙ rw k at h
 
-once-push : (xs : List Rec) (r : Rec) → EachKeyOnce xs → option_map_or (has_stood (keys_in xs)) (key_in r) false ≡ false → EachKeyOnce (xs ++ (r ∷ []))
-once-push xs r h new = once-by (xs ++ (r ∷ [])) (λ key. count-push (has_key key) xs r (once-at xs key h) (new-key xs r key new))
+once-push : (xs : List Rec) (r : Rec) → EachKeyOnce xs → option_map_or (has_stood (keys_in xs)) (key_in r) false ≡ false
+    → EachKeyOnce (xs ++ (r ∷ []))
+once-push xs r h new =
+    once-by (xs ++ (r ∷ [])) (λ key. count-push (has_key key) xs r (once-at xs key h) (new-key xs r key new))
 
 -- what is stated keeps its rule with one more row, whose value keeps it where it has the key
-stated_value-push : (key : Key) (P : Field → Type 0) (xs : List Rec) (r : Rec) → IfSome (stated_value key xs) P → option_map_or (has_stood (keys_in xs)) (key_in r) false ≡ false → (has_key key r ≡ true → P (value_in r))
+stated_value-push : (key : Key) (P : Field → Type 0) (xs : List Rec) (r : Rec) → IfSome (stated_value key xs) P
+    → option_map_or (has_stood (keys_in xs)) (key_in r) false ≡ false → (has_key key r ≡ true → P (value_in r))
     → IfSome (stated_value key (xs ++ (r ∷ []))) P
 stated_value-push key P xs r h new here =
     elim (cases_Bool (has_key key r)) [
@@ -190,8 +208,10 @@ money-is text h = by (money_of text) refl
         let m = is-money text v e in
         rw m.value at m
 
-good-meta : (a : Part) (r : Rec) → GoodMeta a → marker_of r ≡ None → option_map_or (has_stood (keys_in a.rows)) (key_in r) false ≡ false
-    → (has_key VoteType r ≡ true → IsTrue (is_approval (value_in r))) → (has_key Budget r ≡ true → is_no_money (value_in r) ≡ false) → GoodMeta (more a r)
+good-meta : (a : Part) (r : Rec) → GoodMeta a → marker_of r ≡ None
+    → option_map_or (has_stood (keys_in a.rows)) (key_in r) false ≡ false
+    → (has_key VoteType r ≡ true → IsTrue (is_approval (value_in r)))
+    → (has_key Budget r ≡ true → is_no_money (value_in r) ≡ false) → GoodMeta (more a r)
 good-meta a r h m new type money =
     record {
       part = part-more Meta a r h.part m;
@@ -201,7 +221,8 @@ good-meta a r h m new type money =
     }
 
 -- what is read of one more row of META
-next-meta : (a : Part) (r : Rec) (o : Option Key) → key_in r ≡ o → is_marker r ≡ false → option_map_or (has_stood (keys_in a.rows)) o false ≡ false
+next-meta : (a : Part) (r : Rec) (o : Option Key) → key_in r ≡ o → is_marker r ≡ false
+    → option_map_or (has_stood (keys_in a.rows)) o false ≡ false
     → next (so_far_of (InMeta a)) r ≡ so_far_of (InMeta (more a r))
 next-meta a r None e m new =
     let no : (key : Key) → has_key key r ≡ false = λ key. rw e refl in
@@ -285,7 +306,8 @@ next-meta a r (Some NumVotes) e m new =
     ) refl
 
 -- META with a budget and the vote type is whole
-some-stated : (key : Key) (P : Field → Type 0) (xs : List Rec) → IfSome (stated_value key xs) P → list_any (has_key key) xs ≡ true → IsSomeAnd (stated_value key xs) P
+some-stated : (key : Key) (P : Field → Type 0) (xs : List Rec) → IfSome (stated_value key xs) P
+    → list_any (has_key key) xs ≡ true → IsSomeAnd (stated_value key xs) P
 some-stated key P xs h any = by (find (has_key key) xs) refl
   where
     is-found : (xs : List Rec) → list_any (has_key key) xs ≡ true → is_some (find (has_key key) xs) ≡ true
@@ -300,7 +322,8 @@ some-stated key P xs h any = by (find (has_key key) xs) refl
     by None e = let f = is-found xs any in cc (rw e at f)
     by (Some r) e = rw e (rw e at h)
 
-pub all-meta : (a : Part) → GoodMeta a → list_any (has_key Budget) a.rows ≡ true → list_any (has_key VoteType) a.rows ≡ true → AllMeta a
+pub all-meta : (a : Part) → GoodMeta a → list_any (has_key Budget) a.rows ≡ true
+    → list_any (has_key VoteType) a.rows ≡ true → AllMeta a
 all-meta a h budget type =
     record {
       part = h.part;
@@ -313,34 +336,50 @@ all-meta a h budget type =
 
 -- One more row of PROJECTS.
 
-good-projects : (b : Part) (r : Rec) → GoodProjects b → marker_of r ≡ None → IsTrue (is_id (id_in (columns_of b.header) r)) → is_no_money (cost_in (columns_of b.header) r) ≡ false
-    → is_among (ids_in (columns_of b.header) b.rows) (id_in (columns_of b.header) r) ≡ false → length (ids_in (columns_of b.header) b.rows) + 1 ≤ 20000 → GoodProjects (more b r)
+good-projects : (b : Part) (r : Rec) → GoodProjects b → marker_of r ≡ None
+    → IsTrue (is_id (id_in (columns_of b.header) r)) → is_no_money (cost_in (columns_of b.header) r) ≡ false
+    → is_among (ids_in (columns_of b.header) b.rows) (id_in (columns_of b.header) r) ≡ false
+    → length (ids_in (columns_of b.header) b.rows) + 1 ≤ 20000 → GoodProjects (more b r)
 good-projects b r h m id money new few =
     let columns = columns_of b.header in
-    let ids : ids_in columns (b.rows ++ (r ∷ [])) ≡ ids_in columns b.rows ++ (id_in columns r ∷ []) = map-append (id_in columns) b.rows (r ∷ []) in
+    let ids : ids_in columns (b.rows ++ (r ∷ [])) ≡ ids_in columns b.rows ++ (id_in columns r ∷ []) =
+    map-append (id_in columns) b.rows (r ∷ []) in
     record {
       part = part-more Projects b r h.part m;
       header = h.header;
       rows = record {
         ids = all-push (λ row. IsTrue (is_id (id_in columns row))) b.rows r h.rows.ids id;
-        costs = all-push (λ row. IsMoney (cost_in columns row)) b.rows r h.rows.costs (money-is (cost_in columns r) money);
-        distinct = rw ids (IsDistinct-push nat_list_eq_equiv (ids_in columns b.rows) (id_in columns r) h.rows.distinct new);
+        costs = all-push (λ row. IsMoney (cost_in columns row)) b.rows r h.rows.costs
+            (money-is (cost_in columns r) money);
+        distinct =
+            rw ids (IsDistinct-push nat_list_eq_equiv (ids_in columns b.rows) (id_in columns r) h.rows.distinct new);
         few = omega (arith, length-append b.rows (r ∷ []), length-map b.rows (id_in columns), few);
       };
     }
 
-next-project : (a b : Part) (r : Rec) → is_marker r ≡ false → next (so_far_of (InProjects a b)) r ≡ so_far_of (InProjects a (more b r))
+next-project : (a b : Part) (r : Rec) → is_marker r ≡ false
+    → next (so_far_of (InProjects a b)) r ≡ so_far_of (InProjects a (more b r))
 next-project a b r m =
     let columns = columns_of b.header in
-    let ids : ids_in columns (b.rows ++ (r ∷ [])) ≡ ids_in columns b.rows ++ (id_in columns r ∷ []) = map-append (id_in columns) b.rows (r ∷ []) in
-    let costs : costs_in columns (b.rows ++ (r ∷ [])) ≡ costs_in columns b.rows ++ (millionths (cost_in columns r) ∷ []) = map-append (λ row. millionths (cost_in columns row)) b.rows (r ∷ []) in
-    let marks : map (λ row. says_funded (selected_in columns row)) (b.rows ++ (r ∷ [])) ≡ map (λ row. says_funded (selected_in columns row)) b.rows ++ (says_funded (selected_in columns r) ∷ []) = map-append (λ row. says_funded (selected_in columns row)) b.rows (r ∷ []) in
-    let funded : funded_in columns (b.rows ++ (r ∷ [])) ≡ option_map (λ ms. ms ++ (says_funded (selected_in columns r) ∷ [])) (funded_in columns b.rows) = fund (is_some columns.selected) _ _ _ marks in
-    let others : others_in columns (b.rows ++ (r ∷ [])) ≡ others_in columns b.rows + (if says_neither columns r then 1 else 0) =
-    count-append (says_neither columns) b.rows (r ∷ []) ∙ ap (λ n. others_in columns b.rows + n) (one (says_neither columns r)) in
+    let ids : ids_in columns (b.rows ++ (r ∷ [])) ≡ ids_in columns b.rows ++ (id_in columns r ∷ []) =
+    map-append (id_in columns) b.rows (r ∷ []) in
+    let costs : costs_in columns (b.rows ++ (r ∷ []))
+    ≡ costs_in columns b.rows ++ (millionths (cost_in columns r) ∷ []) =
+    map-append (λ row. millionths (cost_in columns row)) b.rows (r ∷ []) in
+    let marks : map (λ row. says_funded (selected_in columns row)) (b.rows ++ (r ∷ []))
+    ≡ map (λ row. says_funded (selected_in columns row)) b.rows ++ (says_funded (selected_in columns r) ∷ []) =
+    map-append (λ row. says_funded (selected_in columns row)) b.rows (r ∷ []) in
+    let funded : funded_in columns (b.rows ++ (r ∷ []))
+    ≡ option_map (λ ms. ms ++ (says_funded (selected_in columns r) ∷ [])) (funded_in columns b.rows) =
+    fund (is_some columns.selected) _ _ _ marks in
+    let others : others_in columns (b.rows ++ (r ∷ []))
+    ≡ others_in columns b.rows + (if says_neither columns r then 1 else 0) =
+    count-append (says_neither columns) b.rows (r ∷ [])
+    ∙ ap (λ n. others_in columns b.rows + n) (one (says_neither columns r)) in
     rw (m, ids, costs, funded, others) refl
   where
-    fund : (b : Bool) (xs ys : List Bool) (y : Bool) → ys ≡ xs ++ (y ∷ []) → (if b then Some ys else None) ≡ option_map (λ ms. ms ++ (y ∷ [])) (if b then Some xs else None)
+    fund : (b : Bool) (xs ys : List Bool) (y : Bool) → ys ≡ xs ++ (y ∷ [])
+        → (if b then Some ys else None) ≡ option_map (λ ms. ms ++ (y ∷ [])) (if b then Some xs else None)
     fund true xs ys y e = ap Some e
     fund false xs ys y e = refl
 
@@ -350,14 +389,17 @@ next-project a b r m =
 
 -- One more row of VOTES.
 
-good-votes : (b c : Part) (r : Rec) → GoodVotes b c → marker_of r ≡ None → IsTrue (is_known (vote_column c.header) (ids_in (columns_of b.header) b.rows) r)
+good-votes : (b c : Part) (r : Rec) → GoodVotes b c → marker_of r ≡ None
+    → IsTrue (is_known (vote_column c.header) (ids_in (columns_of b.header) b.rows) r)
     → length (ballots_in (vote_column c.header) (ids_in (columns_of b.header) b.rows) c.rows) + 1 ≤ 1000000
-    → approvals (ballots_in (vote_column c.header) (ids_in (columns_of b.header) b.rows) c.rows) + length (ballot_in (vote_column c.header) (ids_in (columns_of b.header) b.rows) r) ≤ 20000000
+    → approvals (ballots_in (vote_column c.header) (ids_in (columns_of b.header) b.rows) c.rows)
+    + length (ballot_in (vote_column c.header) (ids_in (columns_of b.header) b.rows) r) ≤ 20000000
     → GoodVotes b (more c r)
 good-votes b c r h m known few sizes =
     let ids = ids_in (columns_of b.header) b.rows in
     let vote = vote_column c.header in
-    let split : ballots_in vote ids (c.rows ++ (r ∷ [])) ≡ ballots_in vote ids c.rows ++ (ballot_in vote ids r ∷ []) = map-append (ballot_in vote ids) c.rows (r ∷ []) in
+    let split : ballots_in vote ids (c.rows ++ (r ∷ [])) ≡ ballots_in vote ids c.rows ++ (ballot_in vote ids r ∷ []) =
+    map-append (ballot_in vote ids) c.rows (r ∷ []) in
     let total = sum_by-append length (ballots_in vote ids c.rows) (ballot_in vote ids r ∷ []) in
     record {
       part = part-more Votes c r h.part m;
@@ -373,7 +415,8 @@ next-vote : (a b c : Part) (r : Rec) → next (so_far_of (InVotes a b c)) r ≡ 
 next-vote a b c r =
     let ids = ids_in (columns_of b.header) b.rows in
     let vote = vote_column c.header in
-    let split : ballots_in vote ids (c.rows ++ (r ∷ [])) ≡ ballots_in vote ids c.rows ++ (ballot_in vote ids r ∷ []) = map-append (ballot_in vote ids) c.rows (r ∷ []) in
+    let split : ballots_in vote ids (c.rows ++ (r ∷ [])) ≡ ballots_in vote ids c.rows ++ (ballot_in vote ids r ∷ []) =
+    map-append (ballot_in vote ids) c.rows (r ∷ []) in
     rw split refl
 
 -- One more record.
@@ -387,7 +430,8 @@ distinct-nil : IsDistinct bytes_eq []
 unfolding IsDistinct
 distinct-nil = tt
 
-extends-meta : (a : Part) (r : Rec) → GoodMeta a → lowest_fault (before_next (so_far_of (InMeta a))) r ≡ None → Extends (InMeta a) r
+extends-meta : (a : Part) (r : Rec) → GoodMeta a → lowest_fault (before_next (so_far_of (InMeta a))) r ≡ None
+    → Extends (InMeta a) r
 extends-meta a r h l =
     elim (cases_Bool (is_marker r)) [
       | inl m ↦
@@ -396,10 +440,15 @@ extends-meta a r h l =
       | inr m ↦
           let t = taken-meta-row (before_next (so_far_of (InMeta a))) r refl m l in
           let same : so_far_of (InMeta (more a r)) ≡ so_far_of (extend (InMeta a) r) = rw m refl in
-          record { good = rw m (good-meta a r h (no-marker r m) t.1 t.2 t.3); next = next-meta a r (key_in r) refl m t.1 ∙ same; text = t.0 }
+          record {
+            good = rw m (good-meta a r h (no-marker r m) t.1 t.2 t.3);
+            next = next-meta a r (key_in r) refl m t.1 ∙ same;
+            text = t.0;
+          }
     ]
 
-extends-projects : (a b : Part) (r : Rec) → AllMeta a → GoodProjects b → lowest_fault (before_next (so_far_of (InProjects a b))) r ≡ None → Extends (InProjects a b) r
+extends-projects : (a b : Part) (r : Rec) → AllMeta a → GoodProjects b
+    → lowest_fault (before_next (so_far_of (InProjects a b))) r ≡ None → Extends (InProjects a b) r
 extends-projects a b r h k l =
     elim (cases_Bool (is_marker r)) [
       | inl m ↦
@@ -408,7 +457,11 @@ extends-projects a b r h k l =
       | inr m ↦
           let t = taken-project-row (before_next (so_far_of (InProjects a b))) r refl m l in
           let same : so_far_of (InProjects a (more b r)) ≡ so_far_of (extend (InProjects a b) r) = rw m refl in
-          record { good = rw m (h, good-projects b r k (no-marker r m) t.1 t.2 t.3 t.4); next = next-project a b r m ∙ same; text = t.0 }
+          record {
+            good = rw m (h, good-projects b r k (no-marker r m) t.1 t.2 t.3 t.4);
+            next = next-project a b r m ∙ same;
+            text = t.0;
+          }
     ]
 
 pub extends : (x : Beginning) (r : Rec) → Good x → lowest_fault (before_next (so_far_of x)) r ≡ None → Extends x r
@@ -417,12 +470,29 @@ extends AtStart r h l =
     record { good = marks-section Meta r t.1; next = refl; text = t.0 }
 extends (AfterMeta m) r h l =
     let t = taken-header Meta (before_next (so_far_of (AfterMeta m))) r refl l in
-    record { good = record { part = part-new Meta m r h t.1; once = (omega arith, (omega arith, (omega arith, (omega arith, tt)))); budget = tt; vote_type = tt }; next = refl; text = t.0 }
+    record {
+      good =
+          record {
+            part = part-new Meta m r h t.1;
+            once = (omega arith, (omega arith, (omega arith, (omega arith, tt))));
+            budget = tt;
+            vote_type = tt;
+          };
+      next = refl;
+      text = t.0;
+    }
 extends (InMeta a) r h l = extends-meta a r h l
 extends (AfterProjects a m) r h l =
     let t = taken-header Projects (before_next (so_far_of (AfterProjects a m))) r refl l in
     record {
-      good = (h.0, record { part = part-new Projects m r h.1 t.1; header = t.2; rows = record { ids = tt; costs = tt; distinct = distinct-nil; few = omega arith } });
+      good = (
+        h.0,
+        record {
+          part = part-new Projects m r h.1 t.1;
+          header = t.2;
+          rows = record { ids = tt; costs = tt; distinct = distinct-nil; few = omega arith };
+        },
+      );
       next = refl;
       text = t.0;
     }
@@ -430,10 +500,22 @@ extends (InProjects a b) r h l = extends-projects a b r h.0 h.1 l
 extends (AfterVotes a b m) r h l =
     let t = taken-header Votes (before_next (so_far_of (AfterVotes a b m))) r refl l in
     record {
-      good = (h.0, h.1, record { part = part-new Votes m r h.2 t.1; header = t.2; rows = record { known = tt; few = omega arith; few_approvals = omega arith } });
+      good = (
+        h.0,
+        h.1,
+        record {
+          part = part-new Votes m r h.2 t.1;
+          header = t.2;
+          rows = record { known = tt; few = omega arith; few_approvals = omega arith };
+        },
+      );
       next = refl;
       text = t.0;
     }
 extends (InVotes a b c) r h l =
     let t = taken-vote-row (before_next (so_far_of (InVotes a b c))) r refl l in
-    record { good = (h.0, h.1, good-votes b c r h.2 (no-marker r t.1) t.2 t.3 t.4); next = next-vote a b c r; text = t.0 }
+    record {
+      good = (h.0, h.1, good-votes b c r h.2 (no-marker r t.1) t.2 t.3 t.4);
+      next = next-vote a b c r;
+      text = t.0;
+    }

@@ -12,7 +12,7 @@ use Rattle.std.proofs.lemmas.List.{map-append}
 use Rattle.indexmap.specs.IndexSet.{insert_key}
 use Rattle.pb_records.specs.Records.{Field}
 use Rattle.pb_election.specs.Names.{is_among}
-use Rattle.pb_election.specs.Ids.{ids_kept}
+use Rattle.pb_election.specs.Inside.Ids.{ids_kept}
 use Rattle.pb_election.specs.Rows.{is_control, is_id}
 use Rattle.pb_records.proofs.CellLemmas.{empty-is}
 
@@ -21,35 +21,43 @@ any-map p f [] = refl
 any-map p f (x ∷ xs) = rw (any-map p f xs) refl
 
 -- an id is found where it is kept
-pub found-among : (keys : List (String Global)) (id : Field) → list_any (λ k. bytes_eq id (string_bytes k)) keys ≡ is_among (ids_kept keys) id
+pub found-among : (keys : List (String Global)) (id : Field)
+    → list_any (λ k. bytes_eq id (string_bytes k)) keys ≡ is_among (ids_kept keys) id
 found-among keys id = any-map (bytes_eq id) (λ k. string_bytes k) keys
 
 -- a new id comes last
 
-pub insert-new : (keys : List (String Global)) (key : String Global) → is_among (ids_kept keys) (string_bytes key) ≡ false
+pub insert-new : (keys : List (String Global)) (key : String Global)
+    → is_among (ids_kept keys) (string_bytes key) ≡ false
     → ids_kept (insert_key string_eq keys key) ≡ ids_kept keys ++ string_bytes key ∷ []
 insert-new keys key new =
     let e : list_any (string_eq key) keys ≡ false = found-among keys (string_bytes key) ∙ new in
     rw e (map-append (λ k. string_bytes k) keys (key ∷ []))
 
 -- the position of an id
-position-map : {A B : Type 0} (p : B → Bool) (f : A → B) (n : ℕ) (xs : List A) → position_from (λ x. p (f x)) n xs ≡ position_from p n (map f xs)
+position-map : {A B : Type 0} (p : B → Bool) (f : A → B) (n : ℕ) (xs : List A)
+    → position_from (λ x. p (f x)) n xs ≡ position_from p n (map f xs)
 position-map p f n [] = refl
 position-map p f n (x ∷ xs) = rw (position-map p f (n + 1) xs) refl
 
-position-next : {A : Type 0} (p : A → Bool) (n : ℕ) (xs : List A) → option_map (λ i. i + 1) (position_from p n xs) ≡ position_from p (n + 1) xs
+position-next : {A : Type 0} (p : A → Bool) (n : ℕ) (xs : List A)
+    → option_map (λ i. i + 1) (position_from p n xs) ≡ position_from p (n + 1) xs
 position-next p n [] = refl
 position-next p n (x ∷ xs) = by (p x) (position-next p (n + 1) xs)
   where
     by : (b : Bool) → option_map (λ i. i + 1) (position_from p (n + 1) xs) ≡ position_from p (n + 1 + 1) xs
-        → option_map (λ i. i + 1) (cond b (Some n) (position_from p (n + 1) xs)) ≡ cond b (Some (n + 1)) (position_from p (n + 1 + 1) xs)
+        → option_map (λ i. i + 1) (cond b (Some n) (position_from p (n + 1) xs))
+        ≡ cond b (Some (n + 1)) (position_from p (n + 1 + 1) xs)
     by true e = refl
     by false e = e
 
-pub place-kept : (keys : List (String Global)) (id : Field) (o : Option ℕ) → o ≡ position (λ k. bytes_eq id (string_bytes k)) keys
+pub place-kept : (keys : List (String Global)) (id : Field) (o : Option ℕ)
+    → o ≡ position (λ k. bytes_eq id (string_bytes k)) keys
     → option_map (λ i. i + 1) o ≡ position_from (bytes_eq id) 1 (ids_kept keys)
 place-kept keys id o e =
-    ap (option_map (λ i. i + 1)) (e ∙ position_from-zero (λ k. bytes_eq id (string_bytes k)) keys ∙ position-map (bytes_eq id) (λ k. string_bytes k) 0 keys)
+    ap (option_map (λ i. i + 1))
+    (e ∙ position_from-zero (λ k. bytes_eq id (string_bytes k)) keys
+    ∙ position-map (bytes_eq id) (λ k. string_bytes k) 0 keys)
     ∙ position-next (bytes_eq id) 0 (ids_kept keys)
 
 -- no id is kept twice
@@ -58,7 +66,8 @@ unfolding IsDistinct
 distinct-kept [] h = tt
 distinct-kept (k ∷ ks) h = (each ks h.0, distinct-kept ks h.1)
   where
-    each : (js : List (String Global)) → AllByRecursion (λ j. string_eq k j ≡ false) js → AllByRecursion (λ id. bytes_eq (string_bytes k) id ≡ false) (ids_kept js)
+    each : (js : List (String Global)) → AllByRecursion (λ j. string_eq k j ≡ false) js
+        → AllByRecursion (λ id. bytes_eq (string_bytes k) id ≡ false) (ids_kept js)
     each [] h = tt
     each (j ∷ js) h = (h.0, each js h.1)
 

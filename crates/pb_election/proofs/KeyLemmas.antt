@@ -55,7 +55,8 @@ some-any p (x ∷ xs) h =
     ]
 
 -- a row that is the only one of its kind has none of its kind before it
-none-yet : (p : Rec → Bool) (xs : List Rec) (r : Rec) (zs : List Rec) → count_by p (xs ++ r ∷ zs) ≤ 1 → p r ≡ true → list_any p xs ≡ false
+none-yet : (p : Rec → Bool) (xs : List Rec) (r : Rec) (zs : List Rec) → count_by p (xs ++ r ∷ zs) ≤ 1 → p r ≡ true
+    → list_any p xs ≡ false
 none-yet p xs r zs h e =
     elim (cases_Bool (list_any p xs)) [
       | inl any ↦
@@ -71,22 +72,27 @@ none-found p (x ∷ xs) h =
     rw o.0 (none-found p xs o.1)
 
 -- where each read key stands once, each row has a new key
-pub key-new : (xs : List Rec) (r : Rec) (zs : List Rec) → EachKeyOnce (xs ++ r ∷ zs) → option_map_or (has_stood (keys_in xs)) (key_in r) false ≡ false
+pub key-new : (xs : List Rec) (r : Rec) (zs : List Rec) → EachKeyOnce (xs ++ r ∷ zs)
+    → option_map_or (has_stood (keys_in xs)) (key_in r) false ≡ false
 key-new xs r zs h = by (key_in r) refl
   where
     by : (o : Option Key) → key_in r ≡ o → option_map_or (has_stood (keys_in xs)) o false ≡ false
     by None e = refl
-    by (Some key) e = has_stood-is xs key ∙ none-yet (has_key key) xs r zs (once-at (xs ++ r ∷ zs) key h) (has-its-key r key e)
+    by (Some key) e = has_stood-is xs key
+        ∙ none-yet (has_key key) xs r zs (once-at (xs ++ r ∷ zs) key h) (has-its-key r key e)
 
 -- where each read key stands once, the value of a row with a read key is the one that is stated
-pub stated_value-here : (key : Key) (xs : List Rec) (r : Rec) (zs : List Rec) → EachKeyOnce (xs ++ r ∷ zs) → has_key key r ≡ true → stated_value key (xs ++ r ∷ zs) ≡ Some (value_in r)
+pub stated_value-here : (key : Key) (xs : List Rec) (r : Rec) (zs : List Rec) → EachKeyOnce (xs ++ r ∷ zs)
+    → has_key key r ≡ true → stated_value key (xs ++ r ∷ zs) ≡ Some (value_in r)
 stated_value-here key xs r zs h has =
     let none = none-found (has_key key) xs (none-yet (has_key key) xs r zs (once-at (xs ++ r ∷ zs) key h) has) in
-    let found : find (has_key key) (xs ++ r ∷ zs) ≡ Some r = find-append (has_key key) xs (r ∷ zs) ∙ rw (none, has) refl in
+    let found : find (has_key key) (xs ++ r ∷ zs) ≡ Some r =
+    find-append (has_key key) xs (r ∷ zs) ∙ rw (none, has) refl in
     rw found refl
 
 -- a stated key stood
-pub key-there : (key : Key) (P : Field → Type 0) (rows : List Rec) → IsSomeAnd (stated_value key rows) P → list_any (has_key key) rows ≡ true
+pub key-there : (key : Key) (P : Field → Type 0) (rows : List Rec) → IsSomeAnd (stated_value key rows) P
+    → list_any (has_key key) rows ≡ true
 key-there key P [] h = absurd h
 key-there key P (x ∷ xs) h =
     elim (cases_Bool (has_key key x)) [

@@ -16,7 +16,8 @@ unfolding marker_of
 marker-full [] e = refl
 marker-full (f ∷ fs) e = rw e refl
 
-pub marker-named : (fs : Rec) (f : Field) → field_at fs 0 ≡ Some f → is_blank (drop 1 fs) ≡ true → marker_of fs ≡ section_named (lower (clean f))
+pub marker-named : (fs : Rec) (f : Field) → field_at fs 0 ≡ Some f → is_blank (drop 1 fs) ≡ true
+    → marker_of fs ≡ section_named (lower (clean f))
 unfolding marker_of field_at
 marker-named [] f e b = cc e
 marker-named (g ∷ fs) f e b =

@@ -14,13 +14,13 @@ use Rattle.pb_records.specs.declared.drafts.Stop.{Stop}
 use Rattle.pb_records.specs.declared.drafts.Stop.TheVariants.{Fault, Memory}
 use Rattle.pb_election.specs.declared.refusal.ElectionFault.{ElectionFault}
 use Rattle.pb_election.specs.declared.refusal.ElectionFault.TheVariants.{NotUtf8}
-use Rattle.pb_records.specs.Drafts.{StopsAt, Takes}
+use Rattle.pb_records.specs.Inside.Drafts.{StopsAt, Takes}
 use Rattle.pb_records.specs.Cells.{is_blank, is_text, nonblank}
 use Rattle.pb_records.specs.FirstFault.{NoFault, fault_after, fault_at}
 use Rattle.pb_election.specs.Faults.{PbFault, before_of, election_form, lowest_fault, lowest_fault_at_end}
 use Rattle.pb_election.specs.Text.{PbText}
-use Rattle.pb_election.specs.SoFar.{SoFar, Steps, before_next, election_of, next, nothing, step, step_by}
-use Rattle.pb_election.specs.Beginnings.{Beginning, AtStart, AfterMeta, InMeta, AfterProjects, InProjects, AfterVotes, InVotes, Good, HasRead, so_far_of, beginning_records}
+use Rattle.pb_election.specs.Inside.SoFar.{SoFar, Steps, before_next, election_of, next, nothing, step, step_by}
+use Rattle.pb_election.specs.Inside.Beginnings.{Beginning, AtStart, AfterMeta, InMeta, AfterProjects, InProjects, AfterVotes, InVotes, Good, HasRead, so_far_of, beginning_records}
 use Rattle.pb_election.proofs.BeginningLemmas.{before-text}
 use Rattle.pb_election.proofs.Extends.{all-push, extend, extends, text-extend}
 
@@ -31,16 +31,19 @@ before_of-next : (s : SoFar) (recs : List Rec) → HasRead s recs → before_of 
 before_of-next s recs h = ap before_of h.records ∙ before-text h.beginning h.good ∙ ap before_next (sym h.same)
 
 -- the fault at the next record, and at the end
-pub fault-next : (s : SoFar) (recs : List Rec) (r : Rec) → HasRead s recs → election_form recs (Some r) ≡ lowest_fault (before_next s) r
+pub fault-next : (s : SoFar) (recs : List Rec) (r : Rec) → HasRead s recs
+    → election_form recs (Some r) ≡ lowest_fault (before_next s) r
 unfolding election_form
 fault-next s recs r h = ap (λ b. lowest_fault b r) (before_of-next s recs h)
 
-pub fault-end : (s : SoFar) (recs : List Rec) → HasRead s recs → election_form recs None ≡ lowest_fault_at_end (before_next s)
+pub fault-end : (s : SoFar) (recs : List Rec) → HasRead s recs
+    → election_form recs None ≡ lowest_fault_at_end (before_next s)
 unfolding election_form
 fault-end s recs h = ap lowest_fault_at_end (before_of-next s recs h)
 
 -- one more record, at which no fault stands
-unfoldable pub read-next : (s : SoFar) (recs : List Rec) (r : Rec) → HasRead s recs → lowest_fault (before_next s) r ≡ None → HasRead (next s r) (recs ++ (r ∷ []))
+unfoldable pub read-next : (s : SoFar) (recs : List Rec) (r : Rec) → HasRead s recs
+    → lowest_fault (before_next s) r ≡ None → HasRead (next s r) (recs ++ (r ∷ []))
 read-next s recs r h l =
     let t = extends h.beginning r h.good (ap (λ x. lowest_fault (before_next x) r) (sym h.same) ∙ l) in
     record {
@@ -57,7 +60,8 @@ pub step-ok : (s t : SoFar) (r : Rec) → step s r ≡ Ok t → (lowest_fault (b
 unfolding step
 step-ok s t r e = by (lowest_fault (before_next s) r) refl e
   where
-    by : (o : Option ElectionFault) → lowest_fault (before_next s) r ≡ o → step_by o s r ≡ Ok t → (lowest_fault (before_next s) r ≡ None) × (t ≡ next s r)
+    by : (o : Option ElectionFault) → lowest_fault (before_next s) r ≡ o → step_by o s r ≡ Ok t
+        → (lowest_fault (before_next s) r ≡ None) × (t ≡ next s r)
     by None l h = (l, cc h)
     by (Some f) l h = cc h
 
@@ -65,7 +69,8 @@ pub step-err : (s : SoFar) (r : Rec) (f : ElectionFault) → step s r ≡ Err f 
 unfolding step
 step-err s r f e = by (lowest_fault (before_next s) r) refl e
   where
-    by : (o : Option ElectionFault) → lowest_fault (before_next s) r ≡ o → step_by o s r ≡ Err f → lowest_fault (before_next s) r ≡ Some f
+    by : (o : Option ElectionFault) → lowest_fault (before_next s) r ≡ o → step_by o s r ≡ Err f
+        → lowest_fault (before_next s) r ≡ Some f
     by None l h = cc h
     by (Some g) l h =
         let e : g ≡ f = cc h in
@@ -74,7 +79,8 @@ step-err s r f e = by (lowest_fault (before_next s) r) refl e
 -- The end.
 
 -- records at whose end no fault stands are the text of an election
-whole : (s : SoFar) (recs left : List Rec) (x : Beginning) → Good x → s ≡ so_far_of x → nonblank recs ≡ beginning_records x → AllByRecursion (λ r. IsTrue (is_text r)) (nonblank recs)
+whole : (s : SoFar) (recs left : List Rec) (x : Beginning) → Good x → s ≡ so_far_of x
+    → nonblank recs ≡ beginning_records x → AllByRecursion (λ r. IsTrue (is_text r)) (nonblank recs)
     → lowest_fault_at_end (before_next (so_far_of x)) ≡ None → PbText recs (election_of s)
 unfolding lowest_fault_at_end
 whole s recs left AtStart h e t x n = cc n
@@ -101,22 +107,27 @@ whole s recs left (InVotes a b c) h e t x n =
       states = ap election_of e;
     }
 
-pub text-of-all : (s : SoFar) (recs : List Rec) → HasRead s (nonblank recs) → lowest_fault_at_end (before_next s) ≡ None → PbText recs (election_of s)
-text-of-all s recs h n = whole s recs [] h.beginning h.good h.same h.records h.text (ap (λ x. lowest_fault_at_end (before_next x)) (sym h.same) ∙ n)
+pub text-of-all : (s : SoFar) (recs : List Rec) → HasRead s (nonblank recs) → lowest_fault_at_end (before_next s) ≡ None
+    → PbText recs (election_of s)
+text-of-all s recs h n =
+    whole s recs [] h.beginning h.good h.same h.records h.text
+    (ap (λ x. lowest_fault_at_end (before_next x)) (sym h.same) ∙ n)
 
 -- Each list of records is the text of an election, or has a first fault.
 
 nonblank-blank : (recs : List Rec) (r : Rec) → is_blank r ≡ true → nonblank (recs ++ (r ∷ [])) ≡ nonblank recs
 nonblank-blank recs r e = filter-append (λ x. not (is_blank x)) recs (r ∷ []) ∙ rw e (append-nil (nonblank recs))
 
-nonblank-more : (recs : List Rec) (r : Rec) → is_blank r ≡ false → nonblank (recs ++ (r ∷ [])) ≡ nonblank recs ++ (r ∷ [])
+nonblank-more : (recs : List Rec) (r : Rec) → is_blank r ≡ false
+    → nonblank (recs ++ (r ∷ [])) ≡ nonblank recs ++ (r ∷ [])
 nonblank-more recs r e = filter-append (λ x. not (is_blank x)) recs (r ∷ []) ∙ rw e refl
 
 get-seam : (xs ys : List Rec) (y : Rec) → slice_get (xs ++ y ∷ ys) (length xs) ≡ Some y
 get-seam [] ys y = refl
 get-seam (x ∷ xs) ys y = get-seam xs ys y
 
-fault-here : (recs taken rest : List Rec) (r : Rec) → recs ≡ taken ++ r ∷ rest → fault_at election_form recs (suc (length taken)) ≡ fault_after election_form taken (Some r)
+fault-here : (recs taken rest : List Rec) (r : Rec) → recs ≡ taken ++ r ∷ rest
+    → fault_at election_form recs (suc (length taken)) ≡ fault_after election_form taken (Some r)
 fault-here recs taken rest r e = rw (e, get-seam taken rest r, take-append_seam taken (r ∷ rest)) refl
 
 fault-last : (recs : List Rec) → fault_at election_form recs (suc (length recs)) ≡ fault_after election_form recs None
@@ -131,27 +142,34 @@ UpTo recs place = (k : ℕ) → k < place → fault_at election_form recs k ≡ 
 abbrev Answer : List Rec → Type 0
 Answer recs = ((e : Instance) × PbText recs e) ⊎ ((place : ℕ) × (f : ElectionFault) × PbFault recs place f)
 
-at-fault : (recs : List Rec) (place : ℕ) (f : ElectionFault) → place ≤ length recs → UpTo recs (suc place) → fault_at election_form recs (suc place) ≡ Some f → Answer recs
-at-fault recs place f within before here = inr (suc place, f, record { within = omega arith; here = here; none_before = before })
+at-fault : (recs : List Rec) (place : ℕ) (f : ElectionFault) → place ≤ length recs → UpTo recs (suc place)
+    → fault_at election_form recs (suc place) ≡ Some f → Answer recs
+at-fault recs place f within before here =
+    inr (suc place, f, record { within = omega arith; here = here; none_before = before })
 
-answered-from : (recs taken left : List Rec) (s : SoFar) → recs ≡ taken ++ left → HasRead s (nonblank taken) → UpTo recs (suc (length taken)) → Answer recs
+answered-from : (recs taken left : List Rec) (s : SoFar) → recs ≡ taken ++ left → HasRead s (nonblank taken)
+    → UpTo recs (suc (length taken)) → Answer recs
 answered-from recs taken [] s e h n = by (lowest_fault_at_end (before_next s)) refl
   where
     by : (o : Option ElectionFault) → lowest_fault_at_end (before_next s) ≡ o → Answer recs
-    by None l = let all : taken ≡ recs = sym (e ∙ append-nil taken) in inl (election_of s, text-of-all s recs (rw all at h) l)
+    by None l = let all : taken ≡ recs = sym (e ∙ append-nil taken) in
+        inl (election_of s, text-of-all s recs (rw all at h) l)
     by (Some f) l =
         let all : recs ≡ taken = e ∙ append-nil taken in
-        let here : fault_at election_form taken (suc (length taken)) ≡ Some f = fault-last taken ∙ fault-end s (nonblank taken) h ∙ l in
+        let here : fault_at election_form taken (suc (length taken)) ≡ Some f =
+        fault-last taken ∙ fault-end s (nonblank taken) h ∙ l in
         at-fault recs (length taken) f (rw all (omega arith)) n (rw all here)
 answered-from recs taken (r ∷ rest) s e h n =
     let split : recs ≡ (taken ++ (r ∷ [])) ++ rest = e ∙ sym (append_assoc taken (r ∷ []) rest) in
     let size : length (taken ++ (r ∷ [])) ≡ suc (length taken) = omega (arith, length-append taken (r ∷ [])) in
     elim (cases_Bool (is_blank r)) [
       | inl blank ↦
-          let here : fault_at election_form recs (suc (length taken)) ≡ None = fault-here recs taken rest r e ∙ rw blank refl in
+          let here : fault_at election_form recs (suc (length taken)) ≡ None =
+          fault-here recs taken rest r e ∙ rw blank refl in
           let left = nonblank-blank taken r blank in
           answered-from recs (taken ++ (r ∷ [])) rest s split (rw left h) (rw size (on here))
-      | inr full ↦ by (lowest_fault (before_next s) r) refl full split size (answered-from recs (taken ++ (r ∷ [])) rest)
+      | inr full ↦
+          by (lowest_fault (before_next s) r) refl full split size (answered-from recs (taken ++ (r ∷ [])) rest)
     ]
   where
     less : (k : ℕ) → k < suc (suc (length taken)) → (k == suc (length taken)) ≡ false → k < suc (length taken)
@@ -164,13 +182,17 @@ answered-from recs taken (r ∷ rest) s e h n =
           | inr other ↦ n k (less k l other)
         ]
 
-    by : (o : Option ElectionFault) → lowest_fault (before_next s) r ≡ o → is_blank r ≡ false → recs ≡ (taken ++ (r ∷ [])) ++ rest → length (taken ++ (r ∷ [])) ≡ suc (length taken)
-        → ((t : SoFar) → recs ≡ (taken ++ (r ∷ [])) ++ rest → HasRead t (nonblank (taken ++ (r ∷ []))) → UpTo recs (suc (length (taken ++ (r ∷ [])))) → Answer recs) → Answer recs
+    by : (o : Option ElectionFault) → lowest_fault (before_next s) r ≡ o → is_blank r ≡ false
+        → recs ≡ (taken ++ (r ∷ [])) ++ rest → length (taken ++ (r ∷ [])) ≡ suc (length taken)
+        → ((t : SoFar) → recs ≡ (taken ++ (r ∷ [])) ++ rest → HasRead t (nonblank (taken ++ (r ∷ [])))
+        → UpTo recs (suc (length (taken ++ (r ∷ [])))) → Answer recs) → Answer recs
     by None l full split size go =
-        let here : fault_at election_form recs (suc (length taken)) ≡ None = fault-here recs taken rest r e ∙ rw full (fault-next s (nonblank taken) r h ∙ l) in
+        let here : fault_at election_form recs (suc (length taken)) ≡ None =
+        fault-here recs taken rest r e ∙ rw full (fault-next s (nonblank taken) r h ∙ l) in
         go (next s r) split (rw (nonblank-more taken r full) (read-next s (nonblank taken) r h l)) (rw size (on here))
     by (Some f) l full split size go =
-        let here : fault_at election_form recs (suc (length taken)) ≡ Some f = fault-here recs taken rest r e ∙ rw full (fault-next s (nonblank taken) r h ∙ l) in
+        let here : fault_at election_form recs (suc (length taken)) ≡ Some f =
+        fault-here recs taken rest r e ∙ rw full (fault-next s (nonblank taken) r h ∙ l) in
         at-fault recs (length taken) f (rw e (omega (arith, length-append taken (r ∷ rest)))) n here
 
 pub answered : (recs : List Rec) → Answer recs
@@ -184,16 +206,21 @@ answered recs = answered-from recs [] recs nothing refl read-nothing first
 takes : (s t : SoFar) (r : Rec) → step s r ≡ Ok t → Takes election_form (HasRead s) (HasRead t) r
 takes s t r e =
     let k = step-ok s t r e in
-    λ before h. (fault-next s before r h ∙ k.0, subst (λ (x : SoFar). HasRead x (before ++ (r ∷ []))) (sym k.1) (read-next s before r h k.0))
+    λ before h. (
+      fault-next s before r h ∙ k.0,
+      subst (λ (x : SoFar). HasRead x (before ++ (r ∷ []))) (sym k.1) (read-next s before r h k.0),
+    )
 
 stops : (s : SoFar) (r : Rec) (f : ElectionFault) → step s r ≡ Err f → StopsAt election_form (HasRead s) r (Fault f)
 stops s r f e = λ before h. fault-next s before r h ∙ step-err s r f e
 
-pub taken : {T : Type 0} (answer : Result T (Stop ElectionFault)) (s t : SoFar) (r : Rec) → Steps answer s t r → OnOk answer (Takes election_form (HasRead s) (HasRead t) r)
+pub taken : {T : Type 0} (answer : Result T (Stop ElectionFault)) (s t : SoFar) (r : Rec) → Steps answer s t r
+    → OnOk answer (Takes election_form (HasRead s) (HasRead t) r)
 taken (Ok x) s t r e = takes s t r e
 taken (Err f) s t r e = tt
 
-pub stopped : {T : Type 0} (answer : Result T (Stop ElectionFault)) (s t : SoFar) (r : Rec) → Steps answer s t r → IfErr answer (λ stop. StopsAt election_form (HasRead s) r stop)
+pub stopped : {T : Type 0} (answer : Result T (Stop ElectionFault)) (s t : SoFar) (r : Rec) → Steps answer s t r
+    → IfErr answer (λ stop. StopsAt election_form (HasRead s) r stop)
 stopped (Ok x) s t r e = tt
 stopped (Err (Fault f)) s t r e = stops s r f e
 stopped (Err Memory) s t r e = tt
@@ -203,5 +230,7 @@ unfolding election_form lowest_fault
 not-text before r e = rw e refl
 
 -- records without a fault, all of which were read, are the text of the election that was read
-pub finished : (s : SoFar) (recs : List Rec) → HasRead s (nonblank recs) → NoFault election_form recs → PbText recs (election_of s)
-finished s recs h none = text-of-all s recs h (sym (fault-end s (nonblank recs) h) ∙ sym (fault-last recs) ∙ none (suc (length recs)))
+pub finished : (s : SoFar) (recs : List Rec) → HasRead s (nonblank recs) → NoFault election_form recs
+    → PbText recs (election_of s)
+finished s recs h none =
+    text-of-all s recs h (sym (fault-end s (nonblank recs) h) ∙ sym (fault-last recs) ∙ none (suc (length recs)))

@@ -18,7 +18,7 @@ use Rattle.std.proofs.lemmas.Map.Keys.{IsStrictlyIncreasing-dedup}
 use Rattle.std.proofs.lemmas.Map.Views.{Contains-from_any, list_any-from_Contains}
 use Rattle.pb_records.specs.Records.{Field}
 use Rattle.pb_election.specs.Names.{is_among}
-use Rattle.pb_election.specs.Ids.{position_in}
+use Rattle.pb_election.specs.Inside.Ids.{position_in}
 use Rattle.pb_election.specs.Rows.{positions_of}
 
 -- whether a list holds a number
@@ -85,7 +85,8 @@ unique n (x ∷ xs) (y ∷ ys) a b h =
       | inr l ↦
           let less : y < x = grind (arith, nat_tests) in
           let q : (y == x) ≡ false = grind (arith, nat_tests) in
-          let z : true ≡ false = sym (rw (same y) refl) ∙ sym (h y) ∙ rw (q, no-less (x + 1) xs y a.1 (omega arith)) refl in
+          let z : true ≡ false = sym (rw (same y) refl) ∙ sym (h y)
+          ∙ rw (q, no-less (x + 1) xs y a.1 (omega arith)) refl in
           cc z
     ]
 
@@ -105,9 +106,11 @@ rising (x ∷ xs) h = (omega arith, rises x xs h)
 -- those from n on, by recursion
 chosen_from : ℕ → List Field → List Field → List ℕ
 chosen_from n [] names = []
-chosen_from n (id ∷ ids) names = if is_among names id then n ∷ chosen_from (n + 1) ids names else chosen_from (n + 1) ids names
+chosen_from n (id ∷ ids) names = if is_among names id then n ∷ chosen_from (n + 1) ids names
+    else chosen_from (n + 1) ids names
 
-chosen-is : (n : ℕ) (ids names : List Field) → map (λ p. p.0) (filter (λ p. is_among names p.1) (enumerate_from n ids)) ≡ chosen_from n ids names
+chosen-is : (n : ℕ) (ids names : List Field)
+    → map (λ p. p.0) (filter (λ p. is_among names p.1) (enumerate_from n ids)) ≡ chosen_from n ids names
 unfolding chosen_from
 chosen-is n [] names = refl
 chosen-is n (id ∷ ids) names = by (is_among names id) (chosen-is (n + 1) ids names)
@@ -116,7 +119,8 @@ chosen-is n (id ∷ ids) names = by (is_among names id) (chosen-is (n + 1) ids n
     rest = filter (λ p. is_among names p.1) (enumerate_from (n + 1) ids)
 
     by : (t : Bool) → map (λ p. p.0) rest ≡ chosen_from (n + 1) ids names
-        → map (λ p. p.0) (cond t ((n, id) ∷ rest) rest) ≡ (if t then n ∷ chosen_from (n + 1) ids names else chosen_from (n + 1) ids names)
+        → map (λ p. p.0) (cond t ((n, id) ∷ rest) rest)
+        ≡ (if t then n ∷ chosen_from (n + 1) ids names else chosen_from (n + 1) ids names)
     by true e = ap (λ l. n ∷ l) e
     by false e = e
 
@@ -132,7 +136,8 @@ unfolding chosen_from
 chosen-above n [] names = tt
 chosen-above n (id ∷ ids) names = by (is_among names id) (chosen-above (n + 1) ids names)
   where
-    by : (t : Bool) → Above (n + 1) (chosen_from (n + 1) ids names) → Above n (if t then n ∷ chosen_from (n + 1) ids names else chosen_from (n + 1) ids names)
+    by : (t : Bool) → Above (n + 1) (chosen_from (n + 1) ids names)
+        → Above n (if t then n ∷ chosen_from (n + 1) ids names else chosen_from (n + 1) ids names)
     by true a = (omega arith, a)
     by false a = above-less n (n + 1) (chosen_from (n + 1) ids names) (omega arith) a
 
@@ -142,7 +147,8 @@ chosen-none n [] = refl
 chosen-none n (id ∷ ids) = chosen-none (n + 1) ids
 
 -- a name that is no id of these changes nothing
-chosen-other : (n : ℕ) (ids names : List Field) (name : Field) → AllByRecursion (λ id. bytes_eq name id ≡ false) ids → chosen_from n ids (name ∷ names) ≡ chosen_from n ids names
+chosen-other : (n : ℕ) (ids names : List Field) (name : Field) → AllByRecursion (λ id. bytes_eq name id ≡ false) ids
+    → chosen_from n ids (name ∷ names) ≡ chosen_from n ids names
 unfolding chosen_from
 chosen-other n [] names name h = refl
 chosen-other n (id ∷ ids) names name h = rw (is-same id name, h.0, chosen-other (n + 1) ids names name h.1) refl
@@ -157,7 +163,8 @@ again : (a c : Bool) → (a || (a || c)) ≡ (a || c)
 again true c = refl
 again false c = refl
 
-all-same : (id name : Field) (ids : List Field) → bytes_eq name id ≡ true → AllByRecursion (λ k. bytes_eq id k ≡ false) ids → AllByRecursion (λ k. bytes_eq name k ≡ false) ids
+all-same : (id name : Field) (ids : List Field) → bytes_eq name id ≡ true
+    → AllByRecursion (λ k. bytes_eq id k ≡ false) ids → AllByRecursion (λ k. bytes_eq name k ≡ false) ids
 all-same id name [] e h = tt
 all-same id name (k ∷ ks) e h = (nat_list_eq_equiv.congr name id k e ∙ h.0, all-same id name ks e h.1)
 
@@ -170,7 +177,8 @@ some-later n p true o t e = cc t
 some-later n p false o t e = e
 
 -- one more name adds its position
-chosen-more : (n : ℕ) (ids names : List Field) (name : Field) (p j : ℕ) → IsDistinct bytes_eq ids → position_from (bytes_eq name) n ids ≡ Some p
+chosen-more : (n : ℕ) (ids names : List Field) (name : Field) (p j : ℕ) → IsDistinct bytes_eq ids
+    → position_from (bytes_eq name) n ids ≡ Some p
     → has (chosen_from n ids (name ∷ names)) j ≡ ((j == p) || has (chosen_from n ids names) j)
 unfolding chosen_from IsDistinct
 chosen-more n [] names name p j d h = cc h
@@ -187,18 +195,21 @@ chosen-more n (id ∷ ids) names name p j d h =
           rw f (there (is_among names id) (chosen-more (n + 1) ids names name p j d.1 k))
     ]
   where
-    here : (t : Bool) → ((j == n) || has (chosen_from (n + 1) ids names) j) ≡ ((j == n) || has (if t then n ∷ chosen_from (n + 1) ids names else chosen_from (n + 1) ids names) j)
+    here : (t : Bool) → ((j == n) || has (chosen_from (n + 1) ids names) j)
+        ≡ ((j == n) || has (if t then n ∷ chosen_from (n + 1) ids names else chosen_from (n + 1) ids names) j)
     here true = sym (again (j == n) (has (chosen_from (n + 1) ids names) j))
     here false = refl
 
-    there : (t : Bool) → has (chosen_from (n + 1) ids (name ∷ names)) j ≡ ((j == p) || has (chosen_from (n + 1) ids names) j)
+    there : (t : Bool) → has (chosen_from (n + 1) ids (name ∷ names)) j
+        ≡ ((j == p) || has (chosen_from (n + 1) ids names) j)
         → has (if t then n ∷ chosen_from (n + 1) ids (name ∷ names) else chosen_from (n + 1) ids (name ∷ names)) j
         ≡ ((j == p) || has (if t then n ∷ chosen_from (n + 1) ids names else chosen_from (n + 1) ids names) j)
     there true e = ap (λ b. (j == n) || b) e ∙ swap (j == n) (j == p) (has (chosen_from (n + 1) ids names) j)
     there false e = e
 
 -- the chosen positions are those of the names
-chosen-has : (ids names : List Field) (found : List ℕ) (j : ℕ) → IsDistinct bytes_eq ids → map Some found ≡ map (position_in ids) names → has (chosen_from 1 ids names) j ≡ has found j
+chosen-has : (ids names : List Field) (found : List ℕ) (j : ℕ) → IsDistinct bytes_eq ids
+    → map Some found ≡ map (position_in ids) names → has (chosen_from 1 ids names) j ≡ has found j
 chosen-has ids [] [] j d e = rw (chosen-none 1 ids) refl
 chosen-has ids [] (p ∷ ps) j d e = cc e
 chosen-has ids (name ∷ names) [] j d e = cc e
@@ -212,19 +223,29 @@ chosen-has ids (name ∷ names) (p ∷ ps) j d e =
 dedup-has : (ys : List ℕ) (j : ℕ) → has (dedup nat_eq ys) j ≡ has ys j
 dedup-has ys j =
     elim (cases_Bool (has ys j)) [
-      | inl e ↦ list_any-from_Contains nat_eq_equiv j (dedup nat_eq ys) (Contains-dedup_nat ys j (Contains-from_any nat-same j ys e)) ∙ sym e
-      | inr e ↦ false_from_ne_true (has (dedup nat_eq ys) j) (λ t. true≢false (sym (list_any-from_Contains nat_eq_equiv j ys (Contains-from_dedup nat_eq ys j (Contains-from_any nat-same j (dedup nat_eq ys) t))) ∙ e)) ∙ sym e
+      | inl e ↦ list_any-from_Contains nat_eq_equiv j (dedup nat_eq ys)
+          (Contains-dedup_nat ys j (Contains-from_any nat-same j ys e)) ∙ sym e
+      | inr e ↦ false_from_ne_true (has (dedup nat_eq ys) j)
+          (λ t. true≢false
+          (sym
+          (list_any-from_Contains nat_eq_equiv j ys
+          (Contains-from_dedup nat_eq ys j (Contains-from_any nat-same j (dedup nat_eq ys) t))) ∙ e)) ∙ sym e
     ]
   where
     nat-same : (x y : ℕ) → nat_eq x y ≡ true → x ≡ y
     nat-same x y e = grind (arith, nat_tests)
 
 -- the positions that were found, sorted and each once, are the ballot
-pub ballot-is : (ids names : List Field) (found sorted ballot : List ℕ) → IsDistinct bytes_eq ids → map Some found ≡ map (position_in ids) names
-    → IsPermutation found sorted → IsSorted nat_cmp sorted → ballot ≡ dedup nat_eq sorted → ballot ≡ positions_of names ids
+pub ballot-is : (ids names : List Field) (found sorted ballot : List ℕ) → IsDistinct bytes_eq ids
+    → map Some found ≡ map (position_in ids) names
+    → IsPermutation found sorted → IsSorted nat_cmp sorted → ballot ≡ dedup nat_eq sorted
+    → ballot ≡ positions_of names ids
 ballot-is ids names found sorted ballot d e p s z =
     let holds : (j : ℕ) → has (dedup nat_eq sorted) j ≡ has (chosen_from 1 ids names) j =
-    λ j. dedup-has sorted j ∙ sym (list_any-IsPermutation (nat_eq j) found sorted p) ∙ sym (chosen-has ids names found j d e) in
+    λ j. dedup-has sorted j ∙ sym (list_any-IsPermutation (nat_eq j) found sorted p)
+    ∙ sym (chosen-has ids names found j d e) in
     z
-    ∙ unique 0 (dedup nat_eq sorted) (chosen_from 1 ids names) (rising (dedup nat_eq sorted) (IsStrictlyIncreasing-dedup sorted s)) (above-less 0 1 (chosen_from 1 ids names) (omega arith) (chosen-above 1 ids names)) holds
+    ∙ unique 0 (dedup nat_eq sorted) (chosen_from 1 ids names)
+    (rising (dedup nat_eq sorted) (IsStrictlyIncreasing-dedup sorted s))
+    (above-less 0 1 (chosen_from 1 ids names) (omega arith) (chosen-above 1 ids names)) holds
     ∙ sym (positions-are names ids)

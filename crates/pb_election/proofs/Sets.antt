@@ -17,14 +17,16 @@ set-above low high (x ∷ xs) set (suc j) h =
     let behind = set-above (x + 1) high xs set.2 j (omega (arith, h)) in
     omega (arith, set.0, behind)
 
-pub set-rises : (low high : ℕ) (xs : List ℕ) → IsSet low high xs → (i j : ℕ) → i ≤ j → j < length xs → get_or xs i 0 ≤ get_or xs j 0
+pub set-rises : (low high : ℕ) (xs : List ℕ) → IsSet low high xs → (i j : ℕ) → i ≤ j → j < length xs
+    → get_or xs i 0 ≤ get_or xs j 0
 set-rises low high [] set i j le h = omega (arith, h)
 set-rises low high (x ∷ xs) set zero zero le h = omega arith
 set-rises low high (x ∷ xs) set zero (suc j) le h =
     let behind = set-above (x + 1) high xs set.2 j (omega (arith, h)) in
     omega (arith, behind)
 set-rises low high (x ∷ xs) set (suc i) zero le h = omega (arith, le)
-set-rises low high (x ∷ xs) set (suc i) (suc j) le h = set-rises (x + 1) high xs set.2 i j (omega (arith, le)) (omega (arith, h))
+set-rises low high (x ∷ xs) set (suc i) (suc j) le h =
+    set-rises (x + 1) high xs set.2 i j (omega (arith, le)) (omega (arith, h))
 
 is-itself : (n : ℕ) → (n == n) ≡ true
 is-itself n = search (rules, tests)
@@ -37,16 +39,20 @@ side : (k i : ℕ) → (k < i) ⊎ (i ≤ k)
 side k i = search (rules, tests)
 
 -- a binary search tells whether a set has a number
-pub is_ok-searched : (low high : ℕ) (xs : List ℕ) → IsSet low high xs → (x : ℕ) (r : Result ℕ ℕ) → IsBinarySearchResult (λ y. nat_cmp y x) xs r
+pub is_ok-searched : (low high : ℕ) (xs : List ℕ) → IsSet low high xs → (x : ℕ) (r : Result ℕ ℕ)
+    → IsBinarySearchResult (λ y. nat_cmp y x) xs r
     → is_ok r ≡ list_any (λ k. k == x) xs
 is_ok-searched low high xs set x (Ok i) found =
     let at = searched xs x (Ok i) found (set-rises low high xs set) in
     sym (list_any_at (λ k. k == x) xs i 0 at.0 (rw at.1 (is-itself x)))
 is_ok-searched low high xs set x (Err i) found =
     let at = searched xs x (Err i) found (set-rises low high xs set) in
-    sym (list_any_none (λ k. k == x) xs (All-from_get_or (λ k. (k == x) ≡ false) xs 0 (λ k h. is-other (get_or xs k 0) x (by k h (side k i) at.1 at.2))))
+    sym (list_any_none (λ k. k == x) xs
+    (All-from_get_or (λ k. (k == x) ≡ false) xs 0
+    (λ k h. is-other (get_or xs k 0) x (by k h (side k i) at.1 at.2))))
   where
-    by : (k : ℕ) → k < length xs → (k < i) ⊎ (i ≤ k) → ((j : ℕ) → j < i → get_or xs j 0 < x) → ((j : ℕ) → i ≤ j → j < length xs → x < get_or xs j 0)
+    by : (k : ℕ) → k < length xs → (k < i) ⊎ (i ≤ k) → ((j : ℕ) → j < i → get_or xs j 0 < x)
+        → ((j : ℕ) → i ≤ j → j < length xs → x < get_or xs j 0)
         → (get_or xs k 0 < x) ⊎ (x < get_or xs k 0)
     by k h (inl before) below above = inl (below k before)
     by k h (inr behind) below above = inr (above k behind h)

@@ -26,14 +26,18 @@ set-lower low low' high [] l h = tt
 set-lower low low' high (x ∷ xs) l h = (omega (arith, h.0), h.1, h.2)
 
 -- the positions of the ids that pass a test are a set
-positions-set : (test : ℕ × Field → Bool) (n m : ℕ) (ids : List Field) → n + length ids ≤ m + 1 → IsSet n m (map (λ (p : ℕ × Field). p.0) (filter test (enumerate_from n ids)))
+positions-set : (test : ℕ × Field → Bool) (n m : ℕ) (ids : List Field) → n + length ids ≤ m + 1
+    → IsSet n m (map (λ (p : ℕ × Field). p.0) (filter test (enumerate_from n ids)))
 positions-set test n m [] l = tt
 positions-set test n m (id ∷ ids) l = by (test (n, id)) (positions-set test (n + 1) m ids (omega arith))
   where
     rest : List ℕ
     rest = map (λ (p : ℕ × Field). p.0) (filter test (enumerate_from (n + 1) ids))
 
-    by : (b : Bool) → IsSet (n + 1) m rest → IsSet n m (map (λ (p : ℕ × Field). p.0) (if b then (n, id) ∷ filter test (enumerate_from (n + 1) ids) else filter test (enumerate_from (n + 1) ids)))
+    by : (b : Bool) → IsSet (n + 1) m rest
+        → IsSet n m
+        (map (λ (p : ℕ × Field). p.0)
+        (if b then (n, id) ∷ filter test (enumerate_from (n + 1) ids) else filter test (enumerate_from (n + 1) ids)))
     by true h = (omega arith, omega arith, h)
     by false h = set-lower (n + 1) n m rest (omega arith) h
 
@@ -41,7 +45,8 @@ ballot-set : (names ids : List Field) → IsSet 1 (length ids) (positions_of nam
 unfolding positions_of
 ballot-set names ids = positions-set (λ p. is_among names p.1) 1 (length ids) ids (omega arith)
 
-ballots-sets : (column : Option ℕ) (ids : List Field) (rows : List Rec) → AllByRecursion (IsSet 1 (length ids)) (ballots_in column ids rows)
+ballots-sets : (column : Option ℕ) (ids : List Field) (rows : List Rec)
+    → AllByRecursion (IsSet 1 (length ids)) (ballots_in column ids rows)
 ballots-sets column ids [] = tt
 ballots-sets column ids (r ∷ rs) = (ballot-set (names_in (under column r)) ids, ballots-sets column ids rs)
 
@@ -74,20 +79,25 @@ under-id (Some i) r t h =
       bytes = h;
     }
 
-ids-are : (columns : Columns) (rows : List Rec) → AllByRecursion (λ r. IsTrue (is_text r)) rows → AllByRecursion (λ row. IsTrue (is_id (id_in columns row))) rows → AllByRecursion IsId (ids_in columns rows)
+ids-are : (columns : Columns) (rows : List Rec) → AllByRecursion (λ r. IsTrue (is_text r)) rows
+    → AllByRecursion (λ row. IsTrue (is_id (id_in columns row))) rows → AllByRecursion IsId (ids_in columns rows)
 ids-are columns [] t h = tt
 ids-are columns (r ∷ rs) t h = (under-id columns.id r t.0 h.0, ids-are columns rs t.1 h.1)
 
 -- Costs, marks and counts.
 
-costs-small : (columns : Columns) (rows : List Rec) → AllByRecursion (λ row. IsMoney (cost_in columns row)) rows → AllByRecursion (λ c. c ≤ most_money) (costs_in columns rows)
+costs-small : (columns : Columns) (rows : List Rec) → AllByRecursion (λ row. IsMoney (cost_in columns row)) rows
+    → AllByRecursion (λ c. c ≤ most_money) (costs_in columns rows)
 costs-small columns [] h = tt
 costs-small columns (r ∷ rs) h = (h.0.small, costs-small columns rs h.1)
 
-marks-many : (columns : Columns) (rows : List Rec) → IfSome (funded_in columns rows) (λ marks. length marks ≡ length (ids_in columns rows))
+marks-many : (columns : Columns) (rows : List Rec)
+    → IfSome (funded_in columns rows) (λ marks. length marks ≡ length (ids_in columns rows))
 marks-many columns rows = by (is_some columns.selected)
   where
-    by : (b : Bool) → IfSome (if b then Some (map (λ row. says_funded (selected_in columns row)) rows) else None) (λ marks. length marks ≡ length (ids_in columns rows))
+    by : (b : Bool)
+        → IfSome (if b then Some (map (λ row. says_funded (selected_in columns row)) rows) else None)
+        (λ marks. length marks ≡ length (ids_in columns rows))
     by true = length-map rows (λ row. says_funded (selected_in columns row)) ∙ sym (length-map rows (id_in columns))
     by false = tt
 
@@ -108,8 +118,12 @@ sound recs e p =
     let columns = columns_of p.projects.header in
     let ids = ids_in columns p.projects.rows in
     let many : length ids ≡ length p.projects.rows = length-map p.projects.rows (id_in columns) in
-    let text : AllByRecursion (λ r. IsTrue (is_text r)) (part_records p.meta ++ (part_records p.projects ++ part_records p.votes)) = rw p.cut at p.text in
-    let of_projects = all-front (λ r. IsTrue (is_text r)) (part_records p.projects) (part_records p.votes) (all-back (λ r. IsTrue (is_text r)) (part_records p.meta) (part_records p.projects ++ part_records p.votes) text) in
+    let text : AllByRecursion (λ r. IsTrue (is_text r))
+    (part_records p.meta ++ (part_records p.projects ++ part_records p.votes)) = rw p.cut at p.text in
+    let of_projects =
+    all-front (λ r. IsTrue (is_text r)) (part_records p.projects) (part_records p.votes)
+    (all-back (λ r. IsTrue (is_text r)) (part_records p.meta) (part_records p.projects ++ part_records p.votes)
+    text) in
     rw p.states (record {
       limit = limit-small (stated_value Budget p.meta.rows) p.meta_rows.budget;
       ids = ids-are columns p.projects.rows of_projects.1.1 p.project_rows.ids;

@@ -22,7 +22,8 @@ pub data InRows (rows rest before : List Rec) (r : Rec) (left : List Rec) : Type
   here : (zs : List Rec) → rows ≡ before ++ r ∷ zs → InRows rows rest before r left
   later : (more : List Rec) → before ≡ rows ++ more → more ++ r ∷ left ≡ rest → InRows rows rest before r left
 
-in-rows : (rows rest before : List Rec) (r : Rec) (left : List Rec) → before ++ r ∷ left ≡ rows ++ rest → InRows rows rest before r left
+in-rows : (rows rest before : List Rec) (r : Rec) (left : List Rec) → before ++ r ∷ left ≡ rows ++ rest
+    → InRows rows rest before r left
 in-rows [] rest before r left h = later before refl h
 in-rows (x ∷ xs) rest [] r left h = let e : x ≡ r = cc h in here xs (rw e refl)
 in-rows (x ∷ xs) rest (y ∷ ys) r left h =
@@ -32,7 +33,8 @@ in-rows (x ∷ xs) rest (y ∷ ys) r left h =
       | later more k l ↦ later more (rw (e, k) refl) l
     ]
 
-pub spot : (a : Part) (rest before : List Rec) (r : Rec) (left : List Rec) → before ++ r ∷ left ≡ part_records a ++ rest → Spot a rest before r left
+pub spot : (a : Part) (rest before : List Rec) (r : Rec) (left : List Rec) → before ++ r ∷ left ≡ part_records a ++ rest
+    → Spot a rest before r left
 spot a rest [] r left h = at_marker refl (cc h)
 spot a rest (x ∷ []) r left h = let e : x ≡ a.marker = cc h in at_header (rw e refl) (cc h)
 spot a rest (x ∷ y ∷ ys) r left h =
@@ -52,7 +54,8 @@ pub count-none : (xs : List Rec) → NoMarkers xs → count_by is_marker xs ≡ 
 count-none [] h = refl
 count-none (r ∷ rs) h = rw h.0 (omega (arith, count-none rs h.1))
 
-pub count-behind : (s : Section) (m : Rec) (xs : List Rec) → marker_of m ≡ Some s → NoMarkers xs → count_by is_marker (m ∷ xs) ≡ 1
+pub count-behind : (s : Section) (m : Rec) (xs : List Rec) → marker_of m ≡ Some s → NoMarkers xs
+    → count_by is_marker (m ∷ xs) ≡ 1
 count-behind s m xs e h =
     let one : count_by is_marker (m ∷ []) ≡ 1 = rw e refl in
     omega (arith, count-append (m ∷ []) xs, count-none xs h, one)
@@ -61,24 +64,29 @@ last-append : (o : Option Rec) (xs ys : List Rec) → last_or o (xs ++ ys) ≡ l
 last-append o [] ys = refl
 last-append o (x ∷ xs) ys = last-append (Some x) xs ys
 
-role-inside : (o : Option Rec) (h : Rec) (rows : List Rec) (n : ℕ) → NoMarkers (h ∷ rows) → role_after (last_or o (h ∷ rows)) n ≡ Inside (section_of n)
+role-inside : (o : Option Rec) (h : Rec) (rows : List Rec) (n : ℕ) → NoMarkers (h ∷ rows)
+    → role_after (last_or o (h ∷ rows)) n ≡ Inside (section_of n)
 role-inside o h [] n k = rw k.0 refl
 role-inside o h (r ∷ rs) n k = role-inside (Some h) r rs n k.1
 
 -- behind the marker of a section, and behind its header
-pub role-header : (xs : List Rec) (s : Section) (m : Rec) → marker_of m ≡ Some s → role_of (xs ++ m ∷ []) ≡ Header (section_of (count_by is_marker xs + 1))
+pub role-header : (xs : List Rec) (s : Section) (m : Rec) → marker_of m ≡ Some s
+    → role_of (xs ++ m ∷ []) ≡ Header (section_of (count_by is_marker xs + 1))
 unfolding role_of
 role-header xs s m e =
     rw (last-append None xs (m ∷ []), count-append xs (m ∷ []), count-behind s m [] e tt, e) refl
 
-pub role-rows : (xs : List Rec) (s : Section) (m h : Rec) (rows : List Rec) → marker_of m ≡ Some s → NoMarkers (h ∷ rows) → role_of (xs ++ m ∷ h ∷ rows) ≡ Inside (section_of (count_by is_marker xs + 1))
+pub role-rows : (xs : List Rec) (s : Section) (m h : Rec) (rows : List Rec) → marker_of m ≡ Some s
+    → NoMarkers (h ∷ rows) → role_of (xs ++ m ∷ h ∷ rows) ≡ Inside (section_of (count_by is_marker xs + 1))
 unfolding role_of
 role-rows xs s m h rows e k =
-    rw (last-append None xs (m ∷ h ∷ rows), count-append xs (m ∷ h ∷ rows), count-behind s m (h ∷ rows) e k) (role-inside (Some m) h rows (count_by is_marker xs + 1) k)
+    rw (last-append None xs (m ∷ h ∷ rows), count-append xs (m ∷ h ∷ rows), count-behind s m (h ∷ rows) e k)
+    (role-inside (Some m) h rows (count_by is_marker xs + 1) k)
 
 -- Places.
 
-pub at-place : (recs : List Rec) (k : ℕ) (r : Rec) → slice_get recs k ≡ Some r → recs ≡ take k recs ++ r ∷ drop (suc k) recs
+pub at-place : (recs : List Rec) (k : ℕ) (r : Rec) → slice_get recs k ≡ Some r
+    → recs ≡ take k recs ++ r ∷ drop (suc k) recs
 at-place [] k r h = cc h
 at-place (x ∷ xs) zero r h = let e : x ≡ r = cc h in rw e refl
 at-place (x ∷ xs) (suc k) r h = ap (λ l. x ∷ l) (at-place xs k r h)

@@ -19,7 +19,8 @@ use Rattle.pb_election.specs.Instance.{most_approvals, most_projects, most_voter
 use Rattle.pb_election.specs.Faults.{Before, has_stood, in_order, is_no_money, lowest_fault, stands}
 use Rattle.pb_election.specs.Text.{IsHeader}
 
-none-stands : (t : ElectionFault → Bool) (fs : List ElectionFault) → ◌≡◌ {A = Option ElectionFault} (find t fs) None → AllByRecursion (λ f. t f ≡ false) fs
+none-stands : (t : ElectionFault → Bool) (fs : List ElectionFault) → ◌≡◌ {A = Option ElectionFault} (find t fs) None
+    → AllByRecursion (λ f. t f ≡ false) fs
 none-stands t [] h = tt
 none-stands t (f ∷ fs) h =
     elim (cases_Bool (t f)) [
@@ -76,25 +77,32 @@ or-false : (a b : Bool) → (a || b) ≡ false → (a ≡ false) × (b ≡ false
 or-false true b h = cc h
 or-false false b h = (refl, h)
 
-pub taken-first : (b : Before) (r : Rec) → b.role ≡ First → lowest_fault b r ≡ None → (is_text r ≡ true) × (marks Meta r ≡ true)
+pub taken-first : (b : Before) (r : Rec) → b.role ≡ First → lowest_fault b r ≡ None
+    → (is_text r ≡ true) × (marks Meta r ≡ true)
 taken-first b r e h =
     let n = none b r h in
     (not-false (is_text r) n.text, not-false (marks Meta r) (rw e at n.no_meta))
 
-pub taken-header : (s : Section) (b : Before) (r : Rec) → b.role ≡ Header s → lowest_fault b r ≡ None → (is_text r ≡ true) × (is_marker r ≡ false) × IsHeader s r
+pub taken-header : (s : Section) (b : Before) (r : Rec) → b.role ≡ Header s → lowest_fault b r ≡ None
+    → (is_text r ≡ true) × (is_marker r ≡ false) × IsHeader s r
 taken-header s b r e h =
     let n = none b r h in
     let misses : list_any (λ name. times name r == 0) (needed_columns s) ≡ false = rw e at n.missing_column in
-    let repeats : list_any (λ name. nat_lt 1 (times name r)) (read_columns s) ≡ false = rw e at n.repeated_column in
-    (not-false (is_text r) n.text, rw e at n.no_header, record { needed = needed (needed_columns s) misses; once = once (read_columns s) repeats })
+    let repeats : list_any (λ name. nat_lt 1 (times name r)) (read_columns s) ≡ false = rw e at n.repeated_column in (
+      not-false (is_text r) n.text,
+      rw e at n.no_header,
+      record { needed = needed (needed_columns s) misses; once = once (read_columns s) repeats },
+    )
   where
-    needed : (names : List Field) → list_any (λ name. times name r == 0) names ≡ false → AllByRecursion (λ name. 1 ≤ times name r) names
+    needed : (names : List Field) → list_any (λ name. times name r == 0) names ≡ false
+        → AllByRecursion (λ name. 1 ≤ times name r) names
     needed [] k = tt
     needed (name ∷ names) k =
         let o = or-false (times name r == 0) (list_any (λ name. times name r == 0) names) k in
         (search (rules, tests, o.0), needed names o.1)
 
-    once : (names : List Field) → list_any (λ name. nat_lt 1 (times name r)) names ≡ false → AllByRecursion (λ name. times name r ≤ 1) names
+    once : (names : List Field) → list_any (λ name. nat_lt 1 (times name r)) names ≡ false
+        → AllByRecursion (λ name. times name r ≤ 1) names
     once [] k = tt
     once (name ∷ names) k =
         let o = or-false (nat_lt 1 (times name r)) (list_any (λ name. nat_lt 1 (times name r)) names) k in
@@ -119,41 +127,63 @@ pub taken-projects-marker : (b : Before) (r : Rec) → b.role ≡ Inside Meta �
 taken-projects-marker b r e m h =
     let n = none b r h in
     let marks_it = not-false (marks Projects r) (rw (e, m) at n.unexpected) in
-    let keys = not-false (b.keys.budget && b.keys.vote_type) (rw (e, marks_it) at n.missing_key) in
-    (not-false (is_text r) n.text, marks_it, and-left b.keys.budget b.keys.vote_type keys, and-right b.keys.budget b.keys.vote_type keys)
+    let keys = not-false (b.keys.budget && b.keys.vote_type) (rw (e, marks_it) at n.missing_key) in (
+      not-false (is_text r) n.text,
+      marks_it,
+      and-left b.keys.budget b.keys.vote_type keys,
+      and-right b.keys.budget b.keys.vote_type keys,
+    )
 
 -- a row of META
 pub taken-meta-row : (b : Before) (r : Rec) → b.role ≡ Inside Meta → is_marker r ≡ false → lowest_fault b r ≡ None
-    → (is_text r ≡ true) × (option_map_or (has_stood b.keys) (key_in r) false ≡ false) × (has_key VoteType r ≡ true → IsTrue (is_approval (value_in r))) × (has_key Budget r ≡ true → is_no_money (value_in r) ≡ false)
+    → (is_text r ≡ true) × (option_map_or (has_stood b.keys) (key_in r) false ≡ false)
+    × (has_key VoteType r ≡ true → IsTrue (is_approval (value_in r)))
+    × (has_key Budget r ≡ true → is_no_money (value_in r) ≡ false)
 taken-meta-row b r e m h =
     let n = none b r h in
     let approval : (has_key VoteType r && not (is_approval (value_in r))) ≡ false = rw (e, m) at n.not_approval in
     let money = (or-false (has_key Budget r && is_no_money (value_in r)) false (rw (e, m) at n.bad_money)).0 in (
       not-false (is_text r) n.text,
       rw (e, m) at n.repeated_key,
-      (λ has. not-false (is_approval (value_in r)) (where-it-has (has_key VoteType r) (not (is_approval (value_in r))) approval has)),
+      (λ has. not-false (is_approval (value_in r))
+          (where-it-has (has_key VoteType r) (not (is_approval (value_in r))) approval has)),
       where-it-has (has_key Budget r) (is_no_money (value_in r)) money,
     )
 
 -- the marker of VOTES
-pub taken-votes-marker : (b : Before) (r : Rec) → b.role ≡ Inside Projects → is_marker r ≡ true → lowest_fault b r ≡ None → (is_text r ≡ true) × (marks Votes r ≡ true)
+pub taken-votes-marker : (b : Before) (r : Rec) → b.role ≡ Inside Projects → is_marker r ≡ true
+    → lowest_fault b r ≡ None → (is_text r ≡ true) × (marks Votes r ≡ true)
 taken-votes-marker b r e m h =
     let n = none b r h in
     (not-false (is_text r) n.text, not-false (marks Votes r) (rw (e, m) at n.unexpected))
 
 -- a row of PROJECTS
-pub taken-project-row : (b : Before) (r : Rec) → b.role ≡ Inside Projects → is_marker r ≡ false → lowest_fault b r ≡ None
-    → (is_text r ≡ true) × IsTrue (is_id (id_in b.columns r)) × (is_no_money (cost_in b.columns r) ≡ false) × (is_among b.ids (id_in b.columns r) ≡ false) × (length b.ids + 1 ≤ most_projects)
+pub taken-project-row : (b : Before) (r : Rec) → b.role ≡ Inside Projects → is_marker r ≡ false
+    → lowest_fault b r ≡ None
+    → (is_text r ≡ true) × IsTrue (is_id (id_in b.columns r)) × (is_no_money (cost_in b.columns r) ≡ false)
+    × (is_among b.ids (id_in b.columns r) ≡ false) × (length b.ids + 1 ≤ most_projects)
 taken-project-row b r e m h =
     let n = none b r h in
-    let few = (or-false (nat_lt most_projects (length b.ids + 1)) false (rw (e, m) at n.too_many)).0 in
-    (not-false (is_text r) n.text, not-false (is_id (id_in b.columns r)) (rw (e, m) at n.bad_id), rw (e, m) at n.bad_money, rw (e, m) at n.repeated_project, search (rules, tests, few))
+    let few = (or-false (nat_lt most_projects (length b.ids + 1)) false (rw (e, m) at n.too_many)).0 in (
+      not-false (is_text r) n.text,
+      not-false (is_id (id_in b.columns r)) (rw (e, m) at n.bad_id),
+      rw (e, m) at n.bad_money,
+      rw (e, m) at n.repeated_project,
+      search (rules, tests, few),
+    )
 
 -- a row of VOTES
 pub taken-vote-row : (b : Before) (r : Rec) → b.role ≡ Inside Votes → lowest_fault b r ≡ None
-    → (is_text r ≡ true) × (is_marker r ≡ false) × IsTrue (is_known b.vote_column b.ids r) × (b.voters + 1 ≤ most_voters) × (b.approvals + length (ballot_in b.vote_column b.ids r) ≤ most_approvals)
+    → (is_text r ≡ true) × (is_marker r ≡ false) × IsTrue (is_known b.vote_column b.ids r)
+    × (b.voters + 1 ≤ most_voters) × (b.approvals + length (ballot_in b.vote_column b.ids r) ≤ most_approvals)
 taken-vote-row b r e h =
     let n = none b r h in
     let m : is_marker r ≡ false = rw e at n.unexpected in
-    let few = or-false (nat_lt most_voters (b.voters + 1)) (nat_lt most_approvals (b.approvals + length (ballot_in b.vote_column b.ids r))) (rw (e, m) at n.too_many) in
-    (not-false (is_text r) n.text, m, not-false (is_known b.vote_column b.ids r) (rw (e, m) at n.unknown_project), search (rules, tests, few.0), search (rules, tests, few.1))
+    let few = or-false (nat_lt most_voters (b.voters + 1))
+    (nat_lt most_approvals (b.approvals + length (ballot_in b.vote_column b.ids r))) (rw (e, m) at n.too_many) in (
+      not-false (is_text r) n.text,
+      m,
+      not-false (is_known b.vote_column b.ids r) (rw (e, m) at n.unknown_project),
+      search (rules, tests, few.0),
+      search (rules, tests, few.1),
+    )

@@ -8,7 +8,8 @@ no_costs [] = refl
 no_costs (mark ∷ marks) = refl
 
 -- nothing is left at the end of either
-pub cost_of_marked-end : (marks : List Bool) (costs : List ℕ) (n : ℕ) → (length marks ≤ n) ⊎ (length costs ≤ n) → cost_of_marked (drop n marks) (drop n costs) ≡ 0
+pub cost_of_marked-end : (marks : List Bool) (costs : List ℕ) (n : ℕ) → (length marks ≤ n) ⊎ (length costs ≤ n)
+    → cost_of_marked (drop n marks) (drop n costs) ≡ 0
 cost_of_marked-end marks costs n (inl h) = rw (drop_all n marks h) refl
 cost_of_marked-end marks costs n (inr h) = rw (drop_all n costs h) (no_costs (drop n marks))
 

@@ -13,7 +13,7 @@ use Rattle.pb_money.specs.Digits.{is_empty}
 use Rattle.pb_records.specs.Records.{Field}
 use Rattle.pb_records.specs.Cells.{clean}
 use Rattle.pb_election.specs.Names.{cut_at, is_among}
-use Rattle.pb_election.specs.Ids.{position_in}
+use Rattle.pb_election.specs.Inside.Ids.{position_in}
 use Rattle.pb_election.specs.Rows.{names_in}
 
 abbrev pub is_comma : ℕ → Bool
@@ -31,7 +31,8 @@ cut-whole (b ∷ bs) e =
     let o = or-no (is_comma b) (list_any is_comma bs) e in
     rw (o.0, cut-whole bs o.1) refl
 
-pub cut-first : (piece rest : Field) → list_any is_comma piece ≡ false → cut_at is_comma (piece ++ byte "," ∷ rest) ≡ piece ∷ cut_at is_comma rest
+pub cut-first : (piece rest : Field) → list_any is_comma piece ≡ false
+    → cut_at is_comma (piece ++ byte "," ∷ rest) ≡ piece ∷ cut_at is_comma rest
 unfolding cut_at
 cut-first [] rest e = refl
 cut-first (b ∷ bs) rest e =
@@ -52,7 +53,8 @@ some-on : (n j : ℕ) (b : Bool) (o : Option ℕ) → b ≡ false → cond b (So
 some-on n j true o t e = cc t
 some-on n j false o t e = e
 
-comma-from : (n j : ℕ) (text : Field) → position_from is_comma n text ≡ Some j → (i : ℕ) × (j ≡ n + i) × IsFirstComma text i
+comma-from : (n j : ℕ) (text : Field) → position_from is_comma n text ≡ Some j
+    → (i : ℕ) × (j ≡ n + i) × IsFirstComma text i
 comma-from n j [] e = cc e
 comma-from n j (b ∷ bs) e =
     elim (cases_Bool (is_comma b)) [
@@ -61,8 +63,15 @@ comma-from n j (b ∷ bs) e =
           let q : b ≡ byte "," = grind (arith, nat_tests) in
           (0, omega arith, record { within = omega arith; comma = q; before = refl })
       | inr t ↦
-          let r = comma-from (n + 1) j bs (some-on n j (is_comma b) (position_from is_comma (n + 1) bs) t e) in
-          (suc r.0, omega (arith, r.1), record { within = omega (arith, r.2.within); comma = r.2.comma; before = ap (λ v. v || list_any is_comma (take r.0 bs)) t ∙ r.2.before })
+          let r = comma-from (n + 1) j bs (some-on n j (is_comma b) (position_from is_comma (n + 1) bs) t e) in (
+            suc r.0,
+            omega (arith, r.1),
+            record {
+              within = omega (arith, r.2.within);
+              comma = r.2.comma;
+              before = ap (λ v. v || list_any is_comma (take r.0 bs)) t ∙ r.2.before;
+            },
+          )
     ]
 
 pub first-comma : (text : Field) (i : ℕ) → Some i ≡ position is_comma text → IsFirstComma text i
@@ -74,10 +83,12 @@ first-comma text i e =
 -- the text round its first comma
 pub comma-parts : (text : Field) (i : ℕ) → IsFirstComma text i → text ≡ take i text ++ byte "," ∷ drop (i + 1) text
 comma-parts text i h =
-    let d : drop i text ≡ byte "," ∷ drop (i + 1) text = rw (add-one i) (drop-cons text i 0 h.within ∙ ap (λ b. b ∷ drop (suc i) text) h.comma) in
+    let d : drop i text ≡ byte "," ∷ drop (i + 1) text =
+    rw (add-one i) (drop-cons text i 0 h.within ∙ ap (λ b. b ∷ drop (suc i) text) h.comma) in
     sym (take-append-drop i text) ∙ ap (λ l. take i text ++ l) d
 
-pub comma-boundary : (text : Field) (i : ℕ) → IsUtf8 text → IsFirstComma text i → IsCharBoundary text i × IsCharBoundary text (i + 1)
+pub comma-boundary : (text : Field) (i : ℕ) → IsUtf8 text → IsFirstComma text i
+    → IsCharBoundary text i × IsCharBoundary text (i + 1)
 comma-boundary text i utf8 h =
     let ascii : get_or text i 0 < 128 = omega (arith, h.comma) in
     (IsCharBoundary-before_ascii text i h.within ascii, IsCharBoundary-after_ascii text i utf8 h.within ascii)
@@ -104,32 +115,41 @@ names_left (Some text) = names_in text
 abbrev pub with_name : Field → List Field → List Field
 with_name name names = if is_empty name then names else name ∷ names
 
-name-first : (piece : Field) (pieces : List Field) → filter (λ name. not (is_empty name)) (map clean (piece ∷ pieces)) ≡ with_name (clean piece) (filter (λ name. not (is_empty name)) (map clean pieces))
+name-first : (piece : Field) (pieces : List Field)
+    → filter (λ name. not (is_empty name)) (map clean (piece ∷ pieces))
+    ≡ with_name (clean piece) (filter (λ name. not (is_empty name)) (map clean pieces))
 name-first piece pieces = by (is_empty (clean piece))
   where
-    by : (b : Bool) → cond (not b) (clean piece ∷ filter (λ name. not (is_empty name)) (map clean pieces)) (filter (λ name. not (is_empty name)) (map clean pieces))
-        ≡ (if b then filter (λ name. not (is_empty name)) (map clean pieces) else clean piece ∷ filter (λ name. not (is_empty name)) (map clean pieces))
+    by : (b : Bool)
+        → cond (not b) (clean piece ∷ filter (λ name. not (is_empty name)) (map clean pieces))
+        (filter (λ name. not (is_empty name)) (map clean pieces))
+        ≡ (if b then filter (λ name. not (is_empty name)) (map clean pieces)
+        else clean piece ∷ filter (λ name. not (is_empty name)) (map clean pieces))
     by true = refl
     by false = refl
 
-pub names-first : (text piece : Field) (rest : Option Field) → list_any is_comma piece ≡ false → MatchOption rest (text ≡ piece) (λ r. text ≡ piece ++ byte "," ∷ r)
+pub names-first : (text piece : Field) (rest : Option Field) → list_any is_comma piece ≡ false
+    → MatchOption rest (text ≡ piece) (λ r. text ≡ piece ++ byte "," ∷ r)
     → names_in text ≡ with_name (clean piece) (names_left rest)
 unfolding names_in
 names-first text piece None e s = rw (s, cut-whole piece e) (name-first piece [])
 names-first text piece (Some rest) e s = rw (s, cut-first piece rest e) (name-first piece (cut_at is_comma rest))
 
 -- where an id stands, if it is kept
-pub unplaced : (n : ℕ) (kept : List Field) (id : Field) → position_from (bytes_eq id) n kept ≡ None → is_among kept id ≡ false
+pub unplaced : (n : ℕ) (kept : List Field) (id : Field) → position_from (bytes_eq id) n kept ≡ None
+    → is_among kept id ≡ false
 unplaced n [] id e = refl
 unplaced n (k ∷ ks) id e =
     let r = none-is n (bytes_eq id k) (position_from (bytes_eq id) (n + 1) ks) e in
     ap (λ b. b || is_among ks id) r.0 ∙ unplaced (n + 1) ks id r.1
 
-pub placed : (n p : ℕ) (kept : List Field) (id : Field) → position_from (bytes_eq id) n kept ≡ Some p → is_among kept id ≡ true
+pub placed : (n p : ℕ) (kept : List Field) (id : Field) → position_from (bytes_eq id) n kept ≡ Some p
+    → is_among kept id ≡ true
 placed n p [] id e = cc e
 placed n p (k ∷ ks) id e = by (bytes_eq id k) (placed (n + 1) p ks id) e
   where
-    by : (b : Bool) → (position_from (bytes_eq id) (n + 1) ks ≡ Some p → is_among ks id ≡ true) → cond b (Some n) (position_from (bytes_eq id) (n + 1) ks) ≡ Some p → (b || is_among ks id) ≡ true
+    by : (b : Bool) → (position_from (bytes_eq id) (n + 1) ks ≡ Some p → is_among ks id ≡ true)
+        → cond b (Some n) (position_from (bytes_eq id) (n + 1) ks) ≡ Some p → (b || is_among ks id) ≡ true
     by true h e = refl
     by false h e = h e
 
@@ -139,7 +159,8 @@ pub record AreLookedUp (kept : List Field) (vote : Field) (found : List ℕ) (le
   pub places : map Some found ++ map (position_in kept) (names_left left) ≡ map (position_in kept) (names_in vote)
 
 module _ (kept : List Field) (vote text piece : Field) (found : List ℕ) (rest : Option Field)
-    (whole : list_any is_comma piece ≡ false) (parts : MatchOption rest (text ≡ piece) (λ r. text ≡ piece ++ byte "," ∷ r))
+    (whole : list_any is_comma piece ≡ false)
+    (parts : MatchOption rest (text ≡ piece) (λ r. text ≡ piece ++ byte "," ∷ r))
     (before : AreLookedUp kept vote found (Some text)) where
   pub lookup-skips : is_empty (clean piece) ≡ true → AreLookedUp kept vote found rest
   lookup-skips e =
@@ -152,20 +173,25 @@ module _ (kept : List Field) (vote text piece : Field) (found : List ℕ) (rest 
   first-name : is_empty (clean piece) ≡ false → names_in text ≡ clean piece ∷ names_left rest
   first-name e = names-first text piece rest whole parts ∙ rw e refl
 
-  pub lookup-goes-on : (p : ℕ) → is_empty (clean piece) ≡ false → position_in kept (clean piece) ≡ Some p → AreLookedUp kept vote (found ++ p ∷ []) rest
+  pub lookup-goes-on : (p : ℕ) → is_empty (clean piece) ≡ false → position_in kept (clean piece) ≡ Some p
+      → AreLookedUp kept vote (found ++ p ∷ []) rest
   lookup-goes-on p e at =
       let n = first-name e in
       let names = names_left rest in
       let tail = map (position_in kept) names in
       let k : list_all (is_among kept) (clean piece ∷ names) ≡ list_all (is_among kept) names =
       ap (λ b. b && list_all (is_among kept) names) (placed 1 p kept (clean piece) at) in
-      let pushed : map Some (found ++ p ∷ []) ++ tail ≡ map Some found ++ (Some p ∷ tail) = ap (λ l. l ++ tail) (map-append Some found (p ∷ [])) ∙ append_assoc (map Some found) (Some p ∷ []) tail in
+      let pushed : map Some (found ++ p ∷ []) ++ tail ≡ map Some found ++ (Some p ∷ tail) =
+      ap (λ l. l ++ tail) (map-append Some found (p ∷ [])) ∙ append_assoc (map Some found) (Some p ∷ []) tail in
       record {
         known = sym k ∙ ap (list_all (is_among kept)) (sym n) ∙ before.known;
-        places = pushed ∙ ap (λ o. map Some found ++ (o ∷ tail)) (sym at) ∙ ap (λ l. map Some found ++ map (position_in kept) l) (sym n) ∙ before.places;
+        places = pushed ∙ ap (λ o. map Some found ++ (o ∷ tail)) (sym at)
+            ∙ ap (λ l. map Some found ++ map (position_in kept) l) (sym n) ∙ before.places;
       }
 
-  pub lookup-fails : is_empty (clean piece) ≡ false → position_in kept (clean piece) ≡ None → list_all (is_among kept) (names_in vote) ≡ false
+  pub lookup-fails : is_empty (clean piece) ≡ false → position_in kept (clean piece) ≡ None
+      → list_all (is_among kept) (names_in vote) ≡ false
   lookup-fails e at =
       let names = names_left rest in
-      sym before.known ∙ ap (list_all (is_among kept)) (first-name e) ∙ ap (λ b. b && list_all (is_among kept) names) (unplaced 1 kept (clean piece) at)
+      sym before.known ∙ ap (list_all (is_among kept)) (first-name e)
+      ∙ ap (λ b. b && list_all (is_among kept) names) (unplaced 1 kept (clean piece) at)

@@ -154,7 +154,9 @@ repeats_column (Inside s) r = false
 abbrev pub is_too_many : Before → Rec → Bool
 is_too_many b r =
     (is_row Projects b.role r && nat_lt most_projects (length b.ids + 1))
-    || (is_row Votes b.role r && (nat_lt most_voters (b.voters + 1) || nat_lt most_approvals (b.approvals + length (ballot_in b.vote_column b.ids r))))
+    || (is_row Votes b.role
+    r && (nat_lt most_voters (b.voters + 1) || nat_lt most_approvals
+    (b.approvals + length (ballot_in b.vote_column b.ids r))))
 
 -- whether a fault stands at the record r, which is not blank
 abbrev pub stands : Before → Rec → ElectionFault → Bool

@@ -1,12 +1,8 @@
 pub mod Names
 pub mod Markers
 pub mod Instance
-pub mod Ids
 pub mod Rows
 pub mod Text
 pub mod Faults
 pub mod Outcome
-pub mod SoFar
-pub mod Beginnings
-pub mod ProjectRows
-pub mod ElectionView
+pub mod Inside

@@ -101,7 +101,11 @@ under (Some i) row = cell i row
 -- the places of the columns that are read
 abbrev pub columns_of : Rec → Columns
 columns_of header =
-    record { id = column_named (codes "project_id") header; cost = column_named (codes "cost") header; selected = column_named (codes "selected") header }
+    record {
+      id = column_named (codes "project_id") header;
+      cost = column_named (codes "cost") header;
+      selected = column_named (codes "selected") header;
+    }
 
 abbrev pub id_in : Columns → Rec → Field
 id_in columns row = under columns.id row

@@ -35,7 +35,7 @@ impl Model for Election {
 
     ghost Value = { Instance };
 
-    ghost use Rattle.pb_election.specs.ElectionView.{instance_of};
+    ghost use Rattle.pb_election.specs.Inside.ElectionView.{instance_of};
     ghost use Rattle.pb_election.specs.Text.{IsElection};
 
     ghost view = { instance_of };

@@ -1,17 +1,17 @@
 //! An election as far as its file has been read.
 ghost use Rattle.std.specs.Prelude.{◌≡◌, ◌≤◌, ◌<◌, ◌+◌, true, false, length, None, Some, IfOk, OnOk};
 ghost use Rattle.csv.specs.Records.{fields_of};
-ghost use Rattle.pb_election.specs.Beginnings.{HasRead};
+ghost use Rattle.pb_election.specs.Inside.Beginnings.{HasRead};
 ghost use Rattle.pb_election.specs.Names.{is_among};
 ghost use Rattle.pb_records.specs.Cells.{is_text};
 ghost use Rattle.pb_election.specs.Markers.{marker_of};
 ghost use Rattle.pb_election.specs.Faults.{election_form, lowest_fault_at_end};
-ghost use Rattle.pb_election.specs.Ids.{ids_kept};
+ghost use Rattle.pb_election.specs.Inside.Ids.{ids_kept};
 ghost use Rattle.pb_election.specs.Instance.{most_projects};
 ghost use Rattle.pb_election.specs.Rows as rows;
-ghost use Rattle.pb_election.specs.SoFar.{Steps, before_next, election_of, nothing};
+ghost use Rattle.pb_election.specs.Inside.SoFar.{Steps, before_next, election_of, nothing};
 ghost use Rattle.pb_election.specs.Text.{IsElection};
-ghost use Rattle.pb_election.specs.ProjectRows.{AddsProject};
+ghost use Rattle.pb_election.specs.Inside.ProjectRows.{AddsProject};
 
 use crate::columns::{Columns, columns_of, misses, repeats, under, vote_column};
 use crate::election::Election;
@@ -78,9 +78,9 @@ pub(crate) struct ElectionDraft {
 impl Model for ElectionDraft {
     ghost use Rattle.std.specs.Prelude.{◌≤◌, length};
     ghost use Rattle.std.specs.Option.{option_map};
-    ghost use Rattle.pb_election.specs.Ids.{ids_kept};
+    ghost use Rattle.pb_election.specs.Inside.Ids.{ids_kept};
     ghost use Rattle.pb_election.specs.Instance.{approvals, most_approvals, most_projects};
-    ghost use Rattle.pb_election.specs.SoFar.{SoFar};
+    ghost use Rattle.pb_election.specs.Inside.SoFar.{SoFar};
 
     ghost Value = { SoFar };
 
@@ -140,7 +140,7 @@ impl ElectionDraft {
     }
 
     // One more record, which is text and not blank.
-    #[tactic(auto, unfolding(crate::specs::SoFar::step, crate::specs::Faults::lowest_fault))]
+    #[tactic(auto, unfolding(crate::specs::Inside::SoFar::step, crate::specs::Faults::lowest_fault))]
     fn take_record(&mut self, row: &StringRecord) -> Result<(), Stop<ElectionFault>>
         requires { is_text (fields_of row.now) ≡ true }
         ensures { Steps result self.old self.new (fields_of row.now) }
@@ -156,7 +156,7 @@ impl ElectionDraft {
         }
     }
 
-    #[tactic(auto, unfolding(crate::specs::SoFar::step, crate::specs::Faults::lowest_fault))]
+    #[tactic(auto, unfolding(crate::specs::Inside::SoFar::step, crate::specs::Faults::lowest_fault))]
     fn take_first(&mut self, row: &StringRecord) -> Result<(), Stop<ElectionFault>>
         requires text { is_text (fields_of row.now) ≡ true }
         requires role { self.old.role ≡ Role.First }
@@ -169,7 +169,7 @@ impl ElectionDraft {
         Ok(())
     }
 
-    #[tactic(auto, unfolding(crate::specs::SoFar::step, crate::specs::Faults::lowest_fault))]
+    #[tactic(auto, unfolding(crate::specs::Inside::SoFar::step, crate::specs::Faults::lowest_fault))]
     fn take_meta_header(&mut self, row: &StringRecord) -> Result<(), Stop<ElectionFault>>
         requires text { is_text (fields_of row.now) ≡ true }
         requires role { self.old.role ≡ Role.Header Section.Meta }
@@ -182,7 +182,7 @@ impl ElectionDraft {
         Ok(())
     }
 
-    #[tactic(auto, unfolding(crate::specs::SoFar::step, crate::specs::Faults::lowest_fault))]
+    #[tactic(auto, unfolding(crate::specs::Inside::SoFar::step, crate::specs::Faults::lowest_fault))]
     fn take_project_header(&mut self, row: &StringRecord) -> Result<(), Stop<ElectionFault>>
         requires text { is_text (fields_of row.now) ≡ true }
         requires role { self.old.role ≡ Role.Header Section.Projects }
@@ -204,7 +204,7 @@ impl ElectionDraft {
         Ok(())
     }
 
-    #[tactic(auto, unfolding(crate::specs::SoFar::step, crate::specs::Faults::lowest_fault))]
+    #[tactic(auto, unfolding(crate::specs::Inside::SoFar::step, crate::specs::Faults::lowest_fault))]
     fn take_vote_header(&mut self, row: &StringRecord) -> Result<(), Stop<ElectionFault>>
         requires text { is_text (fields_of row.now) ≡ true }
         requires role { self.old.role ≡ Role.Header Section.Votes }
@@ -224,7 +224,7 @@ impl ElectionDraft {
         Ok(())
     }
 
-    #[tactic(auto, unfolding(crate::specs::SoFar::step, crate::specs::Faults::lowest_fault))]
+    #[tactic(auto, unfolding(crate::specs::Inside::SoFar::step, crate::specs::Faults::lowest_fault))]
     fn take_meta(&mut self, row: &StringRecord) -> Result<(), Stop<ElectionFault>>
         requires text { is_text (fields_of row.now) ≡ true }
         requires role { self.old.role ≡ Role.Inside Section.Meta }
@@ -247,7 +247,7 @@ impl ElectionDraft {
     }
 
     // A row of META whose key is read.
-    #[tactic(auto, unfolding(crate::specs::SoFar::step, crate::specs::Faults::lowest_fault))]
+    #[tactic(auto, unfolding(crate::specs::Inside::SoFar::step, crate::specs::Faults::lowest_fault))]
     fn take_key(&mut self, key: Key, row: &StringRecord) -> Result<(), Stop<ElectionFault>>
         requires text { is_text (fields_of row.now) ≡ true }
         requires role { self.old.role ≡ Role.Inside Section.Meta }
@@ -288,7 +288,7 @@ impl ElectionDraft {
         }
     }
 
-    #[tactic(auto, unfolding(crate::specs::SoFar::step, crate::specs::Faults::lowest_fault))]
+    #[tactic(auto, unfolding(crate::specs::Inside::SoFar::step, crate::specs::Faults::lowest_fault))]
     fn take_project(&mut self, row: &StringRecord) -> Result<(), Stop<ElectionFault>>
         requires text { is_text (fields_of row.now) ≡ true }
         requires role { self.old.role ≡ Role.Inside Section.Projects }
@@ -321,7 +321,7 @@ impl ElectionDraft {
         }
     }
 
-    #[tactic(auto, unfolding(crate::specs::SoFar::step, crate::specs::Faults::lowest_fault, crate::specs::Rows::is_known))]
+    #[tactic(auto, unfolding(crate::specs::Inside::SoFar::step, crate::specs::Faults::lowest_fault, crate::specs::Rows::is_known))]
     fn take_vote(&mut self, row: &StringRecord) -> Result<(), Stop<ElectionFault>>
         requires text { is_text (fields_of row.now) ≡ true }
         requires role { self.old.role ≡ Role.Inside Section.Votes }

@@ -3,7 +3,7 @@ ghost use Rattle.std.specs.Prelude.{◌≡◌, ◌≤◌, ◌∷◌, ◌++◌, [
 ghost use Rattle.std.specs.List.{list_any, position_from};
 ghost use Rattle.std.specs.Str.{bytes_eq};
 ghost use Rattle.pb_election.specs.Names.{is_among};
-ghost use Rattle.pb_election.specs.Ids.{ids_kept};
+ghost use Rattle.pb_election.specs.Inside.Ids.{ids_kept};
 ghost use Rattle.pb_election.specs.Rows as rows;
 
 use indexmap::IndexSet;

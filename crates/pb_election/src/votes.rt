@@ -4,7 +4,7 @@ ghost use Rattle.std.specs.List.{list_all, list_any};
 ghost use Rattle.std.specs.Option.{option_copied};
 ghost use Rattle.std.specs.Str.{byte};
 ghost use Rattle.pb_election.specs.Names.{is_among};
-ghost use Rattle.pb_election.specs.Ids.{ids_kept, position_in};
+ghost use Rattle.pb_election.specs.Inside.Ids.{ids_kept, position_in};
 ghost use Rattle.pb_election.specs.Instance.{most_projects};
 ghost use Rattle.pb_election.specs.Rows.{names_in, positions_of};
 

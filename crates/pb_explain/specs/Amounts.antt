@@ -44,7 +44,8 @@ mixed_number grains_per_unit g = whole_words (g / grains_per_unit) ++ lowest_ter
 -- states them, and else a whole number and a fraction
 unfoldable pub amount : ℕ → ℕ → Text
 amount grains_per_unit g =
-    if g % (grains_per_unit / 10 ^ 6) == 0 then decimal_amount (g / (grains_per_unit / 10 ^ 6)) else mixed_number grains_per_unit g
+    if g % (grains_per_unit / 10 ^ 6) == 0 then decimal_amount (g / (grains_per_unit / 10 ^ 6))
+    else mixed_number grains_per_unit g
 
 -- the same of an amount that may be negative, behind its sign
 abbrev pub sign : ℤ → Text

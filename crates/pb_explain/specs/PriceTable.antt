@@ -25,11 +25,13 @@ told_where_it_fails where_holds where_fails None = where_holds
 told_where_it_fails where_holds where_fails (Some m) = where_fails m
 
 abbrev pub feasible_line : Findings → Text
-feasible_line f = opening (codes "Feasible    ") (nat_le f.total f.limit) ++ words.outcome f.grains_per_unit f.total f.limit
+feasible_line f = opening (codes "Feasible    ") (nat_le f.total f.limit)
+    ++ words.outcome f.grains_per_unit f.total f.limit
 
 -- what remains of the limit, against the cost of the cheapest unfunded project or of one that fits
 abbrev pub room_told : Instance → ℕ → Finding → Text
-room_told e unit f = told (codes "every project is funded") (words.cheapest e unit) (words.fitting e unit f.count) (holds f) f.shown
+room_told e unit f =
+    told (codes "every project is funded") (words.cheapest e unit) (words.fitting e unit f.count) (holds f) f.shown
 
 abbrev pub exhaustive_line : Bool → Instance → Findings → Text
 exhaustive_line asked e f =
@@ -51,22 +53,26 @@ c1_line e f = opening (codes "C1          ") (f.c1.count == 0) ++ payments_told 
 abbrev pub c2_line : Findings → Text
 c2_line f =
     opening (codes "C2          ") (holds f.c2)
-    ++ told (codes "there are no voters") (words.most_spent f.grains_per_unit) (words.overspent f.grains_per_unit f.c2.count) (holds f.c2) f.c2.shown
+    ++ told (codes "there are no voters") (words.most_spent f.grains_per_unit)
+    (words.overspent f.grains_per_unit f.c2.count) (holds f.c2) f.c2.shown
 
 abbrev pub c3_line : Instance → Findings → Text
 c3_line e f =
     opening (codes "C3          ") (holds f.c3)
-    ++ told_where_it_fails (codes "each funded project is paid for exactly") (words.inexact e f.grains_per_unit f.c3.count) f.c3.shown
+    ++ told_where_it_fails (codes "each funded project is paid for exactly")
+    (words.inexact e f.grains_per_unit f.c3.count) f.c3.shown
 
 abbrev pub c4_line : Instance → Findings → Text
 c4_line e f =
     opening (codes "C4          ") (holds f.c4)
-    ++ told_where_it_fails (codes "nothing is paid for an unfunded project") (words.unfunded_paid e f.grains_per_unit f.c4.count) f.c4.shown
+    ++ told_where_it_fails (codes "nothing is paid for an unfunded project")
+    (words.unfunded_paid e f.grains_per_unit f.c4.count) f.c4.shown
 
 -- what the supporters of unfunded projects have left or can offer
 abbrev pub supporters_told : Instance → ℕ → Text → Finding → Text
 supporters_told e unit sums_of f =
-    told (codes "every project is funded") (words.comes_closest e unit sums_of) (words.richer e unit sums_of f.count) (holds f) f.shown
+    told (codes "every project is funded") (words.comes_closest e unit sums_of) (words.richer e unit sums_of f.count)
+    (holds f) f.shown
 
 abbrev pub c5_line : Bool → Instance → Findings → Text
 c5_line asked e f =

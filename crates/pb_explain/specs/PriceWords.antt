@@ -8,7 +8,8 @@ use Rattle.pb_explain.specs.Rows.{how_many, voter}
 
 -- Feasible
 unfoldable pub outcome : ℕ → ℕ → ℕ → Text
-outcome unit total limit = codes "the funded projects cost " ++ amount unit total ++ codes "; the limit is " ++ amount unit limit
+outcome unit total limit = codes "the funded projects cost " ++ amount unit total ++ codes "; the limit is "
+    ++ amount unit limit
 
 -- Exhaustive: where it holds, and where a project fits
 unfoldable pub cheapest : Instance → ℕ → Comparison → Text
@@ -24,7 +25,8 @@ fitting e unit count m =
 -- Cover
 unfoldable pub budgets : ℕ → ℕ → ℕ → Text
 budgets unit all_budgets limit =
-    codes "all voter budgets come to " ++ amount unit all_budgets ++ codes " together; the limit is " ++ amount unit limit
+    codes "all voter budgets come to " ++ amount unit all_budgets ++ codes " together; the limit is "
+    ++ amount unit limit
 
 -- C1, where a voter pays for a project that it doesn't approve
 unfoldable pub unapproved : Instance → ℕ → ℕ → ℕ → Text
@@ -46,7 +48,8 @@ overspent unit count m =
 -- C3, where a funded project isn't paid exactly
 unfoldable pub inexact : Instance → ℕ → ℕ → Comparison → Text
 inexact e unit count m =
-    codes "project " ++ id_of e m.at ++ codes " costs " ++ amount unit m.bound ++ codes ", and " ++ balance unit m.amount
+    codes "project " ++ id_of e m.at ++ codes " costs " ++ amount unit m.bound ++ codes ", and "
+    ++ balance unit m.amount
     ++ codes " is paid for it" ++ how_many (codes "funded projects not paid exactly") count
 
 -- C4, where an unfunded project is paid for
@@ -59,10 +62,12 @@ unfunded_paid e unit count m =
 -- closest, and where they are more than it costs
 unfoldable pub cost_and_sum : ℕ → Text → Comparison → Text
 cost_and_sum unit sums_of m =
-    codes " costs " ++ amount unit m.bound ++ codes ", and its supporters' " ++ sums_of ++ codes " come to " ++ balance unit m.amount
+    codes " costs " ++ amount unit m.bound ++ codes ", and its supporters' " ++ sums_of ++ codes " come to "
+    ++ balance unit m.amount
 
 unfoldable pub comes_closest : Instance → ℕ → Text → Comparison → Text
-comes_closest e unit sums_of m = codes "project " ++ id_of e m.at ++ codes ", the closest," ++ cost_and_sum unit sums_of m
+comes_closest e unit sums_of m = codes "project " ++ id_of e m.at ++ codes ", the closest,"
+    ++ cost_and_sum unit sums_of m
 
 unfoldable pub richer : Instance → ℕ → Text → ℕ → Comparison → Text
 richer e unit sums_of count m =

@@ -18,7 +18,8 @@ v1_line e f = opening (codes "V1          ") (nat_lt 0 f.members) ++ members f.m
 -- V2: where a member doesn't approve a demanded project
 unfoldable pub missing : Instance → ℕ → ℕ → ℕ → Text
 missing e i j count =
-    voter i ++ codes " doesn't approve project " ++ id_of e j ++ how_many (codes "such pairs of a member and a project") count
+    voter i ++ codes " doesn't approve project " ++ id_of e j
+    ++ how_many (codes "such pairs of a member and a project") count
 
 abbrev pub approvals_told : Instance → ℕ → Option (ℕ × ℕ) → Text
 approvals_told e count None = codes "each member approves each demanded project"
@@ -66,7 +67,8 @@ satisfied_told m demanded gets count (Some i) = enough m demanded gets i count
 
 abbrev pub v4_line : Measure → ViolationFindings → Text
 v4_line m f =
-    opening (codes "V4          ") (f.satisfied.count == 0) ++ satisfied_told m f.demanded f.gets f.satisfied.count f.satisfied.first
+    opening (codes "V4          ") (f.satisfied.count == 0)
+    ++ satisfied_told m f.demanded f.gets f.satisfied.count f.satisfied.first
 
 -- the lines, in the order of the tests
 abbrev pub violation_table : Measure → Instance → ViolationFindings → List Text

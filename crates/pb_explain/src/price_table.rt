@@ -301,6 +301,13 @@ fn push_supporters(
     match found.shown {
         None => line.push_str("every project is funded"),
         Some(here) if found.count == 0 => words::push_closest(line, election, unit, sums_of, &here),
-        Some(here) => words::push_richer(line, election, unit, sums_of, &here, u64::from(found.count)),
+        Some(here) => words::push_richer(
+            line,
+            election,
+            unit,
+            sums_of,
+            &here,
+            u64::from(found.count),
+        ),
     }
 }

@@ -13,28 +13,34 @@ unfolding money_of
 money-empty [] h = refl
 money-empty (b ∷ bs) h = cc (is-empty (b ∷ bs) ∙ h)
 
-pub money-other : (text : List ℕ) → (length text == 0) ≡ false → is_number text ≡ false → Err fault.NotNumber ≡ money_of text
+pub money-other : (text : List ℕ) → (length text == 0) ≡ false → is_number text ≡ false
+    → Err fault.NotNumber ≡ money_of text
 unfolding money_of
 money-other [] h k = cc h
 money-other (b ∷ bs) h k = rw k refl
 
-pub money-fine : (text : List ℕ) → is_number text ≡ true → 6 < length (fraction text) → Err fault.TooFine ≡ money_of text
+pub money-fine : (text : List ℕ) → is_number text ≡ true → 6 < length (fraction text)
+    → Err fault.TooFine ≡ money_of text
 unfolding money_of
 money-fine [] k h = cc k
 money-fine (b ∷ bs) k h = rw (k, lt-ltb 6 (length (fraction (b ∷ bs))) h) refl
 
-pub money-large : (text : List ℕ) → is_number text ≡ true → length (fraction text) ≤ 6 → most_money < millionths text → Err fault.TooLarge ≡ money_of text
+pub money-large : (text : List ℕ) → is_number text ≡ true → length (fraction text) ≤ 6 → most_money < millionths text
+    → Err fault.TooLarge ≡ money_of text
 unfolding money_of
 money-large [] k h l = cc k
-money-large (b ∷ bs) k h l = rw (k, le-ltb 6 (length (fraction (b ∷ bs))) h, lt-ltb most_money (millionths (b ∷ bs)) l) refl
+money-large (b ∷ bs) k h l =
+    rw (k, le-ltb 6 (length (fraction (b ∷ bs))) h, lt-ltb most_money (millionths (b ∷ bs)) l) refl
 
 pub ruleset amount_faults = (money-empty, money-other, money-fine)
 
 -- more whole units than the greatest amount has
-pub units-large : (text : List ℕ) (n : ℕ) → n ≡ number_of (before_first is_mark text) → 10 ^ 12 < n → most_money < millionths text
+pub units-large : (text : List ℕ) (n : ℕ) → n ≡ number_of (before_first is_mark text) → 10 ^ 12 < n
+    → most_money < millionths text
 unfolding millionths
 units-large text n e h = omega arith
 
-pub parts-value : (text : List ℕ) (units part : ℕ) → units ≡ number_of (before_first is_mark text) → part ≡ number_of (fraction text) * 10 ^ (6 - length (fraction text)) → units * 10 ^ 6 + part ≡ millionths text
+pub parts-value : (text : List ℕ) (units part : ℕ) → units ≡ number_of (before_first is_mark text)
+    → part ≡ number_of (fraction text) * 10 ^ (6 - length (fraction text)) → units * 10 ^ 6 + part ≡ millionths text
 unfolding millionths
 parts-value text units part e f = omega arith

@@ -14,7 +14,8 @@ unfolding drop_back
 zeros-nil [] e = refl
 zeros-nil (x ∷ xs) e = absurd (omega arith)
 
-pub zeros-more : (xs : List ℕ) (b : ℕ) → (b == byte "0") ≡ true → without_last_zeros (xs ++ (b ∷ [])) ≡ without_last_zeros xs
+pub zeros-more : (xs : List ℕ) (b : ℕ) → (b == byte "0") ≡ true
+    → without_last_zeros (xs ++ (b ∷ [])) ≡ without_last_zeros xs
 unfolding drop_back
 zeros-more [] b e = rw e refl
 zeros-more (x ∷ xs) b e = rw (zeros-more xs b e) refl
@@ -28,7 +29,8 @@ unfolding drop_back
 zeros-other [] b e = rw e refl
 zeros-other (x ∷ xs) b e = rw (zeros-other xs b e, some-left xs b, and_right (x == byte "0") false refl) refl
 
-kept : (b : Bool) (d : ℕ) (ds : List ℕ) → all_ascii_digits (d ∷ ds) ≡ true → all_ascii_digits (if b then [] else d ∷ ds) ≡ true
+kept : (b : Bool) (d : ℕ) (ds : List ℕ) → all_ascii_digits (d ∷ ds) ≡ true
+    → all_ascii_digits (if b then [] else d ∷ ds) ≡ true
 kept true d ds h = refl
 kept false d ds h = h
 
@@ -38,7 +40,8 @@ unfolding drop_back
 zeros-digits [] h = refl
 zeros-digits (x ∷ xs) h =
     let parts = and_parts (is_ascii_digit x) (all_ascii_digits xs) h in
-    kept (x == byte "0" && is_empty (without_last_zeros xs)) x (without_last_zeros xs) (and_from (is_ascii_digit x) (all_ascii_digits (without_last_zeros xs)) parts.0 (zeros-digits xs parts.1))
+    kept (x == byte "0" && is_empty (without_last_zeros xs)) x (without_last_zeros xs)
+    (and_from (is_ascii_digit x) (all_ascii_digits (without_last_zeros xs)) parts.0 (zeros-digits xs parts.1))
 
 unit-step : (i u : ℕ) → i < 6 → u ≡ 10 ^ (6 - i) → (u / 10 ≡ 10 ^ (6 - (i + 1))) × (u ≡ 10 * (u / 10))
 unit-step i u h e =
@@ -46,20 +49,25 @@ unit-step i u h e =
     let p : u ≡ 10 ^ (6 - (i + 1)) * 10 = e ∙ ap (λ n. 10 ^ n) k ∙ pow-suc 10 (6 - (i + 1)) in
     (omega arith, omega arith)
 
-digit-value : (digits : List ℕ) (i v : ℕ) → all_ascii_digits digits ≡ true → i < length digits → (get_or digits i 0 - byte "0") * v ≤ 9 * v
+digit-value : (digits : List ℕ) (i v : ℕ) → all_ascii_digits digits ≡ true → i < length digits
+    → (get_or digits i 0 - byte "0") * v ≤ 9 * v
 digit-value digits i v a h =
     let d = digit-at digits i a h in
     let l : get_or digits i 0 - byte "0" ≤ 9 = omega (arith, d.1) in
     mul-le-mul_right v l
 
 -- m millionths in the first i digits, the last of which counts u, and then one more digit of value k
-pub fraction-step : (digits : List ℕ) (i m u k : ℕ) → all_ascii_digits digits ≡ true → i < length digits → length digits ≤ 6 → u ≡ 10 ^ (6 - i) → m ≡ number_of (take i digits) * u → m + u ≤ 10 ^ 6 → k ≡ get_or digits i 0 - byte "0"
-    → (u / 10 ≡ 10 ^ (6 - (i + 1))) × (m + k * (u / 10) ≡ number_of (take (i + 1) digits) * (u / 10)) × (m + k * (u / 10) + u / 10 ≤ 10 ^ 6)
+pub fraction-step : (digits : List ℕ) (i m u k : ℕ) → all_ascii_digits digits ≡ true → i < length digits
+    → length digits ≤ 6 → u ≡ 10 ^ (6 - i) → m ≡ number_of (take i digits) * u → m + u ≤ 10 ^ 6
+    → k ≡ get_or digits i 0 - byte "0"
+    → (u / 10 ≡ 10 ^ (6 - (i + 1))) × (m + k * (u / 10) ≡ number_of (take (i + 1) digits) * (u / 10))
+    × (m + k * (u / 10) + u / 10 ≤ 10 ^ 6)
 fraction-step digits i m u k a h six unit value small e =
     let s = unit-step i u (omega arith) unit in
     let n : ℕ = number_of (take i digits) in
     let v : ℕ = u / 10 in
     let most : k * v ≤ 9 * v = rw e (digit-value digits i v a h) in
     let before : m ≡ n * (10 * v) = value ∙ ap (λ x. n * x) s.1 in
-    let after : number_of (take (i + 1) digits) * v ≡ (n * 10 + k) * v = ap (λ x. x * v) (number-more digits i h ∙ ap (λ x. n * 10 + x) (sym e)) in
+    let after : number_of (take (i + 1) digits) * v ≡ (n * 10 + k) * v =
+    ap (λ x. x * v) (number-more digits i h ∙ ap (λ x. n * 10 + x) (sym e)) in
     (s.0, (omega arith), omega (arith, s.1))

@@ -11,14 +11,20 @@ pub money-is : (text : List ℕ) (v : ℕ) → MoneyText text v → money_of tex
 unfolding money_of
 money-is [] v m = cc m.number
 money-is (b ∷ bs) v m =
-    rw (m.number, le-ltb 6 (length (fraction (b ∷ bs))) m.fine, le-ltb most_money (millionths (b ∷ bs)) (rw (← m.value) m.small), m.value) refl
+    rw (
+      m.number,
+      le-ltb 6 (length (fraction (b ∷ bs))) m.fine,
+      le-ltb most_money (millionths (b ∷ bs)) (rw (← m.value) m.small),
+      m.value,
+    ) refl
 
 -- what is answered where the text is an amount
 pub answers-only : (text : List ℕ) (r : Result ℕ MoneyFault) → r ≡ money_of text → (v : ℕ) → MoneyText text v → r ≡ Ok v
 answers-only text r e v m = e ∙ money-is text v m
 
 -- a choice that gave Ok did not fail
-chosen : (b : Bool) (f : MoneyFault) (r : Result ℕ MoneyFault) (v : ℕ) → cond b (Err f) r ≡ Ok v → (b ≡ false) × (r ≡ Ok v)
+chosen : (b : Bool) (f : MoneyFault) (r : Result ℕ MoneyFault) (v : ℕ) → cond b (Err f) r ≡ Ok v
+    → (b ≡ false) × (r ≡ Ok v)
 chosen true f r v h = cc h
 chosen false f r v h = (refl, h)
 
@@ -29,7 +35,8 @@ is-true false h = cc h
 pub is-money : (text : List ℕ) (v : ℕ) → money_of text ≡ Ok v → MoneyText text v
 unfolding money_of
 is-money text v h =
-    let large : Result ℕ MoneyFault = cond (nat_lt most_money (millionths text)) (Err fault.TooLarge) (Ok (millionths text)) in
+    let large : Result ℕ MoneyFault =
+    cond (nat_lt most_money (millionths text)) (Err fault.TooLarge) (Ok (millionths text)) in
     let fine : Result ℕ MoneyFault = cond (nat_lt 6 (length (fraction text))) (Err fault.TooFine) large in
     let number : Result ℕ MoneyFault = cond (not (is_number text)) (Err fault.NotNumber) fine in
     let a = chosen (is_empty text) fault.Empty number v h in

@@ -13,7 +13,8 @@ use Rattle.pb_money.specs.Money.{is_mark, is_number}
 shift : (n m : ℕ) → nat_lt n m ≡ nat_lt (1 + n) (suc m)
 shift n m = grind (arith, nat_tests)
 
-marked-cons : (b : Bool) (n m : ℕ) (rest : Bool) → rest ≡ nat_lt n m → (b || rest) ≡ nat_lt (cond (not b) (1 + n) 0) (suc m)
+marked-cons : (b : Bool) (n m : ℕ) (rest : Bool) → rest ≡ nat_lt n m
+    → (b || rest) ≡ nat_lt (cond (not b) (1 + n) 0) (suc m)
 marked-cons true n m rest e = sym (lt-ltb 0 (suc m) (omega arith))
 marked-cons false n m rest e = e ∙ shift n m
 
@@ -26,9 +27,12 @@ place-by : (b : Bool) (p n : ℕ) → nat_lt p n ≡ b → p ≤ n → unwrap_or
 place-by true p n e h = refl
 place-by false p n e h = omega (arith, ltb-false p n e)
 
-pub place : (p : ℕ → Bool) (xs : List ℕ) → unwrap_or (cond (nat_lt (position_or_len p xs) (length xs)) (Some (position_or_len p xs)) None) (length xs) ≡ position_or_len p xs
+pub place : (p : ℕ → Bool) (xs : List ℕ)
+    → unwrap_or (cond (nat_lt (position_or_len p xs) (length xs)) (Some (position_or_len p xs)) None) (length xs)
+    ≡ position_or_len p xs
 place p xs =
-    place-by (nat_lt (position_or_len p xs) (length xs)) (position_or_len p xs) (length xs) refl (prefix_len-le-length (λ x. not (p x)) xs)
+    place-by (nat_lt (position_or_len p xs) (length xs)) (position_or_len p xs) (length xs) refl
+    (prefix_len-le-length (λ x. not (p x)) xs)
 
 alone : (a b c : Bool) → a ≡ true → b ≡ false → true ≡ (a && (not b || c))
 alone true false c h k = refl
@@ -41,17 +45,23 @@ followed true false c h k = cc k
 followed false b c h k = cc h
 
 -- digits with no mark
-pub number-alone : (text : List ℕ) (n : ℕ) → n ≡ position_or_len is_mark text → n ≡ length text → are_digits (take n text) ≡ true → true ≡ is_number text
+pub number-alone : (text : List ℕ) (n : ℕ) → n ≡ position_or_len is_mark text → n ≡ length text
+    → are_digits (take n text) ≡ true → true ≡ is_number text
 number-alone text n e all h =
-    alone (are_digits (before_first is_mark text)) (list_any is_mark text) (are_digits (after_first is_mark text)) (sym (ap (λ k. are_digits (take k text)) e) ∙ h) (marked is_mark text ∙ le-ltb (position_or_len is_mark text) (length text) (omega arith))
+    alone (are_digits (before_first is_mark text)) (list_any is_mark text) (are_digits (after_first is_mark text))
+    (sym (ap (λ k. are_digits (take k text)) e) ∙ h)
+    (marked is_mark text ∙ le-ltb (position_or_len is_mark text) (length text) (omega arith))
 
 -- digits, a mark and what follows it
-pub number-followed : (text : List ℕ) (n : ℕ) → n ≡ position_or_len is_mark text → (n ≡ length text → ⊥) → are_digits (take n text) ≡ true → are_digits (take (length text - (n + 1)) (drop (n + 1) text)) ≡ is_number text
+pub number-followed : (text : List ℕ) (n : ℕ) → n ≡ position_or_len is_mark text → (n ≡ length text → ⊥)
+    → are_digits (take n text) ≡ true → are_digits (take (length text - (n + 1)) (drop (n + 1) text)) ≡ is_number text
 number-followed text n e apart h =
     let within : position_or_len is_mark text ≤ length text = prefix_len-le-length (λ x. not (is_mark x)) text in
     let before : position_or_len is_mark text < length text = omega arith in
     ap are_digits (take_rest text (n + 1)) ∙ ap (λ k. are_digits (drop (k + 1) text)) e
-    ∙ followed (are_digits (before_first is_mark text)) (list_any is_mark text) (are_digits (after_first is_mark text)) (sym (ap (λ k. are_digits (take k text)) e) ∙ h) (marked is_mark text ∙ lt-ltb (position_or_len is_mark text) (length text) before)
+    ∙ followed (are_digits (before_first is_mark text)) (list_any is_mark text) (are_digits (after_first is_mark text))
+    (sym (ap (λ k. are_digits (take k text)) e) ∙ h)
+    (marked is_mark text ∙ lt-ltb (position_or_len is_mark text) (length text) before)
 
 pub is-some-then : {A : Type 0} (b : Bool) (x : A) → is_some (then_some b x) ≡ b
 is-some-then true x = refl

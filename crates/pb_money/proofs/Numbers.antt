@@ -19,16 +19,19 @@ grows : (n : ℕ) (digits : List ℕ) → n ≤ fold append_digit n digits
 grows n [] = omega arith
 grows n (d ∷ ds) = omega (arith, grows (append_digit n d) ds)
 
-pub number-more : (digits : List ℕ) (i : ℕ) → i < length digits → number_of (take (i + 1) digits) ≡ append_digit (number_of (take i digits)) (get_or digits i 0)
+pub number-more : (digits : List ℕ) (i : ℕ) → i < length digits
+    → number_of (take (i + 1) digits) ≡ append_digit (number_of (take i digits)) (get_or digits i 0)
 number-more digits i h = fold_more append_digit 0 digits i 0 h
 
 number-take : (digits : List ℕ) (i : ℕ) → number_of (take i digits) ≤ number_of digits
 number-take digits i =
-    let whole : number_of digits ≡ fold append_digit (number_of (take i digits)) (drop i digits) = ap number_of (sym (take-append-drop i digits)) ∙ fold-append append_digit 0 (take i digits) (drop i digits) in
+    let whole : number_of digits ≡ fold append_digit (number_of (take i digits)) (drop i digits) =
+    ap number_of (sym (take-append-drop i digits)) ∙ fold-append append_digit 0 (take i digits) (drop i digits) in
     omega (arith, grows (number_of (take i digits)) (drop i digits))
 
 -- a part of the digits that is already too large, and then the whole number
-pub too-large : (digits : List ℕ) (i n most : ℕ) → n ≡ number_of (take i digits) → most < n → None ≡ up_to most (number_of digits)
+pub too-large : (digits : List ℕ) (i n most : ℕ) → n ≡ number_of (take i digits) → most < n
+    → None ≡ up_to most (number_of digits)
 too-large digits i n most e h =
     let l : n ≤ number_of digits = rw e (number-take digits i) in
     grind (arith, nat_tests)
@@ -66,13 +69,15 @@ pub digit-range : (d : ℕ) → is_ascii_digit d ≡ true → (byte "0" ≤ d) �
 digit-range d h = grind (arith, nat_tests)
 
 -- each byte of a text of digits is one
-pub digit-at : (digits : List ℕ) (i : ℕ) → all_ascii_digits digits ≡ true → i < length digits → (byte "0" ≤ get_or digits i 0) × (get_or digits i 0 ≤ byte "9")
+pub digit-at : (digits : List ℕ) (i : ℕ) → all_ascii_digits digits ≡ true → i < length digits
+    → (byte "0" ≤ get_or digits i 0) × (get_or digits i 0 ≤ byte "9")
 digit-at [] i e h = absurd (omega arith)
 digit-at (d ∷ ds) zero e h = digit-range d (and_parts (is_ascii_digit d) (all_ascii_digits ds) e).0
 digit-at (d ∷ ds) (suc i) e h = digit-at ds i (and_parts (is_ascii_digit d) (all_ascii_digits ds) e).1 (omega arith)
 
 -- one more digit
-pub all-more : (text : List ℕ) (i : ℕ) → i < length text → all_ascii_digits (take i text) ≡ true → is_ascii_digit (get_or text i 0) ≡ true → all_ascii_digits (take (suc i) text) ≡ true
+pub all-more : (text : List ℕ) (i : ℕ) → i < length text → all_ascii_digits (take i text) ≡ true
+    → is_ascii_digit (get_or text i 0) ≡ true → all_ascii_digits (take (suc i) text) ≡ true
 all-more [] i h a d = absurd (omega arith)
 all-more (b ∷ bs) zero h a d = rw d refl
 all-more (b ∷ bs) (suc i) h a d =

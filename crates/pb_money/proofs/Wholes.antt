@@ -13,7 +13,8 @@ unfolding whole_of
 whole-empty most [] h = refl
 whole-empty most (b ∷ bs) h = cc (is-empty (b ∷ bs) ∙ h)
 
-pub whole-other : (most : ℕ) (text : List ℕ) → (length text == 0) ≡ false → are_digits text ≡ false → Err fault.NotDigits ≡ whole_of most text
+pub whole-other : (most : ℕ) (text : List ℕ) → (length text == 0) ≡ false → are_digits text ≡ false
+    → Err fault.NotDigits ≡ whole_of most text
 unfolding whole_of
 whole-other most [] h k = cc h
 whole-other most (b ∷ bs) h k = rw k refl
@@ -29,7 +30,8 @@ limited : (b : Bool) (n : ℕ) → ok_or (cond b (Some n) None) fault.TooLarge �
 limited true n = refl
 limited false n = refl
 
-pub whole-digits : (most : ℕ) (text : List ℕ) → are_digits text ≡ true → ok_or (up_to most (number_of text)) fault.TooLarge ≡ whole_of most text
+pub whole-digits : (most : ℕ) (text : List ℕ) → are_digits text ≡ true
+    → ok_or (up_to most (number_of text)) fault.TooLarge ≡ whole_of most text
 unfolding whole_of
 whole-digits most [] k = cc k
 whole-digits most (b ∷ bs) k =

@@ -16,7 +16,7 @@ const MOST_UNITS: u64 = 1_000_000_000_000;
 const MILLION: u64 = 1_000_000;
 
 /// An amount of money, from 0 to 10^12 units of the currency, exact to a millionth. The default is zero.
-#[derive(Clone, Copy, Debug, Default, PartialEq, Eq, PartialOrd, Ord)]
+#[derive(Clone, Copy, Debug, Default, PartialEq, Eq)]
 pub struct Money {
     millionths: u64,
 }

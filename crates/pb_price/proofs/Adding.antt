@@ -9,12 +9,12 @@ use Rattle.pb_election.specs.Instance.{Instance, IsProject, IsVoter, approves, p
 use Rattle.pb_certificate.specs.declared.price_row.PriceRow.{PriceRow}
 use Rattle.pb_cohesion.specs.Conditions.{sum_ℤ}
 use Rattle.pb_cohesion.proofs.Ballots.{filter-same}
-use Rattle.pb_price.specs.Tallies.{AreSteps, AreSumsOf, AreTaken, IsFirstPair, Taken, TakesRow, Tallied, first_pair, first_supporters, left_by, most_by, paid_by, pays_wrongly, spent_by, top_by}
+use Rattle.pb_price.specs.Inside.Tallies.{AreSteps, AreSumsOf, AreTaken, IsFirstPair, Taken, TakesRow, Tallied, first_pair, first_supporters, left_by, most_by, paid_by, pays_wrongly, spent_by, top_by}
 use Rattle.pb_price.specs.declared.tally.ProjectSums.{ProjectSums}
 use Rattle.pb_price.specs.declared.tally.Tally.{Tally}
 use Rattle.pb_price.proofs.Amounts.{lefts-same, offers-same, paid-here, paid-other, spent-here, spent-same, top-here}
 use Rattle.pb_price.proofs.Ballots.{written}
-use Rattle.pb_price.specs.Noted.{IsFindingTo}
+use Rattle.pb_price.specs.Inside.Noted.{IsFindingTo}
 use Rattle.pb_price.specs.declared.Finding.{Finding}
 use Rattle.pb_price.proofs.Counting.{count-added, count-few}
 use Rattle.pb_price.proofs.Firsts.{pair-next, pair-same}
@@ -22,13 +22,15 @@ use Rattle.pb_price.proofs.SameSums.{finding-as}
 
 -- what the closed voters have left and can offer is the same
 lefts-then : (e : Instance) (a b : Taken) (q : PriceRow) (closed c : ℕ) → TakesRow a b q → closed < q.voter
-    → sum_ℤ (left_by a.budget e a.pays) (first_supporters e closed c) ≡ sum_ℤ (left_by b.budget e b.pays) (first_supporters e closed c)
+    → sum_ℤ (left_by a.budget e a.pays) (first_supporters e closed c)
+    ≡ sum_ℤ (left_by b.budget e b.pays) (first_supporters e closed c)
 lefts-then e a b q closed c r low =
     sym (ap (λ x. sum_ℤ (left_by x e b.pays) (first_supporters e closed c)) r.budget
     ∙ lefts-same a.budget e a.pays b.pays closed c (λ i k h. r.voters i k (λ is. omega arith)))
 
 offers-then : (e : Instance) (a b : Taken) (q : PriceRow) (closed c : ℕ) → TakesRow a b q → closed < q.voter
-    → sum_ℤ (most_by a.budget e a.pays) (first_supporters e closed c) ≡ sum_ℤ (most_by b.budget e b.pays) (first_supporters e closed c)
+    → sum_ℤ (most_by a.budget e a.pays) (first_supporters e closed c)
+    ≡ sum_ℤ (most_by b.budget e b.pays) (first_supporters e closed c)
 offers-then e a b q closed c r low =
     sym (ap (λ x. sum_ℤ (most_by x e b.pays) (first_supporters e closed c)) r.budget
     ∙ offers-same a.budget e a.pays b.pays closed c (λ i k h. r.voters i k (λ is. omega arith)))
@@ -38,10 +40,12 @@ abbrev pub with_payment : ℕ → ProjectSums → ProjectSums
 with_payment grains s = record s { paid = s.paid + grains }
 
 -- the sums that were read at a place
-there : (xs : List ProjectSums) (i p : ℕ) (v d : ProjectSums) → v ≡ get_or xs i v → p < length xs → p ≡ i → v ≡ get_or xs p d
+there : (xs : List ProjectSums) (i p : ℕ) (v d : ProjectSums) → v ≡ get_or xs i v → p < length xs → p ≡ i
+    → v ≡ get_or xs p d
 there xs i p v d is within e = is ∙ ap (λ k. get_or xs k v) (sym e) ∙ get_or_default xs p v d within
 
-pub sums-added : (e : Instance) (a b : Taken) (closed opened : ℕ) (xs : List ProjectSums) (q : PriceRow) (v : ProjectSums) → AreSumsOf e a closed opened xs → TakesRow a b q → IsVoter e q.voter → IsProject e q.project
+pub sums-added : (e : Instance) (a b : Taken) (closed opened : ℕ) (xs : List ProjectSums) (q : PriceRow)
+    (v : ProjectSums) → AreSumsOf e a closed opened xs → TakesRow a b q → IsVoter e q.voter → IsProject e q.project
     → closed < q.voter → v ≡ get_or xs (q.project - 1) v
     → AreSumsOf e b closed opened (set xs (q.project - 1) (with_payment (payment_grains q.payment) v))
 sums-added e a b closed opened xs q v h r iv ip low is =
@@ -58,24 +62,36 @@ sums-added e a b closed opened xs q v h r iv ip low is =
           ∙ ap (λ n. n + payment_grains q.payment) (h.paid k d w ∙ ap (paid_by e a.pays) same)
           ∙ sym (paid-here e a b q r iv) ∙ ap (paid_by e b.pays) (sym same))
           (λ ne. h.paid k d w ∙ sym (paid-other e a b q (k + 1) r (λ k_is. ne (omega arith))));
-      left = λ k d w. written xs (q.project - 1) k u d (λ x. x.left ≡ sum_ℤ (left_by b.budget e b.pays) (first_supporters e closed (k + 1))) (rw h.as_many w)
-          (λ k_is. ap (λ x. x.left) (there xs (q.project - 1) k v d is (rw h.as_many w) k_is) ∙ h.left k d w ∙ lefts-then e a b q closed (k + 1) r low)
+      left =
+          λ k d w. written xs (q.project - 1) k u d
+          (λ x. x.left ≡ sum_ℤ (left_by b.budget e b.pays) (first_supporters e closed (k + 1))) (rw h.as_many w)
+          (λ k_is. ap (λ x. x.left) (there xs (q.project - 1) k v d is (rw h.as_many w) k_is) ∙ h.left k d w
+          ∙ lefts-then e a b q closed (k + 1) r low)
           (λ ne. h.left k d w ∙ lefts-then e a b q closed (k + 1) r low);
-      offer = λ k d w. written xs (q.project - 1) k u d (λ x. x.offer ≡ sum_ℤ (most_by b.budget e b.pays) (first_supporters e closed (k + 1))) (rw h.as_many w)
-          (λ k_is. ap (λ x. x.offer) (there xs (q.project - 1) k v d is (rw h.as_many w) k_is) ∙ h.offer k d w ∙ offers-then e a b q closed (k + 1) r low)
+      offer =
+          λ k d w. written xs (q.project - 1) k u d
+          (λ x. x.offer ≡ sum_ℤ (most_by b.budget e b.pays) (first_supporters e closed (k + 1))) (rw h.as_many w)
+          (λ k_is. ap (λ x. x.offer) (there xs (q.project - 1) k v d is (rw h.as_many w) k_is) ∙ h.offer k d w
+          ∙ offers-then e a b q closed (k + 1) r low)
           (λ ne. h.offer k d w ∙ offers-then e a b q closed (k + 1) r low);
-      count = λ k d w. written xs (q.project - 1) k u d (λ x. x.supporters ≡ length (first_supporters e closed (k + 1))) (rw h.as_many w)
+      count = λ k d w. written xs (q.project - 1) k u d (λ x. x.supporters ≡ length (first_supporters e closed (k + 1)))
+          (rw h.as_many w)
           (λ k_is. ap (λ x. x.supporters) (there xs (q.project - 1) k v d is (rw h.as_many w) k_is) ∙ h.count k d w)
           (λ ne. h.count k d w);
       seen = λ k d w. written xs (q.project - 1) k u d (λ x. x.last_approver ≤ opened) (rw h.as_many w)
-          (λ k_is. subst (λ x. x.last_approver ≤ opened) (sym (there xs (q.project - 1) k v d is (rw h.as_many w) k_is)) (h.seen k d w))
+          (λ k_is. subst (λ x. x.last_approver ≤ opened) (sym (there xs (q.project - 1) k v d is (rw h.as_many w) k_is))
+          (h.seen k d w))
           (λ ne. h.seen k d w);
-      marked = λ k d w o. written xs (q.project - 1) k u d (λ x. (x.last_approver == opened) ≡ approves e opened (k + 1)) (rw h.as_many w)
-          (λ k_is. ap (λ x. x.last_approver == opened) (there xs (q.project - 1) k v d is (rw h.as_many w) k_is) ∙ h.marked k d w o)
+      marked =
+          λ k d w o. written xs (q.project - 1) k u d (λ x. (x.last_approver == opened) ≡ approves e opened (k + 1))
+          (rw h.as_many w)
+          (λ k_is. ap (λ x. x.last_approver == opened) (there xs (q.project - 1) k v d is (rw h.as_many w) k_is)
+          ∙ h.marked k d w o)
           (λ ne. h.marked k d w o);
     }
 
-pub taken-added : (e : Instance) (a b : Taken) (closed opened : ℕ) (q : PriceRow) → AreTaken e a closed opened → TakesRow a b q → q.payment ≤ 10 ^ 21 → closed + 1 ≡ q.voter → opened ≡ q.voter → AreTaken e b closed opened
+pub taken-added : (e : Instance) (a b : Taken) (closed opened : ℕ) (q : PriceRow) → AreTaken e a closed opened
+    → TakesRow a b q → q.payment ≤ 10 ^ 21 → closed + 1 ≡ q.voter → opened ≡ q.voter → AreTaken e b closed opened
 taken-added e a b closed opened q h r small at_hand open_is = record {
   within = h.within;
   small_budget = omega (arith, r.budget, h.small_budget);
@@ -92,17 +108,26 @@ taken-added e a b closed opened q h r small at_hand open_is = record {
 }
 
 pub over-added : (e : Instance) (a b : Taken) (q : PriceRow) (closed : ℕ) → TakesRow a b q → closed < q.voter
-    → filter (λ i. nat_lt a.budget (spent_by e a.pays i)) (range_with_len 1 closed) ≡ filter (λ i. nat_lt b.budget (spent_by e b.pays i)) (range_with_len 1 closed)
+    → filter (λ i. nat_lt a.budget (spent_by e a.pays i)) (range_with_len 1 closed)
+    ≡ filter (λ i. nat_lt b.budget (spent_by e b.pays i)) (range_with_len 1 closed)
 over-added e a b q closed r low =
     filter-same (λ i. nat_lt a.budget (spent_by e a.pays i)) (λ i. nat_lt b.budget (spent_by e b.pays i)) closed 1
-    (λ i from to. (ap (λ n. nat_lt n (spent_by e a.pays i)) (sym r.budget) ∙ ap (nat_lt b.budget) (sym (spent-same e a.pays b.pays i (λ c. r.voters i c (λ is. omega arith))))))
+    (λ i from to.
+    (ap (λ n. nat_lt n (spent_by e a.pays i)) (sym r.budget)
+    ∙ ap (nat_lt b.budget) (sym (spent-same e a.pays b.pays i (λ c. r.voters i c (λ is. omega arith))))))
 
 over-kept : (e : Instance) (a b : Taken) (q : PriceRow) (closed : ℕ) (f : Finding) → TakesRow a b q → closed < q.voter
-    → IsFindingTo closed (λ i. nat_lt a.budget (spent_by e a.pays i)) (λ i. true) (λ i. a.budget) (λ i. pos (spent_by e a.pays i)) f
-    → IsFindingTo closed (λ i. nat_lt b.budget (spent_by e b.pays i)) (λ i. true) (λ i. b.budget) (λ i. pos (spent_by e b.pays i)) f
+    → IsFindingTo closed (λ i. nat_lt a.budget (spent_by e a.pays i)) (λ i. true) (λ i. a.budget)
+    (λ i. pos (spent_by e a.pays i)) f
+    → IsFindingTo closed (λ i. nat_lt b.budget (spent_by e b.pays i)) (λ i. true) (λ i. b.budget)
+    (λ i. pos (spent_by e b.pays i)) f
 over-kept e a b q closed f r low h =
-    finding-as closed (λ i. nat_lt a.budget (spent_by e a.pays i)) (λ i. true) _ (λ i. a.budget) (λ i. b.budget) (λ i. pos (spent_by e a.pays i)) (λ i. pos (spent_by e b.pays i)) f h (over-added e a b q closed r low)
-    (record { bounds = λ i from to. sym r.budget; amounts = λ i from to. ap pos (sym (spent-same e a.pays b.pays i (λ c. r.voters i c (λ is. omega arith)))) })
+    finding-as closed (λ i. nat_lt a.budget (spent_by e a.pays i)) (λ i. true) _ (λ i. a.budget) (λ i. b.budget)
+    (λ i. pos (spent_by e a.pays i)) (λ i. pos (spent_by e b.pays i)) f h (over-added e a b q closed r low)
+    (record {
+      bounds = λ i from to. sym r.budget;
+      amounts = λ i from to. ap pos (sym (spent-same e a.pays b.pays i (λ c. r.voters i c (λ is. omega arith))));
+    })
 
 -- the first payment for a project that is not approved
 wrong-other : (e : Instance) (f g : ℕ → ℕ → ℕ) (i c : ℕ) → g i c ≡ f i c → pays_wrongly e g i c ≡ pays_wrongly e f i c
@@ -111,15 +136,19 @@ wrong-other e f g i c h = ap (λ n. nat_lt 0 n && not (approves e i c)) h
 wrong-none : (e : Instance) (f : ℕ → ℕ → ℕ) (i c : ℕ) → f i c ≡ 0 → pays_wrongly e f i c ≡ false
 wrong-none e f i c h = ap (λ n. nat_lt 0 n && not (approves e i c)) h
 
-pub wrong-added : (e : Instance) (a b : Taken) (q : PriceRow) (approved : Bool) (o : Option (ℕ × ℕ)) → TakesRow a b q → IsVoter e q.voter → IsProject e q.project → ((i c : ℕ) → q.voter < i → a.pays i c ≡ 0)
+pub wrong-added : (e : Instance) (a b : Taken) (q : PriceRow) (approved : Bool) (o : Option (ℕ × ℕ)) → TakesRow a b q
+    → IsVoter e q.voter → IsProject e q.project → ((i c : ℕ) → q.voter < i → a.pays i c ≡ 0)
     → approved ≡ approves e q.voter q.project → IsFirstPair e (pays_wrongly e a.pays) o
-    → IsFirstPair e (pays_wrongly e b.pays) (cond (nat_lt 0 q.payment && not approved) (first_pair o q.voter q.project) o)
+    → IsFirstPair e (pays_wrongly e b.pays)
+    (cond (nat_lt 0 q.payment && not approved) (first_pair o q.voter q.project) o)
 wrong-added e a b q approved o r iv ip later is h = go (nat_lt 0 q.payment && not approved) here
   where
     here : pays_wrongly e b.pays q.voter q.project ≡ (nat_lt 0 q.payment && not approved)
-    here = ap (λ n. nat_lt 0 n && not (approves e q.voter q.project)) r.here ∙ ap (λ y. nat_lt 0 q.payment && not y) (sym is)
+    here = ap (λ n. nat_lt 0 n && not (approves e q.voter q.project)) r.here
+        ∙ ap (λ y. nat_lt 0 q.payment && not y) (sym is)
 
-    go : (w : Bool) → pays_wrongly e b.pays q.voter q.project ≡ w → IsFirstPair e (pays_wrongly e b.pays) (cond w (first_pair o q.voter q.project) o)
+    go : (w : Bool) → pays_wrongly e b.pays q.voter q.project ≡ w
+        → IsFirstPair e (pays_wrongly e b.pays) (cond w (first_pair o q.voter q.project) o)
     go true passes =
         pair-next e (pays_wrongly e a.pays) (pays_wrongly e b.pays) q.voter q.project o iv ip
         (record {
@@ -135,13 +164,15 @@ wrong-added e a b q approved o r iv ip later is h = go (nat_lt 0 q.payment && no
           | inl i_is ↦ elim (cases_eq c q.project) [
             | inl c_is ↦
                 ap (λ x. pays_wrongly e b.pays x c) i_is ∙ ap (pays_wrongly e b.pays q.voter) c_is ∙ fails
-                ∙ sym (ap (λ x. pays_wrongly e a.pays x c) i_is ∙ ap (pays_wrongly e a.pays q.voter) c_is ∙ wrong-none e a.pays q.voter q.project r.none_yet)
+                ∙ sym (ap (λ x. pays_wrongly e a.pays x c) i_is ∙ ap (pays_wrongly e a.pays q.voter) c_is
+                ∙ wrong-none e a.pays q.voter q.project r.none_yet)
             | inr c_not ↦ wrong-other e a.pays b.pays i c (r.projects i c c_not)
           ]
           | inr i_not ↦ wrong-other e a.pays b.pays i c (r.voters i c i_not)
         ]) h
 
-pub steps-added : (e : Instance) (rows more closed opened steps : ℕ) → more ≡ rows + 1 → AreSteps e rows closed opened steps → AreSteps e more closed opened (steps + 1)
+pub steps-added : (e : Instance) (rows more closed opened steps : ℕ) → more ≡ rows + 1
+    → AreSteps e rows closed opened steps → AreSteps e more closed opened (steps + 1)
 steps-added e rows more closed opened steps is h = record {
   low = omega (arith, h.low);
   high = omega (arith, h.high);
@@ -149,33 +180,53 @@ steps-added e rows more closed opened steps is h = record {
 }
 
 -- all of it
-pub added : (e : Instance) (a b : Taken) (t u : Tally) (q : PriceRow) (v : ProjectSums) → Tallied e a t → TakesRow a b q → IsVoter e q.voter → IsProject e q.project → q.payment ≤ 10 ^ 21
+pub added : (e : Instance) (a b : Taken) (t u : Tally) (q : PriceRow) (v : ProjectSums) → Tallied e a t → TakesRow a b q
+    → IsVoter e q.voter → IsProject e q.project → q.payment ≤ 10 ^ 21
     → t.closed + 1 ≡ q.voter → t.opened ≡ q.voter → v ≡ get_or t.projects.items (q.project - 1) v
     → u.budget ≡ t.budget → u.closed ≡ t.closed → u.opened ≡ t.opened
     → u.projects.items ≡ set t.projects.items (q.project - 1) (with_payment (payment_grains q.payment) v)
-    → u.unapproved.first ≡ cond (nat_lt 0 q.payment && not (v.last_approver == q.voter)) (first_pair t.unapproved.first q.voter q.project) t.unapproved.first
-    → u.unapproved.count ≡ cond (nat_lt 0 q.payment && not (v.last_approver == q.voter)) (t.unapproved.count + 1) t.unapproved.count
-    → u.over_budget ≡ t.over_budget → u.steps ≡ t.steps + 1 → u.spent ≡ t.spent + payment_grains q.payment → u.largest ≡ max t.largest (payment_grains q.payment)
+    → u.unapproved.first ≡ cond (nat_lt 0 q.payment && not (v.last_approver == q.voter))
+    (first_pair t.unapproved.first q.voter q.project) t.unapproved.first
+    → u.unapproved.count ≡ cond (nat_lt 0 q.payment && not (v.last_approver == q.voter)) (t.unapproved.count + 1)
+    t.unapproved.count
+    → u.over_budget ≡ t.over_budget → u.steps ≡ t.steps + 1 → u.spent ≡ t.spent + payment_grains q.payment
+    → u.largest ≡ max t.largest (payment_grains q.payment)
     → Tallied e b u
-added e a b t u q v h r iv ip small at_hand open_is is budget closed opened sums unapproved count over steps spent largest =
+added e a b t u q v h r iv ip small at_hand open_is is budget closed opened sums unapproved count over steps spent
+    largest =
     let low : t.closed < q.voter = omega arith in
     let from : 1 ≤ q.project = ip.0 in
     let to : q.project ≤ projects e = ip.1 in
     let place : q.project - 1 < projects e = omega arith in
     let back : q.project - 1 + 1 ≡ q.project = omega arith in
     let marked : (v.last_approver == q.voter) ≡ approves e q.voter q.project =
-    ap (λ x. x.last_approver == q.voter) is ∙ ap (λ n. (get_or t.projects.items (q.project - 1) v).last_approver == n) (sym open_is)
-    ∙ h.sums.marked (q.project - 1) v place (omega arith) ∙ ap (λ n. approves e n (q.project - 1 + 1)) open_is ∙ ap (approves e q.voter) back in
+    ap (λ x. x.last_approver == q.voter) is
+    ∙ ap (λ n. (get_or t.projects.items (q.project - 1) v).last_approver == n) (sym open_is)
+    ∙ h.sums.marked (q.project - 1) v place (omega arith) ∙ ap (λ n. approves e n (q.project - 1 + 1)) open_is
+    ∙ ap (approves e q.voter) back in
     record {
       sound = h.sound;
       budget = budget ∙ h.budget ∙ sym r.budget;
       taken = rw (closed, opened) (taken-added e a b t.closed t.opened q h.taken r small at_hand open_is);
       sums = rw (closed, opened, sums) (sums-added e a b t.closed t.opened t.projects.items q v h.sums r iv ip low is);
-      spent = spent ∙ ap (λ n. n + payment_grains q.payment) (h.spent ∙ ap (spent_by e a.pays) at_hand) ∙ sym (spent-here e a b q r ip) ∙ ap (spent_by e b.pays) (sym at_hand ∙ ap (λ n. n + 1) (sym closed));
-      largest = largest ∙ ap (λ n. max n (payment_grains q.payment)) (h.largest ∙ ap (top_by e a.pays) at_hand) ∙ sym (top-here e a b q r ip) ∙ ap (top_by e b.pays) (sym at_hand ∙ ap (λ n. n + 1) (sym closed));
-      unapproved = rw unapproved (wrong-added e a b q (v.last_approver == q.voter) t.unapproved.first r iv ip (λ i c late. h.taken.not_later i c (omega arith)) marked h.unapproved);
-      count_unapproved = count-added e a b q (v.last_approver == q.voter) t.unapproved.count u.unapproved.count r iv ip marked h.count_unapproved count;
-      few_unapproved = omega (arith, r.rows, count-few (nat_lt 0 q.payment && not (v.last_approver == q.voter)) t.unapproved.count u.unapproved.count a.rows h.few_unapproved count);
+      spent = spent ∙ ap (λ n. n + payment_grains q.payment) (h.spent ∙ ap (spent_by e a.pays) at_hand)
+          ∙ sym (spent-here e a b q r ip) ∙ ap (spent_by e b.pays) (sym at_hand ∙ ap (λ n. n + 1) (sym closed));
+      largest = largest ∙ ap (λ n. max n (payment_grains q.payment)) (h.largest ∙ ap (top_by e a.pays) at_hand)
+          ∙ sym (top-here e a b q r ip) ∙ ap (top_by e b.pays) (sym at_hand ∙ ap (λ n. n + 1) (sym closed));
+      unapproved =
+          rw unapproved
+          (wrong-added e a b q (v.last_approver == q.voter) t.unapproved.first r iv ip
+          (λ i c late. h.taken.not_later i c (omega arith)) marked h.unapproved);
+      count_unapproved =
+          count-added e a b q (v.last_approver == q.voter) t.unapproved.count u.unapproved.count r iv ip marked
+          h.count_unapproved count;
+      few_unapproved =
+          omega (
+            arith,
+            r.rows,
+            count-few (nat_lt 0 q.payment && not (v.last_approver == q.voter)) t.unapproved.count u.unapproved.count
+                a.rows h.few_unapproved count,
+          );
       over_budget = rw (closed, over) (over-kept e a b q t.closed t.over_budget r low h.over_budget);
       steps = rw (closed, opened, steps) (steps-added e a.rows b.rows t.closed t.opened t.steps r.rows h.steps);
     }

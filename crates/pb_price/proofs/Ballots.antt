@@ -6,14 +6,15 @@ use Rattle.std.proofs.lemmas.List.{get_or_default, length-set}
 use Rattle.pb_election.specs.Instance.{IsSet}
 use Rattle.pb_cohesion.proofs.Loops.{set-at}
 use Rattle.pb_cohesion.proofs.Sums.{among}
-use Rattle.pb_price.specs.Tallies.{AreChanged, AreSmall}
+use Rattle.pb_price.specs.Inside.Tallies.{AreChanged, AreSmall}
 use Rattle.pb_price.specs.declared.tally.ProjectSums.{ProjectSums}
 
 abbrev pub nothing : ProjectSums
 nothing = record { paid = 0; left = pos 0; offer = pos 0; supporters = 0; last_approver = 0 }
 
 -- what holds of the sums of a project after a write, by whether they were written
-pub written : (xs : List ProjectSums) (i p : ℕ) (v d : ProjectSums) (P : ProjectSums → Type 0) → p < length xs → (p ≡ i → P v) → ((p ≡ i → ⊥) → P (get_or xs p d)) → P (get_or (set xs i v) p d)
+pub written : (xs : List ProjectSums) (i p : ℕ) (v d : ProjectSums) (P : ProjectSums → Type 0) → p < length xs
+    → (p ≡ i → P v) → ((p ≡ i → ⊥) → P (get_or xs p d)) → P (get_or (set xs i v) p d)
 written xs i p v d P within here other = elim (cases_eq p i) [
   | inl e ↦
       let in_list : i < length xs = omega arith in
@@ -22,7 +23,8 @@ written xs i p v d P within here other = elim (cases_eq p i) [
 ]
 
 -- the sums that were read there
-pub read : (xs : List ProjectSums) (i p : ℕ) (d : ProjectSums) → p < length xs → p ≡ i → get_or xs i nothing ≡ get_or xs p d
+pub read : (xs : List ProjectSums) (i p : ℕ) (d : ProjectSums) → p < length xs → p ≡ i
+    → get_or xs i nothing ≡ get_or xs p d
 read xs i p d within e = ap (λ k. get_or xs k nothing) (sym e) ∙ get_or_default xs p nothing d within
 
 -- the front of a ballot with one more project
@@ -43,11 +45,13 @@ miss (y ∷ ys) (suc k) x h ne = rw (miss ys k x (omega arith) ne) refl
 pub among-hit : (b : List ℕ) (k x : ℕ) → k < length b → get_or b k 0 ≡ x → among (take (k + 1) b) x ≡ true
 among-hit b k x h e = let next : k + 1 ≡ suc k = omega arith in ap (λ m. among (take m b) x) next ∙ hit b k x h e
 
-pub among-miss : (b : List ℕ) (k x : ℕ) → k < length b → (get_or b k 0 ≡ x → ⊥) → among (take (k + 1) b) x ≡ among (take k b) x
+pub among-miss : (b : List ℕ) (k x : ℕ) → k < length b → (get_or b k 0 ≡ x → ⊥)
+    → among (take (k + 1) b) x ≡ among (take k b) x
 among-miss b k x h ne = let next : k + 1 ≡ suc k = omega arith in ap (λ m. among (take m b) x) next ∙ miss b k x h ne
 
 -- a set has no number twice
-pub among-fresh : (b : List ℕ) (k low high : ℕ) → IsSet low high b → k < length b → among (take k b) (get_or b k 0) ≡ false
+pub among-fresh : (b : List ℕ) (k low high : ℕ) → IsSet low high b → k < length b
+    → among (take k b) (get_or b k 0) ≡ false
 among-fresh [] k low high s h = absurd (omega arith)
 among-fresh (y ∷ ys) zero low high s h = refl
 among-fresh (y ∷ ys) (suc k) low high s h =
@@ -62,30 +66,41 @@ pub high : (n : ℕ) (b : List ℕ) (k : ℕ) → IsSet 1 n b → k < length b �
 high n b k s h = (set-at 1 n b k s h).1
 
 -- a project that comes has not been changed yet
-not-yet : (change : ProjectSums → ProjectSums) (old xs : List ProjectSums) (b : List ℕ) (k p : ℕ) (d : ProjectSums) → IsSet 1 (length old) b → k < length b → AreChanged change old xs (take k b) → p ≡ get_or b k 0 - 1 → p < length old
+not-yet : (change : ProjectSums → ProjectSums) (old xs : List ProjectSums) (b : List ℕ) (k p : ℕ) (d : ProjectSums)
+    → IsSet 1 (length old) b → k < length b → AreChanged change old xs (take k b) → p ≡ get_or b k 0 - 1
+    → p < length old
     → get_or xs p d ≡ get_or old p d
 not-yet change old xs b k p d s h m e w =
     let from : 1 ≤ get_or b k 0 = low (length old) b k s h in
     let is : p + 1 ≡ get_or b k 0 = omega arith in
-    m.each p d w ∙ ap (λ c. cond c (change (get_or old p d)) (get_or old p d)) (ap (among (take k b)) is ∙ among-fresh b k 1 (length old) s h)
+    m.each p d w ∙ ap (λ c. cond c (change (get_or old p d)) (get_or old p d))
+    (ap (among (take k b)) is ∙ among-fresh b k 1 (length old) s h)
 
-pub small-yet : (change : ProjectSums → ProjectSums) (old xs : List ProjectSums) (b : List ℕ) (k : ℕ) (d : ProjectSums) → IsSet 1 (length old) b → k < length b → AreChanged change old xs (take k b)
-    → ((p : ℕ) (x : ProjectSums) → p < length old → AreSmall (get_or old p x)) → AreSmall (get_or xs (get_or b k 0 - 1) d)
+pub small-yet : (change : ProjectSums → ProjectSums) (old xs : List ProjectSums) (b : List ℕ) (k : ℕ) (d : ProjectSums)
+    → IsSet 1 (length old) b → k < length b → AreChanged change old xs (take k b)
+    → ((p : ℕ) (x : ProjectSums) → p < length old → AreSmall (get_or old p x))
+    → AreSmall (get_or xs (get_or b k 0 - 1) d)
 small-yet change old xs b k d s h m small =
     let from : 1 ≤ get_or b k 0 = low (length old) b k s h in
     let to : get_or b k 0 ≤ length old = high (length old) b k s h in
     let within : get_or b k 0 - 1 < length old = omega arith in
-    subst AreSmall (sym (not-yet change old xs b k (get_or b k 0 - 1) d s h m refl within)) (small (get_or b k 0 - 1) d within)
+    subst AreSmall (sym (not-yet change old xs b k (get_or b k 0 - 1) d s h m refl within))
+    (small (get_or b k 0 - 1) d within)
 
-pub change-next : (change : ProjectSums → ProjectSums) (old xs : List ProjectSums) (b : List ℕ) (k : ℕ) → IsSet 1 (length old) b → k < length b → AreChanged change old xs (take k b)
+pub change-next : (change : ProjectSums → ProjectSums) (old xs : List ProjectSums) (b : List ℕ) (k : ℕ)
+    → IsSet 1 (length old) b → k < length b → AreChanged change old xs (take k b)
     → AreChanged change old (set xs (get_or b k 0 - 1) (change (get_or xs (get_or b k 0 - 1) nothing))) (take (k + 1) b)
 change-next change old xs b k s h m =
     let i : ℕ = get_or b k 0 - 1 in
     let from : 1 ≤ get_or b k 0 = low (length old) b k s h in
     record {
       as_many = length-set xs (get_or b k 0 - 1) (change (get_or xs (get_or b k 0 - 1) nothing)) ∙ m.as_many;
-      each = λ p d w. written xs i p (change (get_or xs (get_or b k 0 - 1) nothing)) d (λ x. x ≡ cond (among (take (k + 1) b) (p + 1)) (change (get_or old p d)) (get_or old p d)) (rw m.as_many w)
+      each = λ p d w. written xs i p (change (get_or xs (get_or b k 0 - 1) nothing)) d
+          (λ x. x ≡ cond (among (take (k + 1) b) (p + 1)) (change (get_or old p d)) (get_or old p d)) (rw m.as_many w)
           (λ e. ap change (read xs i p d (rw m.as_many w) e ∙ not-yet change old xs b k p d s h m e w)
           ∙ sym (ap (λ c. cond c (change (get_or old p d)) (get_or old p d)) (among-hit b k (p + 1) h (omega arith))))
-          (λ ne. m.each p d w ∙ sym (ap (λ c. cond c (change (get_or old p d)) (get_or old p d)) (among-miss b k (p + 1) h (λ e. ne (omega arith)))));
+          (λ ne. m.each p d w
+          ∙ sym
+          (ap (λ c. cond c (change (get_or old p d)) (get_or old p d))
+          (among-miss b k (p + 1) h (λ e. ne (omega arith)))));
     }

@@ -8,10 +8,10 @@ use Rattle.std.proofs.lemmas.List.Sums.{get_or-le-sum_by, sum_by-take-le}
 use Rattle.pb_election.specs.Instance.{Instance, IsProject, approvals, approves, ballot_of, projects, voters}
 use Rattle.pb_cohesion.specs.Conditions.{sum_ℤ}
 use Rattle.pb_price.specs.Findings.{comparison}
-use Rattle.pb_price.specs.Noted.{IsShown, among}
-use Rattle.pb_price.specs.Looked.{IsSmallComparison}
+use Rattle.pb_price.specs.Inside.Noted.{IsShown, among}
+use Rattle.pb_price.specs.Inside.Looked.{IsSmallComparison}
 use Rattle.pb_price.specs.declared.Comparison.{Comparison}
-use Rattle.pb_price.specs.Tallies.{AreChanged, AreInRange, AreSmall, IsWithin, Taken, Tallied, first_supporters, left_by, most_by, paid_by, spent_by, sums_of}
+use Rattle.pb_price.specs.Inside.Tallies.{AreChanged, AreInRange, AreSmall, IsWithin, Taken, Tallied, first_supporters, left_by, most_by, paid_by, spent_by, sums_of}
 use Rattle.pb_price.specs.declared.tally.ProjectSums.{ProjectSums}
 use Rattle.pb_price.specs.declared.tally.Tally.{Tally}
 use Rattle.pb_price.proofs.Amounts.{left-small, most-small, paid-most, spent-most, top-most}
@@ -24,45 +24,73 @@ spent-bound e a t h = omega (arith, h.spent, spent-most e a.pays (t.closed + 1) 
 pub largest-bound : (e : Instance) (a : Taken) (t : Tally) → Tallied e a t → t.largest ≤ 10 ^ 27
 largest-bound e a t h = omega (arith, h.largest, top-most e a.pays (t.closed + 1) h.taken.small)
 
-pub paid-bound : (e : Instance) (a : Taken) (t : Tally) (k : ℕ) (v : ProjectSums) → Tallied e a t → k < projects e → v ≡ get_or t.projects.items k v → v.paid ≤ 10 ^ 6 * 10 ^ 27
+pub paid-bound : (e : Instance) (a : Taken) (t : Tally) (k : ℕ) (v : ProjectSums) → Tallied e a t → k < projects e
+    → v ≡ get_or t.projects.items k v → v.paid ≤ 10 ^ 6 * 10 ^ 27
 paid-bound e a t k v h within is =
     let paid_is : v.paid ≡ paid_by e a.pays (k + 1) = ap (λ x. x.paid) is ∙ h.sums.paid k v within in
     omega (arith, paid_is, paid-most e a.pays (k + 1) h.taken.small, h.sound.few_voters)
 
-few-times : (n k : ℕ) (x : ℤ) → k ≤ n → n ≤ 1000000 → (neg_ℤ (pos (k * 10 ^ 32)) ≤ℤ x) × (x ≤ℤ pos (k * 10 ^ 32)) → IsWithin (10 ^ 38) x
+few-times : (n k : ℕ) (x : ℤ) → k ≤ n → n ≤ 1000000 → (neg_ℤ (pos (k * 10 ^ 32)) ≤ℤ x) × (x ≤ℤ pos (k * 10 ^ 32))
+    → IsWithin (10 ^ 38) x
 few-times n k x h few b =
     let low = b.0 in
     let high = b.1 in
     (omega (arith, ints), omega (arith, ints))
 
 -- what is known of the voter at hand, and of the sums before it is closed
-pub left-bound : (e : Instance) (a : Taken) (t : Tally) (i : ℕ) → Tallied e a t → IsWithin (10 ^ 32) (left_by a.budget e a.pays i)
+pub left-bound : (e : Instance) (a : Taken) (t : Tally) (i : ℕ) → Tallied e a t
+    → IsWithin (10 ^ 32) (left_by a.budget e a.pays i)
 left-bound e a t i h = left-small a.budget e a.pays i h.sound.few_projects h.taken.small_budget h.taken.small
 
-pub most-bound : (e : Instance) (a : Taken) (t : Tally) (i : ℕ) → Tallied e a t → IsWithin (10 ^ 32) (most_by a.budget e a.pays i)
+pub most-bound : (e : Instance) (a : Taken) (t : Tally) (i : ℕ) → Tallied e a t
+    → IsWithin (10 ^ 32) (most_by a.budget e a.pays i)
 most-bound e a t i h = most-small a.budget e a.pays i h.taken.small_budget h.taken.small
 
-pub sums-bound : (e : Instance) (a : Taken) (t : Tally) (k : ℕ) (d : ProjectSums) → Tallied e a t → t.closed < voters e → k < projects e → AreSmall (get_or t.projects.items k d)
+pub sums-bound : (e : Instance) (a : Taken) (t : Tally) (k : ℕ) (d : ProjectSums) → Tallied e a t → t.closed < voters e
+    → k < projects e → AreSmall (get_or t.projects.items k d)
 sums-bound e a t k d h more within =
-    let few : length (first_supporters e t.closed (k + 1)) ≤ t.closed = count-most (λ i. approves e i (k + 1)) 1 t.closed in
+    let few : length (first_supporters e t.closed (k + 1)) ≤ t.closed =
+    count-most (λ i. approves e i (k + 1)) 1 t.closed in
     let closed : t.closed ≤ 1000000 = omega (arith, h.sound.few_voters) in
     record {
-      left = rw (h.sums.left k d within) (few-times t.closed (length (first_supporters e t.closed (k + 1))) (sum_ℤ (left_by a.budget e a.pays) (first_supporters e t.closed (k + 1))) few closed (signed-most (left_by a.budget e a.pays) (first_supporters e t.closed (k + 1)) (λ i. left-bound e a t i h)));
-      offer = rw (h.sums.offer k d within) (few-times t.closed (length (first_supporters e t.closed (k + 1))) (sum_ℤ (most_by a.budget e a.pays) (first_supporters e t.closed (k + 1))) few closed (signed-most (most_by a.budget e a.pays) (first_supporters e t.closed (k + 1)) (λ i. most-bound e a t i h)));
+      left =
+          rw (h.sums.left k d within)
+          (few-times t.closed (length (first_supporters e t.closed (k + 1)))
+          (sum_ℤ (left_by a.budget e a.pays) (first_supporters e t.closed (k + 1))) few closed
+          (signed-most (left_by a.budget e a.pays) (first_supporters e t.closed (k + 1)) (λ i. left-bound e a t i h)));
+      offer =
+          rw (h.sums.offer k d within)
+          (few-times t.closed (length (first_supporters e t.closed (k + 1)))
+          (sum_ℤ (most_by a.budget e a.pays) (first_supporters e t.closed (k + 1))) few closed
+          (signed-most (most_by a.budget e a.pays) (first_supporters e t.closed (k + 1)) (λ i. most-bound e a t i h)));
       supporters = omega (arith, h.sums.count k d within);
     }
 
 -- the sums of all closed voters, of project c
-pub sums-of-bound : (e : Instance) (a : Taken) (t : Tally) (c : ℕ) → Tallied e a t → IsProject e c → AreInRange (sums_of t.projects.items c)
+pub sums-of-bound : (e : Instance) (a : Taken) (t : Tally) (c : ℕ) → Tallied e a t → IsProject e c
+    → AreInRange (sums_of t.projects.items c)
 sums-of-bound e a t c h ip =
     let low : 1 ≤ c = ip.0 in
     let within : c - 1 < projects e = omega (arith, ip.1) in
-    let few : length (first_supporters e t.closed (c - 1 + 1)) ≤ t.closed = count-most (λ i. approves e i (c - 1 + 1)) 1 t.closed in
+    let few : length (first_supporters e t.closed (c - 1 + 1)) ≤ t.closed =
+    count-most (λ i. approves e i (c - 1 + 1)) 1 t.closed in
     let closed : t.closed ≤ 1000000 = omega (arith, h.sound.few_voters, h.taken.within) in
     record {
-      paid = omega (arith, h.sums.paid (c - 1) nothing within, paid-most e a.pays (c - 1 + 1) h.taken.small, h.sound.few_voters);
-      left = rw (h.sums.left (c - 1) nothing within) (few-times t.closed (length (first_supporters e t.closed (c - 1 + 1))) (sum_ℤ (left_by a.budget e a.pays) (first_supporters e t.closed (c - 1 + 1))) few closed (signed-most (left_by a.budget e a.pays) (first_supporters e t.closed (c - 1 + 1)) (λ i. left-bound e a t i h)));
-      offer = rw (h.sums.offer (c - 1) nothing within) (few-times t.closed (length (first_supporters e t.closed (c - 1 + 1))) (sum_ℤ (most_by a.budget e a.pays) (first_supporters e t.closed (c - 1 + 1))) few closed (signed-most (most_by a.budget e a.pays) (first_supporters e t.closed (c - 1 + 1)) (λ i. most-bound e a t i h)));
+      paid =
+          omega
+          (arith, h.sums.paid (c - 1) nothing within, paid-most e a.pays (c - 1 + 1) h.taken.small, h.sound.few_voters);
+      left =
+          rw (h.sums.left (c - 1) nothing within)
+          (few-times t.closed (length (first_supporters e t.closed (c - 1 + 1)))
+          (sum_ℤ (left_by a.budget e a.pays) (first_supporters e t.closed (c - 1 + 1))) few closed
+          (signed-most (left_by a.budget e a.pays) (first_supporters e t.closed (c - 1 + 1))
+          (λ i. left-bound e a t i h)));
+      offer =
+          rw (h.sums.offer (c - 1) nothing within)
+          (few-times t.closed (length (first_supporters e t.closed (c - 1 + 1)))
+          (sum_ℤ (most_by a.budget e a.pays) (first_supporters e t.closed (c - 1 + 1))) few closed
+          (signed-most (most_by a.budget e a.pays) (first_supporters e t.closed (c - 1 + 1))
+          (λ i. most-bound e a t i h)));
     }
 
 long : (bs : List (List ℕ)) (k : ℕ) → length (get_or bs k []) ≤ approvals bs
@@ -76,25 +104,47 @@ ballot-bound e i = long e.ballots (i - 1)
 
 pub steps-bound : (e : Instance) (a : Taken) (t : Tally) → Tallied e a t → a.rows ≤ 10 ^ 12 → t.steps ≤ 2 ^ 61
 steps-bound e a t h few =
-    omega (arith, h.steps.high, few, h.sound.few_approvals, h.sound.few_voters, h.taken.within, ballot-bound e (t.closed + 1), sum_by-take-le (λ (xs : List ℕ). length xs) e.ballots t.closed)
+    omega (
+      arith,
+      h.steps.high,
+      few,
+      h.sound.few_approvals,
+      h.sound.few_voters,
+      h.taken.within,
+      ballot-bound e (t.closed + 1),
+      sum_by-take-le (λ (xs : List ℕ). length xs) e.ballots t.closed,
+    )
 
 -- the same lists
-pub changed-as : (change : ProjectSums → ProjectSums) (xs xs' ys ys' : List ProjectSums) (b b' : List ℕ) → xs' ≡ xs → ys' ≡ ys → b' ≡ b → AreChanged change xs' ys' b' → AreChanged change xs ys b
-changed-as change xs xs' ys ys' b b' p q r h = subst (λ z. AreChanged change xs ys z) r (subst (λ z. AreChanged change xs z b') q (subst (λ z. AreChanged change z ys' b') p h))
+pub changed-as : (change : ProjectSums → ProjectSums) (xs xs' ys ys' : List ProjectSums) (b b' : List ℕ) → xs' ≡ xs
+    → ys' ≡ ys → b' ≡ b → AreChanged change xs' ys' b' → AreChanged change xs ys b
+changed-as change xs xs' ys ys' b b' p q r h =
+    subst (λ z. AreChanged change xs ys z) r
+    (subst (λ z. AreChanged change xs z b') q (subst (λ z. AreChanged change z ys' b') p h))
 
 -- what is kept of C2
 pub over-few : (e : Instance) (a : Taken) (t : Tally) → Tallied e a t → t.over_budget.count ≤ 10 ^ 6
-over-few e a t h = omega (arith, h.over_budget.count, count-most (λ i. nat_lt a.budget (spent_by e a.pays i)) 1 t.closed, h.taken.within, h.sound.few_voters)
+over-few e a t h =
+    omega (
+      arith,
+      h.over_budget.count,
+      count-most (λ i. nat_lt a.budget (spent_by e a.pays i)) 1 t.closed,
+      h.taken.within,
+      h.sound.few_voters,
+    )
 
 pub over-small : (e : Instance) (a : Taken) (t : Tally) → Tallied e a t → IfSome t.over_budget.shown IsSmallComparison
 over-small e a t h = go t.over_budget.first t.over_budget.shown h.over_budget.shown
   where
     small : (i : ℕ) → IsSmallComparison (comparison (λ j. a.budget) (λ j. pos (spent_by e a.pays j)) i)
     small i =
-        let most : spent_by e a.pays i ≤ 20000 * 10 ^ 27 = omega (arith, spent-most e a.pays i h.taken.small, h.sound.few_projects) in
+        let most : spent_by e a.pays i ≤ 20000 * 10 ^ 27 =
+        omega (arith, spent-most e a.pays i h.taken.small, h.sound.few_projects) in
         record { bound = omega (arith, h.taken.small_budget); amount = (omega (arith, ints), omega (arith, ints)) }
 
-    go : (o : Option ℕ) (s : Option Comparison) → IsShown o (among t.closed (λ i. true)) (λ j. a.budget) (λ j. pos (spent_by e a.pays j)) s → IfSome s IsSmallComparison
+    go : (o : Option ℕ) (s : Option Comparison)
+        → IsShown o (among t.closed (λ i. true)) (λ j. a.budget) (λ j. pos (spent_by e a.pays j)) s
+        → IfSome s IsSmallComparison
     go (Some x) s k = subst (λ y. IfSome y IsSmallComparison) (sym k) (small x)
     go None None k = tt
     go None (Some m) k = subst IsSmallComparison (sym k.0) (small m.at)

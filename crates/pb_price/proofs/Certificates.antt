@@ -12,8 +12,8 @@ use Rattle.pb_certificate.specs.Rows.{Rows, given, prices_given}
 use Rattle.pb_certificate.specs.declared.refusal.CertRefusal.{CertRefusal}
 use Rattle.pb_certificate.proofs.PriceClear.{price-clear}
 use Rattle.pb_certificate.proofs.Texts.{stated-payment}
-use Rattle.pb_price.specs.Takings.{TakesCertificate, taken_from}
-use Rattle.pb_price.specs.Tallies.{IsTallyOf, Taken, Tallied}
+use Rattle.pb_price.specs.Inside.Takings.{TakesCertificate, taken_from}
+use Rattle.pb_price.specs.Inside.Tallies.{IsTallyOf, Taken, Tallied}
 use Rattle.pb_price.specs.declared.tally.Tally.{Tally}
 use Rattle.pb_price.proofs.Rows.{count-is, given-is}
 use Rattle.pb_price.proofs.Starting.{no_payment}
@@ -23,14 +23,16 @@ use Rattle.pb_price.proofs.Whole.{Agree, whole}
 taken-by : ℕ → List Payment → Taken
 taken-by b qs = record { budget = b; pays = stated qs; rows = length qs }
 
-pub before-rows : (e : Instance) (t : Tally) (r : Rows) (b : ℕ) → Tallied e (no_payment b) t → b ≡ payment_grains r.budget → given r ≡ [] → Tallied e (taken_from r) t
+pub before-rows : (e : Instance) (t : Tally) (r : Rows) (b : ℕ) → Tallied e (no_payment b) t
+    → b ≡ payment_grains r.budget → given r ≡ [] → Tallied e (taken_from r) t
 unfolding taken-by
 before-rows e t r b h budget none =
     let first : Tallied e (taken-by b []) t = h in
     subst (λ x. Tallied e (taken-by x (given r)) t) budget (subst (λ x. Tallied e (taken-by b x) t) (sym none) first)
 
 -- the text, of the same election and records
-text-of : (recs recs' : List Rec) (e e' : Instance) (p : Prices) → recs ≡ recs' → e ≡ e' → IsPriceText recs e p → IsPriceText recs' e' p
+text-of : (recs recs' : List Rec) (e e' : Instance) (p : Prices) → recs ≡ recs' → e ≡ e' → IsPriceText recs e p
+    → IsPriceText recs' e' p
 text-of recs recs' e e' p r s h = subst (λ x. IsPriceText recs' x p) s (subst (λ x. IsPriceText x e p) r h)
 
 pub record Certified (e : Instance) (recs : List Rec) (r : Rows) (end : Rows) (t : Tally) : Type 0 where
@@ -39,29 +41,37 @@ pub record Certified (e : Instance) (recs : List Rec) (r : Rows) (end : Rows) (t
   pub tally : IsTallyOf e (prices_given end) t
   pub rows : length (given end) ≡ length (drop 4 (nonblank recs))
 
-pub tallied-by : (r : Rows) (e : Instance) (t : Tally) (k : TakesCertificate r t) → r.election ≡ e → Tallied e (taken_from k.end) t
+pub tallied-by : (r : Rows) (e : Instance) (t : Tally) (k : TakesCertificate r t) → r.election ≡ e
+    → Tallied e (taken_from k.end) t
 tallied-by r e t k is = subst (λ x. Tallied x (taken_from k.end) t) is k.tallied
 
-pub certified : (r : Rows) (e : Instance) (recs : List Rec) (t new : Tally) (k : TakesCertificate r t) → r.election ≡ e → r.records ≡ recs → Tallied e (taken_from k.end) new → new.closed ≡ voters e → Certified e recs r k.end new
+pub certified : (r : Rows) (e : Instance) (recs : List Rec) (t new : Tally) (k : TakesCertificate r t) → r.election ≡ e
+    → r.records ≡ recs → Tallied e (taken_from k.end) new → new.closed ≡ voters e → Certified e recs r k.end new
 certified r e recs t new k is_e is_recs h all =
     let end_recs : k.end.records ≡ r.records = ap (λ x. x.records) k.same in
     let end_e : k.end.election ≡ r.election = ap (λ x. x.election) k.same in
-    let end_text : IsPriceText k.end.records k.end.election (prices_given k.end) = text-of r.records k.end.records r.election k.end.election (prices_given k.end) (sym end_recs) (sym end_e) k.states in
-    let none : nonblank (drop k.end.place k.end.records) ≡ [] = subst (λ x. nonblank (drop k.end.place x) ≡ []) (sym end_recs) k.no_row_left in
+    let end_text : IsPriceText k.end.records k.end.election (prices_given k.end) =
+    text-of r.records k.end.records r.election k.end.election (prices_given k.end) (sym end_recs) (sym end_e)
+    k.states in
+    let none : nonblank (drop k.end.place k.end.records) ≡ [] =
+    subst (λ x. nonblank (drop k.end.place x) ≡ []) (sym end_recs) k.no_row_left in
     let back : e ≡ k.end.election = sym (end_e ∙ is_e) in
     let agree : Agree e (stated (given k.end)) (payment (prices_given k.end)) = record {
       pays = λ i c iv ip. (
           ap (λ qs. stated qs i c) (given-is k.end (prices_given k.end) end_text none)
-          ∙ sym (stated-payment k.end.records k.end.election (prices_given k.end) end_text i c (subst (λ x. IsVoter x i) back iv) (subst (λ x. IsProject x c) back ip)));
+          ∙ sym (stated-payment k.end.records k.end.election (prices_given k.end) end_text i c
+          (subst (λ x. IsVoter x i) back iv) (subst (λ x. IsProject x c) back ip)));
     } in
     record {
       text = text-of r.records recs r.election e (prices_given k.end) is_recs is_e k.states;
       denominator = ap (λ x. x.denominator) k.same;
       tally = whole e (taken_from k.end) new (prices_given k.end) h all refl agree;
-      rows = count-is k.end (prices_given k.end) end_text none ∙ ap (λ x. length (drop 4 (nonblank x))) (end_recs ∙ is_recs);
+      rows = count-is k.end (prices_given k.end) end_text none
+          ∙ ap (λ x. length (drop 4 (nonblank x))) (end_recs ∙ is_recs);
     }
 
 -- a text is refused for want of memory alone
-pub only-memory : (recs : List Rec) (e : Instance) (p : Prices) (f : CertRefusal) → IsPriceText recs e p → (f ≡ no_memory) ⊎ IsFirstFault (price_form e) recs f.place f.fault → f ≡ no_memory
+pub only-memory : (recs : List Rec) (e : Instance) (p : Prices) (f : CertRefusal) → IsPriceText recs e p
+    → (f ≡ no_memory) ⊎ IsFirstFault (price_form e) recs f.place f.fault → f ≡ no_memory
 only-memory recs e p f text (inl h) = h
 only-memory recs e p f text (inr h) = absurd (price-clear recs e p text f.place f.fault h)

@@ -8,32 +8,39 @@ use Rattle.std.proofs.lemmas.Int.{ints}
 use Rattle.pb_cohesion.proofs.Culprits.{filter-filter, nil-filter}
 use Rattle.pb_cohesion.proofs.Loops.{range-first}
 use Rattle.pb_price.specs.Findings.{closest, comparison, excess, finding}
-use Rattle.pb_price.specs.Noted.{IsFindingBy, IsFindingTo, IsFirstGreatest, IsShown, among}
+use Rattle.pb_price.specs.Inside.Noted.{IsFindingBy, IsFindingTo, IsFirstGreatest, IsShown, among}
 use Rattle.pb_price.specs.declared.Comparison.{Comparison}
 use Rattle.pb_price.specs.declared.Finding.{Finding}
 use Rattle.pb_price.proofs.SameSums.{Same, finding-as}
 
 -- what holds of each number of a range that passes a test
-all-pass : (p r : ℕ → Bool) (n a : ℕ) → ((j : ℕ) → a ≤ j → j < a + n → r j ≡ true → p j ≡ true) → list_all p (filter r (range_with_len a n)) ≡ true
+all-pass : (p r : ℕ → Bool) (n a : ℕ) → ((j : ℕ) → a ≤ j → j < a + n → r j ≡ true → p j ≡ true)
+    → list_all p (filter r (range_with_len a n)) ≡ true
 all-pass p r zero a h = refl
 all-pass p r (suc n) a h = go (r a) refl (all-pass p r n (a + 1) (λ j low high. h j (omega arith) (omega arith)))
   where
-    go : (b : Bool) → r a ≡ b → list_all p (filter r (range_with_len (a + 1) n)) ≡ true → list_all p (cond b (a ∷ filter r (range_with_len (a + 1) n)) (filter r (range_with_len (a + 1) n))) ≡ true
+    go : (b : Bool) → r a ≡ b → list_all p (filter r (range_with_len (a + 1) n)) ≡ true
+        → list_all p (cond b (a ∷ filter r (range_with_len (a + 1) n)) (filter r (range_with_len (a + 1) n))) ≡ true
     go true is rest = rw (h a (omega arith) (omega arith) is) rest
     go false is rest = rest
 
-each-pass : (p r : ℕ → Bool) (n a : ℕ) → list_all p (filter r (range_with_len a n)) ≡ true → (j : ℕ) → a ≤ j → j < a + n → r j ≡ true → p j ≡ true
+each-pass : (p r : ℕ → Bool) (n a : ℕ) → list_all p (filter r (range_with_len a n)) ≡ true → (j : ℕ) → a ≤ j → j < a + n
+    → r j ≡ true → p j ≡ true
 each-pass p r zero a h j low high is = absurd (omega arith)
 each-pass p r (suc n) a h j low high is = elim (cases_eq j a) [
   | inl e ↦ ap p e ∙ first (r a) (ap r (sym e) ∙ is) refl h
   | inr e ↦ each-pass p r n (a + 1) (later (r a) h) j (omega arith) (omega arith) is
 ]
   where
-    first : (b : Bool) → r a ≡ true → r a ≡ b → list_all p (cond b (a ∷ filter r (range_with_len (a + 1) n)) (filter r (range_with_len (a + 1) n))) ≡ true → p a ≡ true
+    first : (b : Bool) → r a ≡ true → r a ≡ b
+        → list_all p (cond b (a ∷ filter r (range_with_len (a + 1) n)) (filter r (range_with_len (a + 1) n))) ≡ true
+        → p a ≡ true
     first true here k h' = (and_parts (p a) (list_all p (filter r (range_with_len (a + 1) n))) h').0
     first false here k h' = absurd (false≢true (sym k ∙ here))
 
-    later : (b : Bool) → list_all p (cond b (a ∷ filter r (range_with_len (a + 1) n)) (filter r (range_with_len (a + 1) n))) ≡ true → list_all p (filter r (range_with_len (a + 1) n)) ≡ true
+    later : (b : Bool)
+        → list_all p (cond b (a ∷ filter r (range_with_len (a + 1) n)) (filter r (range_with_len (a + 1) n))) ≡ true
+        → list_all p (filter r (range_with_len (a + 1) n)) ≡ true
     later true h' = (and_parts (p a) (list_all p (filter r (range_with_len (a + 1) n))) h').1
     later false h' = h'
 
@@ -55,21 +62,29 @@ same-int x y h k = omega (arith, ints)
 abbrev at_least_each : (ℕ → ℤ) → List ℕ → ℕ → Bool
 at_least_each f xs x = list_all (λ y. int_le (f y) (f x)) xs
 
-closest-is : (r : ℕ → Bool) (f : ℕ → ℤ) (n x : ℕ) → IsFirstGreatest (among n r) f x → closest (filter r (range_with_len 1 n)) f ≡ Some x
+closest-is : (r : ℕ → Bool) (f : ℕ → ℤ) (n x : ℕ) → IsFirstGreatest (among n r) f x
+    → closest (filter r (range_with_len 1 n)) f ≡ Some x
 closest-is r f n x h =
     let low : 1 ≤ x = h.one.0 in
     let high : x ≤ n = h.one.1 in
     ap (λ xs. slice_get xs 0) (filter-filter (at_least_each f (filter r (range_with_len 1 n))) r (range_with_len 1 n))
-    ∙ range-first (λ y. r y && at_least_each f (filter r (range_with_len 1 n)) y) n x (nil-filter (λ y. r y && at_least_each f (filter r (range_with_len 1 n)) y) (x - 1) 1 (λ j from to. before j from (omega arith))) low high here
+    ∙ range-first (λ y. r y && at_least_each f (filter r (range_with_len 1 n)) y) n x
+    (nil-filter (λ y. r y && at_least_each f (filter r (range_with_len 1 n)) y) (x - 1) 1
+    (λ j from to. before j from (omega arith))) low high here
   where
     here : (r x && at_least_each f (filter r (range_with_len 1 n)) x) ≡ true
-    here = rw h.one.2 (all-pass (λ y. int_le (f y) (f x)) r n 1 (λ j from to is. le-test (f j) (f x) (h.greatest j (from, omega arith, is))))
+    here =
+        rw h.one.2
+        (all-pass (λ y. int_le (f y) (f x)) r n 1
+        (λ j from to is. le-test (f j) (f x) (h.greatest j (from, omega arith, is))))
 
-    less : (j : ℕ) → 1 ≤ j → j < x → r j ≡ true → (b : Bool) → at_least_each f (filter r (range_with_len 1 n)) j ≡ b → b ≡ false
+    less : (j : ℕ) → 1 ≤ j → j < x → r j ≡ true → (b : Bool) → at_least_each f (filter r (range_with_len 1 n)) j ≡ b
+        → b ≡ false
     less j from to is true k =
         let high : x ≤ n = h.one.1 in
         let one : among n r j = (from, omega arith, is) in
-        let above : f x ≤ℤ f j = test-le (f x) (f j) (each-pass (λ y. int_le (f y) (f j)) r n 1 k x h.one.0 (omega arith) h.one.2) in
+        let above : f x ≤ℤ f j =
+        test-le (f x) (f j) (each-pass (λ y. int_le (f y) (f j)) r n 1 k x h.one.0 (omega arith) h.one.2) in
         let first : x ≤ j = h.lowest j one (same-int (f j) (f x) (h.greatest j one) above) in
         absurd (omega arith)
     less j from to is false k = refl
@@ -80,30 +95,47 @@ closest-is r f n x h =
       | inr is ↦ rw is refl
     ]
 
-none-closest : (r : ℕ → Bool) (f : ℕ → ℤ) (n : ℕ) → ((x : ℕ) → among n r x → ⊥) → closest (filter r (range_with_len 1 n)) f ≡ None
+none-closest : (r : ℕ → Bool) (f : ℕ → ℤ) (n : ℕ) → ((x : ℕ) → among n r x → ⊥)
+    → closest (filter r (range_with_len 1 n)) f ≡ None
 none-closest r f n none = ap (λ xs. closest xs f) (nil-filter r n 1 (λ j low high. fails j low high (r j) refl))
   where
     fails : (j : ℕ) → 1 ≤ j → j < 1 + n → (b : Bool) → r j ≡ b → r j ≡ false
     fails j low high true is = absurd (none j (low, omega arith, is))
     fails j low high false is = is
 
-shown-is : (n : ℕ) (r : ℕ → Bool) (bound : ℕ → ℕ) (amount : ℕ → ℤ) (o : Option ℕ) (s : Option Comparison) → IsShown o (among n r) bound amount s
-    → s ≡ option_map (comparison bound amount) (option_or o (closest (filter r (range_with_len 1 n)) (λ x. excess (comparison bound amount x))))
+shown-is : (n : ℕ) (r : ℕ → Bool) (bound : ℕ → ℕ) (amount : ℕ → ℤ) (o : Option ℕ) (s : Option Comparison)
+    → IsShown o (among n r) bound amount s
+    → s ≡ option_map (comparison bound amount)
+    (option_or o (closest (filter r (range_with_len 1 n)) (λ x. excess (comparison bound amount x))))
 shown-is n r bound amount (Some x) s h = h
-shown-is n r bound amount None None h = ap (option_map (comparison bound amount)) (sym (none-closest r (λ x. excess (comparison bound amount x)) n h))
-shown-is n r bound amount None (Some m) h = ap Some h.0 ∙ ap (option_map (comparison bound amount)) (sym (closest-is r (λ x. excess (comparison bound amount x)) n m.at h.1))
+shown-is n r bound amount None None h =
+    ap (option_map (comparison bound amount)) (sym (none-closest r (λ x. excess (comparison bound amount x)) n h))
+shown-is n r bound amount None (Some m) h = ap Some h.0
+    ∙ ap (option_map (comparison bound amount))
+    (sym (closest-is r (λ x. excess (comparison bound amount x)) n m.at h.1))
 
 abbrev make : Option ℕ → ℕ → Option Comparison → Finding
 make first count shown = record { first = first; count = count; shown = shown }
 
-finding-is : (n : ℕ) (r : ℕ → Bool) (culprits candidates : List ℕ) (bound : ℕ → ℕ) (amount : ℕ → ℤ) (f : Finding) → IsFindingBy culprits n r bound amount f → filter r (range_with_len 1 n) ≡ candidates → f ≡ finding culprits candidates bound amount
+finding-is : (n : ℕ) (r : ℕ → Bool) (culprits candidates : List ℕ) (bound : ℕ → ℕ) (amount : ℕ → ℤ) (f : Finding)
+    → IsFindingBy culprits n r bound amount f → filter r (range_with_len 1 n) ≡ candidates
+    → f ≡ finding culprits candidates bound amount
 finding-is n r culprits candidates bound amount f h is =
     ap (make f.first f.count) (shown-is n r bound amount f.first f.shown h.shown)
-    ∙ ap (λ o. make o f.count (option_map (comparison bound amount) (option_or o (closest (filter r (range_with_len 1 n)) (λ x. excess (comparison bound amount x)))))) h.first
-    ∙ ap (λ k. make (slice_get culprits 0) k (option_map (comparison bound amount) (option_or (slice_get culprits 0) (closest (filter r (range_with_len 1 n)) (λ x. excess (comparison bound amount x)))))) h.count
+    ∙ ap (λ o. make o f.count
+    (option_map (comparison bound amount)
+    (option_or o (closest (filter r (range_with_len 1 n)) (λ x. excess (comparison bound amount x)))))) h.first
+    ∙ ap (λ k. make (slice_get culprits 0) k
+    (option_map (comparison bound amount)
+    (option_or (slice_get culprits 0)
+    (closest (filter r (range_with_len 1 n)) (λ x. excess (comparison bound amount x)))))) h.count
     ∙ ap (λ xs. finding culprits xs bound amount) is
 
 -- the same by another account of the sums
-pub found-as : (n : ℕ) (q r : ℕ → Bool) (culprits candidates : List ℕ) (bound bound' : ℕ → ℕ) (amount amount' : ℕ → ℤ) (f : Finding) → IsFindingTo n q r bound amount f
-    → filter q (range_with_len 1 n) ≡ culprits → Same n bound bound' amount amount' → filter r (range_with_len 1 n) ≡ candidates → f ≡ finding culprits candidates bound' amount'
-found-as n q r culprits candidates bound bound' amount amount' f h is same among_is = finding-is n r culprits candidates bound' amount' f (finding-as n q r culprits bound bound' amount amount' f h is same) among_is
+pub found-as : (n : ℕ) (q r : ℕ → Bool) (culprits candidates : List ℕ) (bound bound' : ℕ → ℕ) (amount amount' : ℕ → ℤ)
+    (f : Finding) → IsFindingTo n q r bound amount f
+    → filter q (range_with_len 1 n) ≡ culprits → Same n bound bound' amount amount'
+    → filter r (range_with_len 1 n) ≡ candidates → f ≡ finding culprits candidates bound' amount'
+found-as n q r culprits candidates bound bound' amount amount' f h is same among_is =
+    finding-is n r culprits candidates bound' amount' f
+    (finding-as n q r culprits bound bound' amount amount' f h is same) among_is

@@ -7,13 +7,13 @@ use Rattle.std.specs.Int.{int_max}
 use Rattle.std.proofs.lemmas.Bool.{eq-eqb, ne_eqb}
 use Rattle.std.proofs.lemmas.List.Sums.{sum_by_more}
 use Rattle.pb_election.specs.Instance.{Instance, approvals, approves, ballot_of, voters}
-use Rattle.pb_price.specs.Tallies.{AreChanged, AreSumsOf, IsWithin, Taken, Tallied, left_by, marked_with, most_by, spent_by, top_by, with_supporter}
+use Rattle.pb_price.specs.Inside.Tallies.{AreChanged, AreSumsOf, IsWithin, Taken, Tallied, left_by, marked_with, most_by, spent_by, top_by, with_supporter}
 use Rattle.pb_price.specs.declared.tally.ProjectSums.{ProjectSums}
 use Rattle.pb_price.specs.declared.tally.Tally.{Tally}
 use Rattle.pb_price.proofs.Amounts.{spent-none, top-none}
 use Rattle.pb_price.proofs.Bounds.{left-bound, most-bound}
-use Rattle.pb_price.specs.Noted.{IsFindingTo, noted}
-use Rattle.pb_price.specs.Looked.{compared}
+use Rattle.pb_price.specs.Inside.Noted.{IsFindingTo, noted}
+use Rattle.pb_price.specs.Inside.Looked.{compared}
 use Rattle.pb_price.proofs.OneMore.{tried}
 use Rattle.pb_price.proofs.Signed.{count-next, signed-next, small-kept}
 
@@ -35,28 +35,51 @@ marked-count true i s = refl
 marked-count false i s = refl
 
 -- opened: the projects of its ballot are marked
-sums-opened : (e : Instance) (a : Taken) (closed opened : ℕ) (xs ys : List ProjectSums) → AreSumsOf e a closed opened xs → opened ≤ closed → AreChanged (marked_with (closed + 1)) xs ys (ballot_of e (closed + 1)) → AreSumsOf e a closed (closed + 1) ys
+sums-opened : (e : Instance) (a : Taken) (closed opened : ℕ) (xs ys : List ProjectSums) → AreSumsOf e a closed opened xs
+    → opened ≤ closed → AreChanged (marked_with (closed + 1)) xs ys (ballot_of e (closed + 1))
+    → AreSumsOf e a closed (closed + 1) ys
 sums-opened e a closed opened xs ys h early m = record {
   as_many = m.as_many ∙ h.as_many;
-  paid = λ k d w. (ap (λ x. x.paid) (m.each k d (rw h.as_many w)) ∙ marked-paid (approves e (closed + 1) (k + 1)) (closed + 1) (get_or xs k d) ∙ h.paid k d w);
-  left = λ k d w. (ap (λ x. x.left) (m.each k d (rw h.as_many w)) ∙ marked-left (approves e (closed + 1) (k + 1)) (closed + 1) (get_or xs k d) ∙ h.left k d w);
-  offer = λ k d w. (ap (λ x. x.offer) (m.each k d (rw h.as_many w)) ∙ marked-offer (approves e (closed + 1) (k + 1)) (closed + 1) (get_or xs k d) ∙ h.offer k d w);
-  count = λ k d w. (ap (λ x. x.supporters) (m.each k d (rw h.as_many w)) ∙ marked-count (approves e (closed + 1) (k + 1)) (closed + 1) (get_or xs k d) ∙ h.count k d w);
-  seen = λ k d w. rw (m.each k d (rw h.as_many w)) (seen_by (approves e (closed + 1) (k + 1)) (get_or xs k d) (h.seen k d w));
-  marked = λ k d w o. rw (m.each k d (rw h.as_many w)) (marked_by (approves e (closed + 1) (k + 1)) (get_or xs k d) (h.seen k d w));
+  paid =
+      λ k d w.
+      (ap (λ x. x.paid) (m.each k d (rw h.as_many w))
+      ∙ marked-paid (approves e (closed + 1) (k + 1)) (closed + 1) (get_or xs k d) ∙ h.paid k d w);
+  left =
+      λ k d w.
+      (ap (λ x. x.left) (m.each k d (rw h.as_many w))
+      ∙ marked-left (approves e (closed + 1) (k + 1)) (closed + 1) (get_or xs k d) ∙ h.left k d w);
+  offer =
+      λ k d w.
+      (ap (λ x. x.offer) (m.each k d (rw h.as_many w))
+      ∙ marked-offer (approves e (closed + 1) (k + 1)) (closed + 1) (get_or xs k d) ∙ h.offer k d w);
+  count =
+      λ k d w.
+      (ap (λ x. x.supporters) (m.each k d (rw h.as_many w))
+      ∙ marked-count (approves e (closed + 1) (k + 1)) (closed + 1) (get_or xs k d) ∙ h.count k d w);
+  seen =
+      λ k d w. rw (m.each k d (rw h.as_many w))
+      (seen_by (approves e (closed + 1) (k + 1)) (get_or xs k d) (h.seen k d w));
+  marked =
+      λ k d w o. rw (m.each k d (rw h.as_many w))
+      (marked_by (approves e (closed + 1) (k + 1)) (get_or xs k d) (h.seen k d w));
 }
   where
-    seen_by : (b : Bool) (s : ProjectSums) → s.last_approver ≤ opened → (cond b (marked_with (closed + 1) s) s).last_approver ≤ closed + 1
+    seen_by : (b : Bool) (s : ProjectSums) → s.last_approver ≤ opened
+        → (cond b (marked_with (closed + 1) s) s).last_approver ≤ closed + 1
     seen_by true s l = omega arith
     seen_by false s l = omega arith
 
-    marked_by : (b : Bool) (s : ProjectSums) → s.last_approver ≤ opened → ((cond b (marked_with (closed + 1) s) s).last_approver == closed + 1) ≡ b
+    marked_by : (b : Bool) (s : ProjectSums) → s.last_approver ≤ opened
+        → ((cond b (marked_with (closed + 1) s) s).last_approver == closed + 1) ≡ b
     marked_by true s l = eq-eqb (closed + 1) (closed + 1) refl
     marked_by false s l = ne_eqb s.last_approver (closed + 1) (λ is. omega arith)
 
-pub opened : (e : Instance) (a : Taken) (t u : Tally) → Tallied e a t → t.opened ≤ t.closed → AreChanged (marked_with (t.closed + 1)) t.projects.items u.projects.items (ballot_of e (t.closed + 1))
-    → u.budget ≡ t.budget → u.closed ≡ t.closed → u.opened ≡ t.closed + 1 → u.unapproved ≡ t.unapproved → u.over_budget ≡ t.over_budget
-    → u.steps ≡ t.steps + length (ballot_of e (t.closed + 1)) → u.spent ≡ t.spent → u.largest ≡ t.largest → Tallied e a u
+pub opened : (e : Instance) (a : Taken) (t u : Tally) → Tallied e a t → t.opened ≤ t.closed
+    → AreChanged (marked_with (t.closed + 1)) t.projects.items u.projects.items (ballot_of e (t.closed + 1))
+    → u.budget ≡ t.budget → u.closed ≡ t.closed → u.opened ≡ t.closed + 1 → u.unapproved ≡ t.unapproved
+    → u.over_budget ≡ t.over_budget
+    → u.steps ≡ t.steps + length (ballot_of e (t.closed + 1)) → u.spent ≡ t.spent → u.largest ≡ t.largest
+    → Tallied e a u
 opened e a t u h early m budget closed opened_is unapproved over steps spent largest = record {
   sound = h.sound;
   budget = budget ∙ h.budget;
@@ -87,15 +110,18 @@ closed-paid : (b : Bool) (l o : ℤ) (s : ProjectSums) → (cond b (with_support
 closed-paid true l o s = refl
 closed-paid false l o s = refl
 
-closed-left : (b : Bool) (l o : ℤ) (s : ProjectSums) → (cond b (with_supporter l o s) s).left ≡ cond b (s.left +ℤ l) s.left
+closed-left : (b : Bool) (l o : ℤ) (s : ProjectSums)
+    → (cond b (with_supporter l o s) s).left ≡ cond b (s.left +ℤ l) s.left
 closed-left true l o s = refl
 closed-left false l o s = refl
 
-closed-offer : (b : Bool) (l o : ℤ) (s : ProjectSums) → (cond b (with_supporter l o s) s).offer ≡ cond b (s.offer +ℤ o) s.offer
+closed-offer : (b : Bool) (l o : ℤ) (s : ProjectSums)
+    → (cond b (with_supporter l o s) s).offer ≡ cond b (s.offer +ℤ o) s.offer
 closed-offer true l o s = refl
 closed-offer false l o s = refl
 
-closed-count : (b : Bool) (l o : ℤ) (s : ProjectSums) → (cond b (with_supporter l o s) s).supporters ≡ cond b (s.supporters + 1) s.supporters
+closed-count : (b : Bool) (l o : ℤ) (s : ProjectSums)
+    → (cond b (with_supporter l o s) s).supporters ≡ cond b (s.supporters + 1) s.supporters
 closed-count true l o s = refl
 closed-count false l o s = refl
 
@@ -103,58 +129,84 @@ closed-seen : (b : Bool) (l o : ℤ) (s : ProjectSums) → (cond b (with_support
 closed-seen true l o s = refl
 closed-seen false l o s = refl
 
-sums-closed : (e : Instance) (a : Taken) (closed opened : ℕ) (l o : ℤ) (xs ys : List ProjectSums) → AreSumsOf e a closed opened xs → opened ≤ closed + 1
+sums-closed : (e : Instance) (a : Taken) (closed opened : ℕ) (l o : ℤ) (xs ys : List ProjectSums)
+    → AreSumsOf e a closed opened xs → opened ≤ closed + 1
     → l ≡ left_by a.budget e a.pays (closed + 1) → o ≡ most_by a.budget e a.pays (closed + 1)
     → AreChanged (with_supporter l o) xs ys (ballot_of e (closed + 1)) → AreSumsOf e a (closed + 1) opened ys
 sums-closed e a closed opened l o xs ys h seen_is l_is o_is m = record {
   as_many = m.as_many ∙ h.as_many;
-  paid = λ k d w. (ap (λ x. x.paid) (m.each k d (rw h.as_many w)) ∙ closed-paid (approves e (closed + 1) (k + 1)) l o (get_or xs k d) ∙ h.paid k d w);
+  paid =
+      λ k d w.
+      (ap (λ x. x.paid) (m.each k d (rw h.as_many w))
+      ∙ closed-paid (approves e (closed + 1) (k + 1)) l o (get_or xs k d) ∙ h.paid k d w);
   left = λ k d w. (
       ap (λ x. x.left) (m.each k d (rw h.as_many w)) ∙ closed-left (approves e (closed + 1) (k + 1)) l o (get_or xs k d)
       ∙ ap (λ x. cond (approves e (closed + 1) (k + 1)) ((get_or xs k d).left +ℤ x) (get_or xs k d).left) l_is
-      ∙ signed-next (left_by a.budget e a.pays) (λ i. approves e i (k + 1)) closed (get_or xs k d).left (approves e (closed + 1) (k + 1)) refl (h.left k d w));
+      ∙ signed-next (left_by a.budget e a.pays) (λ i. approves e i (k + 1)) closed (get_or xs k d).left
+      (approves e (closed + 1) (k + 1)) refl (h.left k d w));
   offer = λ k d w. (
-      ap (λ x. x.offer) (m.each k d (rw h.as_many w)) ∙ closed-offer (approves e (closed + 1) (k + 1)) l o (get_or xs k d)
+      ap (λ x. x.offer) (m.each k d (rw h.as_many w))
+      ∙ closed-offer (approves e (closed + 1) (k + 1)) l o (get_or xs k d)
       ∙ ap (λ x. cond (approves e (closed + 1) (k + 1)) ((get_or xs k d).offer +ℤ x) (get_or xs k d).offer) o_is
-      ∙ signed-next (most_by a.budget e a.pays) (λ i. approves e i (k + 1)) closed (get_or xs k d).offer (approves e (closed + 1) (k + 1)) refl (h.offer k d w));
+      ∙ signed-next (most_by a.budget e a.pays) (λ i. approves e i (k + 1)) closed (get_or xs k d).offer
+      (approves e (closed + 1) (k + 1)) refl (h.offer k d w));
   count = λ k d w. (
-      ap (λ x. x.supporters) (m.each k d (rw h.as_many w)) ∙ closed-count (approves e (closed + 1) (k + 1)) l o (get_or xs k d)
-      ∙ count-next (λ i. approves e i (k + 1)) closed (get_or xs k d).supporters (approves e (closed + 1) (k + 1)) refl (h.count k d w));
-  seen = λ k d w. omega (arith, ap (λ x. x.last_approver) (m.each k d (rw h.as_many w)), closed-seen (approves e (closed + 1) (k + 1)) l o (get_or xs k d), h.seen k d w);
+      ap (λ x. x.supporters) (m.each k d (rw h.as_many w))
+      ∙ closed-count (approves e (closed + 1) (k + 1)) l o (get_or xs k d)
+      ∙ count-next (λ i. approves e i (k + 1)) closed (get_or xs k d).supporters (approves e (closed + 1) (k + 1)) refl
+      (h.count k d w));
+  seen =
+      λ k d w. omega (
+        arith,
+        ap (λ x. x.last_approver) (m.each k d (rw h.as_many w)),
+        closed-seen (approves e (closed + 1) (k + 1)) l o (get_or xs k d),
+        h.seen k d w,
+      );
   marked = λ k d w early. absurd (omega arith);
 }
 
 -- the approvals of one more voter
-pub approvals-next : (e : Instance) (n : ℕ) → n < voters e → approvals (take (n + 1) e.ballots) ≡ approvals (take n e.ballots) + length (ballot_of e (n + 1))
+pub approvals-next : (e : Instance) (n : ℕ) → n < voters e
+    → approvals (take (n + 1) e.ballots) ≡ approvals (take n e.ballots) + length (ballot_of e (n + 1))
 approvals-next e n h =
     let same : n ≡ n + 1 - 1 = omega arith in
-    sum_by_more (λ (xs : List ℕ). length xs) e.ballots n [] h ∙ ap (λ k. approvals (take n e.ballots) + length (get_or e.ballots k [])) same
+    sum_by_more (λ (xs : List ℕ). length xs) e.ballots n [] h
+    ∙ ap (λ k. approvals (take n e.ballots) + length (get_or e.ballots k [])) same
 
 -- what the voter at hand has left and can offer
-left-is : (e : Instance) (a : Taken) (t : Tally) → Tallied e a t → pos t.budget -ℤ pos t.spent ≡ left_by a.budget e a.pays (t.closed + 1)
+left-is : (e : Instance) (a : Taken) (t : Tally) → Tallied e a t
+    → pos t.budget -ℤ pos t.spent ≡ left_by a.budget e a.pays (t.closed + 1)
 left-is e a t h = ap (λ x. pos x -ℤ pos t.spent) h.budget ∙ ap (λ x. pos a.budget -ℤ pos x) h.spent
 
-most-is : (e : Instance) (a : Taken) (t : Tally) → Tallied e a t → int_max (pos t.largest) (pos t.budget -ℤ pos t.spent) ≡ most_by a.budget e a.pays (t.closed + 1)
-most-is e a t h = ap (λ x. int_max (pos x) (pos t.budget -ℤ pos t.spent)) h.largest ∙ ap (int_max (pos (top_by e a.pays (t.closed + 1)))) (left-is e a t h)
+most-is : (e : Instance) (a : Taken) (t : Tally) → Tallied e a t
+    → int_max (pos t.largest) (pos t.budget -ℤ pos t.spent) ≡ most_by a.budget e a.pays (t.closed + 1)
+most-is e a t h = ap (λ x. int_max (pos x) (pos t.budget -ℤ pos t.spent)) h.largest
+    ∙ ap (int_max (pos (top_by e a.pays (t.closed + 1)))) (left-is e a t h)
 
 -- the same, as they are kept in 128 bits
-pub left-kept : (e : Instance) (a : Taken) (t : Tally) (l : ℤ) → Tallied e a t → l ≡ pos t.budget -ℤ pos t.spent → to_z w128 (of_z w128 l) ≡ left_by a.budget e a.pays (t.closed + 1)
+pub left-kept : (e : Instance) (a : Taken) (t : Tally) (l : ℤ) → Tallied e a t → l ≡ pos t.budget -ℤ pos t.spent
+    → to_z w128 (of_z w128 l) ≡ left_by a.budget e a.pays (t.closed + 1)
 left-kept e a t l h l_is =
     let now : l ≡ left_by a.budget e a.pays (t.closed + 1) = l_is ∙ left-is e a t h in
     small-kept l (subst (IsWithin (10 ^ 32)) (sym now) (left-bound e a t (t.closed + 1) h)) ∙ now
 
-pub most-kept : (e : Instance) (a : Taken) (t : Tally) (l o : ℤ) → Tallied e a t → l ≡ pos t.budget -ℤ pos t.spent → o ≡ int_max (pos t.largest) (to_z w128 (of_z w128 l))
+pub most-kept : (e : Instance) (a : Taken) (t : Tally) (l o : ℤ) → Tallied e a t → l ≡ pos t.budget -ℤ pos t.spent
+    → o ≡ int_max (pos t.largest) (to_z w128 (of_z w128 l))
     → to_z w128 (of_z w128 o) ≡ most_by a.budget e a.pays (t.closed + 1)
 most-kept e a t l o h l_is o_is =
-    let now : o ≡ most_by a.budget e a.pays (t.closed + 1) = o_is ∙ ap (int_max (pos t.largest)) (left-kept e a t l h l_is ∙ sym (left-is e a t h)) ∙ most-is e a t h in
+    let now : o ≡ most_by a.budget e a.pays (t.closed + 1) =
+    o_is ∙ ap (int_max (pos t.largest)) (left-kept e a t l h l_is ∙ sym (left-is e a t h)) ∙ most-is e a t h in
     small-kept o (subst (IsWithin (10 ^ 32)) (sym now) (most-bound e a t (t.closed + 1) h)) ∙ now
 
-pub closed : (e : Instance) (a : Taken) (t u : Tally) (l o : ℤ) → Tallied e a t → t.closed < voters e → l ≡ left_by a.budget e a.pays (t.closed + 1) → o ≡ most_by a.budget e a.pays (t.closed + 1)
+pub closed : (e : Instance) (a : Taken) (t u : Tally) (l o : ℤ) → Tallied e a t → t.closed < voters e
+    → l ≡ left_by a.budget e a.pays (t.closed + 1) → o ≡ most_by a.budget e a.pays (t.closed + 1)
     → AreChanged (with_supporter l o) t.projects.items u.projects.items (ballot_of e (t.closed + 1))
-    → u.budget ≡ t.budget → u.closed ≡ t.closed + 1 → u.opened ≡ t.opened → u.unapproved ≡ t.unapproved → u.over_budget ≡ noted (nat_lt t.budget t.spent) (compared (t.closed + 1) t.budget (pos t.spent)) t.over_budget
+    → u.budget ≡ t.budget → u.closed ≡ t.closed + 1 → u.opened ≡ t.opened → u.unapproved ≡ t.unapproved
+    → u.over_budget ≡ noted (nat_lt t.budget t.spent) (compared (t.closed + 1) t.budget (pos t.spent)) t.over_budget
     → u.steps ≡ t.steps + (length (ballot_of e (t.closed + 1)) + 1) → u.spent ≡ 0 → u.largest ≡ 0 → Tallied e a u
 closed e a t u l o h more l_is o_is m budget closed_is opened_is unapproved over steps spent largest =
-    let nothing_later : (c : ℕ) → a.pays (t.closed + 1 + 1) c ≡ 0 = λ c. h.taken.not_later (t.closed + 1 + 1) c (omega arith) in
+    let nothing_later : (c : ℕ) → a.pays (t.closed + 1 + 1) c ≡ 0 =
+    λ c. h.taken.not_later (t.closed + 1 + 1) c (omega arith) in
     record {
       sound = h.sound;
       budget = budget ∙ h.budget;
@@ -166,17 +218,26 @@ closed e a t u l o h more l_is o_is m budget closed_is opened_is unapproved over
         seen = omega (arith, h.taken.seen);
         not_unseen = λ c soon. nothing_later c;
       });
-      sums = rw (closed_is, opened_is) (sums-closed e a t.closed t.opened l o t.projects.items u.projects.items h.sums h.taken.seen l_is o_is m);
-      spent = spent ∙ sym (spent-none e a.pays (t.closed + 1 + 1) nothing_later) ∙ ap (λ n. spent_by e a.pays (n + 1)) (sym closed_is);
-      largest = largest ∙ sym (top-none e a.pays (t.closed + 1 + 1) nothing_later) ∙ ap (λ n. top_by e a.pays (n + 1)) (sym closed_is);
+      sums =
+          rw (closed_is, opened_is)
+          (sums-closed e a t.closed t.opened l o t.projects.items u.projects.items h.sums h.taken.seen l_is o_is m);
+      spent = spent ∙ sym (spent-none e a.pays (t.closed + 1 + 1) nothing_later)
+          ∙ ap (λ n. spent_by e a.pays (n + 1)) (sym closed_is);
+      largest = largest ∙ sym (top-none e a.pays (t.closed + 1 + 1) nothing_later)
+          ∙ ap (λ n. top_by e a.pays (n + 1)) (sym closed_is);
       unapproved = rw unapproved h.unapproved;
       count_unapproved = rw unapproved h.count_unapproved;
       few_unapproved = rw unapproved h.few_unapproved;
       over_budget =
           rw closed_is
-          (subst (λ f. IsFindingTo (t.closed + 1) (λ i. nat_lt a.budget (spent_by e a.pays i)) (λ i. true) (λ i. a.budget) (λ i. pos (spent_by e a.pays i)) f)
-          (sym (over ∙ ap (λ x. noted (nat_lt x t.spent) (compared (t.closed + 1) x (pos t.spent)) t.over_budget) h.budget ∙ ap (λ x. noted (nat_lt a.budget x) (compared (t.closed + 1) a.budget (pos x)) t.over_budget) h.spent))
-          (tried (λ i. nat_lt a.budget (spent_by e a.pays i)) (λ i. true) (λ i. a.budget) (λ i. pos (spent_by e a.pays i)) t.closed t.over_budget _ h.over_budget refl refl));
+          (subst
+          (λ f. IsFindingTo (t.closed + 1) (λ i. nat_lt a.budget (spent_by e a.pays i)) (λ i. true) (λ i. a.budget)
+          (λ i. pos (spent_by e a.pays i)) f)
+          (sym (over ∙ ap (λ x. noted (nat_lt x t.spent) (compared (t.closed + 1) x (pos t.spent)) t.over_budget)
+          h.budget
+          ∙ ap (λ x. noted (nat_lt a.budget x) (compared (t.closed + 1) a.budget (pos x)) t.over_budget) h.spent))
+          (tried (λ i. nat_lt a.budget (spent_by e a.pays i)) (λ i. true) (λ i. a.budget)
+          (λ i. pos (spent_by e a.pays i)) t.closed t.over_budget _ h.over_budget refl refl));
       steps = rw (closed_is, opened_is, steps) (record {
         low = omega (arith, h.steps.low);
         high = omega (arith, h.steps.high, approvals-next e t.closed more);

@@ -11,7 +11,7 @@ use Rattle.pb_cohesion.specs.Conditions.{culprits_of_C1}
 use Rattle.pb_cohesion.proofs.Ballots.{filter-same}
 use Rattle.pb_cohesion.proofs.Culprits.{nil-filter}
 use Rattle.pb_cohesion.proofs.Sums.{range-same, sum-zero}
-use Rattle.pb_price.specs.Tallies.{Taken, TakesRow, pays_wrongly, wrong_count}
+use Rattle.pb_price.specs.Inside.Tallies.{Taken, TakesRow, pays_wrongly, wrong_count}
 use Rattle.pb_price.proofs.Sums.{sum-one-changed, sum-one-more}
 
 -- those of one voter
@@ -20,30 +20,44 @@ wrong_of e f i = length (filter (pays_wrongly e f i) (all_projects e))
 
 -- no payment
 pub wrong-start : (e : Instance) → wrong_count e (λ i c. 0) ≡ 0
-wrong-start e = range-same (wrong_of e (λ i c. 0)) (λ i. 0) 1 (voters e) (λ i low high. ap (λ (xs : List ℕ). length xs) (nil-filter (pays_wrongly e (λ i c. 0) i) (projects e) 1 (λ c low' high'. refl))) ∙ sum-zero (all_voters e)
+wrong-start e = range-same (wrong_of e (λ i c. 0)) (λ i. 0) 1 (voters e)
+    (λ i low high. ap (λ (xs : List ℕ). length xs)
+    (nil-filter (pays_wrongly e (λ i c. 0) i) (projects e) 1 (λ c low' high'. refl))) ∙ sum-zero (all_voters e)
 
 -- one more row
 same-wrong : (e : Instance) (f g : ℕ → ℕ → ℕ) (i c : ℕ) → g i c ≡ f i c → pays_wrongly e g i c ≡ pays_wrongly e f i c
 same-wrong e f g i c h = ap (λ n. nat_lt 0 n && not (approves e i c)) h
 
-of-voter : (e : Instance) (a b : Taken) (q : PriceRow) (w : Bool) → TakesRow a b q → IsProject e q.project → pays_wrongly e b.pays q.voter q.project ≡ w → wrong_of e b.pays q.voter ≡ wrong_of e a.pays q.voter + cond w 1 0
+of-voter : (e : Instance) (a b : Taken) (q : PriceRow) (w : Bool) → TakesRow a b q → IsProject e q.project
+    → pays_wrongly e b.pays q.voter q.project ≡ w → wrong_of e b.pays q.voter ≡ wrong_of e a.pays q.voter + cond w 1 0
 of-voter e a b q w r ip is =
     length-filter (pays_wrongly e b.pays q.voter) (all_projects e)
-    ∙ sum-one-more (λ c. cond (pays_wrongly e a.pays q.voter c) 1 0) (λ c. cond (pays_wrongly e b.pays q.voter c) 1 0) (projects e) 1 q.project (cond w 1 0) ip.0 (let high : q.project ≤ projects e = ip.1 in omega arith)
-    (ap (λ n. cond (nat_lt 0 n && not (approves e q.voter q.project)) 1 0) r.none_yet) (ap (λ x. cond x 1 0) is) (λ c ne. ap (λ x. cond x 1 0) (same-wrong e a.pays b.pays q.voter c (r.projects q.voter c ne)))
+    ∙ sum-one-more (λ c. cond (pays_wrongly e a.pays q.voter c) 1 0) (λ c. cond (pays_wrongly e b.pays q.voter c) 1 0)
+    (projects e) 1 q.project (cond w 1 0) ip.0 (let high : q.project ≤ projects e = ip.1 in omega arith)
+    (ap (λ n. cond (nat_lt 0 n && not (approves e q.voter q.project)) 1 0) r.none_yet) (ap (λ x. cond x 1 0) is)
+    (λ c ne. ap (λ x. cond x 1 0) (same-wrong e a.pays b.pays q.voter c (r.projects q.voter c ne)))
     ∙ ap (λ n. n + cond w 1 0) (sym (length-filter (pays_wrongly e a.pays q.voter) (all_projects e)))
 
-of-other : (e : Instance) (a b : Taken) (q : PriceRow) (i : ℕ) → TakesRow a b q → (i ≡ q.voter → ⊥) → wrong_of e b.pays i ≡ wrong_of e a.pays i
-of-other e a b q i r ne = ap (λ (xs : List ℕ). length xs) (filter-same (pays_wrongly e b.pays i) (pays_wrongly e a.pays i) (projects e) 1 (λ c low high. same-wrong e a.pays b.pays i c (r.voters i c ne)))
+of-other : (e : Instance) (a b : Taken) (q : PriceRow) (i : ℕ) → TakesRow a b q → (i ≡ q.voter → ⊥)
+    → wrong_of e b.pays i ≡ wrong_of e a.pays i
+of-other e a b q i r ne =
+    ap (λ (xs : List ℕ). length xs)
+    (filter-same (pays_wrongly e b.pays i) (pays_wrongly e a.pays i) (projects e) 1
+    (λ c low high. same-wrong e a.pays b.pays i c (r.voters i c ne)))
 
-pub count-added : (e : Instance) (a b : Taken) (q : PriceRow) (approved : Bool) (n m : ℕ) → TakesRow a b q → IsVoter e q.voter → IsProject e q.project → approved ≡ approves e q.voter q.project
+pub count-added : (e : Instance) (a b : Taken) (q : PriceRow) (approved : Bool) (n m : ℕ) → TakesRow a b q
+    → IsVoter e q.voter → IsProject e q.project → approved ≡ approves e q.voter q.project
     → n ≡ wrong_count e a.pays → m ≡ cond (nat_lt 0 q.payment && not approved) (n + 1) n → m ≡ wrong_count e b.pays
 count-added e a b q approved n m r iv ip is before after =
-    after ∙ turn (nat_lt 0 q.payment && not approved) ∙ ap (λ k. k + cond (nat_lt 0 q.payment && not approved) 1 0) before
-    ∙ sym (sum-one-changed (wrong_of e a.pays) (wrong_of e b.pays) (voters e) 1 q.voter (cond (nat_lt 0 q.payment && not approved) 1 0) iv.0 (let high : q.voter ≤ voters e = iv.1 in omega arith) (of-voter e a b q (nat_lt 0 q.payment && not approved) r ip here) (λ i ne. of-other e a b q i r ne))
+    after ∙ turn (nat_lt 0 q.payment && not approved)
+    ∙ ap (λ k. k + cond (nat_lt 0 q.payment && not approved) 1 0) before
+    ∙ sym (sum-one-changed (wrong_of e a.pays) (wrong_of e b.pays) (voters e) 1 q.voter
+    (cond (nat_lt 0 q.payment && not approved) 1 0) iv.0 (let high : q.voter ≤ voters e = iv.1 in omega arith)
+    (of-voter e a b q (nat_lt 0 q.payment && not approved) r ip here) (λ i ne. of-other e a b q i r ne))
   where
     here : pays_wrongly e b.pays q.voter q.project ≡ (nat_lt 0 q.payment && not approved)
-    here = ap (λ k. nat_lt 0 k && not (approves e q.voter q.project)) r.here ∙ ap (λ y. nat_lt 0 q.payment && not y) (sym is)
+    here = ap (λ k. nat_lt 0 k && not (approves e q.voter q.project)) r.here
+        ∙ ap (λ y. nat_lt 0 q.payment && not y) (sym is)
 
     turn : (w : Bool) → cond w (n + 1) n ≡ n + cond w 1 0
     turn true = refl
@@ -58,11 +72,17 @@ abbrev pair : ℕ → ℕ → ℕ × ℕ
 pair i c = (i, c)
 
 abbrev wrong_pairs : Instance → Prices → ℕ → List (ℕ × ℕ)
-wrong_pairs e p i = map (λ c. pair i c) (filter (λ c. nat_lt 0 (payment p i c) && not (approves e i c)) (all_projects e))
+wrong_pairs e p i =
+    map (λ c. pair i c) (filter (λ c. nat_lt 0 (payment p i c) && not (approves e i c)) (all_projects e))
 
-pub count-culprits : (e : Instance) (f : ℕ → ℕ → ℕ) (p : Prices) → ((i c : ℕ) → IsVoter e i → IsProject e c → f i c ≡ payment p i c) → wrong_count e f ≡ length (culprits_of_C1 e p)
+pub count-culprits : (e : Instance) (f : ℕ → ℕ → ℕ) (p : Prices)
+    → ((i c : ℕ) → IsVoter e i → IsProject e c → f i c ≡ payment p i c) → wrong_count e f ≡ length (culprits_of_C1 e p)
 count-culprits e f p agree =
     range-same (wrong_of e f) (λ i. length (wrong_pairs e p i)) 1 (voters e) (λ i low high. (
-    ap (λ (xs : List ℕ). length xs) (filter-same (pays_wrongly e f i) (λ c. nat_lt 0 (payment p i c) && not (approves e i c)) (projects e) 1 (λ c low' high'. ap (λ n. nat_lt 0 n && not (approves e i c)) (agree i c (low, omega arith) (low', omega arith))))
-    ∙ sym (length-map (filter (λ c. nat_lt 0 (payment p i c) && not (approves e i c)) (all_projects e)) (λ c. pair i c))))
+    ap (λ (xs : List ℕ). length xs)
+    (filter-same (pays_wrongly e f i) (λ c. nat_lt 0 (payment p i c) && not (approves e i c)) (projects e) 1
+    (λ c low' high'. ap (λ n. nat_lt 0 n && not (approves e i c))
+    (agree i c (low, omega arith) (low', omega arith))))
+    ∙ sym (length-map (filter (λ c. nat_lt 0 (payment p i c) && not (approves e i c)) (all_projects e))
+    (λ c. pair i c))))
     ∙ sym (length-flat_map (wrong_pairs e p) (all_voters e))

@@ -15,8 +15,8 @@ use Rattle.pb_cohesion.specs.Outcome.{total, unfunded}
 use Rattle.pb_cohesion.proofs.Ballots.{filter-same}
 use Rattle.pb_cohesion.proofs.Culprits.{nil-filter}
 use Rattle.pb_price.specs.Findings.{finding, findings, payment_finding, total_grains}
-use Rattle.pb_price.specs.Looked.{AreFoundTo, has_room}
-use Rattle.pb_price.specs.Tallies.{AreSums}
+use Rattle.pb_price.specs.Inside.Looked.{AreFoundTo, has_room}
+use Rattle.pb_price.specs.Inside.Tallies.{AreSums}
 use Rattle.pb_price.specs.declared.Finding.{Finding}
 use Rattle.pb_price.specs.declared.Findings.{Findings}
 use Rattle.pb_price.specs.declared.PaymentFinding.{PaymentFinding}
@@ -46,14 +46,19 @@ room-is t k l d low = elim (cases_lt l (t + k)) [
     int-below : t * d + k * d ≤ l * d → int_le (pos (k * d)) (pos (l * d) -ℤ pos (t * d)) ≡ true
     int-below under = grind (arith, ints)
 
-room-culprits : (e : Instance) (w : List Bool) (d : ℕ) → 1 ≤ d → filter (has_room e w d (pos (cost_grains e.limit d) -ℤ pos (cost_grains (total e w) d))) (all_projects e) ≡ culprits_of_Exhaustive e w
+room-culprits : (e : Instance) (w : List Bool) (d : ℕ) → 1 ≤ d
+    → filter (has_room e w d (pos (cost_grains e.limit d) -ℤ pos (cost_grains (total e w) d))) (all_projects e)
+    ≡ culprits_of_Exhaustive e w
 room-culprits e w d low =
-    filter-same (has_room e w d (pos (cost_grains e.limit d) -ℤ pos (cost_grains (total e w) d))) (affordable e w) (projects e) 1 (λ c a b. ap (λ x. not (has w c) && x) (room-is (total e w) (cost_of e c) e.limit d low))
+    filter-same (has_room e w d (pos (cost_grains e.limit d) -ℤ pos (cost_grains (total e w) d))) (affordable e w)
+    (projects e) 1 (λ c a b. ap (λ x. not (has w c) && x) (room-is (total e w) (cost_of e c) e.limit d low))
     ∙ sym (affordable-is e w)
 
 -- the findings on projects
 pub record AreOn (e : Instance) (w : List Bool) (p : Prices) (f : ProjectFindings) : Type 0 where
-  pub exhaustive : f.exhaustive ≡ finding (culprits_of_Exhaustive e w) (unfunded e w) (cost e p) (λ c. pos (budget_limit e p) -ℤ pos (total_grains e w p))
+  pub exhaustive : f.exhaustive
+      ≡ finding (culprits_of_Exhaustive e w) (unfunded e w) (cost e p)
+      (λ c. pos (budget_limit e p) -ℤ pos (total_grains e w p))
   pub c3 : f.c3 ≡ finding (culprits_of_C3 e w p) [] (cost e p) (λ c. pos (paid e p c))
   pub c4 : f.c4 ≡ finding (culprits_of_C4 e w p) [] (λ c. 0) (λ c. pos (paid e p c))
   pub c5 : f.c5 ≡ finding (culprits_of_C5 e w p) (unfunded e w) (cost e p) (λ c. sum_ℤ (left e p) (supporters e c))
@@ -62,25 +67,53 @@ pub record AreOn (e : Instance) (w : List Bool) (p : Prices) (f : ProjectFinding
 none-among : (n : ℕ) → filter (λ c. false) (range_with_len 1 n) ≡ []
 none-among n = nil-filter (λ c. false) n 1 (λ c low high. refl)
 
-pub are-on : (e : Instance) (w : List Bool) (p : Prices) (d : ℕ) (sums : List ProjectSums) (remaining : ℤ) (f : ProjectFindings) → p.denominator ≡ d → 1 ≤ d → AreSums e p sums
-    → remaining ≡ pos (cost_grains e.limit d) -ℤ pos (cost_grains (total e w) d) → AreFoundTo (projects e) e w d remaining sums f → AreOn e w p f
+pub are-on : (e : Instance) (w : List Bool) (p : Prices) (d : ℕ) (sums : List ProjectSums) (remaining : ℤ)
+    (f : ProjectFindings) → p.denominator ≡ d → 1 ≤ d → AreSums e p sums
+    → remaining ≡ pos (cost_grains e.limit d) -ℤ pos (cost_grains (total e w) d)
+    → AreFoundTo (projects e) e w d remaining sums f → AreOn e w p f
 are-on e w p d sums remaining f is low h same k = record {
   exhaustive =
-      found-as (projects e) _ _ _ _ _ _ _ _ f.exhaustive k.exhaustive (ap (λ r. filter (has_room e w d r) (all_projects e)) same ∙ room-culprits e w d low)
-      (record { bounds = λ c a b. cost-at e p d c is; amounts = λ c a b. (same ∙ ap (λ x. pos (cost_grains e.limit x) -ℤ pos (cost_grains (total e w) x)) (sym is)) }) refl;
-  c3 = found-as (projects e) _ _ _ _ _ _ _ _ f.c3 k.c3 (exactly-is e w p d sums is h) (record { bounds = λ c a b. cost-at e p d c is; amounts = λ c a b. ap pos (paid-at e p sums c h a b) }) (none-among (projects e));
-  c4 = found-as (projects e) _ _ _ _ _ _ _ _ f.c4 k.c4 (vain-is e w p sums h) (record { bounds = λ c a b. refl; amounts = λ c a b. ap pos (paid-at e p sums c h a b) }) (none-among (projects e));
-  c5 = found-as (projects e) _ _ _ _ _ _ _ _ f.c5 k.c5 (plain-is e w p d sums is h) (record { bounds = λ c a b. cost-at e p d c is; amounts = λ c a b. left-at e p sums c h a b }) refl;
-  s5 = found-as (projects e) _ _ _ _ _ _ _ _ f.s5 k.s5 (stable-is e w p d sums is h) (record { bounds = λ c a b. cost-at e p d c is; amounts = λ c a b. offer-at e p sums c h a b }) refl;
+      found-as (projects e) _ _ _ _ _ _ _ _ f.exhaustive k.exhaustive
+      (ap (λ r. filter (has_room e w d r) (all_projects e)) same ∙ room-culprits e w d low)
+      (record {
+        bounds = λ c a b. cost-at e p d c is;
+        amounts = λ c a b. (same ∙ ap (λ x. pos (cost_grains e.limit x) -ℤ pos (cost_grains (total e w) x)) (sym is));
+      }) refl;
+  c3 = found-as (projects e) _ _ _ _ _ _ _ _ f.c3 k.c3 (exactly-is e w p d sums is h)
+      (record { bounds = λ c a b. cost-at e p d c is; amounts = λ c a b. ap pos (paid-at e p sums c h a b) })
+      (none-among (projects e));
+  c4 = found-as (projects e) _ _ _ _ _ _ _ _ f.c4 k.c4 (vain-is e w p sums h)
+      (record { bounds = λ c a b. refl; amounts = λ c a b. ap pos (paid-at e p sums c h a b) })
+      (none-among (projects e));
+  c5 = found-as (projects e) _ _ _ _ _ _ _ _ f.c5 k.c5 (plain-is e w p d sums is h)
+      (record { bounds = λ c a b. cost-at e p d c is; amounts = λ c a b. left-at e p sums c h a b }) refl;
+  s5 = found-as (projects e) _ _ _ _ _ _ _ _ f.s5 k.s5 (stable-is e w p d sums is h)
+      (record { bounds = λ c a b. cost-at e p d c is; amounts = λ c a b. offer-at e p sums c h a b }) refl;
 }
 
 -- findings of the same parts
 abbrev of : ℕ → ℕ → ℕ → ℕ → ℕ → Finding → PaymentFinding → Finding → Finding → Finding → Finding → Finding → Findings
-of a b c d e x y z u v s t = record { grains_per_unit = a; total = b; limit = c; voter_budget = d; budgets = e; exhaustive = x; c1 = y; c2 = z; c3 = u; c4 = v; c5 = s; s5 = t }
+of a b c d e x y z u v s t =
+    record {
+      grains_per_unit = a;
+      total = b;
+      limit = c;
+      voter_budget = d;
+      budgets = e;
+      exhaustive = x;
+      c1 = y;
+      c2 = z;
+      c3 = u;
+      c4 = v;
+      c5 = s;
+      s5 = t;
+    }
 
-of-parts : (a a' b b' c c' d d' e e' : ℕ) (x x' : Finding) (y y' : PaymentFinding) (z z' u u' v v' s s' t t' : Finding) → a ≡ a' → b ≡ b' → c ≡ c' → d ≡ d' → e ≡ e' → x ≡ x' → y ≡ y' → z ≡ z' → u ≡ u' → v ≡ v' → s ≡ s' → t ≡ t'
+of-parts : (a a' b b' c c' d d' e e' : ℕ) (x x' : Finding) (y y' : PaymentFinding) (z z' u u' v v' s s' t t' : Finding)
+    → a ≡ a' → b ≡ b' → c ≡ c' → d ≡ d' → e ≡ e' → x ≡ x' → y ≡ y' → z ≡ z' → u ≡ u' → v ≡ v' → s ≡ s' → t ≡ t'
     → of a b c d e x y z u v s t ≡ of a' b' c' d' e' x' y' z' u' v' s' t'
-of-parts a a' b b' c c' d d' e e' x x' y y' z z' u u' v v' s s' t t' p1 p2 p3 p4 p5 p6 p7 p8 p9 p10 p11 p12 = rw (p1, p2, p3, p4, p5, p6, p7, p8, p9, p10, p11, p12) refl
+of-parts a a' b b' c c' d d' e e' x x' y y' z z' u u' v v' s s' t t' p1 p2 p3 p4 p5 p6 p7 p8 p9 p10 p11 p12 =
+    rw (p1, p2, p3, p4, p5, p6, p7, p8, p9, p10, p11, p12) refl
 
 pub record HasFound (e : Instance) (w : List Bool) (p : Prices) (f : Findings) : Type 0 where
   pub grains_per_unit : f.grains_per_unit ≡ 10 ^ 6 * p.denominator
@@ -94,4 +127,6 @@ pub record HasFound (e : Instance) (w : List Bool) (p : Prices) (f : Findings) :
 
 pub are-findings : (e : Instance) (w : List Bool) (p : Prices) (f : Findings) → HasFound e w p f → f ≡ findings e w p
 are-findings e w p f h =
-    of-parts f.grains_per_unit _ f.total _ f.limit _ f.voter_budget _ f.budgets _ f.exhaustive _ f.c1 _ f.c2 _ f.c3 _ f.c4 _ f.c5 _ f.s5 _ h.grains_per_unit h.total h.limit h.voter_budget h.budgets h.on.exhaustive h.c1 h.c2 h.on.c3 h.on.c4 h.on.c5 h.on.s5
+    of-parts f.grains_per_unit _ f.total _ f.limit _ f.voter_budget _ f.budgets _ f.exhaustive _ f.c1 _ f.c2 _ f.c3 _
+    f.c4 _ f.c5 _ f.s5 _ h.grains_per_unit h.total h.limit h.voter_budget h.budgets h.on.exhaustive h.c1 h.c2
+    h.on.c3 h.on.c4 h.on.c5 h.on.s5

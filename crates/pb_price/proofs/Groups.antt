@@ -19,39 +19,50 @@ use Rattle.pb_price.specs.declared.Failure.TheVariants as failure
 use Rattle.pb_price.specs.declared.Verdict.{Verdict}
 use Rattle.pb_price.specs.declared.Verdict.TheVariants as verdict
 
-pub plain-yes : (m : Mode) (e : Instance) (w : List Bool) (p : Prices) → First m e w p ≡ None → m.stable ≡ false → NoGroupHasMoreLeft e w p
+pub plain-yes : (m : Mode) (e : Instance) (w : List Bool) (p : Prices) → First m e w p ≡ None → m.stable ≡ false
+    → NoGroupHasMoreLeft e w p
 plain-yes m e w p none is_plain s c unfunded group =
     let yes' : Supports m.stable m.exhaustive m.cover e w p = (supports-iff m e w p).0 none in
     plain.every_group e w p s c yes'.within_budget (yes'.plain is_plain) unfunded group
 
-pub plain-no : (m : Mode) (e : Instance) (w : List Bool) (p : Prices) (c : ℕ) → First m e w p ≡ Some (failure.C5 c) → SupportersHaveMoreLeft e p c
+pub plain-no : (m : Mode) (e : Instance) (w : List Bool) (p : Prices) (c : ℕ) → First m e w p ≡ Some (failure.C5 c)
+    → SupportersHaveMoreLeft e p c
 plain-no m e w p c h = plain.after_C5 e w p c (after_C5 m e w p c h)
 
-pub stable-yes : (m : Mode) (e : Instance) (w : List Bool) (p : Prices) → First m e w p ≡ None → m.stable ≡ true → NothingBlocks e w p
+pub stable-yes : (m : Mode) (e : Instance) (w : List Bool) (p : Prices) → First m e w p ≡ None → m.stable ≡ true
+    → NothingBlocks e w p
 stable-yes m e w p none is_stable s c x blocks =
     let yes' : Supports m.stable m.exhaustive m.cover e w p = (supports-iff m e w p).0 none in
     stable.none_blocks e w p s c x (yes'.stable_form is_stable) blocks
 
-pub stable-no : (m : Mode) (e : Instance) (w : List Bool) (p : Prices) (c : ℕ) → First m e w p ≡ Some (failure.S5 c) → SupportersBlock e w p c
+pub stable-no : (m : Mode) (e : Instance) (w : List Bool) (p : Prices) (c : ℕ) → First m e w p ≡ Some (failure.S5 c)
+    → SupportersBlock e w p c
 stable-no m e w p c h =
     let found = after_S5 m e w p c h in
     stable.after_S5 e w p c found.0 found.1
 
-pub budgets : (m : Mode) (e : Instance) (w : List Bool) (p : Prices) → First m e w p ≡ None → BudgetsAreWithinReach e w p
+pub budgets : (m : Mode) (e : Instance) (w : List Bool) (p : Prices) → First m e w p ≡ None
+    → BudgetsAreWithinReach e w p
 budgets m e w p none s c unfunded group =
     let yes' : Supports m.stable m.exhaustive m.cover e w p = (supports-iff m e w p).0 none in
-    let form : (C2 e p × C5 e w p) ⊎ S5 e w p = elim (cases_Bool m.stable) [ inl k ↦ inr (yes'.stable_form k) | inr k ↦ inl (yes'.within_budget, yes'.plain k) ] in
+    let form : (C2 e p × C5 e w p) ⊎ S5 e w p =
+    elim (cases_Bool m.stable)
+    [ inl k ↦ inr (yes'.stable_form k) | inr k ↦ inl (yes'.within_budget, yes'.plain k) ] in
     within_reach e w p s c yes'.approved yes'.paid_for yes'.none_wasted form unfunded group
 
-pub fair : (m : Mode) (e : Instance) (w : List Bool) (p : Prices) → First m e w p ≡ None → m.stable ≡ true → GroupsGetTheirShare e w p
+pub fair : (m : Mode) (e : Instance) (w : List Bool) (p : Prices) → First m e w p ≡ None → m.stable ≡ true
+    → GroupsGetTheirShare e w p
 fair m e w p none is_stable s t group projects approve rich =
     let yes' : Supports m.stable m.exhaustive m.cover e w p = (supports-iff m e w p).0 none in
-    stable_is_fair e w p s t yes'.approved yes'.paid_for yes'.none_wasted (yes'.stable_form is_stable) group projects approve rich
+    stable_is_fair e w p s t yes'.approved yes'.paid_for yes'.none_wasted (yes'.stable_form is_stable) group projects
+    approve rich
 
-pub no-violation : (m : Mode) (e : Instance) (w : List Bool) (p : Prices) → First m e w p ≡ None → m.stable ≡ true → m.cover ≡ true → NoViolationByCounting e w
+pub no-violation : (m : Mode) (e : Instance) (w : List Bool) (p : Prices) → First m e w p ≡ None → m.stable ≡ true
+    → m.cover ≡ true → NoViolationByCounting e w
 no-violation m e w p none is_stable is_covered s t group projects violation =
     let yes' : Supports m.stable m.exhaustive m.cover e w p = (supports-iff m e w p).0 none in
-    stable_has_no_violation e w p s t yes'.approved yes'.paid_for yes'.none_wasted (yes'.stable_form is_stable) (yes'.covers is_covered) group projects violation
+    stable_has_no_violation e w p s t yes'.approved yes'.paid_for yes'.none_wasted (yes'.stable_form is_stable)
+    (yes'.covers is_covered) group projects violation
 
 -- a verdict tells its failure
 supported-none : (o : Option Failure) → verdict_of o ≡ verdict.Supported → o ≡ None
@@ -63,7 +74,8 @@ failed-some None f h = cc
 failed-some (Some g) f h = let same : g ≡ f = cc in ap Some same
 
 -- the verdict by the first failure, with what it says of every group
-pub on-prices : (m : Mode) (e : Instance) (w : List Bool) (p : Prices) (v : Verdict) → v ≡ verdict_of (First m e w p) → IsVerdictOn m e w p v
+pub on-prices : (m : Mode) (e : Instance) (w : List Bool) (p : Prices) (v : Verdict) → v ≡ verdict_of (First m e w p)
+    → IsVerdictOn m e w p v
 on-prices m e w p v is = record {
   first = is;
   supported = (λ h. (supports-iff m e w p).0 (none h), λ s. is ∙ ap verdict_of ((supports-iff m e w p).1 s));

@@ -13,7 +13,7 @@ use Rattle.pb_cohesion.proofs.Ballots.{filter-same}
 use Rattle.pb_cohesion.proofs.Firsts.{first-left, first-mapped, first-right, range-next}
 use Rattle.pb_cohesion.proofs.Loops.{range-first}
 use Rattle.pb_price.specs.First.{failures_of_payments, failures_of_supporters}
-use Rattle.pb_price.specs.Tallies.{AreSums, figures_of, has_more, in_vain, not_exactly, sums_of}
+use Rattle.pb_price.specs.Inside.Tallies.{AreSums, figures_of, has_more, in_vain, not_exactly, sums_of}
 use Rattle.pb_price.specs.Margins.{AreMargins, margins_of_project}
 use Rattle.pb_price.specs.declared.Margins.{Margins}
 use Rattle.pb_price.specs.declared.ProjectMargins.{ProjectMargins}
@@ -25,33 +25,47 @@ use Rattle.pb_price.proofs.Culprits.{more_left, more_left-is, more_offered, more
 use Rattle.pb_price.proofs.Parts.{payments-rest, supporters-plain, supporters-plain-none, supporters-stable, supporters-stable-none}
 
 -- what the sums have for a project
-pub paid-at : (e : Instance) (p : Prices) (sums : List ProjectSums) (c : ℕ) → AreSums e p sums → 1 ≤ c → c ≤ projects e → (sums_of sums c).paid ≡ paid e p c
-paid-at e p sums c h low high = let back : c - 1 + 1 ≡ c = omega arith in h.paid (c - 1) nothing (omega arith) ∙ ap (paid e p) back
+pub paid-at : (e : Instance) (p : Prices) (sums : List ProjectSums) (c : ℕ) → AreSums e p sums → 1 ≤ c → c ≤ projects e
+    → (sums_of sums c).paid ≡ paid e p c
+paid-at e p sums c h low high = let back : c - 1 + 1 ≡ c = omega arith in
+    h.paid (c - 1) nothing (omega arith) ∙ ap (paid e p) back
 
-pub left-at : (e : Instance) (p : Prices) (sums : List ProjectSums) (c : ℕ) → AreSums e p sums → 1 ≤ c → c ≤ projects e → (sums_of sums c).left ≡ sum_ℤ (left e p) (supporters e c)
-left-at e p sums c h low high = let back : c - 1 + 1 ≡ c = omega arith in h.left (c - 1) nothing (omega arith) ∙ ap (λ k. sum_ℤ (left e p) (supporters e k)) back
+pub left-at : (e : Instance) (p : Prices) (sums : List ProjectSums) (c : ℕ) → AreSums e p sums → 1 ≤ c → c ≤ projects e
+    → (sums_of sums c).left ≡ sum_ℤ (left e p) (supporters e c)
+left-at e p sums c h low high = let back : c - 1 + 1 ≡ c = omega arith in
+    h.left (c - 1) nothing (omega arith) ∙ ap (λ k. sum_ℤ (left e p) (supporters e k)) back
 
-pub offer-at : (e : Instance) (p : Prices) (sums : List ProjectSums) (c : ℕ) → AreSums e p sums → 1 ≤ c → c ≤ projects e → (sums_of sums c).offer ≡ sum_ℤ (most_of e p) (supporters e c)
-offer-at e p sums c h low high = let back : c - 1 + 1 ≡ c = omega arith in h.offer (c - 1) nothing (omega arith) ∙ ap (λ k. sum_ℤ (most_of e p) (supporters e k)) back
+pub offer-at : (e : Instance) (p : Prices) (sums : List ProjectSums) (c : ℕ) → AreSums e p sums → 1 ≤ c → c ≤ projects e
+    → (sums_of sums c).offer ≡ sum_ℤ (most_of e p) (supporters e c)
+offer-at e p sums c h low high = let back : c - 1 + 1 ≡ c = omega arith in
+    h.offer (c - 1) nothing (omega arith) ∙ ap (λ k. sum_ℤ (most_of e p) (supporters e k)) back
 
-count-at : (e : Instance) (p : Prices) (sums : List ProjectSums) (c : ℕ) → AreSums e p sums → 1 ≤ c → c ≤ projects e → (sums_of sums c).supporters ≡ length (supporters e c)
-count-at e p sums c h low high = let back : c - 1 + 1 ≡ c = omega arith in h.count (c - 1) nothing (omega arith) ∙ ap (λ k. length (supporters e k)) back
+count-at : (e : Instance) (p : Prices) (sums : List ProjectSums) (c : ℕ) → AreSums e p sums → 1 ≤ c → c ≤ projects e
+    → (sums_of sums c).supporters ≡ length (supporters e c)
+count-at e p sums c h low high = let back : c - 1 + 1 ≡ c = omega arith in
+    h.count (c - 1) nothing (omega arith) ∙ ap (λ k. length (supporters e k)) back
 
 pub cost-at : (e : Instance) (p : Prices) (d c : ℕ) → p.denominator ≡ d → cost_grains (cost_of e c) d ≡ cost e p c
 cost-at e p d c is = ap (cost_grains (cost_of e c)) (sym is)
 
-pub exactly-is : (e : Instance) (w : List Bool) (p : Prices) (d : ℕ) (sums : List ProjectSums) → p.denominator ≡ d → AreSums e p sums → filter (not_exactly e w d sums) (all_projects e) ≡ culprits_of_C3 e w p
+pub exactly-is : (e : Instance) (w : List Bool) (p : Prices) (d : ℕ) (sums : List ProjectSums) → p.denominator ≡ d
+    → AreSums e p sums → filter (not_exactly e w d sums) (all_projects e) ≡ culprits_of_C3 e w p
 exactly-is e w p d sums is h =
     filter-same (not_exactly e w d sums) (not_paid_exactly e w p) (projects e) 1
-    (λ c low high. (ap (λ n. has w c && not (n == cost_grains (cost_of e c) d)) (paid-at e p sums c h low (omega arith)) ∙ ap (λ n. has w c && not (paid e p c == n)) (cost-at e p d c is)))
+    (λ c low high.
+    (ap (λ n. has w c && not (n == cost_grains (cost_of e c) d)) (paid-at e p sums c h low (omega arith))
+    ∙ ap (λ n. has w c && not (paid e p c == n)) (cost-at e p d c is)))
     ∙ sym (not_paid_exactly-is e w p)
 
-pub vain-is : (e : Instance) (w : List Bool) (p : Prices) (sums : List ProjectSums) → AreSums e p sums → filter (in_vain w sums) (all_projects e) ≡ culprits_of_C4 e w p
+pub vain-is : (e : Instance) (w : List Bool) (p : Prices) (sums : List ProjectSums) → AreSums e p sums
+    → filter (in_vain w sums) (all_projects e) ≡ culprits_of_C4 e w p
 vain-is e w p sums h =
-    filter-same (in_vain w sums) (paid_in_vain e w p) (projects e) 1 (λ c low high. ap (λ n. not (has w c) && not (n == 0)) (paid-at e p sums c h low (omega arith)))
+    filter-same (in_vain w sums) (paid_in_vain e w p) (projects e) 1
+    (λ c low high. ap (λ n. not (has w c) && not (n == 0)) (paid-at e p sums c h low (omega arith)))
     ∙ sym (paid_in_vain-is e w p)
 
-pub plain-is : (e : Instance) (w : List Bool) (p : Prices) (d : ℕ) (sums : List ProjectSums) → p.denominator ≡ d → AreSums e p sums → filter (has_more e w d false sums) (all_projects e) ≡ culprits_of_C5 e w p
+pub plain-is : (e : Instance) (w : List Bool) (p : Prices) (d : ℕ) (sums : List ProjectSums) → p.denominator ≡ d
+    → AreSums e p sums → filter (has_more e w d false sums) (all_projects e) ≡ culprits_of_C5 e w p
 plain-is e w p d sums is h =
     filter-same (has_more e w d false sums) (more_left e w p) (projects e) 1
     (λ c low high. (
@@ -59,7 +73,8 @@ plain-is e w p d sums is h =
     ∙ ap (λ n. not (has w c) && int_lt (pos n) (sum_ℤ (left e p) (supporters e c))) (cost-at e p d c is)))
     ∙ sym (more_left-is e w p)
 
-pub stable-is : (e : Instance) (w : List Bool) (p : Prices) (d : ℕ) (sums : List ProjectSums) → p.denominator ≡ d → AreSums e p sums → filter (has_more e w d true sums) (all_projects e) ≡ culprits_of_S5 e w p
+pub stable-is : (e : Instance) (w : List Bool) (p : Prices) (d : ℕ) (sums : List ProjectSums) → p.denominator ≡ d
+    → AreSums e p sums → filter (has_more e w d true sums) (all_projects e) ≡ culprits_of_S5 e w p
 stable-is e w p d sums is h =
     filter-same (has_more e w d true sums) (more_offered e w p) (projects e) 1
     (λ c low high. (
@@ -68,76 +83,128 @@ stable-is e w p d sums is h =
     ∙ sym (more_offered-is e w p)
 
 -- the first that is paid for wrongly
-pub wrongly-first : (q r : ℕ → Bool) (n j : ℕ) → filter q (range_with_len 1 (j - 1)) ≡ [] → 1 ≤ j → j ≤ n → q j ≡ true → slice_get (map failure.C3 (filter q (range_with_len 1 n)) ++ map failure.C4 (filter r (range_with_len 1 n))) 0 ≡ Some (failure.C3 j)
+pub wrongly-first : (q r : ℕ → Bool) (n j : ℕ) → filter q (range_with_len 1 (j - 1)) ≡ [] → 1 ≤ j → j ≤ n → q j ≡ true
+    → slice_get (map failure.C3 (filter q (range_with_len 1 n)) ++ map failure.C4 (filter r (range_with_len 1 n))) 0
+    ≡ Some (failure.C3 j)
 wrongly-first q r n j none low high pass =
-    first-left (map failure.C3 (filter q (range_with_len 1 n))) (map failure.C4 (filter r (range_with_len 1 n))) (failure.C3 j)
+    first-left (map failure.C3 (filter q (range_with_len 1 n))) (map failure.C4 (filter r (range_with_len 1 n)))
+    (failure.C3 j)
     (first-mapped failure.C3 (filter q (range_with_len 1 n)) j (range-first q n j none low high pass))
 
-pub wrongly-last : (q r : ℕ → Bool) (n j : ℕ) → filter q (range_with_len 1 n) ≡ [] → Some j ≡ slice_get (filter r (range_with_len 1 n)) 0 → slice_get (map failure.C3 (filter q (range_with_len 1 n)) ++ map failure.C4 (filter r (range_with_len 1 n))) 0 ≡ Some (failure.C4 j)
+pub wrongly-last : (q r : ℕ → Bool) (n j : ℕ) → filter q (range_with_len 1 n) ≡ []
+    → Some j ≡ slice_get (filter r (range_with_len 1 n)) 0
+    → slice_get (map failure.C3 (filter q (range_with_len 1 n)) ++ map failure.C4 (filter r (range_with_len 1 n))) 0
+    ≡ Some (failure.C4 j)
 wrongly-last q r n j none some =
-    first-right (map failure.C3 (filter q (range_with_len 1 n))) (map failure.C4 (filter r (range_with_len 1 n))) (ap (map failure.C3) none)
+    first-right (map failure.C3 (filter q (range_with_len 1 n))) (map failure.C4 (filter r (range_with_len 1 n)))
+    (ap (map failure.C3) none)
     ∙ first-mapped failure.C4 (filter r (range_with_len 1 n)) j (sym some)
 
 none-mapped : (xs : List ℕ) → slice_get xs 0 ≡ None → slice_get (map failure.C4 xs) 0 ≡ None
 none-mapped [] h = refl
 none-mapped (x ∷ xs) h = cc
 
-pub wrongly-none : (q r : ℕ → Bool) (n : ℕ) → filter q (range_with_len 1 n) ≡ [] → None ≡ slice_get (filter r (range_with_len 1 n)) 0 → slice_get (map failure.C3 (filter q (range_with_len 1 n)) ++ map failure.C4 (filter r (range_with_len 1 n))) 0 ≡ None
+pub wrongly-none : (q r : ℕ → Bool) (n : ℕ) → filter q (range_with_len 1 n) ≡ []
+    → None ≡ slice_get (filter r (range_with_len 1 n)) 0
+    → slice_get (map failure.C3 (filter q (range_with_len 1 n)) ++ map failure.C4 (filter r (range_with_len 1 n))) 0
+    ≡ None
 wrongly-none q r n none no' =
-    first-right (map failure.C3 (filter q (range_with_len 1 n))) (map failure.C4 (filter r (range_with_len 1 n))) (ap (map failure.C3) none)
+    first-right (map failure.C3 (filter q (range_with_len 1 n))) (map failure.C4 (filter r (range_with_len 1 n)))
+    (ap (map failure.C3) none)
     ∙ none-mapped (filter r (range_with_len 1 n)) (sym no')
 
 -- the payments, where no voter pays wrongly or too much
-pub payments-wrongly : (e : Instance) (w : List Bool) (p : Prices) (d : ℕ) (sums : List ProjectSums) → p.denominator ≡ d → AreSums e p sums → slice_get (culprits_of_C1 e p) 0 ≡ None → slice_get (culprits_of_C2 e p) 0 ≡ None
-    → slice_get (map failure.C3 (filter (not_exactly e w d sums) (all_projects e)) ++ map failure.C4 (filter (in_vain w sums) (all_projects e))) 0 ≡ slice_get (failures_of_payments e w p) 0
+pub payments-wrongly : (e : Instance) (w : List Bool) (p : Prices) (d : ℕ) (sums : List ProjectSums) → p.denominator ≡ d
+    → AreSums e p sums → slice_get (culprits_of_C1 e p) 0 ≡ None → slice_get (culprits_of_C2 e p) 0 ≡ None
+    → slice_get
+    (map failure.C3 (filter (not_exactly e w d sums) (all_projects e))
+    ++ map failure.C4 (filter (in_vain w sums) (all_projects e))) 0 ≡ slice_get (failures_of_payments e w p) 0
 payments-wrongly e w p d sums is h a b =
-    ap (λ xs. slice_get (map failure.C3 xs ++ map failure.C4 (filter (in_vain w sums) (all_projects e))) 0) (exactly-is e w p d sums is h)
+    ap (λ xs. slice_get (map failure.C3 xs ++ map failure.C4 (filter (in_vain w sums) (all_projects e))) 0)
+    (exactly-is e w p d sums is h)
     ∙ ap (λ xs. slice_get (map failure.C3 (culprits_of_C3 e w p) ++ map failure.C4 xs) 0) (vain-is e w p sums h)
     ∙ sym (payments-rest e w p a b)
 
 -- the supporters
-pub supporters-none : (m : Mode) (e : Instance) (w : List Bool) (p : Prices) (d : ℕ) (sums : List ProjectSums) → p.denominator ≡ d → AreSums e p sums
-    → slice_get (filter (has_more e w d m.stable sums) (all_projects e)) 0 ≡ None → slice_get (failures_of_supporters m e w p) 0 ≡ None
+pub supporters-none : (m : Mode) (e : Instance) (w : List Bool) (p : Prices) (d : ℕ) (sums : List ProjectSums)
+    → p.denominator ≡ d → AreSums e p sums
+    → slice_get (filter (has_more e w d m.stable sums) (all_projects e)) 0 ≡ None
+    → slice_get (failures_of_supporters m e w p) 0 ≡ None
 supporters-none m e w p d sums is h none = go m.stable refl
   where
     go : (b : Bool) → m.stable ≡ b → slice_get (failures_of_supporters m e w p) 0 ≡ None
-    go true stable = supporters-stable-none m e w p stable (ap (λ xs. slice_get xs 0) (sym (stable-is e w p d sums is h)) ∙ ap (λ b. slice_get (filter (has_more e w d b sums) (all_projects e)) 0) (sym stable) ∙ none)
-    go false plain = supporters-plain-none m e w p plain (ap (λ xs. slice_get xs 0) (sym (plain-is e w p d sums is h)) ∙ ap (λ b. slice_get (filter (has_more e w d b sums) (all_projects e)) 0) (sym plain) ∙ none)
+    go true stable =
+        supporters-stable-none m e w p stable
+        (ap (λ xs. slice_get xs 0) (sym (stable-is e w p d sums is h))
+        ∙ ap (λ b. slice_get (filter (has_more e w d b sums) (all_projects e)) 0) (sym stable) ∙ none)
+    go false plain =
+        supporters-plain-none m e w p plain
+        (ap (λ xs. slice_get xs 0) (sym (plain-is e w p d sums is h))
+        ∙ ap (λ b. slice_get (filter (has_more e w d b sums) (all_projects e)) 0) (sym plain) ∙ none)
 
-pub supporters-S5 : (m : Mode) (e : Instance) (w : List Bool) (p : Prices) (d : ℕ) (sums : List ProjectSums) (j : ℕ) → p.denominator ≡ d → AreSums e p sums → m.stable ≡ true
-    → slice_get (filter (has_more e w d m.stable sums) (all_projects e)) 0 ≡ Some j → slice_get (failures_of_supporters m e w p) 0 ≡ Some (failure.S5 j)
-supporters-S5 m e w p d sums j is h stable some = supporters-stable m e w p j stable (ap (λ xs. slice_get xs 0) (sym (stable-is e w p d sums is h)) ∙ ap (λ b. slice_get (filter (has_more e w d b sums) (all_projects e)) 0) (sym stable) ∙ some)
+pub supporters-S5 : (m : Mode) (e : Instance) (w : List Bool) (p : Prices) (d : ℕ) (sums : List ProjectSums) (j : ℕ)
+    → p.denominator ≡ d → AreSums e p sums → m.stable ≡ true
+    → slice_get (filter (has_more e w d m.stable sums) (all_projects e)) 0 ≡ Some j
+    → slice_get (failures_of_supporters m e w p) 0 ≡ Some (failure.S5 j)
+supporters-S5 m e w p d sums j is h stable some =
+    supporters-stable m e w p j stable
+    (ap (λ xs. slice_get xs 0) (sym (stable-is e w p d sums is h))
+    ∙ ap (λ b. slice_get (filter (has_more e w d b sums) (all_projects e)) 0) (sym stable) ∙ some)
 
-pub supporters-C5 : (m : Mode) (e : Instance) (w : List Bool) (p : Prices) (d : ℕ) (sums : List ProjectSums) (j : ℕ) → p.denominator ≡ d → AreSums e p sums → m.stable ≡ false
-    → slice_get (filter (has_more e w d m.stable sums) (all_projects e)) 0 ≡ Some j → slice_get (failures_of_supporters m e w p) 0 ≡ Some (failure.C5 j)
-supporters-C5 m e w p d sums j is h plain some = supporters-plain m e w p j plain (ap (λ xs. slice_get xs 0) (sym (plain-is e w p d sums is h)) ∙ ap (λ b. slice_get (filter (has_more e w d b sums) (all_projects e)) 0) (sym plain) ∙ some)
+pub supporters-C5 : (m : Mode) (e : Instance) (w : List Bool) (p : Prices) (d : ℕ) (sums : List ProjectSums) (j : ℕ)
+    → p.denominator ≡ d → AreSums e p sums → m.stable ≡ false
+    → slice_get (filter (has_more e w d m.stable sums) (all_projects e)) 0 ≡ Some j
+    → slice_get (failures_of_supporters m e w p) 0 ≡ Some (failure.C5 j)
+supporters-C5 m e w p d sums j is h plain some =
+    supporters-plain m e w p j plain
+    (ap (λ xs. slice_get xs 0) (sym (plain-is e w p d sums is h))
+    ∙ ap (λ b. slice_get (filter (has_more e w d b sums) (all_projects e)) 0) (sym plain) ∙ some)
 
 -- the figures of the projects
-figures-same : {A : Type 0} (f g : ℕ → A) (a n : ℕ) → ((c : ℕ) → a ≤ c → c < a + n → f c ≡ g c) → map f (range_with_len a n) ≡ map g (range_with_len a n)
+figures-same : {A : Type 0} (f g : ℕ → A) (a n : ℕ) → ((c : ℕ) → a ≤ c → c < a + n → f c ≡ g c)
+    → map f (range_with_len a n) ≡ map g (range_with_len a n)
 figures-same f g a zero h = refl
-figures-same f g a (suc n) h = ap (λ x. x ∷ map f (range_with_len (a + 1) n)) (h a (omega arith) (omega arith)) ∙ ap (λ xs. g a ∷ xs) (figures-same f g (a + 1) n (λ c low high. h c (omega arith) (omega arith)))
+figures-same f g a (suc n) h = ap (λ x. x ∷ map f (range_with_len (a + 1) n)) (h a (omega arith) (omega arith))
+    ∙ ap (λ xs. g a ∷ xs) (figures-same f g (a + 1) n (λ c low high. h c (omega arith) (omega arith)))
 
-figures-at : (e : Instance) (w : List Bool) (p : Prices) (d : ℕ) (sums : List ProjectSums) (c : ℕ) → p.denominator ≡ d → AreSums e p sums → 1 ≤ c → c ≤ projects e → figures_of e w d sums c ≡ margins_of_project e w p c
-figures-at e w p d sums c is h low high = rw (count-at e p sums c h low high, cost-at e p d c is, paid-at e p sums c h low high, left-at e p sums c h low high, offer-at e p sums c h low high) refl
+figures-at : (e : Instance) (w : List Bool) (p : Prices) (d : ℕ) (sums : List ProjectSums) (c : ℕ) → p.denominator ≡ d
+    → AreSums e p sums → 1 ≤ c → c ≤ projects e → figures_of e w d sums c ≡ margins_of_project e w p c
+figures-at e w p d sums c is h low high =
+    rw (
+      count-at e p sums c h low high,
+      cost-at e p d c is,
+      paid-at e p sums c h low high,
+      left-at e p sums c h low high,
+      offer-at e p sums c h low high,
+    ) refl
 
-pub margins-are : (e : Instance) (w : List Bool) (p : Prices) (d : ℕ) (sums : List ProjectSums) (m : Margins) → p.denominator ≡ d → AreSums e p sums → m.grains_per_unit ≡ 1000000 * d
+pub margins-are : (e : Instance) (w : List Bool) (p : Prices) (d : ℕ) (sums : List ProjectSums) (m : Margins)
+    → p.denominator ≡ d → AreSums e p sums → m.grains_per_unit ≡ 1000000 * d
     → m.projects.items ≡ map (figures_of e w d sums) (all_projects e) → AreMargins e w p m
 margins-are e w p d sums m is h grains figures = record {
   grains_per_unit = omega arith;
-  projects = figures ∙ figures-same (figures_of e w d sums) (margins_of_project e w p) 1 (projects e) (λ c low high. figures-at e w p d sums c is h low (omega arith));
+  projects = figures ∙ figures-same (figures_of e w d sums) (margins_of_project e w p) 1 (projects e)
+      (λ c low high. figures-at e w p d sums c is h low (omega arith));
 }
 
 abbrev make : Bool → ℕ → ℕ → ℕ → ℤ → ℤ → ProjectMargins
 make f s c p l o = record { funded = f; supporters = s; cost = c; paid = p; left = l; offer = o }
 
 -- the figures of one more project, which has number k + 1
-pub figures-next : (e : Instance) (w : List Bool) (d : ℕ) (sums : List ProjectSums) (k : ℕ) (xs ys : List ProjectMargins) (x : ProjectMargins) → ys ≡ xs ++ (x ∷ []) → xs ≡ map (figures_of e w d sums) (range_with_len 1 k)
-    → x.funded ≡ has w (k + 1) → x.supporters ≡ (get_or sums k nothing).supporters → x.cost ≡ cost_grains (cost_of e (k + 1)) d → x.paid ≡ (get_or sums k nothing).paid → x.left ≡ (get_or sums k nothing).left → x.offer ≡ (get_or sums k nothing).offer
+pub figures-next : (e : Instance) (w : List Bool) (d : ℕ) (sums : List ProjectSums) (k : ℕ)
+    (xs ys : List ProjectMargins) (x : ProjectMargins) → ys ≡ xs ++ (x ∷ [])
+    → xs ≡ map (figures_of e w d sums) (range_with_len 1 k)
+    → x.funded ≡ has w (k + 1) → x.supporters ≡ (get_or sums k nothing).supporters
+    → x.cost ≡ cost_grains (cost_of e (k + 1)) d → x.paid ≡ (get_or sums k nothing).paid
+    → x.left ≡ (get_or sums k nothing).left → x.offer ≡ (get_or sums k nothing).offer
     → ys ≡ map (figures_of e w d sums) (range_with_len 1 (k + 1))
 figures-next e w d sums k xs ys x pushed before funded supporters cost paid left offer =
     let last : 1 + k ≡ k + 1 = omega arith in
-    pushed ∙ ap (λ zs. zs ++ (x ∷ [])) before ∙ ap (λ y. map (figures_of e w d sums) (range_with_len 1 k) ++ (y ∷ [])) (this ∙ ap (figures_of e w d sums) (sym last))
-    ∙ sym (map-append (figures_of e w d sums) (range_with_len 1 k) ((1 + k) ∷ [])) ∙ ap (map (figures_of e w d sums)) (sym (range-next k 1))
+    pushed ∙ ap (λ zs. zs ++ (x ∷ [])) before
+    ∙ ap (λ y. map (figures_of e w d sums) (range_with_len 1 k) ++ (y ∷ []))
+    (this ∙ ap (figures_of e w d sums) (sym last))
+    ∙ sym (map-append (figures_of e w d sums) (range_with_len 1 k) ((1 + k) ∷ []))
+    ∙ ap (map (figures_of e w d sums)) (sym (range-next k 1))
   where
     place : k ≡ k + 1 - 1
     place = omega arith
@@ -147,7 +214,11 @@ figures-next e w d sums k xs ys x pushed before funded supporters cost paid left
         ap (λ y. make y x.supporters x.cost x.paid x.left x.offer) funded
         ∙ ap (λ y. make (has w (k + 1)) y x.cost x.paid x.left x.offer) supporters
         ∙ ap (λ y. make (has w (k + 1)) (get_or sums k nothing).supporters y x.paid x.left x.offer) cost
-        ∙ ap (λ y. make (has w (k + 1)) (get_or sums k nothing).supporters (cost_grains (cost_of e (k + 1)) d) y x.left x.offer) paid
-        ∙ ap (λ y. make (has w (k + 1)) (get_or sums k nothing).supporters (cost_grains (cost_of e (k + 1)) d) (get_or sums k nothing).paid y x.offer) left
-        ∙ ap (λ y. make (has w (k + 1)) (get_or sums k nothing).supporters (cost_grains (cost_of e (k + 1)) d) (get_or sums k nothing).paid (get_or sums k nothing).left y) offer
-        ∙ ap (λ n. make (has w (k + 1)) (get_or sums n nothing).supporters (cost_grains (cost_of e (k + 1)) d) (get_or sums n nothing).paid (get_or sums n nothing).left (get_or sums n nothing).offer) place
+        ∙ ap (λ y. make (has w (k + 1)) (get_or sums k nothing).supporters (cost_grains (cost_of e (k + 1)) d) y x.left
+        x.offer) paid
+        ∙ ap (λ y. make (has w (k + 1)) (get_or sums k nothing).supporters (cost_grains (cost_of e (k + 1)) d)
+        (get_or sums k nothing).paid y x.offer) left
+        ∙ ap (λ y. make (has w (k + 1)) (get_or sums k nothing).supporters (cost_grains (cost_of e (k + 1)) d)
+        (get_or sums k nothing).paid (get_or sums k nothing).left y) offer
+        ∙ ap (λ n. make (has w (k + 1)) (get_or sums n nothing).supporters (cost_grains (cost_of e (k + 1)) d)
+        (get_or sums n nothing).paid (get_or sums n nothing).left (get_or sums n nothing).offer) place

@@ -17,8 +17,8 @@ use Rattle.pb_certificate.specs.declared.price_row.PriceRow.{PriceRow}
 use Rattle.pb_certificate.specs.declared.refusal.CertFault.{CertFault}
 use Rattle.pb_certificate.specs.declared.refusal.CertFault.TheVariants as fault
 use Rattle.pb_certificate.proofs.Texts.{stated-length}
-use Rattle.pb_price.specs.Tallies.{CanTakeRow, TakesRow, Tallied}
-use Rattle.pb_price.specs.Takings.{taken_from}
+use Rattle.pb_price.specs.Inside.Tallies.{CanTakeRow, TakesRow, Tallied}
+use Rattle.pb_price.specs.Inside.Takings.{taken_from}
 use Rattle.pb_price.specs.declared.tally.Tally.{Tally}
 
 -- what it says that a payment has no fault after some others
@@ -31,48 +31,60 @@ some-fault : (f : CertFault) → ◌≡◌ {A = Option CertFault} (Some f) None 
 some-fault f h = cc
 
 pub follows : (qs : List Payment) (q : Payment) → payment_fault qs q ≡ None → Follows qs q
-follows qs q h = go (nat_lt q.voter (last_voter qs)) (list_any (same_pair q) qs) (nat_le 10000000 (length qs)) refl refl refl h
+follows qs q h =
+    go (nat_lt q.voter (last_voter qs)) (list_any (same_pair q) qs) (nat_le 10000000 (length qs)) refl refl refl h
   where
-    go : (a b c : Bool) → nat_lt q.voter (last_voter qs) ≡ a → list_any (same_pair q) qs ≡ b → nat_le 10000000 (length qs) ≡ c
-        → cond a (Some fault.OutOfOrder) (cond b (Some fault.Repeated) (cond c (Some fault.TooMany) None)) ≡ None → Follows qs q
+    go : (a b c : Bool) → nat_lt q.voter (last_voter qs) ≡ a → list_any (same_pair q) qs ≡ b
+        → nat_le 10000000 (length qs) ≡ c
+        → cond a (Some fault.OutOfOrder) (cond b (Some fault.Repeated) (cond c (Some fault.TooMany) None)) ≡ None
+        → Follows qs q
     go true b c ea eb ec k = absurd (some-fault fault.OutOfOrder k)
     go false true c ea eb ec k = absurd (some-fault fault.Repeated k)
     go false false true ea eb ec k = absurd (some-fault fault.TooMany k)
-    go false false false ea eb ec k = record { order = ltb-false q.voter (last_voter qs) ea; new = eb; few = leb-false 10000000 (length qs) ec }
+    go false false false ea eb ec k =
+        record { order = ltb-false q.voter (last_voter qs) ea; new = eb; few = leb-false 10000000 (length qs) ec }
 
 -- what is stated with one more payment
 swap : (q x : Payment) → same_pair q x ≡ ((x.voter == q.voter) && (x.project == q.project))
 swap q x = elim (cases_eq q.voter x.voter) [
   | inl v ↦ elim (cases_eq q.project x.project) [
-    | inl c ↦ rw (eq-eqb q.voter x.voter v, eq-eqb q.project x.project c, eq-eqb x.voter q.voter (sym v), eq-eqb x.project q.project (sym c)) refl
-    | inr c ↦ rw (eq-eqb q.voter x.voter v, ne_eqb q.project x.project c, eq-eqb x.voter q.voter (sym v), ne_eqb x.project q.project (λ e. c (sym e))) refl
+    | inl c ↦
+        rw (
+          eq-eqb q.voter x.voter v,
+          eq-eqb q.project x.project c,
+          eq-eqb x.voter q.voter (sym v),
+          eq-eqb x.project q.project (sym c),
+        ) refl
+    | inr c ↦
+        rw (
+          eq-eqb q.voter x.voter v,
+          ne_eqb q.project x.project c,
+          eq-eqb x.voter q.voter (sym v),
+          ne_eqb x.project q.project (λ e. c (sym e)),
+        ) refl
   ]
   | inr v ↦ rw (ne_eqb q.voter x.voter v, ne_eqb x.voter q.voter (λ e. v (sym e))) refl
 ]
 
-or-left : (a b : Bool) → cond a true b ≡ false → a ≡ false
-or-left true b h = h
-or-left false b h = refl
-
-or-right : (a b : Bool) → cond a true b ≡ false → b ≡ false
-or-right true b h = cc
-or-right false b h = h
-
-none-before : (q x : Payment) (qs : List Payment) → list_any (same_pair q) (x ∷ qs) ≡ false → (((x.voter == q.voter) && (x.project == q.project)) ≡ false) × (list_any (same_pair q) qs ≡ false)
+none-before : (q x : Payment) (qs : List Payment) → list_any (same_pair q) (x ∷ qs) ≡ false
+    → (((x.voter == q.voter) && (x.project == q.project)) ≡ false) × (list_any (same_pair q) qs ≡ false)
 none-before q x qs h = elim (cases_Bool (same_pair q x)) [
   | inl yes' ↦ absurd (let k : true ≡ false = rw yes' at h in cc)
   | inr no' ↦ (sym (swap q x) ∙ no', rw no' at h)
 ]
 
-pub stated-none : (qs : List Payment) (q : Payment) → list_any (same_pair q) qs ≡ false → stated qs q.voter q.project ≡ 0
+pub stated-none : (qs : List Payment) (q : Payment) → list_any (same_pair q) qs ≡ false
+    → stated qs q.voter q.project ≡ 0
 stated-none [] q h = refl
 stated-none (x ∷ xs) q h = let parts = none-before q x xs h in rw parts.0 (stated-none xs q parts.1)
 
-pub stated-here : (qs : List Payment) (q : Payment) → list_any (same_pair q) qs ≡ false → stated (qs ++ (q ∷ [])) q.voter q.project ≡ q.numerator
+pub stated-here : (qs : List Payment) (q : Payment) → list_any (same_pair q) qs ≡ false
+    → stated (qs ++ (q ∷ [])) q.voter q.project ≡ q.numerator
 stated-here [] q h = rw (eq-eqb q.voter q.voter refl, eq-eqb q.project q.project refl) refl
 stated-here (x ∷ xs) q h = let parts = none-before q x xs h in rw parts.0 (stated-here xs q parts.1)
 
-pub stated-other : (qs : List Payment) (q : Payment) (i c : ℕ) → ((q.voter == i) && (q.project == c)) ≡ false → stated (qs ++ (q ∷ [])) i c ≡ stated qs i c
+pub stated-other : (qs : List Payment) (q : Payment) (i c : ℕ) → ((q.voter == i) && (q.project == c)) ≡ false
+    → stated (qs ++ (q ∷ [])) i c ≡ stated qs i c
 stated-other [] q i c h = rw h refl
 stated-other (x ∷ xs) q i c h = rw (stated-other xs q i c h) refl
 
@@ -86,11 +98,20 @@ takes-row old new q g =
       rows = ap length g.given_then ∙ length_push (given old) (as_payment q);
       none_yet = stated-none (given old) (as_payment q) f.new;
       here = ap (λ qs. stated qs q.voter q.project) g.given_then ∙ stated-here (given old) (as_payment q) f.new;
-      voters = λ i c ne. (ap (λ qs. stated qs i c) g.given_then ∙ stated-other (given old) (as_payment q) i c (and_left (q.voter == i) (q.project == c) (ne_eqb q.voter i (λ e. ne (sym e)))));
-      projects = λ i c ne. (ap (λ qs. stated qs i c) g.given_then ∙ stated-other (given old) (as_payment q) i c (and_right (q.voter == i) (q.project == c) (ne_eqb q.project c (λ e. ne (sym e)))));
+      voters =
+          λ i c ne.
+          (ap (λ qs. stated qs i c) g.given_then
+          ∙ stated-other (given old) (as_payment q) i c
+          (and_left (q.voter == i) (q.project == c) (ne_eqb q.voter i (λ e. ne (sym e)))));
+      projects =
+          λ i c ne.
+          (ap (λ qs. stated qs i c) g.given_then
+          ∙ stated-other (given old) (as_payment q) i c
+          (and_right (q.voter == i) (q.project == c) (ne_eqb q.project c (λ e. ne (sym e)))));
     }
 
-pub can-take : (e : Instance) (old new : Rows) (q : PriceRow) (t : Tally) → GivesRow old new q → old.election ≡ e → Tallied e (taken_from old) t → t.closed ≤ last_voter (given old) - 1 → CanTakeRow e t q
+pub can-take : (e : Instance) (old new : Rows) (q : PriceRow) (t : Tally) → GivesRow old new q → old.election ≡ e
+    → Tallied e (taken_from old) t → t.closed ≤ last_voter (given old) - 1 → CanTakeRow e t q
 can-take e old new q t g is h closed =
     let f : Follows (given old) (as_payment q) = follows (given old) (as_payment q) g.follows in
     let voter : IsVoter e q.voter = subst (λ x. IsVoter x q.voter) is g.voter in
@@ -110,7 +131,8 @@ few-then old new q g =
     let f : Follows (given old) (as_payment q) = follows (given old) (as_payment q) g.follows in
     omega (arith, ap length g.given_then, length_push (given old) (as_payment q), f.few)
 
-last-of : (n : ℕ) (qs : List Payment) (q : Payment) → last_number n (map (λ (p : Payment). p.voter) (qs ++ (q ∷ []))) ≡ q.voter
+last-of : (n : ℕ) (qs : List Payment) (q : Payment)
+    → last_number n (map (λ (p : Payment). p.voter) (qs ++ (q ∷ []))) ≡ q.voter
 last-of n [] q = refl
 last-of n (x ∷ xs) q = last-of x.voter xs q
 
@@ -118,16 +140,20 @@ pub last-then : (old new : Rows) (q : PriceRow) → GivesRow old new q → last_
 last-then old new q g = ap last_voter g.given_then ∙ last-of 0 (given old) (as_payment q)
 
 -- fewer records are left
-pub falls : (old new : Rows) (r : Rec) → ComesNext old new.place r → new.records ≡ old.records → length new.records - new.place < length old.records - old.place
+pub falls : (old new : Rows) (r : Rec) → ComesNext old new.place r → new.records ≡ old.records
+    → length new.records - new.place < length old.records - old.place
 falls old new r n same =
-    let left : length old.records - old.place ≡ length n.blanks + length (r ∷ n.rest) = sym (length-drop old.place old.records) ∙ ap length n.cut ∙ length-append n.blanks (r ∷ n.rest) in
+    let left : length old.records - old.place ≡ length n.blanks + length (r ∷ n.rest) =
+    sym (length-drop old.place old.records) ∙ ap length n.cut ∙ length-append n.blanks (r ∷ n.rest) in
     omega (arith, ap length same, n.at, left)
 
 -- what the rows of a whole text state
-some-first : {A : Type 0} (o : Option A) (xs ys : List (Option A)) (a : A) → o ∷ xs ≡ Some a ∷ ys → (o ≡ Some a) × (xs ≡ ys)
+some-first : {A : Type 0} (o : Option A) (xs ys : List (Option A)) (a : A) → o ∷ xs ≡ Some a ∷ ys
+    → (o ≡ Some a) × (xs ≡ ys)
 some-first o xs ys a h = (cc, cc)
 
-filter-all : (f : Rec → Option Payment) (rows : List Rec) (qs : List Payment) → map f rows ≡ map Some qs → filter_map f rows ≡ qs
+filter-all : (f : Rec → Option Payment) (rows : List Rec) (qs : List Payment) → map f rows ≡ map Some qs
+    → filter_map f rows ≡ qs
 filter-all f [] [] h = refl
 filter-all f [] (q ∷ qs) h = cc
 filter-all f (r ∷ rows) [] h = cc
@@ -137,18 +163,24 @@ filter-all f (r ∷ rows) (q ∷ qs) h =
 
 all-behind : (recs : List Rec) (n : ℕ) → nonblank (drop n recs) ≡ [] → nonblank (take n recs) ≡ nonblank recs
 all-behind recs n none =
-    sym (ap nonblank (sym (take-append-drop n recs)) ∙ filter-append (λ r. not (is_blank r)) (take n recs) (drop n recs) ∙ ap (λ ys. nonblank (take n recs) ++ ys) none ∙ append-none (nonblank (take n recs)))
+    sym (ap nonblank (sym (take-append-drop n recs)) ∙ filter-append (λ r. not (is_blank r)) (take n recs) (drop n recs)
+    ∙ ap (λ ys. nonblank (take n recs) ++ ys) none ∙ append-none (nonblank (take n recs)))
   where
     append-none : (xs : List Rec) → xs ++ [] ≡ xs
     append-none [] = refl
     append-none (x ∷ xs) = ap (λ ys. x ∷ ys) (append-none xs)
 
-pub rows-are : (s : Rows) (p : Prices) (t : IsPriceText s.records s.election p) → nonblank (drop s.place s.records) ≡ [] → drop 4 (nonblank (take s.place s.records)) ≡ t.rows
+pub rows-are : (s : Rows) (p : Prices) (t : IsPriceText s.records s.election p) → nonblank (drop s.place s.records) ≡ []
+    → drop 4 (nonblank (take s.place s.records)) ≡ t.rows
 rows-are s p t none = ap (drop 4) (all-behind s.records s.place none ∙ t.cut)
 
-pub given-is : (s : Rows) (p : Prices) (t : IsPriceText s.records s.election p) → nonblank (drop s.place s.records) ≡ [] → given s ≡ t.payments
-given-is s p t none = ap (filter_map (payment_of s.election)) (rows-are s p t none) ∙ filter-all (payment_of s.election) t.rows t.payments t.each_row
+pub given-is : (s : Rows) (p : Prices) (t : IsPriceText s.records s.election p) → nonblank (drop s.place s.records) ≡ []
+    → given s ≡ t.payments
+given-is s p t none = ap (filter_map (payment_of s.election)) (rows-are s p t none)
+    ∙ filter-all (payment_of s.election) t.rows t.payments t.each_row
 
-pub count-is : (s : Rows) (p : Prices) (t : IsPriceText s.records s.election p) → nonblank (drop s.place s.records) ≡ [] → length (given s) ≡ length (drop 4 (nonblank s.records))
+pub count-is : (s : Rows) (p : Prices) (t : IsPriceText s.records s.election p) → nonblank (drop s.place s.records) ≡ []
+    → length (given s) ≡ length (drop 4 (nonblank s.records))
 count-is s p t none =
-    ap length (given-is s p t none) ∙ stated-length (payment_of s.election) t.rows t.payments t.each_row ∙ ap length (sym (ap (drop 4) t.cut))
+    ap length (given-is s p t none) ∙ stated-length (payment_of s.election) t.rows t.payments t.each_row
+    ∙ ap length (sym (ap (drop 4) t.cut))

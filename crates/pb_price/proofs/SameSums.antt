@@ -3,7 +3,7 @@ use Rattle.std.proofs.Common.{◌≡◌, ℕ, zero, suc, ◌+◌, ◌<◌, ◌�
 use Rattle.std.specs.Prelude.{ℤ, ◌≤ℤ◌, Option, Some, None, filter, slice_get}
 use Rattle.std.specs.List.{range_with_len}
 use Rattle.pb_price.specs.Findings.{comparison, excess}
-use Rattle.pb_price.specs.Noted.{IsFindingBy, IsFindingTo, IsShown, among}
+use Rattle.pb_price.specs.Inside.Noted.{IsFindingBy, IsFindingTo, IsShown, among}
 use Rattle.pb_price.specs.declared.Comparison.{Comparison}
 use Rattle.pb_price.specs.declared.Finding.{Finding}
 
@@ -12,8 +12,10 @@ first-within : (q : ℕ → Bool) (n a x : ℕ) → Some x ≡ slice_get (filter
 first-within q zero a x h = cc
 first-within q (suc n) a x h = go (q a) h (λ rest. first-within q n (a + 1) x rest)
   where
-    go : (b : Bool) → Some x ≡ slice_get (cond b (a ∷ filter q (range_with_len (a + 1) n)) (filter q (range_with_len (a + 1) n))) 0
-        → (Some x ≡ slice_get (filter q (range_with_len (a + 1) n)) 0 → (a + 1 ≤ x) × (x < (a + 1) + n)) → (a ≤ x) × (x < a + suc n)
+    go : (b : Bool)
+        → Some x ≡ slice_get (cond b (a ∷ filter q (range_with_len (a + 1) n)) (filter q (range_with_len (a + 1) n))) 0
+        → (Some x ≡ slice_get (filter q (range_with_len (a + 1) n)) 0 → (a + 1 ≤ x) × (x < (a + 1) + n))
+        → (a ≤ x) × (x < a + suc n)
     go true is rest = let same : x ≡ a = cc in (omega arith, omega arith)
     go false is rest = let there = rest is in (omega (arith, there.0), omega (arith, there.1))
 
@@ -25,18 +27,24 @@ pub record Same (n : ℕ) (bound bound' : ℕ → ℕ) (amount amount' : ℕ →
 abbrev make : ℕ → ℕ → ℤ → Comparison
 make x b a = record { at = x; bound = b; amount = a }
 
-same-at : (n : ℕ) (bound bound' : ℕ → ℕ) (amount amount' : ℕ → ℤ) (x : ℕ) → Same n bound bound' amount amount' → 1 ≤ x → x ≤ n → comparison bound amount x ≡ comparison bound' amount' x
-same-at n bound bound' amount amount' x s low high = ap (λ b. make x b (amount x)) (s.bounds x low high) ∙ ap (make x (bound' x)) (s.amounts x low high)
+same-at : (n : ℕ) (bound bound' : ℕ → ℕ) (amount amount' : ℕ → ℤ) (x : ℕ) → Same n bound bound' amount amount' → 1 ≤ x
+    → x ≤ n → comparison bound amount x ≡ comparison bound' amount' x
+same-at n bound bound' amount amount' x s low high = ap (λ b. make x b (amount x)) (s.bounds x low high)
+    ∙ ap (make x (bound' x)) (s.amounts x low high)
 
-shown-as : (n : ℕ) (q r : ℕ → Bool) (bound bound' : ℕ → ℕ) (amount amount' : ℕ → ℤ) (o : Option ℕ) (s : Option Comparison) → Same n bound bound' amount amount'
-    → o ≡ slice_get (filter q (range_with_len 1 n)) 0 → IsShown o (among n r) bound amount s → IsShown o (among n r) bound' amount' s
-shown-as n q r bound bound' amount amount' (Some x) s same first h = let in_range = first-within q n 1 x first in h ∙ ap Some (same-at n bound bound' amount amount' x same in_range.0 (omega (arith, in_range.1)))
+shown-as : (n : ℕ) (q r : ℕ → Bool) (bound bound' : ℕ → ℕ) (amount amount' : ℕ → ℤ) (o : Option ℕ)
+    (s : Option Comparison) → Same n bound bound' amount amount'
+    → o ≡ slice_get (filter q (range_with_len 1 n)) 0 → IsShown o (among n r) bound amount s
+    → IsShown o (among n r) bound' amount' s
+shown-as n q r bound bound' amount amount' (Some x) s same first h = let in_range = first-within q n 1 x first in
+    h ∙ ap Some (same-at n bound bound' amount amount' x same in_range.0 (omega (arith, in_range.1)))
 shown-as n q r bound bound' amount amount' None None same first h = h
 shown-as n q r bound bound' amount amount' None (Some m) same first h = (
   h.0 ∙ same-at n bound bound' amount amount' m.at same h.1.one.0 h.1.one.1,
   record {
     one = h.1.one;
-    greatest = λ y a. subst (λ z. z ≤ℤ excess (comparison bound' amount' m.at)) (known y a) (subst (λ z. excess (comparison bound amount y) ≤ℤ z) (known m.at h.1.one) (h.1.greatest y a));
+    greatest = λ y a. subst (λ z. z ≤ℤ excess (comparison bound' amount' m.at)) (known y a)
+        (subst (λ z. excess (comparison bound amount y) ≤ℤ z) (known m.at h.1.one) (h.1.greatest y a));
     lowest = λ y a e. h.1.lowest y a (known y a ∙ e ∙ sym (known m.at h.1.one));
   },
 )
@@ -44,8 +52,10 @@ shown-as n q r bound bound' amount amount' None (Some m) same first h = (
     known : (y : ℕ) → among n r y → excess (comparison bound amount y) ≡ excess (comparison bound' amount' y)
     known y a = ap excess (same-at n bound bound' amount amount' y same a.0 a.1)
 
-pub finding-as : (n : ℕ) (q r : ℕ → Bool) (culprits : List ℕ) (bound bound' : ℕ → ℕ) (amount amount' : ℕ → ℤ) (f : Finding) → IsFindingTo n q r bound amount f
-    → filter q (range_with_len 1 n) ≡ culprits → Same n bound bound' amount amount' → IsFindingBy culprits n r bound' amount' f
+pub finding-as : (n : ℕ) (q r : ℕ → Bool) (culprits : List ℕ) (bound bound' : ℕ → ℕ) (amount amount' : ℕ → ℤ)
+    (f : Finding) → IsFindingTo n q r bound amount f
+    → filter q (range_with_len 1 n) ≡ culprits → Same n bound bound' amount amount'
+    → IsFindingBy culprits n r bound' amount' f
 finding-as n q r culprits bound bound' amount amount' f h is same = record {
   first = h.first ∙ ap (λ xs. slice_get xs 0) is;
   count = h.count ∙ ap (λ xs. length xs) is;

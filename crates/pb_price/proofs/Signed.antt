@@ -7,16 +7,18 @@ use Rattle.std.specs.List.{range_with_len}
 use Rattle.std.proofs.lemmas.Int.{ints, to_z-of_z}
 use Rattle.std.proofs.lemmas.List.Elements.{filter-append}
 use Rattle.pb_cohesion.specs.Conditions.{sum_ℤ}
-use Rattle.pb_price.specs.Tallies.{IsWithin}
+use Rattle.pb_price.specs.Inside.Tallies.{IsWithin}
 use Rattle.pb_cohesion.proofs.Firsts.{range-next}
 
 -- equal terms have equal sums
-pub signed-same : (f g : ℕ → ℤ) (q : ℕ → Bool) (a n : ℕ) → ((j : ℕ) → a ≤ j → j < a + n → f j ≡ g j) → sum_ℤ f (filter q (range_with_len a n)) ≡ sum_ℤ g (filter q (range_with_len a n))
+pub signed-same : (f g : ℕ → ℤ) (q : ℕ → Bool) (a n : ℕ) → ((j : ℕ) → a ≤ j → j < a + n → f j ≡ g j)
+    → sum_ℤ f (filter q (range_with_len a n)) ≡ sum_ℤ g (filter q (range_with_len a n))
 signed-same f g q a zero h = refl
 signed-same f g q a (suc n) h = go (q a) (signed-same f g q (a + 1) n (λ j low high. h j (omega arith) (omega arith)))
   where
     go : (b : Bool) → sum_ℤ f (filter q (range_with_len (a + 1) n)) ≡ sum_ℤ g (filter q (range_with_len (a + 1) n))
-        → sum_ℤ f (cond b (a ∷ filter q (range_with_len (a + 1) n)) (filter q (range_with_len (a + 1) n))) ≡ sum_ℤ g (cond b (a ∷ filter q (range_with_len (a + 1) n)) (filter q (range_with_len (a + 1) n)))
+        → sum_ℤ f (cond b (a ∷ filter q (range_with_len (a + 1) n)) (filter q (range_with_len (a + 1) n)))
+        ≡ sum_ℤ g (cond b (a ∷ filter q (range_with_len (a + 1) n)) (filter q (range_with_len (a + 1) n)))
     go true rest = rw (h a (omega arith) (omega arith), rest) refl
     go false rest = rest
 
@@ -31,25 +33,34 @@ signed-push : (f : ℕ → ℤ) (xs : List ℕ) (x : ℕ) → sum_ℤ f (xs ++ (
 signed-push f [] x = add-zero (f x)
 signed-push f (y ∷ ys) x = ap (λ z. f y +ℤ z) (signed-push f ys x) ∙ add-assoc (f y) (sum_ℤ f ys) (f x)
 
-filter-next : (q : ℕ → Bool) (n : ℕ) → filter q (range_with_len 1 (n + 1)) ≡ filter q (range_with_len 1 n) ++ filter q ((1 + n) ∷ [])
+filter-next : (q : ℕ → Bool) (n : ℕ) → filter q (range_with_len 1 (n + 1))
+    ≡ filter q (range_with_len 1 n) ++ filter q ((1 + n) ∷ [])
 filter-next q n = ap (filter q) (range-next n 1) ∙ filter-append q (range_with_len 1 n) ((1 + n) ∷ [])
 
-passing-next : (q : ℕ → Bool) (n : ℕ) → q (n + 1) ≡ true → filter q (range_with_len 1 (n + 1)) ≡ filter q (range_with_len 1 n) ++ ((n + 1) ∷ [])
+passing-next : (q : ℕ → Bool) (n : ℕ) → q (n + 1) ≡ true
+    → filter q (range_with_len 1 (n + 1)) ≡ filter q (range_with_len 1 n) ++ ((n + 1) ∷ [])
 passing-next q n is = let same : 1 + n ≡ n + 1 = omega arith in filter-next q n ∙ rw (same, is) refl
 
-failing-next : (q : ℕ → Bool) (n : ℕ) → q (n + 1) ≡ false → filter q (range_with_len 1 (n + 1)) ≡ filter q (range_with_len 1 n)
-failing-next q n is = let same : 1 + n ≡ n + 1 = omega arith in filter-next q n ∙ rw (same, is) (append-none (filter q (range_with_len 1 n)))
+failing-next : (q : ℕ → Bool) (n : ℕ) → q (n + 1) ≡ false
+    → filter q (range_with_len 1 (n + 1)) ≡ filter q (range_with_len 1 n)
+failing-next q n is = let same : 1 + n ≡ n + 1 = omega arith in
+    filter-next q n ∙ rw (same, is) (append-none (filter q (range_with_len 1 n)))
   where
     append-none : (xs : List ℕ) → xs ++ [] ≡ xs
     append-none [] = refl
     append-none (x ∷ xs) = ap (λ ys. x ∷ ys) (append-none xs)
 
-pub signed-next : (f : ℕ → ℤ) (q : ℕ → Bool) (n : ℕ) (old : ℤ) (b : Bool) → q (n + 1) ≡ b → old ≡ sum_ℤ f (filter q (range_with_len 1 n)) → cond b (old +ℤ f (n + 1)) old ≡ sum_ℤ f (filter q (range_with_len 1 (n + 1)))
-signed-next f q n old true is h = ap (λ z. z +ℤ f (n + 1)) h ∙ sym (signed-push f (filter q (range_with_len 1 n)) (n + 1)) ∙ ap (sum_ℤ f) (sym (passing-next q n is))
+pub signed-next : (f : ℕ → ℤ) (q : ℕ → Bool) (n : ℕ) (old : ℤ) (b : Bool) → q (n + 1) ≡ b
+    → old ≡ sum_ℤ f (filter q (range_with_len 1 n))
+    → cond b (old +ℤ f (n + 1)) old ≡ sum_ℤ f (filter q (range_with_len 1 (n + 1)))
+signed-next f q n old true is h = ap (λ z. z +ℤ f (n + 1)) h
+    ∙ sym (signed-push f (filter q (range_with_len 1 n)) (n + 1)) ∙ ap (sum_ℤ f) (sym (passing-next q n is))
 signed-next f q n old false is h = h ∙ ap (sum_ℤ f) (sym (failing-next q n is))
 
-pub count-next : (q : ℕ → Bool) (n old : ℕ) (b : Bool) → q (n + 1) ≡ b → old ≡ length (filter q (range_with_len 1 n)) → cond b (old + 1) old ≡ length (filter q (range_with_len 1 (n + 1)))
-count-next q n old true is h = ap (λ k. k + 1) h ∙ sym (length-append (filter q (range_with_len 1 n)) ((n + 1) ∷ [])) ∙ ap length (sym (passing-next q n is))
+pub count-next : (q : ℕ → Bool) (n old : ℕ) (b : Bool) → q (n + 1) ≡ b → old ≡ length (filter q (range_with_len 1 n))
+    → cond b (old + 1) old ≡ length (filter q (range_with_len 1 (n + 1)))
+count-next q n old true is h = ap (λ k. k + 1) h ∙ sym (length-append (filter q (range_with_len 1 n)) ((n + 1) ∷ []))
+    ∙ ap length (sym (passing-next q n is))
 count-next q n old false is h = h ∙ ap length (sym (failing-next q n is))
 
 -- bounds
@@ -57,7 +68,8 @@ pub count-most : (q : ℕ → Bool) (a n : ℕ) → length (filter q (range_with
 count-most q a zero = omega arith
 count-most q a (suc n) = go (q a) (count-most q (a + 1) n)
   where
-    go : (b : Bool) → length (filter q (range_with_len (a + 1) n)) ≤ n → length (cond b (a ∷ filter q (range_with_len (a + 1) n)) (filter q (range_with_len (a + 1) n))) ≤ suc n
+    go : (b : Bool) → length (filter q (range_with_len (a + 1) n)) ≤ n
+        → length (cond b (a ∷ filter q (range_with_len (a + 1) n)) (filter q (range_with_len (a + 1) n))) ≤ suc n
     go true rest = omega arith
     go false rest = omega arith
 
@@ -70,7 +82,8 @@ signed-most f (x ∷ xs) h =
     let rest = signed-most f xs h in
     (low (length xs) (f x) (sum_ℤ f xs) here.0 rest.0, high (length xs) (f x) (sum_ℤ f xs) here.1 rest.1)
   where
-    low : (n : ℕ) (y z : ℤ) → neg_ℤ (pos (10 ^ 32)) ≤ℤ y → neg_ℤ (pos (n * 10 ^ 32)) ≤ℤ z → neg_ℤ (pos (suc n * 10 ^ 32)) ≤ℤ (y +ℤ z)
+    low : (n : ℕ) (y z : ℤ) → neg_ℤ (pos (10 ^ 32)) ≤ℤ y → neg_ℤ (pos (n * 10 ^ 32)) ≤ℤ z
+        → neg_ℤ (pos (suc n * 10 ^ 32)) ≤ℤ (y +ℤ z)
     low n y z h k = omega (arith, ints)
 
     high : (n : ℕ) (y z : ℤ) → y ≤ℤ pos (10 ^ 32) → z ≤ℤ pos (n * 10 ^ 32) → (y +ℤ z) ≤ℤ pos (suc n * 10 ^ 32)
@@ -98,10 +111,13 @@ kept z h = to_z-of_z w128 z (within-fits (10 ^ 38) z h (omega arith))
 pub small-kept : (z : ℤ) → IsWithin (10 ^ 32) z → to_z w128 (of_z w128 z) ≡ z
 small-kept z h = to_z-of_z w128 z (within-fits (10 ^ 32) z h (omega arith))
 
-pub kept-sum-fits : (x y : ℤ) → IsWithin (10 ^ 38) x → IsWithin (10 ^ 32) y → SFits w128 (to_z w128 (of_z w128 x) +ℤ to_z w128 (of_z w128 y))
-kept-sum-fits x y h k = rw (kept x h, small-kept y k) (within-fits (11 * 10 ^ 37) (x +ℤ y) (sum-within x y h k) (omega arith))
+pub kept-sum-fits : (x y : ℤ) → IsWithin (10 ^ 38) x → IsWithin (10 ^ 32) y
+    → SFits w128 (to_z w128 (of_z w128 x) +ℤ to_z w128 (of_z w128 y))
+kept-sum-fits x y h k =
+    rw (kept x h, small-kept y k) (within-fits (11 * 10 ^ 37) (x +ℤ y) (sum-within x y h k) (omega arith))
 
-pub kept-sum : (x y : ℤ) → IsWithin (10 ^ 38) x → IsWithin (10 ^ 32) y → to_z w128 (of_z w128 (to_z w128 (of_z w128 x) +ℤ to_z w128 (of_z w128 y))) ≡ x +ℤ to_z w128 (of_z w128 y)
+pub kept-sum : (x y : ℤ) → IsWithin (10 ^ 38) x → IsWithin (10 ^ 32) y
+    → to_z w128 (of_z w128 (to_z w128 (of_z w128 x) +ℤ to_z w128 (of_z w128 y))) ≡ x +ℤ to_z w128 (of_z w128 y)
 kept-sum x y h k =
     to_z-of_z w128 (to_z w128 (of_z w128 x) +ℤ to_z w128 (of_z w128 y)) (kept-sum-fits x y h k)
     ∙ ap (λ z. z +ℤ to_z w128 (of_z w128 y)) (kept x h)

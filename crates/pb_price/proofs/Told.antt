@@ -34,13 +34,18 @@ within t l d low h = elim (cases_lt l t) [
 
 over-is : (t l d : ℕ) → 1 ≤ d → nat_lt (l * d) (t * d) ≡ nat_lt l t
 over-is t l d low = elim (cases_lt l t) [
-  | inl more ↦ let most : (l + 1) * d ≤ t * d = mul-le (l + 1) d t d (omega arith) (omega arith) in lt-ltb (l * d) (t * d) (omega arith) ∙ sym (lt-ltb l t more)
+  | inl more ↦ let most : (l + 1) * d ≤ t * d = mul-le (l + 1) d t d (omega arith) (omega arith) in
+      lt-ltb (l * d) (t * d) (omega arith) ∙ sym (lt-ltb l t more)
   | inr less ↦ le-ltb (l * d) (t * d) (mul-le t d l d less (omega arith)) ∙ sym (le-ltb l t less)
 ]
 
-pub tell-what-holds : (e : Instance) (w : List Bool) (p : Prices) → 1 ≤ p.denominator → TellWhatHolds e w p (findings e w p)
+pub tell-what-holds : (e : Instance) (w : List Bool) (p : Prices) → 1 ≤ p.denominator
+    → TellWhatHolds e w p (findings e w p)
 tell-what-holds e w p low = record {
-  feasible = (λ h. within (total e w) e.limit p.denominator low h, λ h. mul-le (total e w) p.denominator e.limit p.denominator h (omega arith));
+  feasible = (
+    λ h. within (total e w) e.limit p.denominator low h,
+    λ h. mul-le (total e w) p.denominator e.limit p.denominator h (omega arith),
+  );
   exhaustive = through (none-iff (culprits_of_Exhaustive e w) _ refl) (Exhaustive-iff e w);
   cover = (λ h. h, λ h. h);
   c1 = through (none-iff (culprits_of_C1 e p) _ refl) (C1-iff e p);
@@ -52,11 +57,13 @@ tell-what-holds e w p low = record {
 }
 
 -- the first of two lists, and of one that is mapped
-of-two : (xs ys : List Failure) (a b : Option Failure) → a ≡ slice_get xs 0 → b ≡ slice_get ys 0 → option_or a b ≡ slice_get (xs ++ ys) 0
+of-two : (xs ys : List Failure) (a b : Option Failure) → a ≡ slice_get xs 0 → b ≡ slice_get ys 0
+    → option_or a b ≡ slice_get (xs ++ ys) 0
 of-two [] ys a b p q = ap (λ x. option_or x b) p ∙ q
 of-two (x ∷ xs) ys a b p q = ap (λ y. option_or y b) p
 
-of-mapped : {A : Type 0} (g : A → Failure) (xs : List A) (o : Option A) → o ≡ slice_get xs 0 → option_map g o ≡ slice_get (map g xs) 0
+of-mapped : {A : Type 0} (g : A → Failure) (xs : List A) (o : Option A) → o ≡ slice_get xs 0
+    → option_map g o ≡ slice_get (map g xs) 0
 of-mapped g [] o is = ap (option_map g) is
 of-mapped g (x ∷ xs) o is = ap (option_map g) is
 
@@ -64,24 +71,34 @@ of-test : (b : Bool) (x : Failure) → cond b (Some x) None ≡ slice_get (cond 
 of-test true x = refl
 of-test false x = refl
 
-of-asked : (b : Bool) (xs : List Failure) (o : Option Failure) → o ≡ slice_get xs 0 → cond b o None ≡ slice_get (cond b xs []) 0
+of-asked : (b : Bool) (xs : List Failure) (o : Option Failure) → o ≡ slice_get xs 0
+    → cond b o None ≡ slice_get (cond b xs []) 0
 of-asked true xs o is = is
 of-asked false xs o is = refl
 
-of-choice : (b : Bool) (xs ys : List Failure) (o q : Option Failure) → o ≡ slice_get xs 0 → q ≡ slice_get ys 0 → cond b o q ≡ slice_get (cond b xs ys) 0
+of-choice : (b : Bool) (xs ys : List Failure) (o q : Option Failure) → o ≡ slice_get xs 0 → q ≡ slice_get ys 0
+    → cond b o q ≡ slice_get (cond b xs ys) 0
 of-choice true xs ys o q is is' = is
 of-choice false xs ys o q is is' = is'
 
-outcome-told : (m : Mode) (e : Instance) (w : List Bool) (p : Prices) → 1 ≤ p.denominator → told_of_outcome m (findings e w p) ≡ slice_get (failures_of_outcome m e w) 0
+outcome-told : (m : Mode) (e : Instance) (w : List Bool) (p : Prices) → 1 ≤ p.denominator
+    → told_of_outcome m (findings e w p) ≡ slice_get (failures_of_outcome m e w) 0
 outcome-told m e w p low =
-    of-two (cond (nat_lt e.limit (total e w)) (failure.Feasible ∷ []) []) (cond m.exhaustive (map failure.Exhaustive (culprits_of_Exhaustive e w)) []) _ _
-    (ap (λ b. cond b (Some failure.Feasible) None) (over-is (total e w) e.limit p.denominator low) ∙ of-test (nat_lt e.limit (total e w)) failure.Feasible)
-    (of-asked m.exhaustive (map failure.Exhaustive (culprits_of_Exhaustive e w)) _ (of-mapped failure.Exhaustive (culprits_of_Exhaustive e w) _ refl))
+    of-two (cond (nat_lt e.limit (total e w)) (failure.Feasible ∷ []) [])
+    (cond m.exhaustive (map failure.Exhaustive (culprits_of_Exhaustive e w)) []) _ _
+    (ap (λ b. cond b (Some failure.Feasible) None) (over-is (total e w) e.limit p.denominator low)
+    ∙ of-test (nat_lt e.limit (total e w)) failure.Feasible)
+    (of-asked m.exhaustive (map failure.Exhaustive (culprits_of_Exhaustive e w)) _
+    (of-mapped failure.Exhaustive (culprits_of_Exhaustive e w) _ refl))
 
-budgets-told : (m : Mode) (e : Instance) (w : List Bool) (p : Prices) → told_of_budgets m (findings e w p) ≡ slice_get (failures_of_budgets m e p) 0
-budgets-told m e w p = of-asked m.cover (cond (nat_le (voters e * beta p) (budget_limit e p)) (failure.Cover ∷ []) []) _ (of-test (nat_le (voters e * beta p) (budget_limit e p)) failure.Cover)
+budgets-told : (m : Mode) (e : Instance) (w : List Bool) (p : Prices)
+    → told_of_budgets m (findings e w p) ≡ slice_get (failures_of_budgets m e p) 0
+budgets-told m e w p =
+    of-asked m.cover (cond (nat_le (voters e * beta p) (budget_limit e p)) (failure.Cover ∷ []) []) _
+    (of-test (nat_le (voters e * beta p) (budget_limit e p)) failure.Cover)
 
-payments-told : (e : Instance) (w : List Bool) (p : Prices) → told_of_payments (findings e w p) ≡ slice_get (failures_of_payments e w p) 0
+payments-told : (e : Instance) (w : List Bool) (p : Prices)
+    → told_of_payments (findings e w p) ≡ slice_get (failures_of_payments e w p) 0
 payments-told e w p =
     of-two _ (map failure.C4 (culprits_of_C4 e w p)) _ _
     (of-two _ (map failure.C3 (culprits_of_C3 e w p)) _ _
@@ -91,15 +108,19 @@ payments-told e w p =
     (of-mapped failure.C3 (culprits_of_C3 e w p) _ refl))
     (of-mapped failure.C4 (culprits_of_C4 e w p) _ refl)
 
-supporters-told : (m : Mode) (e : Instance) (w : List Bool) (p : Prices) → told_of_supporters m (findings e w p) ≡ slice_get (failures_of_supporters m e w p) 0
+supporters-told : (m : Mode) (e : Instance) (w : List Bool) (p : Prices)
+    → told_of_supporters m (findings e w p) ≡ slice_get (failures_of_supporters m e w p) 0
 supporters-told m e w p =
     of-choice m.stable (map failure.S5 (culprits_of_S5 e w p)) (map failure.C5 (culprits_of_C5 e w p)) _ _
     (of-mapped failure.S5 (culprits_of_S5 e w p) _ refl) (of-mapped failure.C5 (culprits_of_C5 e w p) _ refl)
 
-pub tell-first : (m : Mode) (e : Instance) (w : List Bool) (p : Prices) → 1 ≤ p.denominator → first_told m (findings e w p) ≡ First m e w p
+pub tell-first : (m : Mode) (e : Instance) (w : List Bool) (p : Prices) → 1 ≤ p.denominator
+    → first_told m (findings e w p) ≡ First m e w p
 tell-first m e w p low =
-    of-two (failures_of_outcome m e w ++ failures_of_budgets m e p ++ failures_of_payments e w p) (failures_of_supporters m e w p) _ _
+    of-two (failures_of_outcome m e w ++ failures_of_budgets m e p ++ failures_of_payments e w p)
+    (failures_of_supporters m e w p) _ _
     (of-two (failures_of_outcome m e w ++ failures_of_budgets m e p) (failures_of_payments e w p) _ _
-    (of-two (failures_of_outcome m e w) (failures_of_budgets m e p) _ _ (outcome-told m e w p low) (budgets-told m e w p))
+    (of-two (failures_of_outcome m e w) (failures_of_budgets m e p) _ _ (outcome-told m e w p low)
+    (budgets-told m e w p))
     (payments-told e w p))
     (supporters-told m e w p)

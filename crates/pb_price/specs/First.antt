@@ -21,7 +21,8 @@ failures_of_outcome m e w =
 
 -- then Cover, where the mode asks for it
 abbrev pub failures_of_budgets : Mode → Instance → Prices → List Failure
-failures_of_budgets m e p = if m.cover then if nat_le (voters e * beta p) (budget_limit e p) then failure.Cover ∷ [] else [] else []
+failures_of_budgets m e p = if m.cover then if nat_le (voters e * beta p) (budget_limit e p) then failure.Cover ∷ []
+    else [] else []
 
 -- then C1, C2, C3 and C4
 abbrev pub failures_of_payments : Instance → List Bool → Prices → List Failure
@@ -39,7 +40,8 @@ failures_of_supporters m e w p =
 -- all of them
 abbrev pub failures_of : Mode → Instance → List Bool → Prices → List Failure
 failures_of m e w p =
-    failures_of_outcome m e w ++ failures_of_budgets m e p ++ failures_of_payments e w p ++ failures_of_supporters m e w p
+    failures_of_outcome m e w ++ failures_of_budgets m e p ++ failures_of_payments e w p
+    ++ failures_of_supporters m e w p
 
 -- the first failure, where there is one
 abbrev pub First : Mode → Instance → List Bool → Prices → Option Failure

@@ -1,11 +1,8 @@
 pub mod First
-pub mod Tallies
 pub mod Answers
 pub mod Margins
 pub mod Findings
 pub mod Told
-pub mod Noted
-pub mod Looked
-pub mod Takings
 pub mod Samples
 pub mod Ranges
+pub mod Inside

@@ -30,7 +30,8 @@ pub record AllSumsFit (e : Instance) (w : List Bool) (p : Prices) : Type 0 where
   pub cost_of_project : (c : ℕ) → IsProject e c → IsInRangeℕ (cost e p c)
   -- what projects cost together, and what a group pays for them
   pub costs : (t : List ℕ) → AreProjects e t → IsInRangeℕ (sum_by (cost e p) t)
-  pub payments : (s t : List ℕ) → IsGroup e s → AreProjects e t → IsInRangeℕ (sum_by (λ i. sum_by (λ c. pays p i c) t) s)
+  pub payments : (s t : List ℕ) → IsGroup e s → AreProjects e t
+      → IsInRangeℕ (sum_by (λ i. sum_by (λ c. pays p i c) t) s)
   -- C5: what a voter has left, and what a group has left
   pub left_of_voter : (i : ℕ) → IsVoter e i → IsInRange (left e p i)
   pub left_of_group : (s : List ℕ) → IsGroup e s → IsInRange (sum_ℤ (left e p) s)

@@ -44,4 +44,6 @@ abbrev pub told_of_supporters : Mode → Findings → Option Failure
 told_of_supporters m f = if m.stable then option_map failure.S5 f.s5.first else option_map failure.C5 f.c5.first
 
 abbrev pub first_told : Mode → Findings → Option Failure
-first_told m f = option_or (option_or (option_or (told_of_outcome m f) (told_of_budgets m f)) (told_of_payments f)) (told_of_supporters m f)
+first_told m f =
+    option_or (option_or (option_or (told_of_outcome m f) (told_of_budgets m f)) (told_of_payments f))
+    (told_of_supporters m f)

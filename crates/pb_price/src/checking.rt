@@ -11,7 +11,7 @@ ghost use Rattle.pb_cohesion.specs.Conditions.{Supports};
 ghost use Rattle.pb_cohesion.specs.EveryGroup.{BudgetsAreWithinReach, GroupsGetTheirShare, NoGroupHasMoreLeft, NoViolationByCounting, NothingBlocks, SupportersBlock, SupportersHaveMoreLeft};
 ghost use Rattle.pb_price.specs.Answers.{AreStepsOf, IsVerdictOn, row_count};
 ghost use Rattle.pb_price.specs.First.{First, verdict_of};
-ghost use Rattle.pb_price.specs.Tallies.{IsTallyOf, most_grains};
+ghost use Rattle.pb_price.specs.Inside.Tallies.{IsTallyOf, most_grains};
 
 use crate::conditions::first_failure;
 use crate::takings::{take_certificate, take_prices};

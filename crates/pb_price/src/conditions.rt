@@ -10,7 +10,7 @@ ghost use Rattle.pb_cohesion.specs.Amounts.{beta};
 ghost use Rattle.pb_cohesion.specs.Conditions.{culprits_of_Exhaustive};
 ghost use Rattle.pb_cohesion.specs.Outcome.{total};
 ghost use Rattle.pb_price.specs.First.{First, failures_of_budgets, failures_of_outcome, failures_of_payments, failures_of_supporters};
-ghost use Rattle.pb_price.specs.Tallies.{AreSums, IsTallyOf, has_more, in_vain, most_grains, not_exactly, paid_wrongly};
+ghost use Rattle.pb_price.specs.Inside.Tallies.{AreSums, IsTallyOf, has_more, in_vain, most_grains, not_exactly, paid_wrongly};
 
 use crate::tally::{ProjectSums, Tally, first_where};
 use crate::{Failure, Mode};

@@ -9,8 +9,8 @@ ghost use Rattle.pb_certificate.specs.PriceText.{IsPriceText};
 ghost use Rattle.pb_certificate.specs.Prices as spec;
 ghost use Rattle.pb_certificate.specs.Prices.{most_denominator};
 ghost use Rattle.pb_price.specs.Findings.{findings};
-ghost use Rattle.pb_price.specs.Looked.{AreFoundTo, AreSmallFindings, with_funded, with_unfunded};
-ghost use Rattle.pb_price.specs.Tallies.{AreInRange, IsTallyOf, IsWithin, most_grains, sums_of};
+ghost use Rattle.pb_price.specs.Inside.Looked.{AreFoundTo, AreSmallFindings, with_funded, with_unfunded};
+ghost use Rattle.pb_price.specs.Inside.Tallies.{AreInRange, IsTallyOf, IsWithin, most_grains, sums_of};
 
 use crate::conditions::cost_of_funded;
 use crate::noting::NOTHING_FOUND;

@@ -10,7 +10,7 @@ ghost use Rattle.pb_certificate.specs.PriceText.{IsPriceText};
 ghost use Rattle.pb_certificate.specs.Prices as spec;
 ghost use Rattle.pb_certificate.specs.Prices.{most_denominator};
 ghost use Rattle.pb_price.specs.Margins.{AreMargins};
-ghost use Rattle.pb_price.specs.Tallies.{figures_of};
+ghost use Rattle.pb_price.specs.Inside.Tallies.{figures_of};
 
 use crate::takings::{NO_MEMORY, take_certificate};
 use crate::tally::ProjectSums;

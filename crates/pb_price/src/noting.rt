@@ -3,8 +3,8 @@
 ghost use Rattle.std.specs.Prelude.{◌≡◌, ◌≤◌, IfSome};
 ghost use Rattle.pb_election.specs.Instance.{most_voters};
 ghost use Rattle.pb_price.specs.Findings.{excess};
-ghost use Rattle.pb_price.specs.Noted.{is_closer, noted};
-ghost use Rattle.pb_price.specs.Looked.{IsSmallComparison};
+ghost use Rattle.pb_price.specs.Inside.Noted.{is_closer, noted};
+ghost use Rattle.pb_price.specs.Inside.Looked.{IsSmallComparison};
 
 use crate::tally::first_where;
 use crate::{Comparison, Finding};

@@ -8,8 +8,8 @@ ghost use Rattle.pb_certificate.specs.Faults.{Refuses, no_memory, price_form};
 ghost use Rattle.pb_certificate.specs.Prices as spec;
 ghost use Rattle.pb_certificate.specs.Prices.{payments_of};
 ghost use Rattle.pb_certificate.specs.Rows.{given};
-ghost use Rattle.pb_price.specs.Takings.{IsTallied, TakesCertificate, TakesUntil, taken_from};
-ghost use Rattle.pb_price.specs.Tallies.{Tallied};
+ghost use Rattle.pb_price.specs.Inside.Takings.{IsTallied, TakesCertificate, TakesUntil, taken_from};
+ghost use Rattle.pb_price.specs.Inside.Tallies.{Tallied};
 
 use crate::tally::Tally;
 use pb_certificate::{CertFault, CertRefusal, PriceRow, Prices, Rows};

@@ -4,8 +4,8 @@
 ghost use Rattle.std.specs.Prelude.{◌≡◌, ◌<◌, ◌≤◌, ◌+◌, ◌-◌, ◌*◌, ◌^◌, ◌&&◌, not, nat_lt, if◌then◌else◌, ℕ, pos, ◌-ℤ◌, IfOk, length, slice_index_or};
 ghost use Rattle.std.specs.Int.{int_max};
 ghost use Rattle.pb_election.specs.Instance.{IsSet, IsProject, IsVoter, voters};
-ghost use Rattle.pb_price.specs.Noted.{first_number};
-ghost use Rattle.pb_price.specs.Tallies.{AreChanged, AreSmall, CanTakeRow, IsWithin, Taken, Tallied, TakesRow, first_pair, marked_with, most_grains, with_supporter};
+ghost use Rattle.pb_price.specs.Inside.Noted.{first_number};
+ghost use Rattle.pb_price.specs.Inside.Tallies.{AreChanged, AreSmall, CanTakeRow, IsWithin, Taken, Tallied, TakesRow, first_pair, marked_with, most_grains, with_supporter};
 
 use crate::noting::NOTHING_FOUND;
 use crate::{Comparison, Finding, PaymentFinding};

@@ -24,7 +24,8 @@ unfolding drop_back
 ascii-back [] h = IsAscii-nil
 ascii-back (b ∷ bs) h = by (is_space b) (is_empty (drop_back is_space bs)) refl refl h (ascii-back bs)
   where
-    by : (s e : Bool) → is_space b ≡ s → is_empty (drop_back is_space bs) ≡ e → is_empty (if s && e then [] else b ∷ drop_back is_space bs) ≡ true
+    by : (s e : Bool) → is_space b ≡ s → is_empty (drop_back is_space bs) ≡ e
+        → is_empty (if s && e then [] else b ∷ drop_back is_space bs) ≡ true
         → (is_empty (drop_back is_space bs) ≡ true → IsAscii bs) → IsAscii (b ∷ bs)
     by true true s e k more = ascii-cons b bs (space-below b s) (more e)
     by true false s e k more = cc k
@@ -35,7 +36,8 @@ unfolding drop_front
 ascii-front [] h = IsAscii-nil
 ascii-front (b ∷ bs) h = by (is_space b) refl h (ascii-front bs)
   where
-    by : (s : Bool) → is_space b ≡ s → is_empty (drop_back is_space (if s then drop_front is_space bs else b ∷ bs)) ≡ true
+    by : (s : Bool) → is_space b ≡ s → is_empty (drop_back is_space (if s then drop_front is_space bs else b ∷ bs))
+        ≡ true
         → (is_empty (clean bs) ≡ true → IsAscii bs) → IsAscii (b ∷ bs)
     by true s k more = ascii-cons b bs (space-below b s) (more k)
     by false s k more = ascii-back (b ∷ bs) k
@@ -46,7 +48,8 @@ blank-is-text [] h = refl
 blank-is-text (f ∷ fs) h = by (is_empty (clean f)) refl h (blank-is-text fs)
   where
     by : (e : Bool) → is_empty (clean f) ≡ e → (e && list_all (λ g. is_empty (clean g)) fs) ≡ true
-        → (list_all (λ g. is_empty (clean g)) fs ≡ true → list_all is_utf8 fs ≡ true) → (is_utf8 f && list_all is_utf8 fs) ≡ true
+        → (list_all (λ g. is_empty (clean g)) fs ≡ true → list_all is_utf8 fs ≡ true)
+        → (is_utf8 f && list_all is_utf8 fs) ≡ true
     by true e k more = rw (is_utf8-from_IsUtf8 f (IsUtf8-from_ascii f (ascii-front f e)), more k) refl
     by false e k more = cc k
 

@@ -13,7 +13,8 @@ strip_bom-drop_marks (a ∷ []) = refl
 strip_bom-drop_marks (a ∷ b ∷ []) = refl
 strip_bom-drop_marks (a ∷ b ∷ c ∷ rest) = by (is_bom a b c) refl (strip_bom-drop_marks rest)
   where
-    by : (t : Bool) → is_bom a b c ≡ t → strip_bom (drop_marks rest) ≡ drop_marks rest → strip_bom (drop_marks (a ∷ b ∷ c ∷ rest)) ≡ drop_marks (a ∷ b ∷ c ∷ rest)
+    by : (t : Bool) → is_bom a b c ≡ t → strip_bom (drop_marks rest) ≡ drop_marks rest
+        → strip_bom (drop_marks (a ∷ b ∷ c ∷ rest)) ≡ drop_marks (a ∷ b ∷ c ∷ rest)
     by true e h = rw e h
     by false e h = rw e (rw e refl)
 

@@ -22,11 +22,13 @@ pub space-ascii : (b : ℕ) → is_space b ≡ true → b < 128
 space-ascii b e = grind (arith, nat_tests)
 
 -- what is dropped at the front: the byte there goes, or all stays. The bytes are those of the text
-front-dropped : (test : ℕ → Bool) (xs : Field) (i : ℕ) → i < length xs → test (get_or xs i 0) ≡ true → drop_front test (drop (i + 1) xs) ≡ drop_front test (drop i xs)
+front-dropped : (test : ℕ → Bool) (xs : Field) (i : ℕ) → i < length xs → test (get_or xs i 0) ≡ true
+    → drop_front test (drop (i + 1) xs) ≡ drop_front test (drop i xs)
 unfolding drop_front
 front-dropped test xs i h e = rw (add-one i, drop-cons xs i 0 h, e) refl
 
-front-kept : (test : ℕ → Bool) (xs : Field) (i : ℕ) → i < length xs → test (get_or xs i 0) ≡ false → drop_front test (drop i xs) ≡ drop i xs
+front-kept : (test : ℕ → Bool) (xs : Field) (i : ℕ) → i < length xs → test (get_or xs i 0) ≡ false
+    → drop_front test (drop i xs) ≡ drop i xs
 unfolding drop_front
 front-kept test xs i h e = rw (drop-cons xs i 0 h, e) refl
 
@@ -34,20 +36,23 @@ front-nil : (test : ℕ → Bool) (xs : Field) (i : ℕ) → length xs ≤ i →
 unfolding drop_front
 front-nil test xs i h = rw (drop_all i xs h) refl
 
-pub front-goes : (bytes text : Field) (i : ℕ) → bytes ≡ text → IsUtf8 text → i < length bytes → is_space (get_or bytes i 0) ≡ true
+pub front-goes : (bytes text : Field) (i : ℕ) → bytes ≡ text → IsUtf8 text → i < length bytes
+    → is_space (get_or bytes i 0) ≡ true
     → (drop_front is_space (drop (i + 1) text) ≡ drop_front is_space (drop i text)) × IsCharBoundary text (i + 1)
 front-goes bytes text i same utf8 h e =
     let h' : i < length text = rw same at h in
     let e' : is_space (get_or text i 0) ≡ true = rw same at e in
     (front-dropped is_space text i h' e', IsCharBoundary-after_ascii text i utf8 h' (space-ascii (get_or text i 0) e'))
 
-pub front-stays : (bytes text : Field) (i : ℕ) → bytes ≡ text → i < length bytes → is_space (get_or bytes i 0) ≡ false → drop_front is_space (drop i text) ≡ drop i text
+pub front-stays : (bytes text : Field) (i : ℕ) → bytes ≡ text → i < length bytes → is_space (get_or bytes i 0) ≡ false
+    → drop_front is_space (drop i text) ≡ drop i text
 front-stays bytes text i same h e =
     let h' : i < length text = rw same at h in
     let e' : is_space (get_or text i 0) ≡ false = rw same at e in
     front-kept is_space text i h' e'
 
-pub front-ends : (bytes text : Field) (i : ℕ) → bytes ≡ text → length bytes ≤ i → drop_front is_space (drop i text) ≡ drop i text
+pub front-ends : (bytes text : Field) (i : ℕ) → bytes ≡ text → length bytes ≤ i
+    → drop_front is_space (drop i text) ≡ drop i text
 front-ends bytes text i same h =
     let h' : length text ≤ i = rw same at h in
     front-nil is_space text i h'
@@ -61,7 +66,8 @@ not-empty : (xs : Field) (b : ℕ) → is_empty (xs ++ (b ∷ [])) ≡ false
 not-empty [] b = refl
 not-empty (x ∷ xs) b = refl
 
-back-dropped : (test : ℕ → Bool) (bs : Field) (b : ℕ) → test b ≡ true → drop_back test (bs ++ (b ∷ [])) ≡ drop_back test bs
+back-dropped : (test : ℕ → Bool) (bs : Field) (b : ℕ) → test b ≡ true
+    → drop_back test (bs ++ (b ∷ [])) ≡ drop_back test bs
 unfolding drop_back
 back-dropped test [] b e = rw e refl
 back-dropped test (x ∷ xs) b e = rw (back-dropped test xs b e) refl
@@ -77,22 +83,27 @@ range-start text end =
     rw z refl
 
 -- the text up to a place has the byte before that place last
-last-byte : (bytes text : Field) (end : ℕ) → bytes ≡ text → 0 < end → end ≤ length text → take end text ≡ take (end - 1) text ++ (get_or bytes (end - 1) 0 ∷ [])
+last-byte : (bytes text : Field) (end : ℕ) → bytes ≡ text → 0 < end → end ≤ length text
+    → take end text ≡ take (end - 1) text ++ (get_or bytes (end - 1) 0 ∷ [])
 last-byte bytes text end same low high =
     let n : suc (end - 1) ≡ end = omega arith in
     let h : end - 1 < length text = omega arith in
-    let t : take end text ≡ take (end - 1) text ++ (get_or text (end - 1) 0 ∷ []) = rw n at (take-suc text (end - 1) 0 h) in
+    let t : take end text ≡ take (end - 1) text ++ (get_or text (end - 1) 0 ∷ []) =
+    rw n at (take-suc text (end - 1) 0 h) in
     rw same t
 
-pub back-goes : (bytes text : Field) (end : ℕ) → bytes ≡ text → 0 < end → end ≤ length text → is_space (get_or bytes (end - 1) 0) ≡ true
+pub back-goes : (bytes text : Field) (end : ℕ) → bytes ≡ text → 0 < end → end ≤ length text
+    → is_space (get_or bytes (end - 1) 0) ≡ true
     → (drop_back is_space (take (end - 1) text) ≡ drop_back is_space (take end text)) × IsCharBoundary text (end - 1)
 back-goes bytes text end same low high e =
     let e' : is_space (get_or text (end - 1) 0) ≡ true = rw same at e in (
-      sym (back-dropped is_space (take (end - 1) text) (get_or bytes (end - 1) 0) e) ∙ ap (drop_back is_space) (sym (last-byte bytes text end same low high)),
+      sym (back-dropped is_space (take (end - 1) text) (get_or bytes (end - 1) 0) e)
+          ∙ ap (drop_back is_space) (sym (last-byte bytes text end same low high)),
       IsCharBoundary-before_ascii text (end - 1) (omega arith) (space-ascii (get_or text (end - 1) 0) e'),
     )
 
-pub back-stays : (bytes text : Field) (end : ℕ) → bytes ≡ text → 0 < end → end ≤ length text → is_space (get_or bytes (end - 1) 0) ≡ false → drop_back is_space (take end text) ≡ take end text
+pub back-stays : (bytes text : Field) (end : ℕ) → bytes ≡ text → 0 < end → end ≤ length text
+    → is_space (get_or bytes (end - 1) 0) ≡ false → drop_back is_space (take end text) ≡ take end text
 back-stays bytes text end same low high e =
     let l = last-byte bytes text end same low high in
     ap (drop_back is_space) l ∙ back-kept is_space (take (end - 1) text) (get_or bytes (end - 1) 0) e ∙ sym l
@@ -104,7 +115,8 @@ back-ends text end h =
     rw z refl
 
 -- the fields from a place on
-all-drop : (p : Field → Bool) (fs : Rec) (i : ℕ) (f : Field) → field_at fs i ≡ Some f → list_all p (drop i fs) ≡ (p f && list_all p (drop (i + 1) fs))
+all-drop : (p : Field → Bool) (fs : Rec) (i : ℕ) (f : Field) → field_at fs i ≡ Some f
+    → list_all p (drop i fs) ≡ (p f && list_all p (drop (i + 1) fs))
 unfolding field_at
 all-drop p [] i f e = cc e
 all-drop p (x ∷ xs) zero f e =
@@ -127,7 +139,8 @@ field-some [] i f e = cc e
 field-some (x ∷ xs) zero f e = omega arith
 field-some (x ∷ xs) (suc i) f e = omega (arith, field-some xs i f e)
 
-pub blank-drop : (fs : Rec) (i : ℕ) (f : Field) → field_at fs i ≡ Some f → is_blank (drop i fs) ≡ (is_empty (clean f) && is_blank (drop (i + 1) fs))
+pub blank-drop : (fs : Rec) (i : ℕ) (f : Field) → field_at fs i ≡ Some f
+    → is_blank (drop i fs) ≡ (is_empty (clean f) && is_blank (drop (i + 1) fs))
 unfolding is_blank
 blank-drop fs i f e = all-drop (λ g. is_empty (clean g)) fs i f e
 

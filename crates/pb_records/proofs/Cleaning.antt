@@ -20,7 +20,8 @@ unfolding StartsPlain drop_front
 front-starts [] = tt
 front-starts (b ∷ bs) = by (is_space b) refl (front-starts bs)
   where
-    by : (t : Bool) → is_space b ≡ t → StartsPlain (drop_front is_space bs) → StartsPlain (if t then drop_front is_space bs else b ∷ bs)
+    by : (t : Bool) → is_space b ≡ t → StartsPlain (drop_front is_space bs)
+        → StartsPlain (if t then drop_front is_space bs else b ∷ bs)
     by true e h = h
     by false e h = e
 
@@ -39,13 +40,16 @@ unfolding drop_back
 back-twice [] = refl
 back-twice (b ∷ bs) = by (is_space b && is_empty (drop_back is_space bs)) refl (back-twice bs)
   where
-    by : (t : Bool) → (is_space b && is_empty (drop_back is_space bs)) ≡ t → drop_back is_space (drop_back is_space bs) ≡ drop_back is_space bs
-        → drop_back is_space (if t then [] else b ∷ drop_back is_space bs) ≡ (if t then [] else b ∷ drop_back is_space bs)
+    by : (t : Bool) → (is_space b && is_empty (drop_back is_space bs)) ≡ t
+        → drop_back is_space (drop_back is_space bs) ≡ drop_back is_space bs
+        → drop_back is_space (if t then [] else b ∷ drop_back is_space bs)
+        ≡ (if t then [] else b ∷ drop_back is_space bs)
     by true e h = refl
     by false e h = rw (h, e) refl
 
 pub clean-clean : (f : Field) → clean (clean f) ≡ clean f
-clean-clean f = ap (drop_back is_space) (front-same (clean f) (back-starts (drop_front is_space f) (front-starts f))) ∙ back-twice (drop_front is_space f)
+clean-clean f = ap (drop_back is_space) (front-same (clean f) (back-starts (drop_front is_space f) (front-starts f)))
+    ∙ back-twice (drop_front is_space f)
 
 -- a field is blank where nothing is left of it at the front
 back-empty : (f : Field) → StartsPlain f → is_empty (drop_back is_space f) ≡ is_empty f
@@ -64,7 +68,8 @@ front-utf8 [] u = u
 front-utf8 (b ∷ bs) u =
     elim (cases_Bool (is_space b)) [
       | inl e ↦
-          let rest : IsUtf8 bs = IsUtf8-drop (b ∷ bs) 1 u (IsCharBoundary-after_ascii (b ∷ bs) 0 u (omega arith) (space-ascii b e)) in
+          let rest : IsUtf8 bs =
+          IsUtf8-drop (b ∷ bs) 1 u (IsCharBoundary-after_ascii (b ∷ bs) 0 u (omega arith) (space-ascii b e)) in
           rw e (front-utf8 bs rest)
       | inr e ↦ rw e u
     ]
@@ -86,8 +91,20 @@ kept (b ∷ bs) = by (is_space b && is_empty (drop_back is_space bs)) refl (kept
     first false y e = cc e
 
     by : (t : Bool) → (is_space b && is_empty (drop_back is_space bs)) ≡ t → Kept bs → Kept (b ∷ bs)
-    by true e k = record { count = 0; within = omega arith; is = rw e refl; next = λ h. first (is_space b) (is_empty (drop_back is_space bs)) e }
-    by false e k = record { count = suc k.count; within = omega (arith, k.within); is = rw (e, k.is) refl; next = λ h. k.next (omega arith) }
+    by true e k =
+        record {
+          count = 0;
+          within = omega arith;
+          is = rw e refl;
+          next = λ h. first (is_space b) (is_empty (drop_back is_space bs)) e;
+        }
+    by false e k =
+        record {
+          count = suc k.count;
+          within = omega (arith, k.within);
+          is = rw (e, k.is) refl;
+          next = λ h. k.next (omega arith);
+        }
 
 back-utf8 : (f : Field) → IsUtf8 f → IsUtf8 (drop_back is_space f)
 back-utf8 f u = by (kept f)
@@ -96,7 +113,9 @@ back-utf8 f u = by (kept f)
     by k = elim (cases_Bool (nat_lt k.count (length f))) [
       | inl is_less ↦
           let less : k.count < length f = grind (arith, nat_tests) in
-          rw k.is (IsUtf8-take f k.count u (IsCharBoundary-before_ascii f k.count less (space-ascii (get_or f k.count 0) (k.next less))))
+          rw k.is
+          (IsUtf8-take f k.count u
+          (IsCharBoundary-before_ascii f k.count less (space-ascii (get_or f k.count 0) (k.next less))))
       | inr is_not ↦
           let all : length f ≤ k.count = grind (arith, nat_tests) in
           let whole : take k.count f ≡ f = take_all k.count f all in
@@ -104,4 +123,5 @@ back-utf8 f u = by (kept f)
     ]
 
 pub is_utf8-clean : (f : Field) → is_utf8 f ≡ true → is_utf8 (clean f) ≡ true
-is_utf8-clean f u = is_utf8-from_IsUtf8 (clean f) (back-utf8 (drop_front is_space f) (front-utf8 f (IsUtf8-from_is_utf8 f u)))
+is_utf8-clean f u =
+    is_utf8-from_IsUtf8 (clean f) (back-utf8 (drop_front is_space f) (front-utf8 f (IsUtf8-from_is_utf8 f u)))

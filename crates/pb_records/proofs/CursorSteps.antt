@@ -4,7 +4,7 @@ use Rattle.std.specs.Prelude.{not}
 use Rattle.std.proofs.lemmas.List.Elements.{filter-append}
 use Rattle.pb_records.specs.Records.{Rec}
 use Rattle.pb_records.specs.Cells.{is_blank, nonblank}
-use Rattle.pb_records.specs.Position.{Position}
+use Rattle.pb_records.specs.Inside.Position.{Position}
 
 -- blank records alone lie between two places
 pub record Skips (old : Position) (place : ℕ) (left : List Rec) : Type 0 where
@@ -13,7 +13,8 @@ pub record Skips (old : Position) (place : ℕ) (left : List Rec) : Type 0 where
   pub cut : old.left ≡ blanks ++ left
   pub at : place ≡ old.place + length blanks
 
-pub skip-one : {old : Position} {place : ℕ} {left rest : List Rec} {r : Rec} → Skips old place left → left ≡ r ∷ rest → is_blank r ≡ true → Skips old (place + 1) rest
+pub skip-one : {old : Position} {place : ℕ} {left rest : List Rec} {r : Rec} → Skips old place left → left ≡ r ∷ rest
+    → is_blank r ≡ true → Skips old (place + 1) rest
 skip-one {rest = rest} {r = r} s found e =
     record {
       blanks = s.blanks ++ (r ∷ []);

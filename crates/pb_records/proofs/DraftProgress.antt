@@ -8,13 +8,14 @@ use Rattle.std.proofs.lemmas.Option.{slice_get_past}
 use Rattle.std.proofs.Math.Seq.{take-append_seam}
 use Rattle.pb_records.specs.Records.{Rec}
 use Rattle.pb_records.specs.Cells.{is_blank, nonblank}
-use Rattle.pb_records.specs.Drafts.{Takes, TellsEnd, TellsNotText}
-use Rattle.pb_records.specs.Position.{MeetsEnd, MeetsNotText, MeetsRecord, Position}
+use Rattle.pb_records.specs.Inside.Drafts.{Takes, TellsEnd, TellsNotText}
+use Rattle.pb_records.specs.Inside.Position.{MeetsEnd, MeetsNotText, MeetsRecord, Position}
 use Rattle.pb_records.proofs.BlankText.{not-text-is-full}
 use Rattle.pb_records.specs.FirstFault.{Form, IsFirstFault, NoFault, fault_after, fault_at}
 
 -- the records before these are taken, and no fault stands among them; `has` says what they left
-pub record Progress {F : Type 0} (form : Form F) (has : List Rec → Type 0) (recs left : List Rec) (place : ℕ) : Type 0 where
+pub record Progress {F : Type 0} (form : Form F) (has : List Rec → Type 0) (recs left : List Rec) (place : ℕ) : Type
+    0 where
   pub taken : List Rec
   pub split : recs ≡ taken ++ left
   pub count : place ≡ length taken
@@ -24,7 +25,8 @@ pub record Progress {F : Type 0} (form : Form F) (has : List Rec → Type 0) (re
 nonblank-blank : (recs : List Rec) (r : Rec) → is_blank r ≡ true → nonblank (recs ++ (r ∷ [])) ≡ nonblank recs
 nonblank-blank recs r e = filter-append (λ x. not (is_blank x)) recs (r ∷ []) ∙ rw e (append-nil (nonblank recs))
 
-nonblank-more : (recs : List Rec) (r : Rec) → is_blank r ≡ false → nonblank (recs ++ (r ∷ [])) ≡ nonblank recs ++ (r ∷ [])
+nonblank-more : (recs : List Rec) (r : Rec) → is_blank r ≡ false
+    → nonblank (recs ++ (r ∷ [])) ≡ nonblank recs ++ (r ∷ [])
 nonblank-more recs r e = filter-append (λ x. not (is_blank x)) recs (r ∷ []) ∙ rw e refl
 
 plus-zero : (n : ℕ) → n + 0 ≡ n
@@ -37,8 +39,10 @@ get-seam : (xs ys : List Rec) (y : Rec) → slice_get (xs ++ y ∷ ys) (length x
 get-seam [] ys y = refl
 get-seam (x ∷ xs) ys y = get-seam xs ys y
 
-fault-here : {F : Type 0} (form : Form F) (recs taken rest : List Rec) (r : Rec) → recs ≡ taken ++ r ∷ rest → fault_at form recs (length taken + 1) ≡ fault_after form taken (Some r)
-fault-here form recs taken rest r e = rw (e, add-one (length taken), get-seam taken rest r, take-append_seam taken (r ∷ rest)) refl
+fault-here : {F : Type 0} (form : Form F) (recs taken rest : List Rec) (r : Rec) → recs ≡ taken ++ r ∷ rest
+    → fault_at form recs (length taken + 1) ≡ fault_after form taken (Some r)
+fault-here form recs taken rest r e =
+    rw (e, add-one (length taken), get-seam taken rest r, take-append_seam taken (r ∷ rest)) refl
 
 below-more : (k place : ℕ) → nat_lt k place ≡ true → suc k < place + 1
 below-more k place l = let h : k < place = grind (arith, nat_tests) in omega arith
@@ -47,49 +51,63 @@ past : (k place n : ℕ) → nat_lt k place ≡ false → place ≡ n → n ≤ 
 past k place n l e = let h : place ≤ k = grind (arith, nat_tests) in omega arith
 
 -- the records after one more
-more : {F : Type 0} (form : Form F) (has : List Rec → Type 0) (recs taken rest : List Rec) (r : Rec) (place : ℕ) → recs ≡ taken ++ r ∷ rest → place ≡ length taken
-    → ((k : ℕ) → k < place + 1 → fault_at form recs k ≡ None) → fault_after form taken (Some r) ≡ None → has (nonblank (taken ++ (r ∷ []))) → Progress form has recs rest (place + 1)
+more : {F : Type 0} (form : Form F) (has : List Rec → Type 0) (recs taken rest : List Rec) (r : Rec) (place : ℕ)
+    → recs ≡ taken ++ r ∷ rest → place ≡ length taken
+    → ((k : ℕ) → k < place + 1 → fault_at form recs k ≡ None) → fault_after form taken (Some r) ≡ None
+    → has (nonblank (taken ++ (r ∷ []))) → Progress form has recs rest (place + 1)
 more form has recs taken rest r place split count none here h =
     record {
       taken = taken ++ (r ∷ []);
       split = split ∙ sym (append_assoc taken (r ∷ []) rest);
       count = omega (arith, length-append taken (r ∷ []));
-      none = below_more (λ k. fault_at form recs k ≡ None) (place + 1) none (rw count (fault-here form recs taken rest r split ∙ here));
+      none = below_more (λ k. fault_at form recs k ≡ None) (place + 1) none
+          (rw count (fault-here form recs taken rest r split ∙ here));
       done = h;
     }
 
-pub progress-start : {F : Type 0} (form : Form F) (has : List Rec → Type 0) (recs : List Rec) → has [] → Progress form has recs recs 0
+pub progress-start : {F : Type 0} (form : Form F) (has : List Rec → Type 0) (recs : List Rec) → has []
+    → Progress form has recs recs 0
 progress-start form has recs h = record { taken = []; split = refl; count = refl; none = first; done = h }
   where
     first : (k : ℕ) → k < 0 + 1 → fault_at form recs k ≡ None
     first zero k = refl
     first (suc n) k = absurd (omega arith)
 
-progress-blank : {F : Type 0} {form : Form F} {has : List Rec → Type 0} {recs rest : List Rec} {r : Rec} {place : ℕ} → Progress form has recs (r ∷ rest) place → is_blank r ≡ true
+progress-blank : {F : Type 0} {form : Form F} {has : List Rec → Type 0} {recs rest : List Rec} {r : Rec} {place : ℕ}
+    → Progress form has recs (r ∷ rest) place → is_blank r ≡ true
     → Progress form has recs rest (place + 1)
 progress-blank {form = form} {has = has} {recs = recs} {rest = rest} {r = r} {place = place} p e =
     more form has recs p.taken rest r place p.split p.count p.none (rw e refl) (rw (nonblank-blank p.taken r e) p.done)
 
 -- over blank records
-progress-blanks : {F : Type 0} {form : Form F} {has : List Rec → Type 0} {recs rest : List Rec} (blanks : List Rec) (place : ℕ) → nonblank blanks ≡ []
+progress-blanks : {F : Type 0} {form : Form F} {has : List Rec → Type 0} {recs rest : List Rec} (blanks : List Rec)
+    (place : ℕ) → nonblank blanks ≡ []
     → Progress form has recs (blanks ++ rest) place → Progress form has recs rest (place + length blanks)
 progress-blanks [] place b p = rw (plus-zero place) p
-progress-blanks {form = form} {has = has} {recs = recs} {rest = rest} (r ∷ rs) place b p = by (is_blank r) refl (progress-blanks rs (place + 1))
+progress-blanks {form = form} {has = has} {recs = recs} {rest = rest} (r ∷ rs) place b p =
+    by (is_blank r) refl (progress-blanks rs (place + 1))
   where
-    by : (t : Bool) → is_blank r ≡ t → (nonblank rs ≡ [] → Progress form has recs (rs ++ rest) (place + 1) → Progress form has recs rest (place + 1 + length rs))
+    by : (t : Bool) → is_blank r ≡ t
+        → (nonblank rs ≡ [] → Progress form has recs (rs ++ rest) (place + 1)
+        → Progress form has recs rest (place + 1 + length rs))
         → Progress form has recs rest (place + length (r ∷ rs))
     by true e go = rw (plus-suc place (length rs)) (go (rw e at b) (progress-blank p e))
     by false e go = cc (rw e at b)
 
-pub progress-next : {F : Type 0} {form : Form F} {has next : List Rec → Type 0} {recs : List Rec} {old new : Position} → Progress form has recs old.left old.place → MeetsRecord old new
+pub progress-next : {F : Type 0} {form : Form F} {has next : List Rec → Type 0} {recs : List Rec} {old new : Position}
+    → Progress form has recs old.left old.place → MeetsRecord old new
     → Takes form has next new.row → Progress form next recs new.left new.place
 progress-next {form = form} {has = has} {next = next} {recs = recs} {old = old} {new = new} before m t =
     let p = progress-blanks m.blanks old.place m.are_blank (rw m.cut at before) in
     let taken = t (nonblank p.taken) p.done in
-    rw m.at (more form next recs p.taken new.left new.row (old.place + length m.blanks) p.split p.count p.none (rw m.is_full taken.0) (rw (nonblank-more p.taken new.row m.is_full) taken.1))
+    rw m.at
+    (more form next recs p.taken new.left new.row (old.place + length m.blanks) p.split p.count p.none
+    (rw m.is_full taken.0) (rw (nonblank-more p.taken new.row m.is_full) taken.1))
 
-first-fault : {F : Type 0} {form : Form F} {has : List Rec → Type 0} {recs rest : List Rec} {r : Rec} {place : ℕ} (f : F) → Progress form has recs (r ∷ rest) place
-    → is_blank r ≡ false → ((before : List Rec) → has before → form before (Some r) ≡ Some f) → IsFirstFault form recs (place + 1) f
+first-fault : {F : Type 0} {form : Form F} {has : List Rec → Type 0} {recs rest : List Rec} {r : Rec} {place : ℕ}
+    (f : F) → Progress form has recs (r ∷ rest) place
+    → is_blank r ≡ false → ((before : List Rec) → has before → form before (Some r) ≡ Some f)
+    → IsFirstFault form recs (place + 1) f
 first-fault {form = form} {recs = recs} {rest = rest} {r = r} f p e here =
     record {
       within = rw p.split (omega (arith, length-append p.taken (r ∷ rest), p.count));
@@ -97,41 +115,58 @@ first-fault {form = form} {recs = recs} {rest = rest} {r = r} f p e here =
       none_before = p.none;
     }
 
-pub progress-fault : {F : Type 0} {form : Form F} {has : List Rec → Type 0} {recs : List Rec} {old new : Position} (f : F) → Progress form has recs old.left old.place → MeetsRecord old new
+pub progress-fault : {F : Type 0} {form : Form F} {has : List Rec → Type 0} {recs : List Rec} {old new : Position}
+    (f : F) → Progress form has recs old.left old.place → MeetsRecord old new
     → ((before : List Rec) → has before → form before (Some new.row) ≡ Some f) → IsFirstFault form recs new.place f
-progress-fault {old = old} f p m here = rw m.at (first-fault f (progress-blanks m.blanks old.place m.are_blank (rw m.cut at p)) m.is_full here)
+progress-fault {old = old} f p m here =
+    rw m.at (first-fault f (progress-blanks m.blanks old.place m.are_blank (rw m.cut at p)) m.is_full here)
 
-pub progress-not-text : {F : Type 0} {form : Form F} {has : List Rec → Type 0} {recs : List Rec} {old new : Position} (f : F) → Progress form has recs old.left old.place → MeetsNotText old new
+pub progress-not-text : {F : Type 0} {form : Form F} {has : List Rec → Type 0} {recs : List Rec} {old new : Position}
+    (f : F) → Progress form has recs old.left old.place → MeetsNotText old new
     → TellsNotText form f → IsFirstFault form recs new.place f
 progress-not-text {old = old} f p m told =
-    rw m.at (first-fault f (progress-blanks m.blanks old.place m.are_blank (rw m.cut at p)) (not-text-is-full m.bad m.is_not_utf8) (λ before h. told before m.bad m.is_not_utf8))
+    rw m.at
+    (first-fault f (progress-blanks m.blanks old.place m.are_blank (rw m.cut at p))
+    (not-text-is-full m.bad m.is_not_utf8) (λ before h. told before m.bad m.is_not_utf8))
 
 -- at the end
 
-fault-past : {F : Type 0} (form : Form F) (recs : List Rec) (k : ℕ) → length recs ≤ k → fault_at form recs (suc k) ≡ form (nonblank recs) None
+fault-past : {F : Type 0} (form : Form F) (recs : List Rec) (k : ℕ) → length recs ≤ k
+    → fault_at form recs (suc k) ≡ form (nonblank recs) None
 fault-past form recs k h = rw (slice_get_past recs k h, take_all k recs h) refl
 
-all-taken : {F : Type 0} {form : Form F} {has : List Rec → Type 0} {recs : List Rec} {place : ℕ} → Progress form has recs [] place → has (nonblank recs) × (place ≡ length recs)
+all-taken : {F : Type 0} {form : Form F} {has : List Rec → Type 0} {recs : List Rec} {place : ℕ}
+    → Progress form has recs [] place → has (nonblank recs) × (place ≡ length recs)
 all-taken {recs = recs} p =
     let all : recs ≡ p.taken = p.split ∙ append-nil p.taken in
     (rw all p.done, p.count ∙ ap length (sym all))
 
-at-end : {F : Type 0} {form : Form F} {has : List Rec → Type 0} {recs : List Rec} {old new : Position} → Progress form has recs old.left old.place → MeetsEnd old new
+at-end : {F : Type 0} {form : Form F} {has : List Rec → Type 0} {recs : List Rec} {old new : Position}
+    → Progress form has recs old.left old.place → MeetsEnd old new
     → Progress form has recs [] new.place
 at-end {old = old} p m = rw m.at (progress-blanks old.left old.place m.are_blank (rw (append-nil old.left) p))
 
-pub progress-end : {F : Type 0} {form : Form F} {has : List Rec → Type 0} {recs : List Rec} {old new : Position} (f : F) → Progress form has recs old.left old.place → MeetsEnd old new
+pub progress-end : {F : Type 0} {form : Form F} {has : List Rec → Type 0} {recs : List Rec} {old new : Position} (f : F)
+    → Progress form has recs old.left old.place → MeetsEnd old new
     → TellsEnd form has (Some f) → IsFirstFault form recs (new.place + 1) f
 progress-end {form = form} {recs = recs} {new = new} f before m e =
     let p = at-end before m in
     let all = all-taken p in
-    record { within = omega (arith, all.1); here = rw (add-one new.place) (fault-past form recs new.place (omega (arith, all.1)) ∙ sym (e (nonblank recs) all.0)); none_before = p.none }
+    record {
+      within = omega (arith, all.1);
+      here = rw (add-one new.place)
+          (fault-past form recs new.place (omega (arith, all.1)) ∙ sym (e (nonblank recs) all.0));
+      none_before = p.none;
+    }
 
-pub progress-none : {F : Type 0} {form : Form F} {has : List Rec → Type 0} {recs : List Rec} {old new : Position} → Progress form has recs old.left old.place → MeetsEnd old new
+pub progress-none : {F : Type 0} {form : Form F} {has : List Rec → Type 0} {recs : List Rec} {old new : Position}
+    → Progress form has recs old.left old.place → MeetsEnd old new
     → TellsEnd form has None → NoFault form recs
 progress-none before m e zero = refl
-progress-none {form = form} {has = has} {recs = recs} {new = new} before m e (suc k) = by (nat_lt k new.place) refl (at-end before m)
+progress-none {form = form} {has = has} {recs = recs} {new = new} before m e (suc k) =
+    by (nat_lt k new.place) refl (at-end before m)
   where
     by : (b : Bool) → nat_lt k new.place ≡ b → Progress form has recs [] new.place → fault_at form recs (suc k) ≡ None
     by true l p = p.none (suc k) (below-more k new.place l)
-    by false l p = fault-past form recs k (past k new.place (length recs) l (all-taken p).1) ∙ sym (e (nonblank recs) (all-taken p).0)
+    by false l p = fault-past form recs k (past k new.place (length recs) l (all-taken p).1)
+        ∙ sym (e (nonblank recs) (all-taken p).0)

@@ -17,7 +17,8 @@ climb-below low high [] h i l = omega (arith, l)
 climb-below low high (x ∷ xs) h zero l = climb-ends x high xs h.1
 climb-below low high (x ∷ xs) h (suc i) l = climb-below x high xs h.1 i (omega (arith, l))
 
-climb-step : (low high : ℕ) (xs : List ℕ) → Climb low xs high → (i : ℕ) → i < length xs → get_or (low ∷ xs) i 0 ≤ get_or xs i 0
+climb-step : (low high : ℕ) (xs : List ℕ) → Climb low xs high → (i : ℕ) → i < length xs
+    → get_or (low ∷ xs) i 0 ≤ get_or xs i 0
 climb-step low high [] h i l = omega (arith, l)
 climb-step low high (x ∷ xs) h zero l = h.0
 climb-step low high (x ∷ xs) h (suc i) l = climb-step x high xs h.1 i (omega (arith, l))
@@ -28,7 +29,8 @@ climb-more low high more (x ∷ xs) h l = (h.0, climb-more x high more xs h.1 l)
 
 -- starts
 
-starts-step : (starts : List ℕ) (n i : ℕ) → AreStarts starts n → i + 1 < length starts → get_or starts i 0 ≤ get_or starts (i + 1) 0
+starts-step : (starts : List ℕ) (n i : ℕ) → AreStarts starts n → i + 1 < length starts
+    → get_or starts i 0 ≤ get_or starts (i + 1) 0
 starts-step starts n i h l =
     let within : i < length h.others = omega (arith, ap length h.first) in
     rw (h.first, add-one i) (climb-step 0 n h.others h.climb i within)
@@ -39,7 +41,12 @@ starts-within starts n i h l =
     rw h.first (climb-below 0 n (0 ∷ h.others) (omega arith, h.climb) i within)
 
 starts-push : (starts : List ℕ) (n m : ℕ) → AreStarts starts n → n ≤ m → AreStarts (starts ++ m ∷ []) m
-starts-push starts n m h l = record { others = h.others ++ m ∷ []; first = ap (λ s. s ++ m ∷ []) h.first; climb = climb-more 0 n m h.others h.climb l }
+starts-push starts n m h l =
+    record {
+      others = h.others ++ m ∷ [];
+      first = ap (λ s. s ++ m ∷ []) h.first;
+      climb = climb-more 0 n m h.others h.climb l;
+    }
 
 module _ {A : Type 0} where
   cut-length : (start : ℕ) (starts : List ℕ) (entries : List A) → length (cut_from start starts entries) ≡ length starts
@@ -55,24 +62,30 @@ module _ {A : Type 0} where
   cut-get start (next ∷ starts) entries (suc i) l = cut-get next starts entries i (omega (arith, l))
 
   -- what stands behind all starts is in no run
-  cut-append : (start high : ℕ) (starts : List ℕ) (entries more : List A) → Climb start starts high → high ≤ length entries
+  cut-append : (start high : ℕ) (starts : List ℕ) (entries more : List A) → Climb start starts high
+      → high ≤ length entries
       → cut_from start starts (entries ++ more) ≡ cut_from start starts entries
   unfolding cut_from
   cut-append start high [] entries more h l = refl
   cut-append start high (next ∷ starts) entries more h l =
       let below : next ≤ length entries = omega (arith, climb-ends next high starts h.1) in
-      let same : between start next (entries ++ more) ≡ between start next entries = between_is (entries ++ more) start next ∙ ap (drop start) (take-append-le next entries more below) ∙ sym (between_is entries start next) in
+      let same : between start next (entries ++ more) ≡ between start next entries =
+      between_is (entries ++ more) start next ∙ ap (drop start) (take-append-le next entries more below)
+      ∙ sym (between_is entries start next) in
       rw (same, cut-append next high starts entries more h.1 l) refl
 
   cut-more : (start high next : ℕ) (starts : List ℕ) (entries : List A) → Climb start starts high
       → cut_from start (starts ++ next ∷ []) entries ≡ cut_from start starts entries ++ between high next entries ∷ []
   unfolding cut_from
   cut-more start high next [] entries h = rw h refl
-  cut-more start high next (x ∷ starts) entries h = ap (λ l. between start x entries ∷ l) (cut-more x high next starts entries h.1)
+  cut-more start high next (x ∷ starts) entries h =
+      ap (λ l. between start x entries ∷ l) (cut-more x high next starts entries h.1)
 
-  between-length : (start next : ℕ) (entries : List A) → next ≤ length entries → length (between start next entries) ≡ next - start
+  between-length : (start next : ℕ) (entries : List A) → next ≤ length entries
+      → length (between start next entries) ≡ next - start
   between-length start next entries l =
-      ap length (between_is entries start next) ∙ length-drop start (take next entries) ∙ ap (λ n. n - start) (length-take-le next entries l)
+      ap length (between_is entries start next) ∙ length-drop start (take next entries)
+      ∙ ap (λ n. n - start) (length-take-le next entries l)
 
   cut-total : (start high : ℕ) (starts : List ℕ) (entries : List A) → Climb start starts high → high ≤ length entries
       → start + sum_by length (cut_from start starts entries) ≡ high
@@ -80,10 +93,17 @@ module _ {A : Type 0} where
   cut-total start high [] entries h l = omega (arith, h)
   cut-total start high (next ∷ starts) entries h l =
       let below : next ≤ length entries = omega (arith, climb-ends next high starts h.1) in
-      omega (arith, h.0, sum_by-cons length (between start next entries) (cut_from next starts entries), between-length start next entries below, cut-total next high starts entries h.1 l)
+      omega (
+        arith,
+        h.0,
+        sum_by-cons length (between start next entries) (cut_from next starts entries),
+        between-length start next entries below,
+        cut-total next high starts entries h.1 l,
+      )
 
   -- there is one start more than there are runs
-  pub runs-length : (starts : List ℕ) (n : ℕ) (entries : List A) → AreStarts starts n → length (cut_at_starts starts entries) + 1 ≡ length starts
+  pub runs-length : (starts : List ℕ) (n : ℕ) (entries : List A) → AreStarts starts n
+      → length (cut_at_starts starts entries) + 1 ≡ length starts
   unfolding cut_at_starts
   runs-length starts n entries h = rw h.first (omega (arith, cut-length 0 h.others entries))
 
@@ -100,8 +120,10 @@ module _ {A : Type 0} where
     pub within : next ≤ length entries
     pub run : between start next entries ≡ get_or (cut_at_starts starts entries) place []
 
-  pub run-at : (starts : List ℕ) (entries : List A) (place start next : ℕ) → AreStarts starts (length entries) → place < length (cut_at_starts starts entries)
-      → start ≡ get_or starts place start → next ≡ get_or starts (place + 1) next → IsRunAt starts entries place start next
+  pub run-at : (starts : List ℕ) (entries : List A) (place start next : ℕ) → AreStarts starts (length entries)
+      → place < length (cut_at_starts starts entries)
+      → start ≡ get_or starts place start → next ≡ get_or starts (place + 1) next
+      → IsRunAt starts entries place start next
   run-at starts entries place start next h l s n =
       let behind : place + 1 < length starts = omega (arith, l, runs-length starts (length entries) entries h) in
       let s0 : start ≡ get_or starts place 0 = get_or_read starts place start (omega (arith, behind)) s 0 in
@@ -114,20 +136,28 @@ module _ {A : Type 0} where
 
   -- one more run at the end
   pub runs-push : (starts : List ℕ) (entries more : List A) → AreStarts starts (length entries)
-      → cut_at_starts (starts ++ (length entries + length more) ∷ []) (entries ++ more) ≡ cut_at_starts starts entries ++ more ∷ []
+      → cut_at_starts (starts ++ (length entries + length more) ∷ []) (entries ++ more)
+      ≡ cut_at_starts starts entries ++ more ∷ []
   unfolding cut_at_starts
   runs-push starts entries more h =
       let n = length entries in
       let m = length entries + length more in
       let all = entries ++ more in
-      let last : between n m all ≡ more = between_is all n m ∙ ap (drop n) (take_all m all (omega (arith, length-append entries more))) ∙ drop_at entries more n refl in
-      rw h.first (cut-more 0 n m h.others all h.climb ∙ ap (λ l. l ++ between n m all ∷ []) (cut-append 0 n h.others entries more h.climb (omega arith)) ∙ ap (λ l. cut_from 0 h.others entries ++ l ∷ []) last)
+      let last : between n m all ≡ more = between_is all n m
+      ∙ ap (drop n) (take_all m all (omega (arith, length-append entries more))) ∙ drop_at entries more n refl in
+      rw h.first
+      (cut-more 0 n m h.others all h.climb
+      ∙ ap (λ l. l ++ between n m all ∷ []) (cut-append 0 n h.others entries more h.climb (omega arith))
+      ∙ ap (λ l. cut_from 0 h.others entries ++ l ∷ []) last)
 
   pub starts-pushed : (starts : List ℕ) (entries more : List A) → AreStarts starts (length entries)
       → AreStarts (starts ++ (length entries + length more) ∷ []) (length (entries ++ more))
-  starts-pushed starts entries more h = rw length-append (starts-push starts (length entries) (length entries + length more) h (omega arith))
+  starts-pushed starts entries more h =
+      rw length-append (starts-push starts (length entries) (length entries + length more) h (omega arith))
 
   -- the runs have all entries
-  pub runs-total : (starts : List ℕ) (entries : List A) → AreStarts starts (length entries) → sum_by length (cut_at_starts starts entries) ≡ length entries
+  pub runs-total : (starts : List ℕ) (entries : List A) → AreStarts starts (length entries)
+      → sum_by length (cut_at_starts starts entries) ≡ length entries
   unfolding cut_at_starts
-  runs-total starts entries h = rw h.first (omega (arith, cut-total 0 (length entries) h.others entries h.climb (omega arith)))
+  runs-total starts entries h =
+      rw h.first (omega (arith, cut-total 0 (length entries) h.others entries h.climb (omega arith)))

@@ -38,7 +38,8 @@ end_in_field cfg c =
     (by_test (ends_with cfg.terminator c) _ _ (λ e. after cfg.terminator c) (no_end st.InField act.Copy refl))
 
 end_start_field : (cfg : Config) (c : ℕ) → EndsBetween (start_field cfg c)
-end_start_field cfg c = by_test (cfg.quoting && (c == cfg.quote)) _ _ (no_end st.InQuoted act.Skip refl) (end_in_field cfg c)
+end_start_field cfg c =
+    by_test (cfg.quoting && (c == cfg.quote)) _ _ (no_end st.InQuoted act.Skip refl) (end_in_field cfg c)
 
 end_start_record : (cfg : Config) (c : ℕ) → EndsBetween (start_record cfg c)
 end_start_record cfg c =
@@ -51,10 +52,14 @@ end_step cfg st.StartField c = end_start_field cfg c
 end_step cfg st.InField c = end_in_field cfg c
 end_step cfg st.InQuoted c =
     by_test (cfg.quoting && (c == cfg.quote)) _ _ (no_end st.AfterQuote act.Skip refl)
-    (by_test (cfg.quoting && is_byte cfg.escape c) _ _ (no_end st.InEscape act.Skip refl) (no_end st.InQuoted act.Copy refl))
+    (by_test (cfg.quoting && is_byte cfg.escape c) _ _ (no_end st.InEscape act.Skip refl)
+    (no_end st.InQuoted act.Copy refl))
 end_step cfg st.InEscape c = no_end st.InQuoted act.Copy refl
-end_step cfg st.AfterQuote c = by_test (cfg.quoting && cfg.double_quote && (c == cfg.quote)) _ _ (no_end st.InQuoted act.Copy refl) (end_in_field cfg c)
-end_step cfg st.InComment c = by_test (c == line_feed) _ _ (no_end st.StartRecord act.Skip refl) (no_end st.InComment act.Skip refl)
+end_step cfg st.AfterQuote c =
+    by_test (cfg.quoting && cfg.double_quote && (c == cfg.quote)) _ _ (no_end st.InQuoted act.Copy refl)
+    (end_in_field cfg c)
+end_step cfg st.InComment c =
+    by_test (c == line_feed) _ _ (no_end st.StartRecord act.Skip refl) (no_end st.InComment act.Skip refl)
 end_step cfg st.AfterCr c = by_test (c == line_feed) _ _ (no_end st.StartRecord act.Skip refl) (end_start_record cfg c)
 
 -- a record that was read took a byte, or all that was left, and the reader then stands between two records
@@ -62,7 +67,8 @@ pub record Took (xs : List ℕ) (p : Read) : Type 0 where
   pub less : length p.2 ≤ length xs - 1
   pub between : ends_at_end p.1 ≡ false
 
-pub took : (cfg : Config) (s : State) (fields : List (List ℕ)) (field xs : List ℕ) (p : Read) → next_record cfg s fields field xs ≡ Some p → Took xs p
+pub took : (cfg : Config) (s : State) (fields : List (List ℕ)) (field xs : List ℕ) (p : Read)
+    → next_record cfg s fields field xs ≡ Some p → Took xs p
 unfolding next_record
 took cfg s fields field [] p e = by (ends_at_end s) e
   where
@@ -71,11 +77,17 @@ took cfg s fields field [] p e = by (ends_at_end s) e
         let q : p ≡ (fields ++ (field ∷ []), st.StartRecord, []) = cc h in
         rw q (record { less = omega arith; between = refl })
     by false h = cc h
-took cfg s fields field (c ∷ rest) p e = by (is_end (step cfg s c).1) refl e (took cfg (step cfg s c).0 (fields_after (step cfg s c).1 fields field) (field_after (step cfg s c).1 c field) rest p)
+took cfg s fields field (c ∷ rest) p e =
+    by (is_end (step cfg s c).1) refl e
+    (took cfg (step cfg s c).0 (fields_after (step cfg s c).1 fields field) (field_after (step cfg s c).1 c field) rest
+    p)
   where
     by : (b : Bool) → is_end (step cfg s c).1 ≡ b
-        → (if b then Some (fields_after (step cfg s c).1 fields field, (step cfg s c).0, rest) else next_record cfg (step cfg s c).0 (fields_after (step cfg s c).1 fields field) (field_after (step cfg s c).1 c field) rest) ≡ Some p
-        → (next_record cfg (step cfg s c).0 (fields_after (step cfg s c).1 fields field) (field_after (step cfg s c).1 c field) rest ≡ Some p → Took rest p)
+        → (if b then Some (fields_after (step cfg s c).1 fields field, (step cfg s c).0, rest)
+        else next_record cfg (step cfg s c).0 (fields_after (step cfg s c).1 fields field)
+        (field_after (step cfg s c).1 c field) rest) ≡ Some p
+        → (next_record cfg (step cfg s c).0 (fields_after (step cfg s c).1 fields field)
+        (field_after (step cfg s c).1 c field) rest ≡ Some p → Took rest p)
         → Took (c ∷ rest) p
     by true t h more =
         let q : p ≡ (fields_after (step cfg s c).1 fields field, (step cfg s c).0, rest) = cc h in
@@ -112,22 +124,26 @@ first_goes_on cfg st.InEscape c b = cc
 first_goes_on cfg st.InComment c b = cc
 
 -- a record that is read from between two records took two bytes, or all that was left, and then at least one
-pub took_two : (cfg : Config) (s : State) (xs : List ℕ) (p : Read) → ends_at_end s ≡ false → next_record cfg s [] [] xs ≡ Some p → length p.2 + 2 ≤ length xs + (1 - length p.2)
+pub took_two : (cfg : Config) (s : State) (xs : List ℕ) (p : Read) → ends_at_end s ≡ false
+    → next_record cfg s [] [] xs ≡ Some p → length p.2 + 2 ≤ length xs + (1 - length p.2)
 unfolding next_record
 took_two cfg s [] p b e = cc (rw b at e)
 took_two cfg s (c ∷ rest) p b e =
-    let t = took cfg (step cfg s c).0 (fields_after (step cfg s c).1 [] []) (field_after (step cfg s c).1 c []) rest p (rw (first_goes_on cfg s c b) at e) in
+    let t = took cfg (step cfg s c).0 (fields_after (step cfg s c).1 [] []) (field_after (step cfg s c).1 c []) rest p
+    (rw (first_goes_on cfg s c b) at e) in
     omega (arith, t.less)
 
 -- fuel that suffices makes no difference
-pub fuel : (cfg : Config) (n m : ℕ) (s : State) (xs : List ℕ) → ends_at_end s ≡ false → length xs < n → length xs < m → records_from cfg n s xs ≡ records_from cfg m s xs
+pub fuel : (cfg : Config) (n m : ℕ) (s : State) (xs : List ℕ) → ends_at_end s ≡ false → length xs < n → length xs < m
+    → records_from cfg n s xs ≡ records_from cfg m s xs
 unfolding records_from
 fuel cfg zero m s xs b h k = absurd (omega arith)
 fuel cfg (suc n) zero s xs b h k = absurd (omega arith)
 fuel cfg (suc n) (suc m) s xs b h k = by (next_record cfg s [] [] xs) refl (fuel cfg n m)
   where
     by : (o : Option Read) → next_record cfg s [] [] xs ≡ o
-        → ((s2 : State) (ys : List ℕ) → ends_at_end s2 ≡ false → length ys < n → length ys < m → records_from cfg n s2 ys ≡ records_from cfg m s2 ys)
+        → ((s2 : State) (ys : List ℕ) → ends_at_end s2 ≡ false → length ys < n → length ys < m
+        → records_from cfg n s2 ys ≡ records_from cfg m s2 ys)
         → records_next (records_from cfg n) o ≡ records_next (records_from cfg m) o
     by None e more = refl
     by (Some p) e more =
@@ -136,7 +152,8 @@ fuel cfg (suc n) (suc m) s xs b h k = by (next_record cfg s [] [] xs) refl (fuel
         ap (λ r. p.0 ∷ r) (more p.1 p.2 t.between (omega arith) (omega arith))
 
 -- the records, one read at a time
-pub records-some : (cfg : Config) (s : State) (xs : List ℕ) (p : Read) → ends_at_end s ≡ false → next_record cfg s [] [] xs ≡ Some p
+pub records-some : (cfg : Config) (s : State) (xs : List ℕ) (p : Read) → ends_at_end s ≡ false
+    → next_record cfg s [] [] xs ≡ Some p
     → records_from cfg (length xs + 1) s xs ≡ p.0 ∷ records_from cfg (length p.2 + 1) p.1 p.2
 unfolding records_from
 records-some cfg s xs p b e =
@@ -145,17 +162,20 @@ records-some cfg s xs p b e =
     let f = fuel cfg (length xs) (length p.2 + 1) p.1 p.2 t.between (omega arith) (omega arith) in
     rw (add-one (length xs)) (rw e (ap (λ r. p.0 ∷ r) f))
 
-pub records-none : (cfg : Config) (s : State) (xs : List ℕ) → next_record cfg s [] [] xs ≡ None → records_from cfg (length xs + 1) s xs ≡ []
+pub records-none : (cfg : Config) (s : State) (xs : List ℕ) → next_record cfg s [] [] xs ≡ None
+    → records_from cfg (length xs + 1) s xs ≡ []
 unfolding records_from
 records-none cfg s xs e = rw (add-one (length xs)) (rw e refl)
 
 -- two records need three bytes, and so on
-count-from : (cfg : Config) (n : ℕ) (s : State) (xs : List ℕ) → ends_at_end s ≡ false → 2 * length (records_from cfg n s xs) ≤ length xs + 1
+count-from : (cfg : Config) (n : ℕ) (s : State) (xs : List ℕ) → ends_at_end s ≡ false
+    → 2 * length (records_from cfg n s xs) ≤ length xs + 1
 unfolding records_from
 count-from cfg zero s xs b = omega arith
 count-from cfg (suc n) s xs b = by (next_record cfg s [] [] xs) refl (count-from cfg n)
   where
-    by : (o : Option Read) → next_record cfg s [] [] xs ≡ o → ((s2 : State) (ys : List ℕ) → ends_at_end s2 ≡ false → 2 * length (records_from cfg n s2 ys) ≤ length ys + 1)
+    by : (o : Option Read) → next_record cfg s [] [] xs ≡ o
+        → ((s2 : State) (ys : List ℕ) → ends_at_end s2 ≡ false → 2 * length (records_from cfg n s2 ys) ≤ length ys + 1)
         → 2 * length (records_next (records_from cfg n) o) ≤ length xs + 1
     by None e more = omega arith
     by (Some p) e more =
@@ -170,9 +190,12 @@ marks-shrink (a ∷ []) = omega arith
 marks-shrink (a ∷ b ∷ []) = omega arith
 marks-shrink (a ∷ b ∷ c ∷ rest) = by (is_bom a b c) (marks-shrink rest)
   where
-    by : (t : Bool) → length (drop_marks rest) ≤ length rest → length (if t then drop_marks rest else a ∷ b ∷ c ∷ rest) ≤ length (a ∷ b ∷ c ∷ rest)
+    by : (t : Bool) → length (drop_marks rest) ≤ length rest
+        → length (if t then drop_marks rest else a ∷ b ∷ c ∷ rest) ≤ length (a ∷ b ∷ c ∷ rest)
     by true h = omega arith
     by false h = omega arith
 
 pub count-records : (cfg : Config) (bytes : List ℕ) → 2 * length (records cfg (drop_marks bytes)) ≤ length bytes + 1
-count-records cfg bytes = omega (arith, count-from cfg (length (drop_marks bytes) + 1) st.StartRecord (drop_marks bytes) refl, marks-shrink bytes)
+count-records cfg bytes =
+    omega
+    (arith, count-from cfg (length (drop_marks bytes) + 1) st.StartRecord (drop_marks bytes) refl, marks-shrink bytes)

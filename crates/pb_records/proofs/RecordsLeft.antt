@@ -13,19 +13,21 @@ use Rattle.csv.specs.declared.reader.Reader.{Reader}
 use Rattle.csv.specs.declared.parser.State.TheVariants as st
 use Rattle.pb_records.proofs.ByteOrderMarks.{strip_bom-drop_marks}
 use Rattle.pb_records.specs.Records.{drop_marks, Rec}
-use Rattle.pb_records.specs.RecordReader.{Stands, left_in, records_in, records_left}
+use Rattle.pb_records.specs.Inside.RecordReader.{Stands, left_in, records_in, records_left}
 use Rattle.pb_records.specs.Cells.{is_text}
 use Rattle.csv.specs.Records.{AllText}
 use Rattle.pb_records.proofs.RecordSteps.{took, records-some, records-none}
 
 -- what is left after a record
-pub record Next (cfg : Config) (s : State) (xs : List ℕ) (k : Option (List ℕ)) (fields : Rec) (s2 : State) : Type 0 where
+pub record Next (cfg : Config) (s : State) (xs : List ℕ) (k : Option (List ℕ)) (fields : Rec) (s2 : State) : Type
+    0 where
   pub rest : List ℕ
   pub known : k ≡ Some rest
   pub records : records_from cfg (length xs + 1) s xs ≡ fields ∷ records_from cfg (length rest + 1) s2 rest
   pub between : ends_at_end s2 ≡ false
 
-next_is : (cfg : Config) (s : State) (xs : List ℕ) (o : Option Read) (fields : Rec) (s2 : State) (z : List ℕ) → ends_at_end s ≡ false
+next_is : (cfg : Config) (s : State) (xs : List ℕ) (o : Option Read) (fields : Rec) (s2 : State) (z : List ℕ)
+    → ends_at_end s ≡ false
     → next_record cfg s [] [] xs ≡ o → NextIs o true fields s2 z → Next cfg s xs (Some z) fields s2
 next_is cfg s xs None fields s2 z b e n = cc n
 next_is cfg s xs (Some p) fields s2 z b e n =
@@ -33,7 +35,8 @@ next_is cfg s xs (Some p) fields s2 z b e n =
     let t = took cfg s [] [] xs p e in
     record { rest = z; known = refl; records = rw (n.1, n.2, n.3) r; between = rw n.2 t.between }
 
-next_some : (cfg : Config) (s : State) (xs : List ℕ) (k : Option (List ℕ)) (fields : Rec) (s2 : State) → ends_at_end s ≡ false
+next_some : (cfg : Config) (s : State) (xs : List ℕ) (k : Option (List ℕ)) (fields : Rec) (s2 : State)
+    → ends_at_end s ≡ false
     → ReadsNext cfg s (Some xs) k true fields s2 → Next cfg s xs k fields s2
 next_some cfg s xs None fields s2 b r = absurd r
 next_some cfg s xs (Some z) fields s2 b r = next_is cfg s xs _ fields s2 z b refl r
@@ -48,21 +51,30 @@ next_none cfg s xs None fields s2 r = absurd r
 next_none cfg s xs (Some z) fields s2 r = records-none cfg s xs (none_is _ fields s2 z r)
 
 -- a read that found a record
-pub read_found : (a b : Reader (Bor (List ℕ))) (fields : Rec) → Stands a → ReadRecord left_in a b true fields → b.first ≡ true → b.flexible ≡ a.flexible
+pub read_found : (a b : Reader (Bor (List ℕ))) (fields : Rec) → Stands a → ReadRecord left_in a b true fields
+    → b.first ≡ true → b.flexible ≡ a.flexible
     → Stands b × (records_left false a ≡ fields ∷ records_left false b)
 read_found a b fields h r first flexible = by (source_of left_in a) refl h.known
   where
-    by : (o : Option (List ℕ)) → source_of left_in a ≡ o → IsSome o → Stands b × (records_left false a ≡ fields ∷ records_left false b)
+    by : (o : Option (List ℕ)) → source_of left_in a ≡ o → IsSome o
+        → Stands b × (records_left false a ≡ fields ∷ records_left false b)
     by None e k = cc k
     by (Some xs) e k =
         let n = next_some a.config a.state xs (pending_of (left_in b.rdr) b) fields b.state h.between (rw e at r.0) in
         let known : source_of left_in b ≡ Some n.rest = rw r.1 n.known in (
-          record { trim = r.3 ∙ h.trim; flexible = flexible ∙ h.flexible; ready = inl first; between = n.between; known = rw known refl },
+          record {
+            trim = r.3 ∙ h.trim;
+            flexible = flexible ∙ h.flexible;
+            ready = inl first;
+            between = n.between;
+            known = rw known refl;
+          },
           rw (e, known, r.2) n.records,
         )
 
 -- a read that found none
-pub read_none : (a b : Reader (Bor (List ℕ))) (fields : Rec) → Stands a → ReadRecord left_in a b false fields → records_left false a ≡ []
+pub read_none : (a b : Reader (Bor (List ℕ))) (fields : Rec) → Stands a → ReadRecord left_in a b false fields
+    → records_left false a ≡ []
 read_none a b fields h r = by (source_of left_in a) refl h.known
   where
     by : (o : Option (List ℕ)) → source_of left_in a ≡ o → IsSome o → records_left false a ≡ []
@@ -70,15 +82,18 @@ read_none a b fields h r = by (source_of left_in a) refl h.known
     by (Some xs) e k = rw e (next_none a.config a.state xs (pending_of (left_in b.rdr) b) fields b.state (rw e at r.0))
 
 -- a reader at the start of a text
-pub opened : (r : Reader (Bor (List ℕ))) (cfg : Config) (text bytes : List ℕ) → r.config ≡ cfg → r.state ≡ st.StartRecord → source_of left_in r ≡ Some (strip_bom text)
+pub opened : (r : Reader (Bor (List ℕ))) (cfg : Config) (text bytes : List ℕ) → r.config ≡ cfg
+    → r.state ≡ st.StartRecord → source_of left_in r ≡ Some (strip_bom text)
     → text ≡ drop_marks bytes → records_in r (source_of left_in r) ≡ records cfg (drop_marks bytes)
 opened r cfg text bytes config state source marks = rw (source, config, state, marks, strip_bom-drop_marks bytes) refl
 
 -- a read that took a record which is no text
-pub read_took : (a b : Reader (Bor (List ℕ))) (fields : Rec) → Stands a → TookRecord left_in a b fields → (rest : List Rec) × (records_left false a ≡ fields ∷ rest)
+pub read_took : (a b : Reader (Bor (List ℕ))) (fields : Rec) → Stands a → TookRecord left_in a b fields
+    → (rest : List Rec) × (records_left false a ≡ fields ∷ rest)
 read_took a b fields h r = by (source_of left_in a) refl h.known
   where
-    by : (o : Option (List ℕ)) → source_of left_in a ≡ o → IsSome o → (rest : List Rec) × (records_left false a ≡ fields ∷ rest)
+    by : (o : Option (List ℕ)) → source_of left_in a ≡ o → IsSome o
+        → (rest : List Rec) × (records_left false a ≡ fields ∷ rest)
     by None e k = cc k
     by (Some xs) e k =
         let n = next_some a.config a.state xs (pending_of (left_in b.rdr) b) fields b.state h.between (rw e at r) in
@@ -95,7 +110,8 @@ unfolding AllText is_text
 all-text [] h = tt
 all-text (f ∷ fs) h = by (is_utf8 f) refl (all-text fs) h
   where
-    by : (b : Bool) → is_utf8 f ≡ b → (is_text fs ≡ true → AllText fs) → (b && list_all is_utf8 fs) ≡ true → IsUtf8 f × AllText fs
+    by : (b : Bool) → is_utf8 f ≡ b → (is_text fs ≡ true → AllText fs) → (b && list_all is_utf8 fs) ≡ true
+        → IsUtf8 f × AllText fs
     by true e more t = (IsUtf8-from_is_utf8 f e, more t)
     by false e more t = cc t
 

@@ -4,7 +4,8 @@ use Rattle.std.proofs.lemmas.List.{take_all, length-drop, length-take}
 use Rattle.std.specs.Prelude.{◌==◌, ◌&&◌}
 
 -- the rest after one more part
-pub rest_after : (all front rest : List ℕ) (n k : ℕ) → k ≡ length rest - n → all ≡ front ++ rest → all ≡ (front ++ take n rest) ++ take k (drop n rest)
+pub rest_after : (all front rest : List ℕ) (n k : ℕ) → k ≡ length rest - n → all ≡ front ++ rest
+    → all ≡ (front ++ take n rest) ++ take k (drop n rest)
 rest_after all front rest n k e h =
     let l = length-drop n rest in
     let whole : take k (drop n rest) ≡ drop n rest = take_all k (drop n rest) (omega arith) in

@@ -1,7 +1,7 @@
 //! Going over the records of a file that are not blank.
 ghost use Rattle.std.specs.Prelude.{◌≡◌, ◌≤◌, ◌^◌, [], IfOk, OnErr};
 ghost use Rattle.csv.specs.Records.{fields_of};
-ghost use Rattle.pb_records.specs.Position.{Meets};
+ghost use Rattle.pb_records.specs.Inside.Position.{Meets};
 ghost use Rattle.pb_records.specs.Records.{records_of};
 
 use crate::cells::is_blank;
@@ -22,7 +22,7 @@ pub struct Cursor<'a> {
 impl<'a> Model for Cursor<'a> {
     ghost use Rattle.std.specs.Prelude.{◌≤◌, ◌+◌, ◌^◌, length};
     ghost use Rattle.csv.specs.Records.{fields_of};
-    ghost use Rattle.pb_records.specs.Position.{Position};
+    ghost use Rattle.pb_records.specs.Inside.Position.{Position};
 
     ghost Value = { Position };
 

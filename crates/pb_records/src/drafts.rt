@@ -2,7 +2,7 @@
 ghost use Rattle.std.specs.Prelude.{◌≡◌, List, [], false, true, IfErr, OnOk};
 ghost use Rattle.csv.specs.Records.{fields_of};
 ghost use Rattle.pb_records.specs.Cells.{is_blank, is_text, nonblank};
-ghost use Rattle.pb_records.specs.Drafts.{StopsAt, StopsFirst, Takes, TellsEnd, TellsNotText};
+ghost use Rattle.pb_records.specs.Inside.Drafts.{StopsAt, StopsFirst, Takes, TellsEnd, TellsNotText};
 ghost use Rattle.pb_records.specs.FirstFault.{Form, NoFault};
 ghost use Rattle.pb_records.specs.Records.{Rec, records_of};
 

@@ -2,7 +2,7 @@
 ghost use Rattle.std.specs.Prelude.{◌≡◌, ◌<◌, ◌^◌, [], length, IfOk, OnErr};
 ghost use Rattle.csv.specs.Records.{fields_of};
 ghost use Rattle.pb_records.specs.Records.{drop_marks, records_of};
-ghost use Rattle.pb_records.specs.RecordReader.{FindsRecord};
+ghost use Rattle.pb_records.specs.Inside.RecordReader.{FindsRecord};
 
 use csv::{ErrorKind, Reader, ReaderBuilder, StringRecord};
 use std::alloc::{AllocError, Global};
@@ -28,7 +28,7 @@ pub(crate) struct Records<'a> {
 
 impl<'a> Model for Records<'a> {
     ghost use Rattle.std.specs.Prelude.{◌≡◌, false, List, ℕ};
-    ghost use Rattle.pb_records.specs.RecordReader.{Stands, records_left};
+    ghost use Rattle.pb_records.specs.Inside.RecordReader.{Stands, records_left};
 
     ghost Value = { List (List (List ℕ)) };
 

@@ -88,7 +88,9 @@ pub record ReadsOutcome (e : Instance) (outcome : FileReading) (stated : Stated 
   pub audits : AuditsOutcome e delivery stated
 
 -- the reply on a certificate of a kind, for an election and an outcome that were accepted
-pub record AnswersCertificate {A : Type 0} (states : Instance → Delivery → Stated A → Type 0) (reply : Instance → List Bool → A → Reply) (e : Instance) (w : List Bool) (certificate : Delivery) (r : Reply) : Type 0 where
+pub record AnswersCertificate {A : Type 0} (states : Instance → Delivery → Stated A → Type 0)
+    (reply : Instance → List Bool → A → Reply) (e : Instance) (w : List Bool) (certificate : Delivery)
+    (r : Reply) : Type 0 where
   pub c : Stated A
   pub given : states e certificate c
   pub out : r ≡ with_input c (λ a. reply e w a)
@@ -110,20 +112,24 @@ settled_answer (Err why) = option_map answer_of (stopped why)
 
 -- what the prices of a certificate come to: the first condition that fails, if any
 abbrev pub JudgesPrices : InputName → Mode → Instance → List Bool → Delivery → Stated Verdict → Type 0
-JudgesPrices input m e w certificate (Ok v) = (p : Prices) × (StatesPrices input e certificate (Ok p) × (v ≡ verdict_of (First m e w p)))
+JudgesPrices input m e w certificate (Ok v) = (p : Prices)
+    × (StatesPrices input e certificate (Ok p) × (v ≡ verdict_of (First m e w p)))
 JudgesPrices input m e w certificate (Err r) = StatesPrices input e certificate (Err r)
 
 -- the canonical text of the prices of a certificate
 abbrev pub TidiesPrices : Instance → Delivery → Stated Answer → Type 0
-TidiesPrices e certificate (Ok answer) = (p : Prices) × (StatesPrices name.Certificate e certificate (Ok p) × (answer ≡ tidy_answer (Ok e) (Ok p)))
+TidiesPrices e certificate (Ok answer) = (p : Prices)
+    × (StatesPrices name.Certificate e certificate (Ok p) × (answer ≡ tidy_answer (Ok e) (Ok p)))
 TidiesPrices e certificate (Err r) = StatesPrices name.Certificate e certificate (Err r)
 
 -- the table of margins by the prices of a certificate
 abbrev pub TablesMargins : Instance → List Bool → Delivery → Stated Answer → Type 0
-TablesMargins e w certificate (Ok answer) = (p : Prices) × (StatesPrices name.Certificate e certificate (Ok p) × (answer ≡ answer_of (margins_reply e w p)))
+TablesMargins e w certificate (Ok answer) = (p : Prices)
+    × (StatesPrices name.Certificate e certificate (Ok p) × (answer ≡ answer_of (margins_reply e w p)))
 TablesMargins e w certificate (Err r) = StatesPrices name.Certificate e certificate (Err r)
 
 -- what each condition comes to by the prices of a certificate
 abbrev pub FindsPrices : Instance → List Bool → Delivery → Stated Findings → Type 0
-FindsPrices e w certificate (Ok f) = (p : Prices) × (StatesPrices name.Certificate e certificate (Ok p) × (f ≡ findings e w p))
+FindsPrices e w certificate (Ok f) = (p : Prices)
+    × (StatesPrices name.Certificate e certificate (Ok p) × (f ≡ findings e w p))
 FindsPrices e w certificate (Err r) = StatesPrices name.Certificate e certificate (Err r)

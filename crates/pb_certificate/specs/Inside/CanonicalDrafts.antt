@@ -6,7 +6,7 @@ use Rattle.pb_election.specs.Text.{IsElection}
 use Rattle.pb_records.specs.Records.{Rec}
 use Rattle.pb_certificate.specs.Canon.{head_records, lines, rows_of_voter}
 use Rattle.pb_certificate.specs.Prices.{Prices, payments_of}
-use Rattle.pb_certificate.specs.RecordWriter.{IsOpen, held}
+use Rattle.pb_certificate.specs.Inside.RecordWriter.{IsOpen, held}
 use Rattle.pb_certificate.specs.declared.canonical_draft.CanonicalDraft.{CanonicalDraft}
 
 -- the rows of the first so many voters

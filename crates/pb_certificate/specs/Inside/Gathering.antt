@@ -10,7 +10,8 @@ use Rattle.pb_certificate.specs.declared.gathering.Turn.{Turn}
 
 -- the payments of a voter that are not 0, as they came
 abbrev pub payments_made : List Payment → ℕ → List (ℕ × ℕ)
-payments_made qs i = filter_map (λ q. if (q.voter == i) && nat_lt 0 q.numerator then Some (q.project, q.numerator) else None) qs
+payments_made qs i =
+    filter_map (λ q. if (q.voter == i) && nat_lt 0 q.numerator then Some (q.project, q.numerator) else None) qs
 
 -- of a voter, each of so many projects that it pays for, rising, with the numerator
 abbrev pub stated_by : ℕ → List Payment → ℕ → List (ℕ × ℕ)
@@ -22,7 +23,13 @@ stated_up_to projects qs n = map (stated_by projects qs) (range_with_len 1 n)
 
 -- what some rows say that the first so many voters pay, with the numbers of the head
 abbrev pub prices_up_to : Rows → List Payment → ℕ → Prices
-prices_up_to s qs n = record { projects = projects s.election; denominator = s.denominator; budget = s.budget; payments = stated_up_to (projects s.election) qs n }
+prices_up_to s qs n =
+    record {
+      projects = projects s.election;
+      denominator = s.denominator;
+      budget = s.budget;
+      payments = stated_up_to (projects s.election) qs n;
+    }
 
 -- Here `has` says of an election and of prices that a ledger has these so far.
 
@@ -40,7 +47,8 @@ pub record Holds (has : Instance → Prices → Type 0) (s : Rows) (qs : List Pa
 -- this holds where one more payment may come behind others: for a project that there is, of a pair that has none, and
 -- within the limit
 abbrev pub WhereNew : Rows → List Payment → Payment → Type 0 → Type 0
-WhereNew s qs q holds = q.project ≤ projects s.election → list_any (same_pair q) qs ≡ false → length qs < most_rows → holds
+WhereNew s qs q holds = q.project ≤ projects s.election → list_any (same_pair q) qs ≡ false → length qs < most_rows
+    → holds
 
 -- they are those of some rows
 abbrev pub HoldSome : (Instance → Prices → Type 0) → Turn → Type 0
@@ -58,4 +66,5 @@ pub record GathersAll (has : Instance → Prices → Type 0) (first : Rows) : Ty
   pub prices : Prices
   pub states : IsPriceText first.records first.election prices
   pub has_all : has first.election prices
-  pub head : (prices.projects ≡ projects first.election) × (prices.denominator ≡ first.denominator) × (prices.budget ≡ first.budget)
+  pub head : (prices.projects ≡ projects first.election) × (prices.denominator ≡ first.denominator)
+      × (prices.budget ≡ first.budget)

@@ -39,11 +39,13 @@ EndsAs after result new = MatchResult result (λ done. after ≡ Ok new) (λ f. 
 -- the marks after something was named that has a number, or has none, which is the fault here
 abbrev pub marks_after : CertFault → Option ℕ → List Bool → Result (List Bool) CertFault
 marks_after unknown None marks = Err unknown
-marks_after unknown (Some number) marks = if is_marked marks number then Err fault.Repeated else Ok (with_mark marks number)
+marks_after unknown (Some number) marks = if is_marked marks number then Err fault.Repeated
+    else Ok (with_mark marks number)
 
 -- the marks after a field named a project, and after one named a voter
 abbrev pub project_after : Instance → Field → List Bool → Result (List Bool) CertFault
 project_after e id marks = marks_after fault.UnknownProject (project_in e id) marks
 
 abbrev pub voter_after : Instance → Field → List Bool → Result (List Bool) CertFault
-voter_after e f marks = if is_some (whole_in f) then marks_after fault.UnknownVoter (voter_in e f) marks else Err fault.BadNumber
+voter_after e f marks = if is_some (whole_in f) then marks_after fault.UnknownVoter (voter_in e f) marks
+    else Err fault.BadNumber

@@ -6,7 +6,7 @@ use Rattle.pb_records.specs.Records.{Rec}
 use Rattle.pb_records.specs.Cells.{cell, is_text}
 use Rattle.pb_certificate.specs.Fields.{fields}
 use Rattle.pb_certificate.specs.Faults.{is_kind}
-use Rattle.pb_certificate.specs.Marks.{project_after, project_marks}
+use Rattle.pb_certificate.specs.Inside.Marks.{project_after, project_marks}
 use Rattle.pb_certificate.specs.NamedRows.{Named, RowsName, is_project}
 use Rattle.pb_certificate.specs.declared.refusal.CertFault.{CertFault}
 use Rattle.pb_certificate.specs.declared.refusal.CertFault.TheVariants as fault
@@ -33,4 +33,5 @@ OutcomeTaken e begun marks before = AllByRecursion (λ r. IsTrue (is_text r)) be
 
 -- the marks after one more row
 abbrev pub after_outcome_row : Instance → List Bool → Rec → Result (List Bool) CertFault
-after_outcome_row e marks r = if (length (fields r) == 2) && is_kind (codes "project") r then project_after e (cell 1 r) marks else Err fault.BadRow
+after_outcome_row e marks r = if (length (fields r) == 2) && is_kind (codes "project") r
+    then project_after e (cell 1 r) marks else Err fault.BadRow

@@ -4,7 +4,7 @@ use Rattle.std.specs.List.{AllByRecursion}
 use Rattle.pb_records.specs.Records.{Rec}
 use Rattle.pb_records.specs.Cells.{is_text, nonblank}
 use Rattle.pb_records.specs.FirstFault.{Form, IsFirstFault, fault_at}
-use Rattle.pb_records.specs.Position.{MeetsEnd, MeetsNotText, MeetsRecord, Position}
+use Rattle.pb_records.specs.Inside.Position.{MeetsEnd, MeetsNotText, MeetsRecord, Position}
 use Rattle.pb_certificate.specs.Faults.{no_memory}
 use Rattle.pb_certificate.specs.declared.refusal.CertFault.{CertFault}
 use Rattle.pb_certificate.specs.declared.refusal.CertFault.TheVariants as fault

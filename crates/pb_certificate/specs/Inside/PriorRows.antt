@@ -40,7 +40,8 @@ pub record TakesPayment (e : Instance) (r : Rec) (old new : PriorRows) (q : Pric
   pub voter : IsVoter e q.voter
   pub project : IsProject e q.project
   pub small : q.payment ≤ most_numerator
-  pub admits : (qs : List Payment) → Remembers old qs → (payment_fault qs (as_payment q) ≡ None) × Remembers new (qs ++ (as_payment q ∷ []))
+  pub admits : (qs : List Payment) → Remembers old qs
+      → (payment_fault qs (as_payment q) ≡ None) × Remembers new (qs ++ (as_payment q ∷ []))
 
 -- a row states a payment, which has this fault after the others
 pub record RefusesPayment (e : Instance) (r : Rec) (old : PriorRows) (f : CertFault) : Type 0 where

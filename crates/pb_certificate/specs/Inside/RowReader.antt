@@ -4,9 +4,9 @@ use Rattle.pb_election.specs.Instance.{projects}
 use Rattle.pb_records.specs.Records.{Rec}
 use Rattle.pb_certificate.specs.PriceText.{Payment, payment_of}
 use Rattle.pb_certificate.specs.Faults.{certificate_records, no_memory, price_form}
-use Rattle.pb_certificate.specs.Places.{StandsBehind}
-use Rattle.pb_certificate.specs.PriceHead.{IsHead}
-use Rattle.pb_certificate.specs.PriorRows.{Remembers}
+use Rattle.pb_certificate.specs.Inside.Places.{StandsBehind}
+use Rattle.pb_certificate.specs.Inside.PriceHead.{IsHead}
+use Rattle.pb_certificate.specs.Inside.PriorRows.{Remembers}
 use Rattle.pb_certificate.specs.Rows.{GivesNone, GivesRow, RefusesNext, Rows}
 use Rattle.pb_certificate.specs.declared.price_row.PriceRow.{PriceRow}
 use Rattle.pb_certificate.specs.declared.row_reader.RowReader.{RowReader}
@@ -15,7 +15,13 @@ use Rattle.pb_certificate.specs.declared.refusal.CertRefusal.{CertRefusal}
 -- where a reader stands
 abbrev pub place_of : RowReader → Rows
 place_of r =
-    record { election = r.election.now; records = certificate_records r.bytes.now; denominator = r.denominator; budget = r.budget; place = r.cursor.value.place }
+    record {
+      election = r.election.now;
+      records = certificate_records r.bytes.now;
+      denominator = r.denominator;
+      budget = r.budget;
+      place = r.cursor.value.place;
+    }
 
 -- the head and some rows lie behind, no fault stands there, and the reader remembers what the rows state
 pub record IsReading (r : RowReader) : Type 0 where

@@ -4,11 +4,11 @@ use Rattle.std.specs.List.{AllByRecursion}
 use Rattle.pb_election.specs.Instance.{Instance}
 use Rattle.pb_records.specs.Records.{Rec}
 use Rattle.pb_records.specs.Cells.{cell, is_text}
-use Rattle.pb_records.specs.Drafts.{StopsAt, Takes}
+use Rattle.pb_records.specs.Inside.Drafts.{StopsAt, Takes}
 use Rattle.pb_records.specs.declared.drafts.Stop.{Stop}
 use Rattle.pb_certificate.specs.Fields.{fields}
 use Rattle.pb_certificate.specs.Faults.{is_kind, violation_form}
-use Rattle.pb_certificate.specs.Marks.{project_after, project_marks, voter_after, voter_marks}
+use Rattle.pb_certificate.specs.Inside.Marks.{project_after, project_marks, voter_after, voter_marks}
 use Rattle.pb_certificate.specs.NamedRows.{Named, RowsName}
 use Rattle.pb_certificate.specs.ViolationText.{StateMeasure, version_2}
 use Rattle.pb_certificate.specs.declared.measure.Measure.{Measure}
@@ -46,7 +46,8 @@ pub record ViolationRows (e : Instance) (d : TakenSoFar) (before : List Rec) : T
 -- these records were taken, where this one is awaited
 abbrev pub ViolationStands : Instance → TakenSoFar → Awaited → List Rec → Type 0
 ViolationStands e d Format before = (before ≡ []) × (d.measure ≡ ByCount) × AreMarked e d []
-ViolationStands e d Satisfaction before = (head : Rec) × (before ≡ head ∷ []) × (fields head ≡ version_2) × AreMarked e d []
+ViolationStands e d Satisfaction before = (head : Rec) × (before ≡ head ∷ []) × (fields head ≡ version_2)
+    × AreMarked e d []
 ViolationStands e d Row before = ViolationRows e d before
 
 -- these records, none of them blank, were taken

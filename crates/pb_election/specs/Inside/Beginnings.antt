@@ -14,7 +14,7 @@ use Rattle.pb_election.specs.Markers.{marker_of}
 use Rattle.pb_election.specs.Rows.{ballots_in, columns_of, costs_in, declared_count, funded_in, ids_in, is_approval, others_in, stated_value, vote_column}
 use Rattle.pb_election.specs.Faults.{keys_in}
 use Rattle.pb_election.specs.Text.{AreMetaRows, AreProjectRows, AreVoteRows, EachKeyOnce, IsHeader, IsPart, Part, part_records}
-use Rattle.pb_election.specs.SoFar.{SoFar}
+use Rattle.pb_election.specs.Inside.SoFar.{SoFar}
 
 pub data Beginning : Type 0 where
   AtStart : Beginning

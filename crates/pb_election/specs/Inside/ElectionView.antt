@@ -1,7 +1,7 @@
 -- For the code's own `Election`: which `Instance` it stands for. What callers are promised is said of the `Instance`,
 -- without this module.
 use Rattle.std.specs.Option.{option_map}
-use Rattle.pb_election.specs.Ids.{ids_kept}
+use Rattle.pb_election.specs.Inside.Ids.{ids_kept}
 use Rattle.pb_election.specs.Instance.{Instance}
 use Rattle.pb_election.specs.declared.election.Election.TheInside.{Inside}
 

@@ -3,7 +3,7 @@
 use Rattle.std.specs.Prelude.{◌≡◌, ◌+◌, ◌++◌, ◌&&◌, if◌then◌else◌, is_some, ℕ, [], ◌∷◌}
 use Rattle.std.specs.Option.{option_map}
 use Rattle.pb_records.specs.Records.{Field}
-use Rattle.pb_election.specs.Ids.{ids_kept}
+use Rattle.pb_election.specs.Inside.Ids.{ids_kept}
 use Rattle.pb_election.specs.Rows.{is_neither, says_funded}
 use Rattle.pb_election.specs.declared.election_draft.ProjectRows.{ProjectRows}
 
@@ -11,5 +11,7 @@ pub record AddsProject (old new : ProjectRows) (id : Field) (cost : ℕ) (mark :
   pub columns : new.columns ≡ old.columns
   pub ids : ids_kept new.ids.keys ≡ ids_kept old.ids.keys ++ id ∷ []
   pub costs : new.costs.items ≡ old.costs.items ++ cost ∷ []
-  pub selected : option_map (λ v. v.items) new.selected ≡ option_map (λ v. v.items ++ says_funded mark ∷ []) old.selected
-  pub others : new.other_selected ≡ old.other_selected + (if is_some old.columns.selected && is_neither mark then 1 else 0)
+  pub selected : option_map (λ v. v.items) new.selected
+      ≡ option_map (λ v. v.items ++ says_funded mark ∷ []) old.selected
+  pub others : new.other_selected ≡ old.other_selected
+      + (if is_some old.columns.selected && is_neither mark then 1 else 0)

@@ -36,7 +36,15 @@ pub record SoFar : Type 0 where
 -- what the faults at the next place depend on
 abbrev pub before_next : SoFar → Before
 before_next s =
-    record { role = s.role; keys = s.keys; columns = s.columns; ids = s.ids; vote_column = s.vote_column; voters = length s.ballots; approvals = approvals s.ballots }
+    record {
+      role = s.role;
+      keys = s.keys;
+      columns = s.columns;
+      ids = s.ids;
+      vote_column = s.vote_column;
+      voters = length s.ballots;
+      approvals = approvals s.ballots;
+    }
 
 abbrev pub with_role : Role → SoFar → SoFar
 with_role role s = record s { role = role }
@@ -46,8 +54,10 @@ abbrev pub with_key : Option Key → Field → SoFar → SoFar
 with_key None value s = s
 with_key (Some Budget) value s = record s { keys = record s.keys { budget = true }; limit = millionths value }
 with_key (Some VoteType) value s = record s { keys = record s.keys { vote_type = true } }
-with_key (Some NumProjects) value s = record s { keys = record s.keys { num_projects = true }; declared_projects = count_in value }
-with_key (Some NumVotes) value s = record s { keys = record s.keys { num_votes = true }; declared_votes = count_in value }
+with_key (Some NumProjects) value s =
+    record s { keys = record s.keys { num_projects = true }; declared_projects = count_in value }
+with_key (Some NumVotes) value s =
+    record s { keys = record s.keys { num_votes = true }; declared_votes = count_in value }
 
 -- one more row of PROJECTS
 abbrev pub with_project : Rec → SoFar → SoFar
@@ -67,7 +77,8 @@ with_ballot ballot s = record s { ballots = s.ballots ++ (ballot ∷ []) }
 abbrev pub next_by : Role → SoFar → Rec → SoFar
 next_by First s r = with_role (Header Meta) s
 next_by (Header Meta) s r = with_role (Inside Meta) s
-next_by (Header Projects) s r = record s { role = Inside Projects; columns = columns_of r; selected = funded_in (columns_of r) [] }
+next_by (Header Projects) s r =
+    record s { role = Inside Projects; columns = columns_of r; selected = funded_in (columns_of r) [] }
 next_by (Header Votes) s r = record s { role = Inside Votes; vote_column = vote_column r }
 next_by (Inside Meta) s r = if is_marker r then with_role (Header Projects) s else with_key (key_in r) (value_in r) s
 next_by (Inside Projects) s r = if is_marker r then with_role (Header Votes) s else with_project r s

@@ -3,8 +3,8 @@ use Rattle.std.specs.Prelude.{◌≤◌, ◌^◌, ◌==◌, ◌&&◌, not, if◌
 use Rattle.pb_money.specs.Grains.{cost_grains}
 use Rattle.pb_election.specs.Instance.{Instance, cost_of}
 use Rattle.pb_election.specs.Outcome.{has}
-use Rattle.pb_price.specs.Noted.{IsFindingTo, noted}
-use Rattle.pb_price.specs.Tallies.{IsWithin, has_more, in_vain, not_exactly, sums_of}
+use Rattle.pb_price.specs.Inside.Noted.{IsFindingTo, noted}
+use Rattle.pb_price.specs.Inside.Tallies.{IsWithin, has_more, in_vain, not_exactly, sums_of}
 use Rattle.pb_price.specs.declared.Comparison.{Comparison}
 use Rattle.pb_price.specs.declared.Finding.{Finding}
 use Rattle.pb_price.specs.declared.explaining.ProjectFindings.{ProjectFindings}
@@ -32,7 +32,8 @@ compared x bound amount = record { at = x; bound = bound; amount = amount }
 
 -- a funded project is looked at, by its cost and what is paid for it
 abbrev pub with_funded : ℕ → ℕ → ℕ → ProjectFindings → ProjectFindings
-with_funded c cost paid f = record f { c3 = if paid == cost then f.c3 else noted true (compared c cost (pos paid)) f.c3 }
+with_funded c cost paid f =
+    record f { c3 = if paid == cost then f.c3 else noted true (compared c cost (pos paid)) f.c3 }
 
 -- an unfunded project is looked at, by its cost, what remains of the limit, and its sums
 abbrev pub with_unfunded : ℕ → ℕ → ℤ → ProjectSums → ProjectFindings → ProjectFindings
@@ -49,9 +50,14 @@ abbrev pub has_room : Instance → List Bool → ℕ → ℤ → ℕ → Bool
 has_room e w d remaining c = not (has w c) && int_le (pos (cost_grains (cost_of e c) d)) remaining
 
 -- the findings on the projects from 1 to n, as the sums tell them
-pub record AreFoundTo (n : ℕ) (e : Instance) (w : List Bool) (d : ℕ) (remaining : ℤ) (sums : List ProjectSums) (f : ProjectFindings) : Type 0 where
-  pub exhaustive : IsFindingTo n (has_room e w d remaining) (λ c. not (has w c)) (λ c. cost_grains (cost_of e c) d) (λ c. remaining) f.exhaustive
-  pub c3 : IsFindingTo n (not_exactly e w d sums) (λ c. false) (λ c. cost_grains (cost_of e c) d) (λ c. pos (sums_of sums c).paid) f.c3
+pub record AreFoundTo (n : ℕ) (e : Instance) (w : List Bool) (d : ℕ) (remaining : ℤ) (sums : List ProjectSums)
+    (f : ProjectFindings) : Type 0 where
+  pub exhaustive : IsFindingTo n (has_room e w d remaining) (λ c. not (has w c)) (λ c. cost_grains (cost_of e c) d)
+      (λ c. remaining) f.exhaustive
+  pub c3 : IsFindingTo n (not_exactly e w d sums) (λ c. false) (λ c. cost_grains (cost_of e c) d)
+      (λ c. pos (sums_of sums c).paid) f.c3
   pub c4 : IsFindingTo n (in_vain w sums) (λ c. false) (λ c. 0) (λ c. pos (sums_of sums c).paid) f.c4
-  pub c5 : IsFindingTo n (has_more e w d false sums) (λ c. not (has w c)) (λ c. cost_grains (cost_of e c) d) (λ c. (sums_of sums c).left) f.c5
-  pub s5 : IsFindingTo n (has_more e w d true sums) (λ c. not (has w c)) (λ c. cost_grains (cost_of e c) d) (λ c. (sums_of sums c).offer) f.s5
+  pub c5 : IsFindingTo n (has_more e w d false sums) (λ c. not (has w c)) (λ c. cost_grains (cost_of e c) d)
+      (λ c. (sums_of sums c).left) f.c5
+  pub s5 : IsFindingTo n (has_more e w d true sums) (λ c. not (has w c)) (λ c. cost_grains (cost_of e c) d)
+      (λ c. (sums_of sums c).offer) f.s5

@@ -43,10 +43,12 @@ pub record IsFirstGreatest (candidate : ℕ → Type 0) (f : ℕ → ℤ) (x : �
 abbrev pub IsShown : Option ℕ → (ℕ → Type 0) → (ℕ → ℕ) → (ℕ → ℤ) → Option Comparison → Type 0
 IsShown (Some x) candidate bound amount shown = shown ≡ Some (comparison bound amount x)
 IsShown None candidate bound amount None = (x : ℕ) → candidate x → ⊥
-IsShown None candidate bound amount (Some m) = (m ≡ comparison bound amount m.at) × IsFirstGreatest candidate (λ x. excess (comparison bound amount x)) m.at
+IsShown None candidate bound amount (Some m) = (m ≡ comparison bound amount m.at)
+    × IsFirstGreatest candidate (λ x. excess (comparison bound amount x)) m.at
 
 -- the finding by these culprits, where r tells the candidates from 1 to n
-pub record IsFindingBy (culprits : List ℕ) (n : ℕ) (r : ℕ → Bool) (bound : ℕ → ℕ) (amount : ℕ → ℤ) (f : Finding) : Type 0 where
+pub record IsFindingBy (culprits : List ℕ) (n : ℕ) (r : ℕ → Bool) (bound : ℕ → ℕ) (amount : ℕ → ℤ) (f : Finding) : Type
+    0 where
   pub first : f.first ≡ slice_get culprits 0
   pub count : f.count ≡ length culprits
   pub shown : IsShown f.first (among n r) bound amount f.shown

@@ -9,7 +9,7 @@ use Rattle.pb_certificate.specs.PriceText.{IsPriceText, stated}
 use Rattle.pb_certificate.specs.Prices.{Prices, most_denominator, most_rows, numerator_in, payment, payments_of}
 use Rattle.pb_certificate.specs.Rows.{Rows, given, prices_given}
 use Rattle.pb_cohesion.specs.Amounts.{beta}
-use Rattle.pb_price.specs.Tallies.{AreInRange, IsTallyOf, Taken, Tallied, most_grains, sums_of}
+use Rattle.pb_price.specs.Inside.Tallies.{AreInRange, IsTallyOf, Taken, Tallied, most_grains, sums_of}
 use Rattle.pb_price.specs.Answers.{AreStepsOf, row_count}
 use Rattle.pb_price.specs.declared.takings.CertificateTally.{CertificateTally}
 use Rattle.pb_price.specs.declared.tally.Tally.{Tally}
@@ -39,11 +39,13 @@ pub record IsTallied (e : Instance) (bytes : List ℕ) (t : CertificateTally) : 
   pub few_steps : t.tally.steps ≤ 2 ^ 61
   pub in_range : (c : ℕ) → IsProject e c → AreInRange (sums_of t.tally.projects.items c)
   -- with the passes over the projects, the steps are those that are promised
-  pub steps : (steps : ℕ) → t.tally.steps ≤ steps → steps ≤ t.tally.steps + 4 * projects e → AreStepsOf e (row_count bytes) steps
+  pub steps : (steps : ℕ) → t.tally.steps ≤ steps → steps ≤ t.tally.steps + 4 * projects e
+      → AreStepsOf e (row_count bytes) steps
 
 -- what a voter pays for a project by the payments of the voters before i, and the first k of voter i
 abbrev pub pays_until : Prices → ℕ → ℕ → ℕ → ℕ → ℕ
-pays_until p i k a b = if a == i then numerator_in (take k (payments_of p i)) b else (if nat_lt 0 a && nat_lt a i then payment p a b else 0)
+pays_until p i k a b = if a == i then numerator_in (take k (payments_of p i)) b
+    else (if nat_lt 0 a && nat_lt a i then payment p a b else 0)
 
 -- those payments were taken
 pub record TakesUntil (e : Instance) (p : Prices) (i k : ℕ) (t : Tally) : Type 0 where

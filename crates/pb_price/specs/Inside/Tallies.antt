@@ -11,7 +11,7 @@ use Rattle.pb_certificate.specs.declared.price_row.PriceRow.{PriceRow}
 use Rattle.pb_cohesion.specs.Amounts.{beta, largest_by, left, paid, spent}
 use Rattle.pb_cohesion.specs.Conditions.{culprits_of_C1, culprits_of_C2, most_of, sum_ℤ}
 use Rattle.pb_price.specs.Findings.{finding, payment_finding}
-use Rattle.pb_price.specs.Noted.{IsFindingTo}
+use Rattle.pb_price.specs.Inside.Noted.{IsFindingTo}
 use Rattle.pb_price.specs.declared.Failure.{Failure}
 use Rattle.pb_price.specs.declared.Failure.TheVariants as failure
 use Rattle.pb_price.specs.declared.ProjectMargins.{ProjectMargins}
@@ -51,7 +51,8 @@ wrong_count e f = sum_by (λ i. length (filter (pays_wrongly e f i) (all_project
 -- the first pair that passes a test: that of the lowest number, and then of the lowest other number
 abbrev pub IsFirstPair : Instance → (ℕ → ℕ → Bool) → Option (ℕ × ℕ) → Type 0
 IsFirstPair e q None = (i c : ℕ) → q i c ≡ false
-IsFirstPair e q (Some p) = IsVoter e p.0 × IsProject e p.1 × (q p.0 p.1 ≡ true) × ((i c : ℕ) → i < p.0 → q i c ≡ false) × ((c : ℕ) → c < p.1 → q p.0 c ≡ false)
+IsFirstPair e q (Some p) = IsVoter e p.0 × IsProject e p.1 × (q p.0 p.1 ≡ true) × ((i c : ℕ) → i < p.0 → q i c ≡ false)
+    × ((c : ℕ) → c < p.1 → q p.0 c ≡ false)
 
 -- the first of a pair that is known, if there is one, and another
 abbrev pub first_pair : Option (ℕ × ℕ) → ℕ → ℕ → Option (ℕ × ℕ)
@@ -69,11 +70,15 @@ pub record Taken : Type 0 where
 pub record AreSumsOf (e : Instance) (a : Taken) (closed opened : ℕ) (sums : List ProjectSums) : Type 0 where
   pub as_many : length sums ≡ projects e
   pub paid : (k : ℕ) (d : ProjectSums) → k < projects e → (slice_index_or sums k d).paid ≡ paid_by e a.pays (k + 1)
-  pub left : (k : ℕ) (d : ProjectSums) → k < projects e → (slice_index_or sums k d).left ≡ sum_ℤ (left_by a.budget e a.pays) (first_supporters e closed (k + 1))
-  pub offer : (k : ℕ) (d : ProjectSums) → k < projects e → (slice_index_or sums k d).offer ≡ sum_ℤ (most_by a.budget e a.pays) (first_supporters e closed (k + 1))
-  pub count : (k : ℕ) (d : ProjectSums) → k < projects e → (slice_index_or sums k d).supporters ≡ length (first_supporters e closed (k + 1))
+  pub left : (k : ℕ) (d : ProjectSums) → k < projects e
+      → (slice_index_or sums k d).left ≡ sum_ℤ (left_by a.budget e a.pays) (first_supporters e closed (k + 1))
+  pub offer : (k : ℕ) (d : ProjectSums) → k < projects e
+      → (slice_index_or sums k d).offer ≡ sum_ℤ (most_by a.budget e a.pays) (first_supporters e closed (k + 1))
+  pub count : (k : ℕ) (d : ProjectSums) → k < projects e
+      → (slice_index_or sums k d).supporters ≡ length (first_supporters e closed (k + 1))
   pub seen : (k : ℕ) (d : ProjectSums) → k < projects e → (slice_index_or sums k d).last_approver ≤ opened
-  pub marked : (k : ℕ) (d : ProjectSums) → k < projects e → closed < opened → ((slice_index_or sums k d).last_approver == opened) ≡ approves e opened (k + 1)
+  pub marked : (k : ℕ) (d : ProjectSums) → k < projects e → closed < opened
+      → ((slice_index_or sums k d).last_approver == opened) ≡ approves e opened (k + 1)
 
 -- how many grains the budget of a voter, a payment or the cost of a project has at most
 abbrev pub most_grains : ℕ
@@ -107,7 +112,8 @@ pub record Tallied (e : Instance) (a : Taken) (t : Tally) : Type 0 where
   pub unapproved : IsFirstPair e (pays_wrongly e a.pays) t.unapproved.first
   pub count_unapproved : t.unapproved.count ≡ wrong_count e a.pays
   pub few_unapproved : t.unapproved.count ≤ a.rows
-  pub over_budget : IsFindingTo t.closed (λ i. nat_lt a.budget (spent_by e a.pays i)) (λ i. true) (λ i. a.budget) (λ i. pos (spent_by e a.pays i)) t.over_budget
+  pub over_budget : IsFindingTo t.closed (λ i. nat_lt a.budget (spent_by e a.pays i)) (λ i. true) (λ i. a.budget)
+      (λ i. pos (spent_by e a.pays i)) t.over_budget
   pub steps : AreSteps e a.rows t.closed t.opened t.steps
 
 -- one more row: the payment of a pair that had none
@@ -134,7 +140,8 @@ pub record CanTakeRow (e : Instance) (t : Tally) (q : PriceRow) : Type 0 where
 pub record AreChanged (change : ProjectSums → ProjectSums) (old new : List ProjectSums) (ballot : List ℕ) : Type 0 where
   pub as_many : length new ≡ length old
   pub each : (k : ℕ) (d : ProjectSums) → k < length old
-      → slice_index_or new k d ≡ (if list_any (λ j. j == k + 1) ballot then change (slice_index_or old k d) else slice_index_or old k d)
+      → slice_index_or new k d
+      ≡ (if list_any (λ j. j == k + 1) ballot then change (slice_index_or old k d) else slice_index_or old k d)
 
 -- it was marked with a voter
 abbrev pub marked_with : ℕ → ProjectSums → ProjectSums
@@ -142,7 +149,8 @@ marked_with voter s = record s { last_approver = voter }
 
 -- it has one more supporter, which has so much left and can offer so much
 abbrev pub with_supporter : ℤ → ℤ → ProjectSums → ProjectSums
-with_supporter left offer s = record s { left = s.left +ℤ left; offer = s.offer +ℤ offer; supporters = s.supporters + 1 }
+with_supporter left offer s =
+    record s { left = s.left +ℤ left; offer = s.offer +ℤ offer; supporters = s.supporters + 1 }
 
 -- an integer from -n to n
 abbrev pub IsWithin : ℕ → ℤ → Type 0
@@ -159,9 +167,12 @@ pub record AreSmall (s : ProjectSums) : Type 0 where
 pub record AreSums (e : Instance) (p : Prices) (sums : List ProjectSums) : Type 0 where
   pub as_many : length sums ≡ projects e
   pub paid : (k : ℕ) (d : ProjectSums) → k < projects e → (slice_index_or sums k d).paid ≡ paid e p (k + 1)
-  pub left : (k : ℕ) (d : ProjectSums) → k < projects e → (slice_index_or sums k d).left ≡ sum_ℤ (left e p) (supporters e (k + 1))
-  pub offer : (k : ℕ) (d : ProjectSums) → k < projects e → (slice_index_or sums k d).offer ≡ sum_ℤ (most_of e p) (supporters e (k + 1))
-  pub count : (k : ℕ) (d : ProjectSums) → k < projects e → (slice_index_or sums k d).supporters ≡ length (supporters e (k + 1))
+  pub left : (k : ℕ) (d : ProjectSums) → k < projects e
+      → (slice_index_or sums k d).left ≡ sum_ℤ (left e p) (supporters e (k + 1))
+  pub offer : (k : ℕ) (d : ProjectSums) → k < projects e
+      → (slice_index_or sums k d).offer ≡ sum_ℤ (most_of e p) (supporters e (k + 1))
+  pub count : (k : ℕ) (d : ProjectSums) → k < projects e
+      → (slice_index_or sums k d).supporters ≡ length (supporters e (k + 1))
 
 -- the whole tally is that of a price system
 pub record IsTallyOf (e : Instance) (p : Prices) (t : Tally) : Type 0 where
@@ -173,7 +184,8 @@ pub record IsTallyOf (e : Instance) (p : Prices) (t : Tally) : Type 0 where
 -- The conditions as the sums tell them, where w marks the funded projects and d is the denominator.
 
 abbrev pub sums_of : List ProjectSums → ℕ → ProjectSums
-sums_of sums c = slice_index_or sums (c - 1) (record { paid = 0; left = pos 0; offer = pos 0; supporters = 0; last_approver = 0 })
+sums_of sums c =
+    slice_index_or sums (c - 1) (record { paid = 0; left = pos 0; offer = pos 0; supporters = 0; last_approver = 0 })
 
 -- a funded project that is not paid for exactly
 abbrev pub not_exactly : Instance → List Bool → ℕ → List ProjectSums → ℕ → Bool
@@ -186,12 +198,14 @@ in_vain w sums c = not (has w c) && not ((sums_of sums c).paid == 0)
 -- the failures of C3 and then of C4, the lowest project first
 abbrev pub paid_wrongly : Instance → List Bool → ℕ → List ProjectSums → List Failure
 paid_wrongly e w d sums =
-    map failure.C3 (filter (not_exactly e w d sums) (all_projects e)) ++ map failure.C4 (filter (in_vain w sums) (all_projects e))
+    map failure.C3 (filter (not_exactly e w d sums) (all_projects e))
+    ++ map failure.C4 (filter (in_vain w sums) (all_projects e))
 
 -- an unfunded project whose supporters have more left, or in the stable form can offer more, than it costs
 abbrev pub has_more : Instance → List Bool → ℕ → Bool → List ProjectSums → ℕ → Bool
 has_more e w d stable sums c =
-    not (has w c) && int_lt (pos (cost_grains (cost_of e c) d)) (if stable then (sums_of sums c).offer else (sums_of sums c).left)
+    not (has w c) && int_lt (pos (cost_grains (cost_of e c) d))
+    (if stable then (sums_of sums c).offer else (sums_of sums c).left)
 
 -- the figures of a project
 abbrev pub figures_of : Instance → List Bool → ℕ → List ProjectSums → ℕ → ProjectMargins

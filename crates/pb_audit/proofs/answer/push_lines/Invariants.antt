@@ -3,4 +3,5 @@ use Rattle.pb_audit.specs.Answers.{text_of}
 use Rattle.pb_audit.proofs.answer.push_lines.Given as goal
 
 abbrev pub invariant-loop-line : goal.invariant-loop-line
-invariant-loop-line l = string_bytes l.text ≡ string_bytes l.initial.text ++ text_of (map string_bytes (take l.line-index l.lines))
+invariant-loop-line l = string_bytes l.text ≡ string_bytes l.initial.text
+    ++ text_of (map string_bytes (take l.line-index l.lines))

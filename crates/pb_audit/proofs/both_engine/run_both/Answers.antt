@@ -9,6 +9,9 @@ use Rattle.pb_audit.proofs.both_engine.run_both.Goals as goal
 pub returns : goal.returns
 returns g c =
     let is_reply = ReadsBoth c.args.mode
-    (audit_readings g.E.Source c.args.election.now c.take_work-work.new.election g.O.Source c.args.outcome.now c.take_work-work.new.outcome g.P.Source c.args.prices.now c.take_work-work.new.prices)
+    (audit_readings g.E.Source c.args.election.now c.take_work-work.new.election g.O.Source c.args.outcome.now
+    c.take_work-work.new.outcome g.P.Source c.args.prices.now c.take_work-work.new.prices)
     (reading g.V.Source c.args.violation.now c.take_work-work.new.violation) in
-    reply_told _ is_reply _ _ _ _ (subst (λ (o : Option Reply). IfSome o is_reply) c.in_ok-reply.ensures c.take_work-work.ensures) c.write_reply.ensures
+    reply_told _ is_reply _ _ _ _
+    (subst (λ (o : Option Reply). IfSome o is_reply) c.in_ok-reply.ensures c.take_work-work.ensures)
+    c.write_reply.ensures

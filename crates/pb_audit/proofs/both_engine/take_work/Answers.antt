@@ -4,7 +4,7 @@ use Rattle.pb_records.specs.Loading.{Delivery}
 use Rattle.pb_audit.specs.Both.{beside}
 use Rattle.pb_audit.specs.Inputs.{StatesViolation}
 use Rattle.pb_audit.specs.Readers.{audit_readings, reading}
-use Rattle.pb_audit.specs.Taking.{AnswersCertificate, settled}
+use Rattle.pb_audit.specs.Inside.Taking.{AnswersCertificate, settled}
 use Rattle.pb_audit.specs.declared.input.InputName.TheVariants.{Violation}
 use Rattle.pb_audit.proofs.Boths.{readers_settled, readers_stopped_at_election, readers_stopped_at_outcome, readers_stopped_at_prices}
 use Rattle.pb_audit.proofs.both_engine.take_work.Goals as goal
@@ -14,7 +14,8 @@ returns-in_err-election g c =
     let is : c.from_residual.result ≡ Err c.in_err-election.field-0.0 = search rules in
     rw is (
     readers_stopped_at_election c.args.mode
-    (audit_readings g.E.Source c.args.election.now c.take_election.new.source g.O.Source c.args.outcome.now c.args.outcome.now g.P.Source c.args.prices.now c.args.prices.now)
+    (audit_readings g.E.Source c.args.election.now c.take_election.new.source g.O.Source c.args.outcome.now
+    c.args.outcome.now g.P.Source c.args.prices.now c.args.prices.now)
     (reading g.V.Source c.args.violation.now c.args.violation.now)
     c.in_err-election.field-0.0 c.in_err-election.ensures refl refl refl
     )
@@ -24,9 +25,11 @@ returns-in_err-outcome g c =
     let is : c.from_residual-in_err-outcome.result ≡ Err c.in_err-outcome.field-0.0 = search rules in
     rw is (
     readers_stopped_at_outcome c.args.mode
-    (audit_readings g.E.Source c.args.election.now c.take_election.new.source g.O.Source c.args.outcome.now c.take_outcome.new.source g.P.Source c.args.prices.now c.args.prices.now)
+    (audit_readings g.E.Source c.args.election.now c.take_election.new.source g.O.Source c.args.outcome.now
+    c.take_outcome.new.source g.P.Source c.args.prices.now c.args.prices.now)
     (reading g.V.Source c.args.violation.now c.args.violation.now)
-    c.in_ok-election.election c.in_err-outcome.field-0.0 c.in_ok-election.ensures c.in_err-outcome.ensures.taken refl refl
+    c.in_ok-election.election c.in_err-outcome.field-0.0 c.in_ok-election.ensures c.in_err-outcome.ensures.taken refl
+    refl
     )
 
 pub returns-in_err-verdict : goal.returns-in_err-verdict
@@ -34,7 +37,8 @@ returns-in_err-verdict g c =
     let is : c.from_residual-in_err-verdict.result ≡ Err c.in_err-verdict.field-0.0 = search rules in
     rw is (
     readers_stopped_at_prices c.args.mode
-    (audit_readings g.E.Source c.args.election.now c.take_election.new.source g.O.Source c.args.outcome.now c.take_outcome.new.source g.P.Source c.args.prices.now c.take_verdict.new.prices)
+    (audit_readings g.E.Source c.args.election.now c.take_election.new.source g.O.Source c.args.outcome.now
+    c.take_outcome.new.source g.P.Source c.args.prices.now c.take_verdict.new.prices)
     (reading g.V.Source c.args.violation.now c.args.violation.now)
     c.in_ok-election.election c.in_ok-outcome.outcome.marks c.in_err-verdict.field-0.0
     c.in_ok-election.ensures c.in_ok-outcome.ensures.taken c.in_err-verdict.ensures.verdict refl
@@ -44,5 +48,8 @@ pub returns : goal.returns
 returns g c =
     readers_settled c.args.mode _ _ _ _ c.in_ok-verdict.verdict _ _
     c.in_ok-election.ensures c.in_ok-outcome.ensures.taken c.in_ok-verdict.ensures.verdict c.in_ok-violation.ensures
-    (subst (λ (d : Delivery). IfSome (settled c.beside.result) (AnswersCertificate (StatesViolation Violation) (beside c.args.mode c.in_ok-verdict.verdict) c.in_ok-election.election c.in_ok-outcome.outcome.marks d))
+    (subst
+    (λ (d : Delivery). IfSome (settled c.beside.result)
+    (AnswersCertificate (StatesViolation Violation) (beside c.args.mode c.in_ok-verdict.verdict)
+    c.in_ok-election.election c.in_ok-outcome.outcome.marks d))
     c.lend.ensures c.beside.ensures)

@@ -1,6 +1,6 @@
 use Rattle.pb_audit.specs.Inputs.{StatesPrices}
 use Rattle.pb_audit.specs.declared.input.InputName.TheVariants.{Certificate}
-use Rattle.pb_audit.specs.Loaded.{lent}
+use Rattle.pb_audit.specs.Inside.Loaded.{lent}
 use Rattle.std.specs.Prelude.{Ok}
 use Rattle.pb_audit.proofs.Margins.{as_many_rows, text_told}
 use Rattle.pb_audit.proofs.margin_engine.margins_on.Goals as goal
@@ -13,6 +13,7 @@ table_text-requires c =
 pub returns-in_ok-table_text-in-Ok : goal.returns-in_ok-table_text-in-Ok
 returns-in_ok-table_text-in-Ok c =
     let found = c.in-Ok.ensures.found in
-    let states : StatesPrices Certificate c.args.election.now (lent c.args.certificate) (Ok found.0) = rw c.in_ok-bytes.ensures.bytes found.1 in
+    let states : StatesPrices Certificate c.args.election.now (lent c.args.certificate) (Ok found.0) =
+    rw c.in_ok-bytes.ensures.bytes found.1 in
     let text = c.in_ok-table_text-in-Ok.ensures c.args.outcome.now.marks found.0 found.2 in
     (found.0, (states, text_told c.args.election.now c.args.outcome.now.marks found.0 _ text))

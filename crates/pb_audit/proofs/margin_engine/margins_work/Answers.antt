@@ -1,6 +1,6 @@
 use Rattle.std.proofs.Common.{◌≡◌, rules}
 use Rattle.std.specs.Prelude.{Err, option_map}
-use Rattle.pb_audit.specs.Loaded.{lent}
+use Rattle.pb_audit.specs.Inside.Loaded.{lent}
 use Rattle.pb_audit.specs.Inputs.{StatesPrices}
 use Rattle.pb_audit.specs.Margins.{AlwaysYes, margins_reply}
 use Rattle.pb_audit.specs.declared.input.InputName.TheVariants.{Certificate}
@@ -13,7 +13,8 @@ returns-in_err-election c =
     let is : c.from_residual.result ≡ Err c.in_err-election.field-0.0 = search rules in
     rw is (
     stop_told _ c.in_err-election.field-0.0
-    (stopped_at_election (StatesPrices Certificate) margins_reply AlwaysYes (lent c.args.election) (option_map lent c.args.outcome) (lent c.args.certificate)
+    (stopped_at_election (StatesPrices Certificate) margins_reply AlwaysYes (lent c.args.election)
+    (option_map lent c.args.outcome) (lent c.args.certificate)
     c.in_err-election.field-0.0 c.in_err-election.ensures)
     )
 
@@ -22,7 +23,8 @@ returns-in_err-outcome c =
     let is : c.from_residual-in_err-outcome.result ≡ Err c.in_err-outcome.field-0.0 = search rules in
     rw is (
     stop_told _ c.in_err-outcome.field-0.0
-    (stopped_at_outcome (StatesPrices Certificate) margins_reply AlwaysYes (lent c.args.election) (option_map lent c.args.outcome) (lent c.args.certificate) c.in_ok-election.election
+    (stopped_at_outcome (StatesPrices Certificate) margins_reply AlwaysYes (lent c.args.election)
+    (option_map lent c.args.outcome) (lent c.args.certificate) c.in_ok-election.election
     c.in_err-outcome.field-0.0 c.in_ok-election.ensures c.in_err-outcome.ensures.taken)
     )
 

@@ -4,7 +4,7 @@ use Rattle.pb_records.specs.Loading.{Delivery}
 use Rattle.pb_audit.specs.Inputs.{StatesPrices}
 use Rattle.pb_audit.specs.Margins.{AlwaysYes, margins_reply}
 use Rattle.pb_audit.specs.Readers.{audit_readings}
-use Rattle.pb_audit.specs.Taking.{IfTaken, TablesMargins}
+use Rattle.pb_audit.specs.Inside.Taking.{IfTaken, TablesMargins}
 use Rattle.pb_audit.specs.declared.input.InputName.TheVariants.{Certificate}
 use Rattle.pb_audit.proofs.Audits.{readers_stopped_at_election, readers_stopped_at_outcome}
 use Rattle.pb_audit.proofs.Margins.{margins_read, stop_told}
@@ -16,7 +16,8 @@ returns-in_err-election g c =
     rw is (
     stop_told _ c.in_err-election.field-0.0
     (readers_stopped_at_election (StatesPrices Certificate) margins_reply AlwaysYes
-    (audit_readings g.E.Source c.args.election.now c.take_election.new.source g.O.Source c.args.outcome.now c.args.outcome.now g.C.Source c.args.certificate.now c.args.certificate.now)
+    (audit_readings g.E.Source c.args.election.now c.take_election.new.source g.O.Source c.args.outcome.now
+    c.args.outcome.now g.C.Source c.args.certificate.now c.args.certificate.now)
     c.in_err-election.field-0.0 c.in_err-election.ensures refl refl)
     )
 
@@ -26,11 +27,14 @@ returns-in_err-outcome g c =
     rw is (
     stop_told _ c.in_err-outcome.field-0.0
     (readers_stopped_at_outcome (StatesPrices Certificate) margins_reply AlwaysYes
-    (audit_readings g.E.Source c.args.election.now c.take_election.new.source g.O.Source c.args.outcome.now c.take_outcome.new.source g.C.Source c.args.certificate.now c.args.certificate.now)
+    (audit_readings g.E.Source c.args.election.now c.take_election.new.source g.O.Source c.args.outcome.now
+    c.take_outcome.new.source g.C.Source c.args.certificate.now c.args.certificate.now)
     c.in_ok-election.election c.in_err-outcome.field-0.0 c.in_ok-election.ensures c.in_err-outcome.ensures.taken refl)
     )
 
 pub returns : goal.returns
 returns g c =
     margins_read _ _ _ _ _ c.in_ok-election.ensures c.in_ok-outcome.ensures.taken c.in_ok-certificate.ensures
-    (subst (λ (d : Delivery). IfTaken c.margins_on.result (TablesMargins c.in_ok-election.election c.in_ok-outcome.outcome.marks d)) c.lend.ensures c.margins_on.ensures)
+    (subst
+    (λ (d : Delivery). IfTaken c.margins_on.result
+    (TablesMargins c.in_ok-election.election c.in_ok-outcome.outcome.marks d)) c.lend.ensures c.margins_on.ensures)

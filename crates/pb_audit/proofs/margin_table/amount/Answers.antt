@@ -3,4 +3,7 @@ use Rattle.pb_certificate.proofs.Lines.{decimal-plain}
 use Rattle.pb_audit.proofs.margin_table.amount.Goals as goal
 
 pub returns : goal.returns
-returns c = (c.format.ensures.text, rw c.format.ensures.text (decimal-plain c.args.amount (omega (arith, c.ranges.amount.fits))))
+returns c = (
+  c.format.ensures.text,
+  rw c.format.ensures.text (decimal-plain c.args.amount (omega (arith, c.ranges.amount.fits))),
+)

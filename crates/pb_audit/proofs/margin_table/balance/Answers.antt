@@ -5,5 +5,6 @@ use Rattle.pb_audit.proofs.margin_table.balance.Goals as goal
 
 pub returns : goal.returns
 returns c =
-    let text : c.format.result.now ≡ signed_decimal c.args.balance = c.format.ensures.text ∙ ap signed_decimal (to_z-of_z c.ranges.balance) in
+    let text : c.format.result.now ≡ signed_decimal c.args.balance =
+    c.format.ensures.text ∙ ap signed_decimal (to_z-of_z c.ranges.balance) in
     (text, rw text (signed_plain c.args.balance c.ranges.balance))

@@ -1,6 +1,6 @@
 use Rattle.std.proofs.Common.{◌≡◌, rules}
 use Rattle.std.specs.Prelude.{Err, option_map}
-use Rattle.pb_audit.specs.Loaded.{lent}
+use Rattle.pb_audit.specs.Inside.Loaded.{lent}
 use Rattle.pb_audit.specs.Answers.{price_reply}
 use Rattle.pb_audit.specs.Inputs.{StatesPrices}
 use Rattle.pb_audit.specs.declared.input.InputName.TheVariants.{Certificate}
@@ -12,6 +12,7 @@ pub returns-in_err-election : goal.returns-in_err-election
 returns-in_err-election c =
     let is : c.from_residual.result ≡ Err c.in_err-election.field-0.0 = search rules in
     rw is (
-    stopped_at_election (StatesPrices Certificate) (price_reply c.args.mode) (PricesPromise c.args.mode) (lent c.args.election) (option_map lent c.args.outcome) (lent c.args.certificate)
+    stopped_at_election (StatesPrices Certificate) (price_reply c.args.mode) (PricesPromise c.args.mode)
+    (lent c.args.election) (option_map lent c.args.outcome) (lent c.args.certificate)
     c.in_err-election.field-0.0 c.in_err-election.ensures
     )

@@ -1,6 +1,6 @@
 use Rattle.std.proofs.Common.{ap}
 use Rattle.std.specs.Prelude.{option_map}
-use Rattle.pb_audit.specs.Loaded.{lent}
+use Rattle.pb_audit.specs.Inside.Loaded.{lent}
 use Rattle.pb_audit.proofs.Audits.{file_audited}
 use Rattle.pb_audit.proofs.taking.outcome_of.Goals as goal
 

@@ -2,7 +2,7 @@ use Rattle.std.proofs.Common.{◌≡◌, refl, rules, subst}
 use Rattle.std.specs.Prelude.{Err}
 use Rattle.pb_records.specs.Loading.{Delivery}
 use Rattle.pb_audit.specs.Readers.{reading}
-use Rattle.pb_audit.specs.Taking.{IfTaken, TidiesPrices}
+use Rattle.pb_audit.specs.Inside.Taking.{IfTaken, TidiesPrices}
 use Rattle.pb_audit.proofs.Audits.{readers_tidy_answered, readers_tidy_stopped}
 use Rattle.pb_audit.proofs.tidy_engine.take_work.Goals as goal
 
@@ -19,4 +19,5 @@ returns-in_err-election g c =
 pub returns : goal.returns
 returns g c =
     readers_tidy_answered _ _ _ _ _ c.in_ok-election.ensures c.in_ok-certificate.ensures
-    (subst (λ (d : Delivery). IfTaken c.tidied.result (TidiesPrices c.in_ok-election.election d)) c.lend.ensures c.tidied.ensures)
+    (subst (λ (d : Delivery). IfTaken c.tidied.result (TidiesPrices c.in_ok-election.election d)) c.lend.ensures
+    c.tidied.ensures)

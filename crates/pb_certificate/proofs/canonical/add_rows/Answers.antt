@@ -3,7 +3,7 @@ use Rattle.std.specs.Prelude.{flat_map}
 use Rattle.std.specs.List.{range_with_len}
 use Rattle.pb_election.specs.Instance.{voters}
 use Rattle.pb_certificate.specs.Canon.{lines}
-use Rattle.pb_certificate.specs.RecordWriter.{held}
+use Rattle.pb_certificate.specs.Inside.RecordWriter.{held}
 use Rattle.pb_certificate.proofs.Written.{voter-written, voter_rows}
 use Rattle.pb_certificate.proofs.canonical.add_rows.Goals as goal
 
@@ -19,23 +19,36 @@ pub loop-voter-preserved : goal.loop-voter-preserved
 loop-voter-preserved c =
     let low : 1 ≤ c.loop-voter.voter = omega arith in
     let rows = rw c.payments_of.ensures.value at c.in_ok-add_payments.ensures.text in
-    let next = voter-written (voter_rows c.args.election.now c.args.prices.now) c.loop-voter.voter (held c.args.writer.now) (held c.loop-voter.writer) (held c.add_payments.new.writer) low c.loop-voter.invariant.text rows in
+    let next = voter-written (voter_rows c.args.election.now c.args.prices.now) c.loop-voter.voter
+    (held c.args.writer.now) (held c.loop-voter.writer) (held c.add_payments.new.writer) low
+    c.loop-voter.invariant.text rows in
     let same : c.loop-voter.voter ≡ c.loop-voter.voter + 1 - 1 = omega arith in
     record {
       open_still = c.in_ok-add_payments.ensures.«open»;
       within = omega (arith, c.voters-voter-end.ensures.value);
-      text = next ∙ ap (λ (n : ℕ). held c.args.writer.now ++ lines (flat_map (voter_rows c.args.election.now c.args.prices.now) (range_with_len 1 n))) same;
+      text = next
+          ∙ ap
+          (λ (n : ℕ). held c.args.writer.now
+          ++ lines (flat_map (voter_rows c.args.election.now c.args.prices.now) (range_with_len 1 n))) same;
     }
 
 pub returns-clause-text : goal.returns-clause-text
 returns-clause-text c =
-    let end : c.loop-voter.voter - 1 ≡ voters c.args.election.now = omega (arith, c.voters-voter-end.ensures.value, c.loop-voter.invariant.within) in
-    c.loop-voter.invariant.text ∙ ap (λ (n : ℕ). held c.args.writer.now ++ lines (flat_map (voter_rows c.args.election.now c.args.prices.now) (range_with_len 1 n))) end
+    let end : c.loop-voter.voter - 1 ≡ voters c.args.election.now =
+    omega (arith, c.voters-voter-end.ensures.value, c.loop-voter.invariant.within) in
+    c.loop-voter.invariant.text
+    ∙ ap
+    (λ (n : ℕ). held c.args.writer.now
+    ++ lines (flat_map (voter_rows c.args.election.now c.args.prices.now) (range_with_len 1 n))) end
 
 pub returns-in_ok-add_payments-clause-text : goal.returns-in_ok-add_payments-clause-text
 returns-in_ok-add_payments-clause-text c =
     let low : 1 ≤ c.loop-voter.voter = omega arith in
     let rows = rw c.payments_of.ensures.value at c.in_ok-add_payments.ensures.text in
-    let next = voter-written (voter_rows c.args.election.now c.args.prices.now) c.loop-voter.voter (held c.args.writer.now) (held c.loop-voter.writer) (held c.add_payments.new.writer) low c.loop-voter.invariant.text rows in
+    let next = voter-written (voter_rows c.args.election.now c.args.prices.now) c.loop-voter.voter
+    (held c.args.writer.now) (held c.loop-voter.writer) (held c.add_payments.new.writer) low
+    c.loop-voter.invariant.text rows in
     let end : c.loop-voter.voter ≡ voters c.args.election.now = omega (arith, c.voters-voter-end.ensures.value) in
-    next ∙ ap (λ (n : ℕ). held c.args.writer.now ++ lines (flat_map (voter_rows c.args.election.now c.args.prices.now) (range_with_len 1 n))) end
+    next ∙ ap
+    (λ (n : ℕ). held c.args.writer.now
+    ++ lines (flat_map (voter_rows c.args.election.now c.args.prices.now) (range_with_len 1 n))) end

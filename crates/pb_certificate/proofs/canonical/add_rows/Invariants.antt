@@ -3,7 +3,7 @@ use Rattle.std.specs.Prelude.{flat_map}
 use Rattle.std.specs.List.{range_with_len}
 use Rattle.pb_election.specs.Instance.{voters}
 use Rattle.pb_certificate.specs.Canon.{lines}
-use Rattle.pb_certificate.specs.RecordWriter.{IsOpen, held}
+use Rattle.pb_certificate.specs.Inside.RecordWriter.{IsOpen, held}
 use Rattle.pb_certificate.proofs.Written.{voter_rows}
 use Rattle.pb_certificate.proofs.canonical.add_rows.Given as goal
 
@@ -12,5 +12,6 @@ invariant-loop-voter l =
     record {
       open_still : IsOpen l.writer;
       within : l.voter - 1 ≤ voters l.election;
-      text : held l.writer ≡ held l.fn.writer ++ lines (flat_map (voter_rows l.election l.prices) (range_with_len 1 (l.voter - 1)));
+      text : held l.writer ≡ held l.fn.writer
+          ++ lines (flat_map (voter_rows l.election l.prices) (range_with_len 1 (l.voter - 1)));
     }

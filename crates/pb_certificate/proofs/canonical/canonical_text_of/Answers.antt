@@ -1,7 +1,7 @@
 use Rattle.std.proofs.Common.{◌∙◌, ap}
 use Rattle.std.proofs.lemmas.Result.{err_from_is_err_and}
 use Rattle.pb_certificate.specs.Canon.{Canon}
-use Rattle.pb_certificate.specs.CanonicalDrafts.{HasWritten}
+use Rattle.pb_certificate.specs.Inside.CanonicalDrafts.{HasWritten}
 use Rattle.pb_certificate.specs.Faults.{certificate_records}
 use Rattle.pb_certificate.proofs.GatherSteps.{refused-file, states-all, text-refused}
 use Rattle.pb_certificate.proofs.Texts.{states-prices}
@@ -11,7 +11,9 @@ use Rattle.pb_certificate.proofs.canonical.canonical_text_of.Goals as goal
 pub returns-in_err-rows-clause-only : goal.returns-in_err-rows-clause-only
 returns-in_err-rows-clause-only c = λ p text. (
     let err = err_from_is_err_and c.from_residual.result c.from_residual.ensures.1 in
-    rw (err.1, err.2) (text-refused (certificate_records c.args.bytes.now) c.args.election.now p c.in_err-rows.field-0.0 text c.in_err-rows.ensures.refused)
+    rw (err.1, err.2)
+    (text-refused (certificate_records c.args.bytes.now) c.args.election.now p c.in_err-rows.field-0.0 text
+    c.in_err-rows.ensures.refused)
     )
 
 pub returns-in_err-gather-clause-only : goal.returns-in_err-gather-clause-only
@@ -19,7 +21,9 @@ returns-in_err-gather-clause-only c = λ p text. (
     let recs = certificate_records c.args.bytes.now in
     let e = c.args.election.now in
     let err = err_from_is_err_and c.from_residual-in_err-gather.result c.from_residual-in_err-gather.ensures.1 in
-    let refused = refused-file recs e c.in_ok-rows.rows c.in_err-gather.field-0.0 c.in_ok-rows.ensures.election c.in_ok-rows.ensures.records c.in_err-gather.ensures.refused in
+    let refused =
+    refused-file recs e c.in_ok-rows.rows c.in_err-gather.field-0.0 c.in_ok-rows.ensures.election
+    c.in_ok-rows.ensures.records c.in_err-gather.ensures.refused in
     rw (err.1, err.2) (text-refused recs e p c.in_err-gather.field-0.0 text refused)
     )
 
@@ -28,12 +32,20 @@ returns-clause-found c =
     let e = c.args.election.now in
     let recs = certificate_records c.args.bytes.now in
     let gathered = c.in_ok-gather.ensures.all in
-    let states = states-all recs e c.in_ok-rows.rows (HasWritten c.gather.new.ledger) gathered c.in_ok-rows.ensures.election c.in_ok-rows.ensures.records in
-    record { prices = gathered.prices; states = states.0; is = c.in-Ok-into_text.ensures e gathered.prices states.1 (states-prices recs e gathered.prices states.0).fits }
+    let states =
+    states-all recs e c.in_ok-rows.rows (HasWritten c.gather.new.ledger) gathered c.in_ok-rows.ensures.election
+    c.in_ok-rows.ensures.records in
+    record {
+      prices = gathered.prices;
+      states = states.0;
+      is = c.in-Ok-into_text.ensures e gathered.prices states.1 (states-prices recs e gathered.prices states.0).fits;
+    }
 
 pub returns-clause-only : goal.returns-clause-only
 unfolding returns-clause-found
 returns-clause-only c = λ p stated. (
     let found = returns-clause-found c in
-    found.is ∙ ap (Canon c.args.election.now) (price-text-same (certificate_records c.args.bytes.now) c.args.election.now found.prices p found.states stated)
+    found.is
+    ∙ ap (Canon c.args.election.now)
+    (price-text-same (certificate_records c.args.bytes.now) c.args.election.now found.prices p found.states stated)
     )

@@ -14,7 +14,10 @@ loop-has_mark-preserved c =
       omega (arith, c.loop-has_mark.invariant.0),
       elim c.if-has_mark.branch [
         | then-has_mark+in_ok-push w ↦
-            ap (λ (v : Vec ℕ). v.items) w.numbers-is ∙ w.in_ok-push.ensures.items ∙ ap (λ (xs : List ℕ). xs ++ ((number + 1) ∷ [])) c.loop-has_mark.invariant.1 ∙ one-more-marked marks i number c.loop-has_mark.invariant.0 (same ∙ w.if-has_mark.true)
-        | else-has_mark w ↦ ap (λ (v : Vec ℕ). v.items) w.numbers-is ∙ c.loop-has_mark.invariant.1 ∙ none-more-marked marks i (same ∙ w.if-has_mark.false)
+            ap (λ (v : Vec ℕ). v.items) w.numbers-is ∙ w.in_ok-push.ensures.items
+            ∙ ap (λ (xs : List ℕ). xs ++ ((number + 1) ∷ [])) c.loop-has_mark.invariant.1
+            ∙ one-more-marked marks i number c.loop-has_mark.invariant.0 (same ∙ w.if-has_mark.true)
+        | else-has_mark w ↦ ap (λ (v : Vec ℕ). v.items) w.numbers-is ∙ c.loop-has_mark.invariant.1
+            ∙ none-more-marked marks i (same ∙ w.if-has_mark.false)
       ],
     )

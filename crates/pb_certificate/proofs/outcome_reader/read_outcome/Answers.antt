@@ -14,36 +14,45 @@ pub of-requires : goal.of-requires
 of-requires c =
     let recs = certificate_records c.args.bytes.now in
     let e = c.args.election.now in
-    let text = whole-outcome e c.take_all.new.draft.begun c.take_all.new.draft.marks.items recs c.in-Ok-take_all.ensures.taken c.in-Ok-take_all.ensures.none in
+    let text = whole-outcome e c.take_all.new.draft.begun c.take_all.new.draft.marks.items recs
+    c.in-Ok-take_all.ensures.taken c.in-Ok-take_all.ensures.none in
     ap length c.into_marks.ensures ∙ outcome-text-length recs e c.take_all.new.draft.marks.items text
 
 pub returns-in-Ok-take_all-clause-found : goal.returns-in-Ok-take_all-clause-found
 returns-in-Ok-take_all-clause-found c =
     let recs = certificate_records c.args.bytes.now in
     let e = c.args.election.now in
-    let text = whole-outcome e c.take_all.new.draft.begun c.take_all.new.draft.marks.items recs c.in-Ok-take_all.ensures.taken c.in-Ok-take_all.ensures.none in
+    let text = whole-outcome e c.take_all.new.draft.begun c.take_all.new.draft.marks.items recs
+    c.in-Ok-take_all.ensures.taken c.in-Ok-take_all.ensures.none in
     subst (IsOutcomeText recs e) (sym (ap (λ (w : Funding). w.marks) c.of.ensures.value ∙ c.into_marks.ensures)) text
 
 pub returns-in-Ok-take_all-clause-funds : goal.returns-in-Ok-take_all-clause-funds
-returns-in-Ok-take_all-clause-funds c = c.of.ensures.value ∙ ap (λ (ms : List Bool). funds ms c.args.election.now) (sym (ap (λ (w : Funding). w.marks) c.of.ensures.value))
+returns-in-Ok-take_all-clause-funds c = c.of.ensures.value
+    ∙ ap (λ (ms : List Bool). funds ms c.args.election.now) (sym (ap (λ (w : Funding). w.marks) c.of.ensures.value))
 
 pub returns-in-Ok-take_all-clause-only : goal.returns-in-Ok-take_all-clause-only
 returns-in-Ok-take_all-clause-only c = λ marks text. (
     let recs = certificate_records c.args.bytes.now in
     let e = c.args.election.now in
-    let own = whole-outcome e c.take_all.new.draft.begun c.take_all.new.draft.marks.items recs c.in-Ok-take_all.ensures.taken c.in-Ok-take_all.ensures.none in
-    c.of.ensures.value ∙ ap (λ (ms : List Bool). funds ms e) (c.into_marks.ensures ∙ outcome-text-same recs e c.take_all.new.draft.marks.items marks own text)
+    let own = whole-outcome e c.take_all.new.draft.begun c.take_all.new.draft.marks.items recs
+    c.in-Ok-take_all.ensures.taken c.in-Ok-take_all.ensures.none in
+    c.of.ensures.value
+    ∙ ap (λ (ms : List Bool). funds ms e)
+    (c.into_marks.ensures ∙ outcome-text-same recs e c.take_all.new.draft.marks.items marks own text)
     )
 
 pub returns-in-Err-clause-refused : goal.returns-in-Err-clause-refused
 returns-in-Err-clause-refused c =
     let form = outcome_form c.args.election.now in
     let bytes = c.args.bytes.now in
-    subst (λ (r : CertRefusal). (r ≡ no_memory) ⊎ Refuses form bytes r) (sym c.of-in-Err.ensures) (stop-refuses form (certificate_records bytes) c.in-Err.stop c.in-Err.ensures.stopped)
+    subst (λ (r : CertRefusal). (r ≡ no_memory) ⊎ Refuses form bytes r) (sym c.of-in-Err.ensures)
+    (stop-refuses form (certificate_records bytes) c.in-Err.stop c.in-Err.ensures.stopped)
 
 pub returns-in-Err-clause-only : goal.returns-in-Err-clause-only
 returns-in-Err-clause-only c = λ marks text. (
     let recs = certificate_records c.args.bytes.now in
     let e = c.args.election.now in
-    c.of-in-Err.ensures ∙ stop-is-memory (outcome_form e) recs c.in-Err.stop c.in-Err.ensures.stopped (λ f. outcome-clear recs e marks text f.place f.fault)
+    c.of-in-Err.ensures
+    ∙ stop-is-memory (outcome_form e) recs c.in-Err.stop c.in-Err.ensures.stopped
+    (λ f. outcome-clear recs e marks text f.place f.fault)
     )

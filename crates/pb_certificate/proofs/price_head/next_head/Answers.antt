@@ -5,7 +5,9 @@ use Rattle.pb_certificate.proofs.price_head.next_head.Goals as goal
 pub returns-in_err-next_record : goal.returns-in_err-next_record
 returns-in_err-next_record c =
     let p = err_from_is_err_and c.from_residual.result c.from_residual.ensures.1 in
-    rw (p.1, p.2) (head-refused c.args.cursor.now c.next_record.new.cursor c.in_err-next_record.field-0.0 c.in_err-next_record.ensures)
+    rw (p.1, p.2)
+    (head-refused c.args.cursor.now c.next_record.new.cursor c.in_err-next_record.field-0.0
+    c.in_err-next_record.ensures)
 
 pub returns : goal.returns
 returns c =

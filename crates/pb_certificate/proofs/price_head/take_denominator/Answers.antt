@@ -8,7 +8,9 @@ use Rattle.pb_certificate.proofs.price_head.take_denominator.Goals as goal
 pub returns-in_err-next_head : goal.returns-in_err-next_head
 returns-in_err-next_head c =
     let p = err_from_is_err_and c.from_residual.result c.from_residual.ensures.1 in
-    rw (p.1, p.2) (not-met (StatesNumber (codes "denominator") 1 (10 ^ 9)) 1 c.args.cursor.now c.next_head.new.cursor c.in_err-next_head.field-0.0 (omega arith) c.in_err-next_head.ensures)
+    rw (p.1, p.2)
+    (not-met (StatesNumber (codes "denominator") 1 (10 ^ 9)) 1 c.args.cursor.now c.next_head.new.cursor
+    c.in_err-next_head.field-0.0 (omega arith) c.in_err-next_head.ensures)
 
 pub returns-in-Ok : goal.returns-in-Ok
 returns-in-Ok c =
@@ -18,4 +20,5 @@ returns-in-Ok c =
 pub returns-in-Err : goal.returns-in-Err
 returns-in-Err c =
     let is = rw c.row.ensures at (sym c.in-Err.is ∙ c.head_number.ensures.value) in
-    rw c.refused_here.ensures (denominator-refused c.args.cursor.now c.next_head.new.cursor c.in-Err.fault c.in_ok-next_head.ensures is)
+    rw c.refused_here.ensures
+    (denominator-refused c.args.cursor.now c.next_head.new.cursor c.in-Err.fault c.in_ok-next_head.ensures is)

@@ -13,7 +13,12 @@ returns-clause-row c =
     let e = c.args.election.now in
     let r = fields_of c.args.row.now in
     let voter : voter_in e (cell 0 r) ≡ Some c.in_ok-voter-2.voter =
-    ap (voter_in e) (sym c.cell.ensures) ∙ sym (voter-was c.in_ok-voter.voter c.cell.result.now e (whole_in c.cell.result.now) c.in_ok-voter.ensures) ∙ c.in_ok-voter-2.ensures.ok_part in
-    let project : project_in e (cell 1 r) ≡ Some c.in_ok-project.project = ap (project_in e) (sym c.cell-3.ensures) ∙ sym c.find.ensures.value ∙ c.in_ok-project.ensures.ok_part in
-    let numerator : numerator_of (cell 2 r) ≡ Some c.in_ok-payment.payment = ap numerator_of (sym c.cell-2.ensures) ∙ sym c.whole_within.ensures.value ∙ c.in_ok-payment.ensures.ok_part in
-    payment-of-cells e r c.in_ok-voter-2.voter c.in_ok-project.project c.in_ok-payment.payment (eq-eqb (length (fields r)) 3 (sym c.width.ensures ∙ c.if-width-ne3.false)) voter project numerator
+    ap (voter_in e) (sym c.cell.ensures)
+    ∙ sym (voter-was c.in_ok-voter.voter c.cell.result.now e (whole_in c.cell.result.now) c.in_ok-voter.ensures)
+    ∙ c.in_ok-voter-2.ensures.ok_part in
+    let project : project_in e (cell 1 r) ≡ Some c.in_ok-project.project =
+    ap (project_in e) (sym c.cell-3.ensures) ∙ sym c.find.ensures.value ∙ c.in_ok-project.ensures.ok_part in
+    let numerator : numerator_of (cell 2 r) ≡ Some c.in_ok-payment.payment =
+    ap numerator_of (sym c.cell-2.ensures) ∙ sym c.whole_within.ensures.value ∙ c.in_ok-payment.ensures.ok_part in
+    payment-of-cells e r c.in_ok-voter-2.voter c.in_ok-project.project c.in_ok-payment.payment
+    (eq-eqb (length (fields r)) 3 (sym c.width.ensures ∙ c.if-width-ne3.false)) voter project numerator

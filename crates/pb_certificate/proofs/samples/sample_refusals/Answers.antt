@@ -12,7 +12,8 @@ use Rattle.pb_certificate.specs.Fields.{whole_in}
 use Rattle.pb_certificate.specs.Samples.{demand_x1, member_1, outcome_records, price_records, row_1a, row_2a, sample_election, two, unfair_election, violation_records}
 use Rattle.pb_certificate.proofs.samples.sample_refusals.Goals as goal
 
-prices-clear : (k : ℕ) → k < 6 → fault_at (price_form sample_election) (price_records (row_1a ∷ row_1a ∷ row_2a ∷ [])) k ≡ None
+prices-clear : (k : ℕ) → k < 6 → fault_at (price_form sample_election) (price_records (row_1a ∷ row_1a ∷ row_2a ∷ [])) k
+    ≡ None
 unfolding field_at drop_front drop_back is_blank is_text whole_in is_utf8 chars encode_utf8 digits
 prices-clear zero l = refl
 prices-clear (suc zero) l = refl
@@ -26,7 +27,9 @@ pub returns-clause-prices : goal.returns-clause-prices
 unfolding field_at drop_front drop_back is_blank is_text whole_in is_utf8 chars encode_utf8 digits
 returns-clause-prices c = record { within = omega arith; here = refl; none_before = prices-clear }
 
-group-clear : (k : ℕ) → k < 3 → fault_at (violation_form unfair_election) (violation_records (demand_x1 ∷ two (codes "voter") (codes "5") ∷ [])) k ≡ None
+group-clear : (k : ℕ) → k < 3
+    → fault_at (violation_form unfair_election) (violation_records (demand_x1 ∷ two (codes "voter") (codes "5") ∷ [])) k
+    ≡ None
 unfolding field_at drop_front drop_back is_blank is_text whole_in is_utf8 chars encode_utf8 digits
 group-clear zero l = refl
 group-clear (suc zero) l = refl

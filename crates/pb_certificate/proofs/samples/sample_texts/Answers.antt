@@ -20,7 +20,8 @@ returns-clause-prices c = record {
   budget = two (codes "voter_budget") (codes "4");
   columns = price_columns;
   rows = row_1a ∷ row_1b ∷ row_2a ∷ row_3b ∷ [];
-  payments = record { voter = 1; project = 1; numerator = 2 } ∷ record { voter = 1; project = 2; numerator = 2 } ∷ record { voter = 2; project = 1; numerator = 4 } ∷ record { voter = 3; project = 2; numerator = 2 } ∷ [];
+  payments = record { voter = 1; project = 1; numerator = 2 } ∷ record { voter = 1; project = 2; numerator = 2 }
+      ∷ record { voter = 2; project = 1; numerator = 4 } ∷ record { voter = 3; project = 2; numerator = 2 } ∷ [];
   cut = refl;
   text = (refl, (refl, (refl, (refl, (refl, (refl, (refl, (refl, tt))))))));
   is_head = refl;
@@ -28,7 +29,9 @@ returns-clause-prices c = record {
   is_budget = (codes "4", refl, refl);
   is_columns = refl;
   each_row = refl;
-  in_order = cons-rises 1 (1 ∷ 2 ∷ 3 ∷ []) (omega arith, (omega arith, (omega arith, tt))) (cons-rises 1 (2 ∷ 3 ∷ []) (omega arith, (omega arith, tt)) (cons-rises 2 (3 ∷ []) (omega arith, tt) (cons-rises 3 [] tt nil-rises)));
+  in_order = cons-rises 1 (1 ∷ 2 ∷ 3 ∷ []) (omega arith, (omega arith, (omega arith, tt)))
+      (cons-rises 1 (2 ∷ 3 ∷ []) (omega arith, (omega arith, tt))
+      (cons-rises 2 (3 ∷ []) (omega arith, tt) (cons-rises 3 [] tt nil-rises)));
   once = ((refl, (refl, (refl, tt))), ((refl, (refl, tt)), ((refl, tt), (tt, tt))));
   few = omega arith;
   each_project = refl;

@@ -10,16 +10,25 @@ abbrev with_voter : Instance → List ℕ → ℕ → List (ℕ × ℕ)
 with_voter e t i = map (λ j. (i, j)) (filter (λ j. not (approves e i j)) t)
 
 pub first_missing-requires-clause-voter : goal.first_missing-requires-clause-voter
-first_missing-requires-clause-voter c = set-at 1 (voters c.args.election.now) c.args.group.now c.loop-i.i-index c.requires.group c.loop-i-test.true
+first_missing-requires-clause-voter c =
+    set-at 1 (voters c.args.election.now) c.args.group.now c.loop-i.i-index c.requires.group c.loop-i-test.true
 
 pub returns-in-Some : goal.returns-in-Some
 returns-in-Some c =
-    let found : slice_get (with_voter c.args.election.now c.args.demand.now (get_or c.args.group.now c.loop-i.i-index 0)) 0 ≡ Some (get_or c.args.group.now c.loop-i.i-index 0, c.in-Some.j)
-    = first-mapped (λ (j : ℕ). (get_or c.args.group.now c.loop-i.i-index 0, j)) _ c.in-Some.j (sym c.first_missing.ensures ∙ c.in-Some.is) in
-    sym (lists-first (with_voter c.args.election.now c.args.demand.now) c.args.group.now c.loop-i.i-index _ c.loop-i.invariant c.loop-i-test.true found)
+    let found : slice_get
+    (with_voter c.args.election.now c.args.demand.now (get_or c.args.group.now c.loop-i.i-index 0)) 0
+    ≡ Some (get_or c.args.group.now c.loop-i.i-index 0, c.in-Some.j)
+    = first-mapped (λ (j : ℕ). (get_or c.args.group.now c.loop-i.i-index 0, j)) _ c.in-Some.j
+    (sym c.first_missing.ensures ∙ c.in-Some.is) in
+    sym (lists-first (with_voter c.args.election.now c.args.demand.now) c.args.group.now c.loop-i.i-index _
+    c.loop-i.invariant c.loop-i-test.true found)
 
 pub loop-i-preserved : goal.loop-i-preserved
 loop-i-preserved c =
-    let none : slice_get (filter (λ (j : ℕ). not (approves c.args.election.now (get_or c.args.group.now c.loop-i.i-index 0) j)) c.args.demand.now) 0 ≡ None = sym c.first_missing.ensures ∙ none-found c.first_missing.result c.in_default.not-Some in
-    lists-more (with_voter c.args.election.now c.args.demand.now) c.args.group.now c.loop-i.i-index c.loop-i.invariant c.loop-i-test.true
+    let none : slice_get
+    (filter (λ (j : ℕ). not (approves c.args.election.now (get_or c.args.group.now c.loop-i.i-index 0) j))
+    c.args.demand.now) 0 ≡ None = sym c.first_missing.ensures
+    ∙ none-found c.first_missing.result c.in_default.not-Some in
+    lists-more (with_voter c.args.election.now c.args.demand.now) c.args.group.now c.loop-i.i-index c.loop-i.invariant
+    c.loop-i-test.true
     (ap (map (λ (j : ℕ). (get_or c.args.group.now c.loop-i.i-index 0, j))) (none-first _ none))

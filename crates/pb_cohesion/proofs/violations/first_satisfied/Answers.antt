@@ -9,18 +9,35 @@ use Rattle.pb_cohesion.proofs.Loops.{set-at}
 use Rattle.pb_cohesion.proofs.violations.first_satisfied.Goals as goal
 
 pub ballot-requires : goal.ballot-requires
-ballot-requires g c = set-at 1 (voters c.args.election.now) c.args.group.now c.loop-i.i-index c.requires.group c.loop-i-test.true
+ballot-requires g c =
+    set-at 1 (voters c.args.election.now) c.args.group.now c.loop-i.i-index c.requires.group c.loop-i-test.true
 
 pub returns-then-demanded-worth_of_funded : goal.returns-then-demanded-worth_of_funded
 returns-then-demanded-worth_of_funded g c =
-    let is = worth-is (g.S.Satisfaction.meaning c.args.satisfaction.now c.args.election.now) c.args.election.now c.args.outcome.now.marks (get_or c.args.group.now c.loop-i.i-index 0) c.ballot.result.now c.worth_of_funded.result c.ballot.ensures.value c.ballot.ensures.rising c.worth_of_funded.ensures.value in
-    let enough : nat_le c.args.demanded (sat (g.S.Satisfaction.meaning c.args.satisfaction.now c.args.election.now) (gets c.args.election.now c.args.outcome.now.marks (get_or c.args.group.now c.loop-i.i-index 0))) ≡ true
+    let is = worth-is (g.S.Satisfaction.meaning c.args.satisfaction.now c.args.election.now) c.args.election.now
+    c.args.outcome.now.marks (get_or c.args.group.now c.loop-i.i-index 0) c.ballot.result.now
+    c.worth_of_funded.result c.ballot.ensures.value c.ballot.ensures.rising c.worth_of_funded.ensures.value in
+    let enough : nat_le c.args.demanded
+    (sat (g.S.Satisfaction.meaning c.args.satisfaction.now c.args.election.now)
+    (gets c.args.election.now c.args.outcome.now.marks (get_or c.args.group.now c.loop-i.i-index 0))) ≡ true
     = ap (nat_le c.args.demanded) (sym is) ∙ le-leb _ _ c.if-demanded-worth_of_funded.true in
-    sym (filter-first (λ (i : ℕ). nat_le c.args.demanded (sat (g.S.Satisfaction.meaning c.args.satisfaction.now c.args.election.now) (gets c.args.election.now c.args.outcome.now.marks i))) c.args.group.now c.loop-i.i-index c.loop-i.invariant c.loop-i-test.true enough)
+    sym (filter-first
+    (λ (i : ℕ). nat_le c.args.demanded
+    (sat (g.S.Satisfaction.meaning c.args.satisfaction.now c.args.election.now)
+    (gets c.args.election.now c.args.outcome.now.marks i))) c.args.group.now c.loop-i.i-index c.loop-i.invariant
+    c.loop-i-test.true enough)
 
 pub loop-i-preserved : goal.loop-i-preserved
 loop-i-preserved g c =
-    let is = worth-is (g.S.Satisfaction.meaning c.args.satisfaction.now c.args.election.now) c.args.election.now c.args.outcome.now.marks (get_or c.args.group.now c.loop-i.i-index 0) c.ballot.result.now c.worth_of_funded.result c.ballot.ensures.value c.ballot.ensures.rising c.worth_of_funded.ensures.value in
-    let less : nat_le c.args.demanded (sat (g.S.Satisfaction.meaning c.args.satisfaction.now c.args.election.now) (gets c.args.election.now c.args.outcome.now.marks (get_or c.args.group.now c.loop-i.i-index 0))) ≡ false
+    let is = worth-is (g.S.Satisfaction.meaning c.args.satisfaction.now c.args.election.now) c.args.election.now
+    c.args.outcome.now.marks (get_or c.args.group.now c.loop-i.i-index 0) c.ballot.result.now
+    c.worth_of_funded.result c.ballot.ensures.value c.ballot.ensures.rising c.worth_of_funded.ensures.value in
+    let less : nat_le c.args.demanded
+    (sat (g.S.Satisfaction.meaning c.args.satisfaction.now c.args.election.now)
+    (gets c.args.election.now c.args.outcome.now.marks (get_or c.args.group.now c.loop-i.i-index 0))) ≡ false
     = ap (nat_le c.args.demanded) (sym is) ∙ lt-leb _ _ c.if-demanded-worth_of_funded.false in
-    filter-more (λ (i : ℕ). nat_le c.args.demanded (sat (g.S.Satisfaction.meaning c.args.satisfaction.now c.args.election.now) (gets c.args.election.now c.args.outcome.now.marks i))) c.args.group.now c.loop-i.i-index c.loop-i.invariant c.loop-i-test.true less
+    filter-more
+    (λ (i : ℕ). nat_le c.args.demanded
+    (sat (g.S.Satisfaction.meaning c.args.satisfaction.now c.args.election.now)
+    (gets c.args.election.now c.args.outcome.now.marks i))) c.args.group.now c.loop-i.i-index c.loop-i.invariant
+    c.loop-i-test.true less

@@ -5,4 +5,7 @@ use Rattle.pb_cohesion.proofs.violations.first_satisfied.Given as goal
 
 abbrev pub invariant-loop-i : goal.invariant-loop-i
 invariant-loop-i g l =
-    filter (λ i. nat_le l.demanded (sat (g.S.Satisfaction.meaning l.satisfaction l.election) (gets l.election l.outcome.marks i))) (take l.i-index l.group) ≡ []
+    filter
+    (λ i. nat_le l.demanded
+    (sat (g.S.Satisfaction.meaning l.satisfaction l.election) (gets l.election l.outcome.marks i)))
+    (take l.i-index l.group) ≡ []

@@ -7,9 +7,14 @@ use Rattle.pb_command.proofs.command.folder_command.Goals as goal
 pub returns : goal.returns
 unfolding folder_app
 returns c =
-    let is-0 = same_command c.new.result _ (new_app (codes "folder")) _ (c.new.ensures.app, c.new.ensures.local) c.about.ensures refl refl in
-    let is-1 = adds_rule _ c.in_ok-arg.field-0 _ _ _ is-0 c.path_arg.ensures.rule c.path_arg.ensures.local c.in_ok-arg.ensures in
-    let is-2 = adds_rule _ c.in_ok-arg-2.field-0 _ _ _ is-1 c.stable_arg.ensures.rule c.stable_arg.ensures.local c.in_ok-arg-2.ensures in
-    let is-3 = adds_rule _ c.in_ok-arg-3.field-0 _ _ _ is-2 c.no_exhaustive_arg.ensures.rule c.no_exhaustive_arg.ensures.local c.in_ok-arg-3.ensures in
-    let is-4 = adds_rule _ c.in_ok-arg-4.field-0 _ _ _ is-3 c.cover_arg.ensures.rule c.cover_arg.ensures.local c.in_ok-arg-4.ensures in
+    let is-0 = same_command c.new.result _ (new_app (codes "folder")) _ (c.new.ensures.app, c.new.ensures.local)
+    c.about.ensures refl refl in
+    let is-1 = adds_rule _ c.in_ok-arg.field-0 _ _ _ is-0 c.path_arg.ensures.rule c.path_arg.ensures.local
+    c.in_ok-arg.ensures in
+    let is-2 = adds_rule _ c.in_ok-arg-2.field-0 _ _ _ is-1 c.stable_arg.ensures.rule c.stable_arg.ensures.local
+    c.in_ok-arg-2.ensures in
+    let is-3 = adds_rule _ c.in_ok-arg-3.field-0 _ _ _ is-2 c.no_exhaustive_arg.ensures.rule
+    c.no_exhaustive_arg.ensures.local c.in_ok-arg-3.ensures in
+    let is-4 = adds_rule _ c.in_ok-arg-4.field-0 _ _ _ is-3 c.cover_arg.ensures.rule c.cover_arg.ensures.local
+    c.in_ok-arg-4.ensures in
     same_command _ _ _ _ is-4 c.after_help.ensures refl refl

@@ -21,17 +21,21 @@ simple_and_free = refl
 pub returns-in-Some-clause-task : goal.returns-in-Some-clause-task
 returns-in-Some-clause-task c =
     let is = c.in_ok-command.ensures in
-    let words_are : map string_bytes c.as_slice.result.now ≡ map string_bytes c.args.words.items = ap (map string_bytes) c.as_slice.ensures.value in
-    ap (option_map asked) (sym c.in-Some.is) ∙ c.in_ok-task-in-Ok.ensures ∙ ap asked_in ((c.in-Ok.ensures.matches (ap is_simple is.0 ∙ simple)).1 ∙ ap₂ subcommand_of is.0 words_are)
+    let words_are : map string_bytes c.as_slice.result.now ≡ map string_bytes c.args.words.items =
+    ap (map string_bytes) c.as_slice.ensures.value in
+    ap (option_map asked) (sym c.in-Some.is) ∙ c.in_ok-task-in-Ok.ensures
+    ∙ ap asked_in ((c.in-Ok.ensures.matches (ap is_simple is.0 ∙ simple)).1 ∙ ap₂ subcommand_of is.0 words_are)
 
 pub returns-clause-taken : goal.returns-clause-taken
 returns-clause-taken c =
     let is = c.in_ok-command.ensures in
-    let words_are : map string_bytes c.as_slice.result.now ≡ map string_bytes c.args.words.items = ap (map string_bytes) c.as_slice.ensures.value in
+    let words_are : map string_bytes c.as_slice.result.now ≡ map string_bytes c.args.words.items =
+    ap (map string_bytes) c.as_slice.ensures.value in
     λ t. c.fault_in.ensures.memory (c.in-Err.ensures.passes (ap₂ takes is.0 words_are ∙ t))
 
 -- the fault of clap's error
-fault_is : (kinds : Kinds) (k : ErrorKind) (f : UsageFault) → (k ≡ OutOfMemory) ⊎ IsAmong k kinds → (k ≡ OutOfMemory → f ≡ Memory)
+fault_is : (kinds : Kinds) (k : ErrorKind) (f : UsageFault) → (k ≡ OutOfMemory) ⊎ IsAmong k kinds
+    → (k ≡ OutOfMemory → f ≡ Memory)
     → (f ≡ Memory) ⊎ FitsKind k f → IsFaultOf kinds f
 fault_is kinds k f (inl out) memory fits = inl (memory out)
 fault_is kinds k f (inr among) memory (inl m) = inl m
@@ -40,25 +44,33 @@ fault_is kinds k f (inr among) memory (inr fits) = inr (k, among, fits)
 pub returns-clause-refused : goal.returns-clause-refused
 returns-clause-refused c =
     let is = c.in_ok-command.ensures in
-    let words_are : map string_bytes c.as_slice.result.now ≡ map string_bytes c.args.words.items = ap (map string_bytes) c.as_slice.ensures.value in
+    let words_are : map string_bytes c.as_slice.result.now ≡ map string_bytes c.args.words.items =
+    ap (map string_bytes) c.as_slice.ensures.value in
     fault_is (fault_of pbaudit (map string_bytes c.args.words.items)) (kind_of c.in-Err.error) c.fault_in.result
-    (subst (λ kinds. HasKind kinds c.in-Err.error) (ap₂ fault_of is.0 words_are) (c.in-Err.ensures.kinds (ap is_simple_and_free is.0 ∙ simple_and_free)))
+    (subst (λ kinds. HasKind kinds c.in-Err.error) (ap₂ fault_of is.0 words_are)
+    (c.in-Err.ensures.kinds (ap is_simple_and_free is.0 ∙ simple_and_free)))
     c.fault_in.ensures.memory c.fault_in.ensures.kind
 
 pub returns-in-Some-clause-accepted : goal.returns-in-Some-clause-accepted
 returns-in-Some-clause-accepted c =
     let is = c.in_ok-command.ensures in
-    let words_are : map string_bytes c.as_slice.result.now ≡ map string_bytes c.args.words.items = ap (map string_bytes) c.as_slice.ensures.value in
-    subst (λ kinds. kinds ≡ []) (ap₂ fault_of is.0 words_are) (c.in-Ok.ensures.kinds (ap is_simple_and_free is.0 ∙ simple_and_free))
+    let words_are : map string_bytes c.as_slice.result.now ≡ map string_bytes c.args.words.items =
+    ap (map string_bytes) c.as_slice.ensures.value in
+    subst (λ kinds. kinds ≡ []) (ap₂ fault_of is.0 words_are)
+    (c.in-Ok.ensures.kinds (ap is_simple_and_free is.0 ∙ simple_and_free))
 
 pub unreachable-requires : goal.unreachable-requires
 unreachable-requires c =
     let is = c.in_ok-command.ensures in
-    let words_are : map string_bytes c.as_slice.result.now ≡ map string_bytes c.args.words.items = ap (map string_bytes) c.as_slice.ensures.value in
+    let words_are : map string_bytes c.as_slice.result.now ≡ map string_bytes c.args.words.items =
+    ap (map string_bytes) c.as_slice.ensures.value in
     let words = map string_bytes c.args.words.items in
     let none : fault_of pbaudit words ≡ [] =
-    subst (λ kinds. kinds ≡ []) (ap₂ fault_of is.0 words_are) (c.in-Ok.ensures.kinds (ap is_simple_and_free is.0 ∙ simple_and_free)) in
+    subst (λ kinds. kinds ≡ []) (ap₂ fault_of is.0 words_are)
+    (c.in-Ok.ensures.kinds (ap is_simple_and_free is.0 ∙ simple_and_free)) in
     let same : option_map asked c.in_ok-task-in-Ok.field-0 ≡ TaskOf words =
-    c.in_ok-task-in-Ok.ensures ∙ ap asked_in ((c.in-Ok.ensures.matches (ap is_simple is.0 ∙ simple)).1 ∙ ap₂ subcommand_of is.0 words_are) in
-    let no_task : false ≡ is_some (TaskOf words) = ap (λ o. is_some (option_map asked o)) (sym c.in-None.is) ∙ ap is_some same in
+    c.in_ok-task-in-Ok.ensures
+    ∙ ap asked_in ((c.in-Ok.ensures.matches (ap is_simple is.0 ∙ simple)).1 ∙ ap₂ subcommand_of is.0 words_are) in
+    let no_task : false ≡ is_some (TaskOf words) = ap (λ o. is_some (option_map asked o)) (sym c.in-None.is)
+    ∙ ap is_some same in
     let bad : false ≡ true = no_task ∙ faultless_asks words none in cc

@@ -12,4 +12,5 @@ turned a false e = rw e refl
 pub returns : goal.returns
 returns c =
     let none : c.is_none.result ≡ is_none c.column_named.result = turned _ _ c.is_none.ensures in
-    none ∙ ap is_none c.column_named.ensures.first ∙ missing-is (is_named c.args.name.now) 0 (fields_of c.args.header.now)
+    none ∙ ap is_none c.column_named.ensures.first
+    ∙ missing-is (is_named c.args.name.now) 0 (fields_of c.args.header.now)

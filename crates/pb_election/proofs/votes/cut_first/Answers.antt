@@ -6,10 +6,15 @@ use Rattle.pb_election.proofs.VoteLemmas.{comma-boundary, comma-parts, first-com
 use Rattle.pb_election.proofs.votes.cut_first.Goals as goal
 
 pub range-requires-clause-end_boundary : goal.range-requires-clause-end_boundary
-range-requires-clause-end_boundary c = (comma-boundary c.args.text.now c.in-Some.comma c.utf8.text (first-comma c.args.text.now c.in-Some.comma c.in-Some.ensures)).0
+range-requires-clause-end_boundary c =
+    (comma-boundary c.args.text.now c.in-Some.comma c.utf8.text
+    (first-comma c.args.text.now c.in-Some.comma c.in-Some.ensures)).0
 
 pub range_from-requires : goal.range_from-requires
-range_from-requires c = λ h. (comma-boundary c.args.text.now c.in-Some.comma c.utf8.text (first-comma c.args.text.now c.in-Some.comma c.in-Some.ensures)).1
+range_from-requires c =
+    λ h.
+    (comma-boundary c.args.text.now c.in-Some.comma c.utf8.text
+    (first-comma c.args.text.now c.in-Some.comma c.in-Some.ensures)).1
 
 pub returns-in-Some-clause-piece : goal.returns-in-Some-clause-piece
 returns-in-Some-clause-piece c =

@@ -1,6 +1,6 @@
 use Rattle.std.proofs.Common.{◌+◌, length}
 use Rattle.std.specs.Option.{option_copied, option_map_or}
-use Rattle.pb_election.specs.Ids.{ids_kept}
+use Rattle.pb_election.specs.Inside.Ids.{ids_kept}
 use Rattle.pb_election.proofs.VoteLemmas.{AreLookedUp}
 use Rattle.pb_election.proofs.votes.find_positions.Given as goal
 

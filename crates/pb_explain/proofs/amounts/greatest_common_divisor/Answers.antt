@@ -9,4 +9,5 @@ loop-y-preserved c = (omega arith, λ g h. c.loop-y.invariant.1 g (IsGcd-from_mo
 pub returns-clause-value : goal.returns-clause-value
 returns-clause-value c =
     let last : c.loop-y.y ≡ 0 = omega arith in
-    gcd-is c.args.a c.args.b c.loop-y.x c.requires (omega arith) (c.loop-y.invariant.1 c.loop-y.x (IsGcd-from_zero c.loop-y.x c.loop-y.y last))
+    gcd-is c.args.a c.args.b c.loop-y.x c.requires (omega arith)
+    (c.loop-y.invariant.1 c.loop-y.x (IsGcd-from_zero c.loop-y.x c.loop-y.y last))

@@ -7,5 +7,12 @@ pub returns : goal.returns
 unfolding unfunded_paid
 returns c =
     on_ok_weaker c.push_how_many.result
-    (λ last. last ∙ simp (c.in_ok-push_str-2.ensures.bytes, c.in_ok-push_id.ensures, c.in_ok-push_str.ensures.bytes, c.in_ok-push_sum.ensures, append_assoc))
+    (λ last. last
+    ∙ simp (
+      c.in_ok-push_str-2.ensures.bytes,
+      c.in_ok-push_id.ensures,
+      c.in_ok-push_str.ensures.bytes,
+      c.in_ok-push_sum.ensures,
+      append_assoc,
+    ))
     c.push_how_many.ensures

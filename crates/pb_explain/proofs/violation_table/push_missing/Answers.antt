@@ -7,5 +7,6 @@ pub returns : goal.returns
 unfolding missing
 returns c =
     on_ok_weaker c.push_how_many.result
-    (λ last. last ∙ simp (c.in_ok-push_id.ensures, c.in_ok-push_str.ensures.bytes, c.in_ok-push_voter.ensures, append_assoc))
+    (λ last. last
+    ∙ simp (c.in_ok-push_id.ensures, c.in_ok-push_str.ensures.bytes, c.in_ok-push_voter.ensures, append_assoc))
     c.push_how_many.ensures

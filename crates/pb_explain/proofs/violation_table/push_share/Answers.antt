@@ -7,5 +7,7 @@ pub returns : goal.returns
 unfolding share
 returns c =
     on_ok_weaker c.push_amount-2.result
-    (λ last. last ∙ simp (c.in_ok-push_str-2.ensures.bytes, c.in_ok-push_amount.ensures, c.in_ok-push_str.ensures.bytes, append_assoc))
+    (λ last. last
+    ∙ simp
+    (c.in_ok-push_str-2.ensures.bytes, c.in_ok-push_amount.ensures, c.in_ok-push_str.ensures.bytes, append_assoc))
     c.push_amount-2.ensures

@@ -8,5 +8,6 @@ use Rattle.pb_money.proofs.money.mark_place.Goals as goal
 
 pub returns : goal.returns
 returns c =
-    let found = position_from_yields_List is_mark _ _ c.position.result c.position.ensures.ran (YieldsList-from_slice c.args.text.now cc) (λ x b q k. search (rules, tests)) in
+    let found = position_from_yields_List is_mark _ _ c.position.result c.position.ensures.ran
+    (YieldsList-from_slice c.args.text.now cc) (λ x b q k. search (rules, tests)) in
     c.unwrap_or.ensures ∙ ap (λ r. unwrap_or r (length c.args.text.now)) found ∙ place is_mark c.args.text.now

@@ -1,5 +1,5 @@
 use Rattle.std.proofs.Common.{sym, arith}
-use Rattle.pb_price.specs.Tallies.{IsTallyOf}
+use Rattle.pb_price.specs.Inside.Tallies.{IsTallyOf}
 use Rattle.pb_price.specs.Answers.{IsVerdictOn}
 use Rattle.pb_price.proofs.Bounds.{steps-bound}
 use Rattle.pb_price.proofs.Groups.{on-prices, same-answer}
@@ -9,7 +9,9 @@ use Rattle.pb_price.proofs.checking.check.Goals as goal
 pub take_prices-requires : goal.take_prices-requires
 take_prices-requires c = record {
   prices = c.requires.prices;
-  none = takes-none c.args.election.now c.args.prices.now c.payment_grains-budget.result c.in_ok-tally.tally c.in_ok-tally.ensures.0 c.in_ok-tally.ensures.1 (omega (arith, c.payment_grains-budget.ensures, c.budget.ensures.value));
+  none = takes-none c.args.election.now c.args.prices.now c.payment_grains-budget.result c.in_ok-tally.tally
+      c.in_ok-tally.ensures.0 c.in_ok-tally.ensures.1
+      (omega (arith, c.payment_grains-budget.ensures, c.budget.ensures.value));
 }
 
 pub finish-requires : goal.finish-requires
@@ -24,15 +26,24 @@ judge-checked-requires c =
       high = c.denominator.ensures.high;
       sums = whole.sums.as_many;
       budget = omega (arith, whole.budget, whole.taken.small_budget);
-      steps = omega (arith, steps-bound c.args.election.now c.take_prices.ensures.taken c.finish.new.self whole (few-rows _ _ _ c.take_prices.ensures));
+      steps =
+          omega (
+            arith,
+            steps-bound c.args.election.now c.take_prices.ensures.taken c.finish.new.self whole
+                (few-rows _ _ _ c.take_prices.ensures),
+          );
     }
 
 pub returns : goal.returns
 returns c =
     let whole = c.finish.ensures.taken c.take_prices.ensures.taken c.take_prices.ensures.tallied in
-    let tally : IsTallyOf c.args.election.now c.args.prices.now c.finish.new.self = tally-of c.args.election.now c.args.prices.now c.take_prices.new.tally c.finish.new.self c.take_prices.ensures whole c.finish.ensures.closed in
-    let on : IsVerdictOn c.args.mode c.args.election.now c.args.outcome.now.marks c.args.prices.now c.judge-checked.result.verdict =
-    on-prices c.args.mode c.args.election.now c.args.outcome.now.marks c.args.prices.now c.judge-checked.result.verdict (c.judge-checked.ensures.verdict c.args.prices.now (sym c.denominator.ensures.value) tally) in
+    let tally : IsTallyOf c.args.election.now c.args.prices.now c.finish.new.self =
+    tally-of c.args.election.now c.args.prices.now c.take_prices.new.tally c.finish.new.self c.take_prices.ensures
+    whole c.finish.ensures.closed in
+    let on : IsVerdictOn c.args.mode c.args.election.now c.args.outcome.now.marks c.args.prices.now
+    c.judge-checked.result.verdict =
+    on-prices c.args.mode c.args.election.now c.args.outcome.now.marks c.args.prices.now c.judge-checked.result.verdict
+    (c.judge-checked.ensures.verdict c.args.prices.now (sym c.denominator.ensures.value) tally) in
     record {
       first = on.first;
       supported = on.supported;

@@ -16,7 +16,16 @@ loop-j-preserved c =
           let funded : has c.args.outcome.now.marks c.loop-j.j ≡ true = sym c.has.ensures ∙ w.if-has.true in
           let next = sum-passing (cost_of c.args.election.now) (has c.args.outcome.now.marks) c.loop-j.j low funded in
           record {
-            value = omega (arith, next, w.cost-is, w.from-cost.ensures, w.millionths.ensures.value, w.cost.ensures, c.loop-j.invariant.value);
+            value =
+                omega (
+                  arith,
+                  next,
+                  w.cost-is,
+                  w.from-cost.ensures,
+                  w.millionths.ensures.value,
+                  w.cost.ensures,
+                  c.loop-j.invariant.value,
+                );
             small = omega (arith, w.cost-is, w.from-cost.ensures, w.millionths.ensures.small, c.loop-j.invariant.small);
             within = omega (arith, high);
             steps = omega (arith, c.loop-j.invariant.steps);
@@ -34,24 +43,39 @@ loop-j-preserved c =
 
 pub returns-clause-value : goal.returns-clause-value
 returns-clause-value c =
-    let end : c.loop-j.j - 1 ≡ projects c.args.election.now = omega (arith, c.projects-j-end.ensures.value, c.loop-j.invariant.within) in
-    c.loop-j.invariant.value ∙ ap (λ n. sum_by (cost_of c.args.election.now) (filter (has c.args.outcome.now.marks) (range_with_len 1 n))) end
+    let end : c.loop-j.j - 1 ≡ projects c.args.election.now =
+    omega (arith, c.projects-j-end.ensures.value, c.loop-j.invariant.within) in
+    c.loop-j.invariant.value
+    ∙ ap (λ n. sum_by (cost_of c.args.election.now) (filter (has c.args.outcome.now.marks) (range_with_len 1 n)))
+    end
 
 pub returns-clause-small : goal.returns-clause-small
 returns-clause-small c =
-    let end : c.loop-j.j - 1 ≡ projects c.args.election.now = omega (arith, c.projects-j-end.ensures.value, c.loop-j.invariant.within) in
+    let end : c.loop-j.j - 1 ≡ projects c.args.election.now =
+    omega (arith, c.projects-j-end.ensures.value, c.loop-j.invariant.within) in
     omega (arith, c.projects-j-end.ensures.sound.few_projects, c.loop-j.invariant.small)
 
 pub returns-after-has-clause-value : goal.returns-after-has-clause-value
 returns-after-has-clause-value c =
     let low : 1 ≤ c.loop-j.j = omega arith in
     let end : c.loop-j.j + 1 - 1 ≡ projects c.args.election.now = omega (arith, c.projects-j-end.ensures.value) in
-    let whole = ap (λ n. sum_by (cost_of c.args.election.now) (filter (has c.args.outcome.now.marks) (range_with_len 1 n))) end in
+    let whole =
+    ap (λ n. sum_by (cost_of c.args.election.now) (filter (has c.args.outcome.now.marks) (range_with_len 1 n)))
+    end in
     elim c.if-has.branch [
       | then-has w ↦
           let funded : has c.args.outcome.now.marks c.loop-j.j ≡ true = sym c.has.ensures ∙ w.if-has.true in
           let next = sum-passing (cost_of c.args.election.now) (has c.args.outcome.now.marks) c.loop-j.j low funded in
-          omega (arith, whole, next, w.cost-is, w.from-cost.ensures, w.millionths.ensures.value, w.cost.ensures, c.loop-j.invariant.value)
+          omega (
+            arith,
+            whole,
+            next,
+            w.cost-is,
+            w.from-cost.ensures,
+            w.millionths.ensures.value,
+            w.cost.ensures,
+            c.loop-j.invariant.value,
+          )
       | else-has w ↦
           let unfunded : has c.args.outcome.now.marks c.loop-j.j ≡ false = sym c.has.ensures ∙ w.if-has.false in
           let next = sum-failing (cost_of c.args.election.now) (has c.args.outcome.now.marks) c.loop-j.j low unfunded in
@@ -59,7 +83,15 @@ returns-after-has-clause-value c =
     ]
 
 pub overflow_add-steps : goal.overflow_add-steps
-overflow_add-steps c = omega (arith, c.requires.steps, c.loop-j.invariant.steps, c.projects-j-end.ensures.value, c.projects-j-end.ensures.sound.few_projects)
+overflow_add-steps c =
+    omega (
+      arith,
+      c.requires.steps,
+      c.loop-j.invariant.steps,
+      c.projects-j-end.ensures.value,
+      c.projects-j-end.ensures.sound.few_projects,
+    )
 
 pub returns-clause-steps : goal.returns-clause-steps
-returns-clause-steps c = omega (arith, c.projects-j-end.ensures.value, c.loop-j.invariant.steps, c.loop-j.invariant.within)
+returns-clause-steps c =
+    omega (arith, c.projects-j-end.ensures.value, c.loop-j.invariant.steps, c.loop-j.invariant.within)

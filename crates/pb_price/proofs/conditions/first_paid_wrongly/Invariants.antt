@@ -2,7 +2,7 @@ use Rattle.std.proofs.Common.{◌≡◌, ◌≤◌, ◌+◌, ◌-◌, [], filter
 use Rattle.std.specs.Prelude.{slice_get}
 use Rattle.std.specs.List.{range_with_len}
 use Rattle.pb_election.specs.Instance.{projects}
-use Rattle.pb_price.specs.Tallies.{in_vain, not_exactly}
+use Rattle.pb_price.specs.Inside.Tallies.{in_vain, not_exactly}
 use Rattle.pb_price.proofs.conditions.first_paid_wrongly.Given as goal
 
 abbrev pub invariant-loop-j : goal.invariant-loop-j

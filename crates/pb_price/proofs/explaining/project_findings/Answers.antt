@@ -2,8 +2,8 @@ use Rattle.std.proofs.Common.{◌≡◌, ◌+◌, ◌^◌, ◌≤◌, get_or, po
 use Rattle.std.specs.Int.{w128}
 use Rattle.pb_money.specs.Grains.{cost_grains}
 use Rattle.pb_election.specs.Instance.{IsProject, cost_of, projects}
-use Rattle.pb_price.specs.Looked.{AreFoundTo, AreSmallFindings}
-use Rattle.pb_price.specs.Tallies.{AreInRange, IsWithin}
+use Rattle.pb_price.specs.Inside.Looked.{AreFoundTo, AreSmallFindings}
+use Rattle.pb_price.specs.Inside.Tallies.{AreInRange, IsWithin}
 use Rattle.pb_price.proofs.Ballots.{nothing}
 use Rattle.pb_price.proofs.Looking.{cost-in-range, found-none, funded-then, paid-in-range, small-funded, small-none, small-unfunded, sums-in-range, unfunded-then}
 use Rattle.pb_price.proofs.explaining.project_findings.Goals as goal
@@ -16,32 +16,50 @@ pub loop-k-preserved : goal.loop-k-preserved
 loop-k-preserved c =
     let e = c.args.election.now in
     let n = c.loop-k.k in
-    let ip : IsProject c.args.election.now (c.loop-k.k + 1) = (omega arith, omega (arith, c.loop-k-test.true, c.loop-k.auto.k-end, c.projects-k-end.ensures.value)) in
-    let cost_is : c.cost_grains-cost.result ≡ cost_grains (cost_of c.args.election.now (c.loop-k.k + 1)) c.args.denominator = c.cost_grains-cost.ensures ∙ ap (λ x. cost_grains x c.args.denominator) c.cost.ensures in
-    let cost_small : c.cost_grains-cost.result ≤ 10 ^ 34 = cost-in-range c.args.election.now c.args.denominator (c.loop-k.k + 1) c.cost_grains-cost.result c.projects-k-end.ensures.sound c.requires.high ip cost_is in
-    let sums_small : AreInRange (get_or c.args.sums.now c.loop-k.k nothing) = sums-in-range c.args.election.now c.args.sums.now c.loop-k.k c.requires.small ip in
-    let paid_small : IsWithin (10 ^ 38) (pos (get_or c.args.sums.now c.loop-k.k nothing).paid) = paid-in-range (get_or c.args.sums.now c.loop-k.k nothing) sums_small in
+    let ip : IsProject c.args.election.now (c.loop-k.k + 1) =
+    (omega arith, omega (arith, c.loop-k-test.true, c.loop-k.auto.k-end, c.projects-k-end.ensures.value)) in
+    let cost_is : c.cost_grains-cost.result
+    ≡ cost_grains (cost_of c.args.election.now (c.loop-k.k + 1)) c.args.denominator =
+    c.cost_grains-cost.ensures ∙ ap (λ x. cost_grains x c.args.denominator) c.cost.ensures in
+    let cost_small : c.cost_grains-cost.result ≤ 10 ^ 34 =
+    cost-in-range c.args.election.now c.args.denominator (c.loop-k.k + 1) c.cost_grains-cost.result
+    c.projects-k-end.ensures.sound c.requires.high ip cost_is in
+    let sums_small : AreInRange (get_or c.args.sums.now c.loop-k.k nothing) =
+    sums-in-range c.args.election.now c.args.sums.now c.loop-k.k c.requires.small ip in
+    let paid_small : IsWithin (10 ^ 38) (pos (get_or c.args.sums.now c.loop-k.k nothing).paid) =
+    paid-in-range (get_or c.args.sums.now c.loop-k.k nothing) sums_small in
     let fits : to_z w128 (of_z w128 c.args.remaining) ≡ c.args.remaining = search (rules, to_z-of_z) in
     elim c.if-has.branch [
       | then-has w ↦
           record {
-            found = funded-then _ _ _ _ _ _ _ _ _ _ c.loop-k.invariant.found (sym c.has.ensures ∙ w.if-has.true) cost_is refl (w.findings-is ∙ w.look_at_funded.ensures);
+            found =
+                funded-then _ _ _ _ _ _ _ _ _ _ c.loop-k.invariant.found (sym c.has.ensures ∙ w.if-has.true) cost_is
+                refl (w.findings-is ∙ w.look_at_funded.ensures);
             small =
                 subst (AreSmallFindings (c.loop-k.k + 1)) (sym (w.findings-is ∙ w.look_at_funded.ensures))
-                (small-funded c.loop-k.k _ _ (c.loop-k.k + 1) c.loop-k.findings (record { bound = cost_small; amount = paid_small }) c.loop-k.invariant.small);
+                (small-funded c.loop-k.k _ _ (c.loop-k.k + 1) c.loop-k.findings
+                (record { bound = cost_small; amount = paid_small }) c.loop-k.invariant.small);
           }
       | else-has w ↦
           record {
-            found = unfunded-then _ _ _ _ _ _ _ _ _ _ c.loop-k.invariant.found (sym c.has.ensures ∙ w.if-has.false) cost_is refl (w.findings-is ∙ w.look_at_unfunded.ensures);
+            found =
+                unfunded-then _ _ _ _ _ _ _ _ _ _ c.loop-k.invariant.found (sym c.has.ensures ∙ w.if-has.false) cost_is
+                refl (w.findings-is ∙ w.look_at_unfunded.ensures);
             small =
                 subst (AreSmallFindings (c.loop-k.k + 1)) (sym (w.findings-is ∙ w.look_at_unfunded.ensures))
-                (small-unfunded c.loop-k.k (c.loop-k.k + 1) _ _ _ c.loop-k.findings cost_small (subst (IsWithin (10 ^ 38)) (sym fits) c.requires.remaining) paid_small sums_small c.loop-k.invariant.small);
+                (small-unfunded c.loop-k.k (c.loop-k.k + 1) _ _ _ c.loop-k.findings cost_small
+                (subst (IsWithin (10 ^ 38)) (sym fits) c.requires.remaining) paid_small sums_small
+                c.loop-k.invariant.small);
           }
     ]
 
 pub returns : goal.returns
 returns c =
-    let end : c.loop-k.k ≡ projects c.args.election.now = omega (arith, c.loop-k-test.false, c.loop-k.auto.k-end, c.projects-k-end.ensures.value) in
+    let end : c.loop-k.k ≡ projects c.args.election.now =
+    omega (arith, c.loop-k-test.false, c.loop-k.auto.k-end, c.projects-k-end.ensures.value) in
     let fits : to_z w128 (of_z w128 c.args.remaining) ≡ c.args.remaining = search (rules, to_z-of_z) in
-    subst (λ r. AreFoundTo (projects c.args.election.now) c.args.election.now c.args.outcome.now.marks c.args.denominator r c.args.sums.now c.loop-k.findings) fits
-    (subst (λ n. AreFoundTo n c.args.election.now c.args.outcome.now.marks c.args.denominator (to_z w128 (of_z w128 c.args.remaining)) c.args.sums.now c.loop-k.findings) end c.loop-k.invariant.found)
+    subst (λ r. AreFoundTo (projects c.args.election.now) c.args.election.now c.args.outcome.now.marks
+    c.args.denominator r c.args.sums.now c.loop-k.findings) fits
+    (subst
+    (λ n. AreFoundTo n c.args.election.now c.args.outcome.now.marks c.args.denominator
+    (to_z w128 (of_z w128 c.args.remaining)) c.args.sums.now c.loop-k.findings) end c.loop-k.invariant.found)

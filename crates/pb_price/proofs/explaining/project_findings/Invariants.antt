@@ -1,4 +1,4 @@
-use Rattle.pb_price.specs.Looked.{AreFoundTo, AreSmallFindings}
+use Rattle.pb_price.specs.Inside.Looked.{AreFoundTo, AreSmallFindings}
 use Rattle.pb_price.proofs.explaining.project_findings.Given as goal
 
 abbrev pub invariant-loop-k : goal.invariant-loop-k

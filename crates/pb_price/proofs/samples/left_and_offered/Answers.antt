@@ -13,7 +13,8 @@ use Rattle.pb_price.proofs.samples.left_and_offered.Goals as goal
 
 pub returns-clause-not_added : goal.returns-clause-not_added
 returns-clause-not_added c block =
-    let stable : S5 (sample_with_costs 6 4 2) sample_outcome sample_prices = (S5-iff (sample_with_costs 6 4 2) sample_outcome sample_prices).0 refl in
+    let stable : S5 (sample_with_costs 6 4 2) sample_outcome sample_prices =
+    (S5-iff (sample_with_costs 6 4 2) sample_outcome sample_prices).0 refl in
     none_blocks (sample_with_costs 6 4 2) sample_outcome sample_prices _ 3 block.0 stable block.1
 
 pub returns-clause-not_left_alone : goal.returns-clause-not_left_alone
@@ -23,11 +24,15 @@ returns-clause-not_left_alone c none =
     let paid : 4000000 ≤ pays moved_prices 3 2 = omega arith in
     let offer : Offer (sample_with_costs 6 4 2) sample_outcome moved_prices 3 4000000 = inr (2, funded, paid) in
     let unfunded : IsUnfunded (sample_with_costs 6 4 2) sample_outcome 3 = ((omega arith, omega arith), refl) in
-    let group : IsGroupWithin (sample_with_costs 6 4 2) (3 ∷ []) 3 = ((omega arith, omega arith, tt), All-from_recursion (λ i. Approves (sample_with_costs 6 4 2) i 3) (3 ∷ []) (refl, tt)) in
+    let group : IsGroupWithin (sample_with_costs 6 4 2) (3 ∷ []) 3 = (
+      (omega arith, omega arith, tt),
+      All-from_recursion (λ i. Approves (sample_with_costs 6 4 2) i 3) (3 ∷ []) (refl, tt),
+    ) in
     let blocks : Blocks (sample_with_costs 6 4 2) sample_outcome moved_prices (3 ∷ []) 3 (λ i. 4000000) = record {
       unfunded = unfunded;
       group = group;
-      offers = All-from_recursion (λ i. Offer (sample_with_costs 6 4 2) sample_outcome moved_prices i 4000000) (3 ∷ []) (offer, tt);
+      offers = All-from_recursion (λ i. Offer (sample_with_costs 6 4 2) sample_outcome moved_prices i 4000000) (3 ∷ [])
+          (offer, tt);
       more = omega arith;
     } in
     none (3 ∷ []) 3 (λ i. 4000000) blocks

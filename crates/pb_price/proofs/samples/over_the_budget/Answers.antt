@@ -15,6 +15,9 @@ returns-clause-verdict c = refl
 pub returns-clause-not_supported : goal.returns-clause-not_supported
 returns-clause-not_supported c none =
     let unfunded : IsUnfunded overpaying_election sample_outcome 3 = ((omega arith, omega arith), refl) in
-    let group : IsGroupWithin overpaying_election (3 ∷ []) 3 = ((omega arith, omega arith, tt), All-from_recursion (λ i. Approves overpaying_election i 3) (3 ∷ []) (refl, tt)) in
+    let group : IsGroupWithin overpaying_election (3 ∷ []) 3 = (
+      (omega arith, omega arith, tt),
+      All-from_recursion (λ i. Approves overpaying_election i 3) (3 ∷ []) (refl, tt),
+    ) in
     let at_most : pos 2000000 ≤ℤ pos 1000000 = none (3 ∷ []) 3 unfunded group in
     absurd (omega (arith, ints))

@@ -10,20 +10,29 @@ pub take_rows-requires : goal.take_rows-requires
 take_rows-requires c = record {
   election = c.in_ok-rows.ensures.election;
   none_given = c.in_ok-rows.ensures.none_given;
-  tallied = before-rows c.args.election.now c.in-Ok.tally c.in_ok-rows.rows c.payment_grains-budget.result c.in-Ok.ensures.0 (omega (arith, c.payment_grains-budget.ensures, c.budget.ensures.value)) c.in_ok-rows.ensures.none_given;
+  tallied = before-rows c.args.election.now c.in-Ok.tally c.in_ok-rows.rows c.payment_grains-budget.result
+      c.in-Ok.ensures.0 (omega (arith, c.payment_grains-budget.ensures, c.budget.ensures.value))
+      c.in_ok-rows.ensures.none_given;
   none_closed = c.in-Ok.ensures.1;
 }
 
 pub finish-requires : goal.finish-requires
 finish-requires c =
-    let taken = c.in_ok-take_rows.ensures.taken in
-    (_, tallied-by c.in_ok-rows.rows c.args.election.now c.take_rows.new.tally taken c.in_ok-rows.ensures.election, omega (arith, taken.few))
+    let taken = c.in_ok-take_rows.ensures.taken in (
+      _,
+      tallied-by c.in_ok-rows.rows c.args.election.now c.take_rows.new.tally taken c.in_ok-rows.ensures.election,
+      omega (arith, taken.few),
+    )
 
 pub returns-clause-taken : goal.returns-clause-taken
 returns-clause-taken c =
     let taken = c.in_ok-take_rows.ensures.taken in
-    let whole = c.finish.ensures.taken _ (tallied-by c.in_ok-rows.rows c.args.election.now c.take_rows.new.tally taken c.in_ok-rows.ensures.election) in
-    let done = certified c.in_ok-rows.rows c.args.election.now (certificate_records c.args.bytes.now) c.take_rows.new.tally c.finish.new.self taken c.in_ok-rows.ensures.election c.in_ok-rows.ensures.records whole c.finish.ensures.closed in
+    let whole =
+    c.finish.ensures.taken _
+    (tallied-by c.in_ok-rows.rows c.args.election.now c.take_rows.new.tally taken c.in_ok-rows.ensures.election) in
+    let done = certified c.in_ok-rows.rows c.args.election.now (certificate_records c.args.bytes.now)
+    c.take_rows.new.tally c.finish.new.self taken c.in_ok-rows.ensures.election c.in_ok-rows.ensures.records whole
+    c.finish.ensures.closed in
     record {
       prices = prices_given taken.end;
       text = done.text;
@@ -34,5 +43,6 @@ returns-clause-taken c =
       small_budget = omega (arith, whole.budget, whole.taken.small_budget);
       few_steps = steps-bound _ _ _ whole (omega (arith, taken.few));
       in_range = λ k ip. sums-of-bound c.args.election.now _ c.finish.new.self k whole ip;
-      steps = λ steps fewest most. whole-steps c.args.election.now _ c.finish.new.self _ steps whole c.finish.ensures.closed done.rows fewest most;
+      steps = λ steps fewest most. whole-steps c.args.election.now _ c.finish.new.self _ steps whole
+          c.finish.ensures.closed done.rows fewest most;
     }

@@ -1,4 +1,4 @@
-use Rattle.pb_price.specs.Takings.{TakesUntil}
+use Rattle.pb_price.specs.Inside.Takings.{TakesUntil}
 use Rattle.pb_price.proofs.takings.take_payments_of.Given as goal
 
 abbrev pub invariant-loop-project : goal.invariant-loop-project

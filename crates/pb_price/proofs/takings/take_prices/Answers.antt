@@ -1,6 +1,6 @@
 use Rattle.std.proofs.Common.{◌≡◌, ◌+◌, subst, arith}
 use Rattle.pb_election.specs.Instance.{voters}
-use Rattle.pb_price.specs.Takings.{TakesUntil}
+use Rattle.pb_price.specs.Inside.Takings.{TakesUntil}
 use Rattle.pb_price.proofs.takings.take_prices.Goals as goal
 
 pub take_payments_of-requires : goal.take_payments_of-requires
@@ -18,10 +18,13 @@ loop-i-preserved c = record {
 
 pub returns : goal.returns
 returns c =
-    let end : c.loop-i.i ≡ voters c.args.election.now + 1 = omega (arith, c.voters-i-end.ensures.value, c.loop-i-test.false, c.loop-i.invariant.within) in
+    let end : c.loop-i.i ≡ voters c.args.election.now + 1 =
+    omega (arith, c.voters-i-end.ensures.value, c.loop-i-test.false, c.loop-i.invariant.within) in
     subst (λ i. TakesUntil c.args.election.now c.args.prices.now i 0 c.loop-i.tally) end c.loop-i.invariant.taken
 
 pub returns-2 : goal.returns-2
 returns-2 c =
-    let end : c.loop-i.i + 1 ≡ voters c.args.election.now + 1 = omega (arith, c.voters-i-end.ensures.value, c.loop-i-test.true) in
-    subst (λ i. TakesUntil c.args.election.now c.args.prices.now i 0 c.take_payments_of.new.tally) end c.take_payments_of.ensures
+    let end : c.loop-i.i + 1 ≡ voters c.args.election.now + 1 =
+    omega (arith, c.voters-i-end.ensures.value, c.loop-i-test.true) in
+    subst (λ i. TakesUntil c.args.election.now c.args.prices.now i 0 c.take_payments_of.new.tally) end
+    c.take_payments_of.ensures

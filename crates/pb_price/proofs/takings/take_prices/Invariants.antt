@@ -1,6 +1,6 @@
 use Rattle.std.proofs.Common.{◌≤◌, ◌+◌}
 use Rattle.pb_election.specs.Instance.{voters}
-use Rattle.pb_price.specs.Takings.{TakesUntil}
+use Rattle.pb_price.specs.Inside.Takings.{TakesUntil}
 use Rattle.pb_price.proofs.takings.take_prices.Given as goal
 
 abbrev pub invariant-loop-i : goal.invariant-loop-i

@@ -14,19 +14,27 @@ loop-behind-init c = record {
 pub take-requires : goal.take-requires
 take-requires c =
     let given_row = rw c.in-Some.is at c.in_ok-behind.ensures.row in
-    can-take c.args.election.now c.loop-behind.left c.in_ok-behind.behind c.in-Some.row c.loop-behind.tally given_row (ap (λ x. x.election) c.loop-behind.invariant.same ∙ c.requires.election) c.loop-behind.invariant.tallied c.loop-behind.invariant.closed
+    can-take c.args.election.now c.loop-behind.left c.in_ok-behind.behind c.in-Some.row c.loop-behind.tally given_row
+    (ap (λ x. x.election) c.loop-behind.invariant.same ∙ c.requires.election) c.loop-behind.invariant.tallied
+    c.loop-behind.invariant.closed
 
 pub loop-behind-preserved : goal.loop-behind-preserved
 loop-behind-preserved c =
     let given_row = rw c.in-Some.is at c.in_ok-behind.ensures.row in
     record {
-      same = given_row.same ∙ (let at : Rows → Rows = λ x. record x { place = c.in_ok-behind.behind.place } in ap at c.loop-behind.invariant.same);
-      tallied = c.take.ensures.taken _ _ c.loop-behind.invariant.tallied (takes-row c.loop-behind.left c.in_ok-behind.behind c.in-Some.row given_row);
-      closed = omega (arith, c.take.ensures.closed, last-then c.loop-behind.left c.in_ok-behind.behind c.in-Some.row given_row);
+      same = given_row.same
+          ∙ (let at : Rows
+          → Rows = λ x. record x { place = c.in_ok-behind.behind.place } in ap at c.loop-behind.invariant.same);
+      tallied = c.take.ensures.taken _ _ c.loop-behind.invariant.tallied
+          (takes-row c.loop-behind.left c.in_ok-behind.behind c.in-Some.row given_row);
+      closed =
+          omega
+          (arith, c.take.ensures.closed, last-then c.loop-behind.left c.in_ok-behind.behind c.in-Some.row given_row);
       few = few-then c.loop-behind.left c.in_ok-behind.behind c.in-Some.row given_row;
     }
 
 pub loop-behind-smaller : goal.loop-behind-smaller
 loop-behind-smaller c =
     let given_row = rw c.in-Some.is at c.in_ok-behind.ensures.row in
-    falls c.loop-behind.left c.in_ok-behind.behind given_row.record_of given_row.next (ap (λ x. x.records) given_row.same)
+    falls c.loop-behind.left c.in_ok-behind.behind given_row.record_of given_row.next
+    (ap (λ x. x.records) given_row.same)

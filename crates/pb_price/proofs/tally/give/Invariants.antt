@@ -1,5 +1,5 @@
 use Rattle.std.proofs.Common.{take}
-use Rattle.pb_price.specs.Tallies.{AreChanged, with_supporter}
+use Rattle.pb_price.specs.Inside.Tallies.{AreChanged, with_supporter}
 use Rattle.pb_price.proofs.tally.give.Given as goal
 
 abbrev pub invariant-loop-j : goal.invariant-loop-j

@@ -1,5 +1,5 @@
 use Rattle.std.proofs.Common.{take}
-use Rattle.pb_price.specs.Tallies.{AreChanged, marked_with}
+use Rattle.pb_price.specs.Inside.Tallies.{AreChanged, marked_with}
 use Rattle.pb_price.proofs.tally.mark.Given as goal
 
 abbrev pub invariant-loop-j : goal.invariant-loop-j

@@ -6,7 +6,8 @@ use Rattle.pb_records.proofs.cells.clean_back.Given as goal
 
 abbrev pub invariant-loop-end : goal.invariant-loop-end
 invariant-loop-end l =
-    (drop_back is_space (take l.end l.text) ≡ drop_back is_space l.text) × IsCharBoundary l.text l.end × (l.end ≤ length l.text)
+    (drop_back is_space (take l.end l.text) ≡ drop_back is_space l.text) × IsCharBoundary l.text l.end
+    × (l.end ≤ length l.text)
 
 abbrev pub decreases-loop-end : goal.decreases-loop-end
 decreases-loop-end l = l.end

@@ -4,7 +4,9 @@ use Rattle.pb_records.proofs.drafts.take_all.Goals as goal
 
 pub rows-init : goal.rows-init
 rows-init g c =
-    rw (c.open-cursor.ensures.left, c.open-cursor.ensures.place) (progress-start (g.D.Draft.form c.args.against.now) (g.D.Draft.HasTaken c.args.against.now c.args.draft.now) (records_of c.args.delimiter c.args.bytes.now) c.requires)
+    rw (c.open-cursor.ensures.left, c.open-cursor.ensures.place)
+    (progress-start (g.D.Draft.form c.args.against.now) (g.D.Draft.HasTaken c.args.against.now c.args.draft.now)
+    (records_of c.args.delimiter c.args.bytes.now) c.requires)
 
 pub returns-in-Ok-NotText-clause-stopped : goal.returns-in-Ok-NotText-clause-stopped
 returns-in-Ok-NotText-clause-stopped g c =

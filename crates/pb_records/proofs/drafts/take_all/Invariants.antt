@@ -4,7 +4,9 @@ use Rattle.pb_records.proofs.DraftProgress.{Progress}
 use Rattle.pb_records.proofs.drafts.take_all.Given as goal
 
 abbrev pub invariant-rows : goal.invariant-rows
-invariant-rows g l = Progress (g.D.Draft.form l.against) (g.D.Draft.HasTaken l.against l.draft) (records_of l.delimiter l.bytes) l.cursor.left l.cursor.place
+invariant-rows g l =
+    Progress (g.D.Draft.form l.against) (g.D.Draft.HasTaken l.against l.draft) (records_of l.delimiter l.bytes)
+    l.cursor.left l.cursor.place
 
 abbrev pub decreases-rows : goal.decreases-rows
 decreases-rows g l = length l.cursor.left

@@ -1,6 +1,6 @@
 use Rattle.std.proofs.Common.{refl, subst, sym}
 use Rattle.std.specs.Prelude.{string_bytes}
-use Rattle.pb_audit.specs.Folders.{files_of, found_as}
+use Rattle.pb_audit.specs.Inside.Folders.{files_of, found_as}
 use Rattle.pb_audit.specs.Reports.{HasTaken, Progress}
 use Rattle.pb_audit.proofs.Reports.{takes_more}
 use Rattle.pb_audit.proofs.folder_report.FolderReport.add.Goals as goal
@@ -8,7 +8,13 @@ use Rattle.pb_audit.proofs.folder_report.FolderReport.add.Goals as goal
 pub returns-clause-taken : goal.returns-clause-taken
 returns-clause-taken c = λ entries taken.
     takes_more
-    (record { mode = c.self.inside.mode; text = string_bytes c.self.inside.text; endings = c.self.inside.endings.items })
-    (record { mode = c.self.inside.mode; text = string_bytes c.push_found.new.text; endings = c.push_endings.new.endings.items })
-    entries (files_of c.args.entry.now) (found_as c.args.entry.now c.in_ok-found.found) refl c.in_ok-push_found.ensures c.in_ok-push_endings.ensures c.in_ok-found.ensures
+    (record
+    { mode = c.self.inside.mode; text = string_bytes c.self.inside.text; endings = c.self.inside.endings.items })
+    (record {
+      mode = c.self.inside.mode;
+      text = string_bytes c.push_found.new.text;
+      endings = c.push_endings.new.endings.items;
+    })
+    entries (files_of c.args.entry.now) (found_as c.args.entry.now c.in_ok-found.found) refl c.in_ok-push_found.ensures
+    c.in_ok-push_endings.ensures c.in_ok-found.ensures
     (subst (λ (p : Progress). HasTaken p entries) (sym c.self.view_is) taken)

@@ -1,5 +1,5 @@
 use Rattle.std.proofs.Common.{◌≡◌, List, IfOk, ℕ, subst}
-use Rattle.pb_certificate.specs.RecordWriter.{held}
+use Rattle.pb_certificate.specs.Inside.RecordWriter.{held}
 use Rattle.pb_certificate.proofs.CanonSteps.{text-whole}
 use Rattle.pb_certificate.proofs.canonical_draft.CanonicalDraft.into_text.Goals as goal
 

@@ -1,5 +1,5 @@
 use Rattle.std.proofs.Common.{refl}
-use Rattle.pb_certificate.specs.RecordWriter.{held}
+use Rattle.pb_certificate.specs.Inside.RecordWriter.{held}
 use Rattle.pb_certificate.proofs.CanonSteps.{head-alone}
 use Rattle.pb_certificate.proofs.canonical_draft.CanonicalDraft.new.Goals as goal
 
@@ -10,5 +10,6 @@ returns c =
       sound = c.requires;
       each_project = refl;
       is_open = c.in_ok-add_heads.ensures.«open»;
-      text = head-alone c.args.denominator c.args.budget (held c.open-writer.result) (held c.add_heads.new.writer) c.open-writer.ensures.text c.in_ok-add_heads.ensures.text;
+      text = head-alone c.args.denominator c.args.budget (held c.open-writer.result) (held c.add_heads.new.writer)
+          c.open-writer.ensures.text c.in_ok-add_heads.ensures.text;
     }

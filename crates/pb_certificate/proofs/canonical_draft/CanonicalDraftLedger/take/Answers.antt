@@ -3,7 +3,7 @@ use Rattle.pb_election.specs.Instance.{Instance, projects}
 use Rattle.pb_election.specs.Text.{IsElection}
 use Rattle.pb_certificate.specs.Canon.{lines, rows_of_voter}
 use Rattle.pb_certificate.specs.Prices.{IsPaymentMap}
-use Rattle.pb_certificate.specs.RecordWriter.{held}
+use Rattle.pb_certificate.specs.Inside.RecordWriter.{held}
 use Rattle.pb_certificate.proofs.CanonSteps.{on-both, text-next}
 use Rattle.pb_certificate.proofs.canonical_draft.CanonicalDraftLedger.take.Goals as goal
 
@@ -24,7 +24,11 @@ returns c = λ e p has next. (
       sound = has.sound;
       each_project = has.each_project;
       is_open = is_open;
-      text = text-next e p c.args.payments.now c.args.voter (held c.args.self.now.writer) (held c.add_payments.new.writer) next has.text
-          (written ∙ ap (λ (x : Instance). held c.args.self.now.writer ++ lines (rows_of_voter x c.args.voter c.args.payments.now)) has.election);
+      text = text-next e p c.args.payments.now c.args.voter (held c.args.self.now.writer)
+          (held c.add_payments.new.writer) next has.text
+          (written
+          ∙ ap
+          (λ (x : Instance). held c.args.self.now.writer
+          ++ lines (rows_of_voter x c.args.voter c.args.payments.now)) has.election);
     }) c.add_payments.ensures.«open» c.add_payments.ensures.text
     )

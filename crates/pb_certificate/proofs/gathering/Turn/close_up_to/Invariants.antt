@@ -1,5 +1,5 @@
 use Rattle.std.proofs.Common.{◌≤◌, ◌-◌, List}
-use Rattle.pb_certificate.specs.Gathering.{HoldSome, Holds}
+use Rattle.pb_certificate.specs.Inside.Gathering.{HoldSome, Holds}
 use Rattle.pb_certificate.specs.PriceText.{Payment}
 use Rattle.pb_certificate.specs.Rows.{Rows}
 use Rattle.pb_certificate.proofs.gathering.Turn.close_up_to.Given as goal
@@ -8,7 +8,8 @@ abbrev pub invariant-loop-self : goal.invariant-loop-self
 invariant-loop-self g l =
     record {
       some : HoldSome (g.L.Ledger.Has l.ledger) l.self;
-      holds : (s : Rows) (qs : List Payment) → Holds (g.L.Ledger.Has l.initial.ledger) s qs l.initial.self → Holds (g.L.Ledger.Has l.ledger) s qs l.self;
+      holds : (s : Rows) (qs : List Payment) → Holds (g.L.Ledger.Has l.initial.ledger) s qs l.initial.self
+          → Holds (g.L.Ledger.Has l.ledger) s qs l.self;
       within : l.self.done ≤ l.voters;
     }
 

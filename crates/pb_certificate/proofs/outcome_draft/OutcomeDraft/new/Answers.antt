@@ -5,4 +5,11 @@ use Rattle.pb_certificate.proofs.MarkLemmas.{none-marked}
 use Rattle.pb_certificate.proofs.outcome_draft.OutcomeDraft.new.Goals as goal
 
 pub returns : goal.returns
-returns c = (tt, (refl, c.in_ok-marks.ensures.items_if_clones_equal (λ y e. e) ∙ ap (λ n. replicate n false) c.projects.ensures.value ∙ none-marked (projects c.args.election.now)))
+returns c = (
+  tt,
+  (
+    refl,
+    c.in_ok-marks.ensures.items_if_clones_equal (λ y e. e) ∙ ap (λ n. replicate n false) c.projects.ensures.value
+        ∙ none-marked (projects c.args.election.now),
+  ),
+)

@@ -10,8 +10,11 @@ returns-in-Ok-clause-value c =
     let qs = c.payments_of-payments.result.now in
     let facts = c.binary_search_by_key.ensures in
     let by_project = facts.position (λ q. q.0) (answers_always _ _ _ (λ f a r g called. search rules)) in
-    let found = payment-searched 1 c.args.self.now.projects qs c.args.j c.binary_search_by_key.result c.payments_of-payments.ensures.map.projects_rise facts.bound by_project in
-    sym (subst (λ r. MatchResult r (λ k. numerator_in qs c.args.j ≡ (get_or qs k (0, 0)).1) (λ k. numerator_in qs c.args.j ≡ 0)) c.in-Ok.is found)
+    let found = payment-searched 1 c.args.self.now.projects qs c.args.j c.binary_search_by_key.result
+    c.payments_of-payments.ensures.map.projects_rise facts.bound by_project in
+    sym (subst
+    (λ r. MatchResult r (λ k. numerator_in qs c.args.j ≡ (get_or qs k (0, 0)).1)
+    (λ k. numerator_in qs c.args.j ≡ 0)) c.in-Ok.is found)
     ∙ ap (λ xs. numerator_in xs c.args.j) c.payments_of-payments.ensures.value
 
 pub returns-in-Err-clause-value : goal.returns-in-Err-clause-value
@@ -19,6 +22,9 @@ returns-in-Err-clause-value c =
     let qs = c.payments_of-payments.result.now in
     let facts = c.binary_search_by_key.ensures in
     let by_project = facts.position (λ q. q.0) (answers_always _ _ _ (λ f a r g called. search rules)) in
-    let found = payment-searched 1 c.args.self.now.projects qs c.args.j c.binary_search_by_key.result c.payments_of-payments.ensures.map.projects_rise facts.bound by_project in
-    sym (subst (λ r. MatchResult r (λ k. numerator_in qs c.args.j ≡ (get_or qs k (0, 0)).1) (λ k. numerator_in qs c.args.j ≡ 0)) c.in-Err.is found)
+    let found = payment-searched 1 c.args.self.now.projects qs c.args.j c.binary_search_by_key.result
+    c.payments_of-payments.ensures.map.projects_rise facts.bound by_project in
+    sym (subst
+    (λ r. MatchResult r (λ k. numerator_in qs c.args.j ≡ (get_or qs k (0, 0)).1)
+    (λ k. numerator_in qs c.args.j ≡ 0)) c.in-Err.is found)
     ∙ ap (λ xs. numerator_in xs c.args.j) c.payments_of-payments.ensures.value

@@ -10,7 +10,9 @@ use Rattle.pb_certificate.proofs.prices.Prices.read.Goals as goal
 pub returns-in_err-rows-clause-only : goal.returns-in_err-rows-clause-only
 returns-in_err-rows-clause-only c = λ p text. (
     let err = err_from_is_err_and c.from_residual.result c.from_residual.ensures.1 in
-    rw (err.1, err.2) (text-refused (certificate_records c.args.bytes.now) c.args.election.now p c.in_err-rows.field-0.0 text c.in_err-rows.ensures.refused)
+    rw (err.1, err.2)
+    (text-refused (certificate_records c.args.bytes.now) c.args.election.now p c.in_err-rows.field-0.0 text
+    c.in_err-rows.ensures.refused)
     )
 
 pub returns-in_err-gather-clause-only : goal.returns-in_err-gather-clause-only
@@ -18,7 +20,9 @@ returns-in_err-gather-clause-only c = λ p text. (
     let recs = certificate_records c.args.bytes.now in
     let e = c.args.election.now in
     let err = err_from_is_err_and c.from_residual-in_err-gather.result c.from_residual-in_err-gather.ensures.1 in
-    let refused = refused-file recs e c.in_ok-rows.rows c.in_err-gather.field-0.0 c.in_ok-rows.ensures.election c.in_ok-rows.ensures.records c.in_err-gather.ensures.refused in
+    let refused =
+    refused-file recs e c.in_ok-rows.rows c.in_err-gather.field-0.0 c.in_ok-rows.ensures.election
+    c.in_ok-rows.ensures.records c.in_err-gather.ensures.refused in
     rw (err.1, err.2) (text-refused recs e p c.in_err-gather.field-0.0 text refused)
     )
 
@@ -27,23 +31,33 @@ new-requires-2 c =
     let e = c.args.election.now in
     let recs = certificate_records c.args.bytes.now in
     let text =
-    runs-state recs e c.in_ok-rows.rows c.projects.result c.denominator-denominator.result c.budget-budget.result c.gather.new.ledger c.in_ok-gather.ensures.all c.in_ok-rows.ensures.election
-    c.in_ok-rows.ensures.records c.projects.ensures.value c.denominator-denominator.ensures.value c.budget-budget.ensures.value in
-    (states-prices recs e (prices-by c.projects.result c.denominator-denominator.result c.budget-budget.result c.gather.new.ledger) text).system
+    runs-state recs e c.in_ok-rows.rows c.projects.result c.denominator-denominator.result c.budget-budget.result
+    c.gather.new.ledger c.in_ok-gather.ensures.all c.in_ok-rows.ensures.election
+    c.in_ok-rows.ensures.records c.projects.ensures.value c.denominator-denominator.ensures.value
+    c.budget-budget.ensures.value in
+    (states-prices recs e
+    (prices-by c.projects.result c.denominator-denominator.result c.budget-budget.result c.gather.new.ledger)
+    text).system
 
 pub returns-clause-found : goal.returns-clause-found
 returns-clause-found c =
     let e = c.args.election.now in
     let recs = certificate_records c.args.bytes.now in
     let text =
-    runs-state recs e c.in_ok-rows.rows c.projects.result c.denominator-denominator.result c.budget-budget.result c.gather.new.ledger c.in_ok-gather.ensures.all c.in_ok-rows.ensures.election
-    c.in_ok-rows.ensures.records c.projects.ensures.value c.denominator-denominator.ensures.value c.budget-budget.ensures.value in
+    runs-state recs e c.in_ok-rows.rows c.projects.result c.denominator-denominator.result c.budget-budget.result
+    c.gather.new.ledger c.in_ok-gather.ensures.all c.in_ok-rows.ensures.election
+    c.in_ok-rows.ensures.records c.projects.ensures.value c.denominator-denominator.ensures.value
+    c.budget-budget.ensures.value in
     subst (IsPriceText recs e) (sym c.new-2.ensures) text
 
 pub returns-clause-sound : goal.returns-clause-sound
 unfolding returns-clause-found
-returns-clause-sound c = states-prices (certificate_records c.args.bytes.now) c.args.election.now c.new-2.result (returns-clause-found c)
+returns-clause-sound c =
+    states-prices (certificate_records c.args.bytes.now) c.args.election.now c.new-2.result (returns-clause-found c)
 
 pub returns-clause-only : goal.returns-clause-only
 unfolding returns-clause-found
-returns-clause-only c = λ p stated. (price-text-same (certificate_records c.args.bytes.now) c.args.election.now c.new-2.result p (returns-clause-found c) stated)
+returns-clause-only c =
+    λ p stated.
+    (price-text-same (certificate_records c.args.bytes.now) c.args.election.now c.new-2.result p
+    (returns-clause-found c) stated)

@@ -10,7 +10,9 @@ returns-clause-remembers c =
       rows = refl;
       few = omega arith;
       last_voter_is = refl;
-      last_payers_are = no-payers c.args.projects c.in_ok-last_payers.last_payers.items (c.in_ok-last_payers.ensures.items_if_clones_equal (λ y e. e));
+      last_payers_are =
+          no-payers c.args.projects c.in_ok-last_payers.last_payers.items
+          (c.in_ok-last_payers.ensures.items_if_clones_equal (λ y e. e));
       in_order = tt;
       once = tt;
     }

@@ -7,13 +7,17 @@ use Rattle.pb_certificate.proofs.row_reader.RowReader.open.Goals as goal
 pub returns-in_err-denominator-clause-in_head : goal.returns-in_err-denominator-clause-in_head
 returns-in_err-denominator-clause-in_head c =
     let p = err_from_is_err_and c.from_residual.result c.from_residual.ensures.1 in
-    let at = opened c.args.election.now (certificate_records c.args.bytes.now) c.open.result c.open.ensures.place c.open.ensures.left in
+    let at = opened c.args.election.now (certificate_records c.args.bytes.now) c.open.result c.open.ensures.place
+    c.open.ensures.left in
     let start = rw (c.deref_mut.ensures.value ∙ c.in-Ok.ensures.ok) at c.in_err-denominator.ensures in
-    rw (p.1, p.2) (refused-in-head (certificate_records c.args.bytes.now) c.args.election.now c.read_head.new.cursor c.in_err-denominator.field-0.0 (start c.args.election.now (certificate_records c.args.bytes.now) at))
+    rw (p.1, p.2)
+    (refused-in-head (certificate_records c.args.bytes.now) c.args.election.now c.read_head.new.cursor
+    c.in_err-denominator.field-0.0 (start c.args.election.now (certificate_records c.args.bytes.now) at))
 
 pub returns-clause-reading : goal.returns-clause-reading
 returns-clause-reading c =
-    let at = opened c.args.election.now (certificate_records c.args.bytes.now) c.open.result c.open.ensures.place c.open.ensures.left in
+    let at = opened c.args.election.now (certificate_records c.args.bytes.now) c.open.result c.open.ensures.place
+    c.open.ensures.left in
     let start = rw (c.deref_mut.ensures.value ∙ c.in-Ok.ensures.ok) at c.in_ok-denominator.ensures in
     let read = start c.args.election.now (certificate_records c.args.bytes.now) at in
     record {

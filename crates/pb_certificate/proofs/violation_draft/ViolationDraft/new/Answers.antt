@@ -11,8 +11,10 @@ returns c = (
     refl,
     refl,
     (
-      c.in_ok-group.ensures.items_if_clones_equal (λ y e. e) ∙ ap (λ n. replicate n false) c.voters.ensures.value ∙ none-marked (voters c.args.election.now),
-      c.in_ok-demand.ensures.items_if_clones_equal (λ y e. e) ∙ ap (λ n. replicate n false) c.projects.ensures.value ∙ none-marked (projects c.args.election.now),
+      c.in_ok-group.ensures.items_if_clones_equal (λ y e. e) ∙ ap (λ n. replicate n false) c.voters.ensures.value
+          ∙ none-marked (voters c.args.election.now),
+      c.in_ok-demand.ensures.items_if_clones_equal (λ y e. e) ∙ ap (λ n. replicate n false) c.projects.ensures.value
+          ∙ none-marked (projects c.args.election.now),
     ),
   ),
 )

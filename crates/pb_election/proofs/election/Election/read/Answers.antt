@@ -1,7 +1,7 @@
 use Rattle.std.proofs.Common.{◌∙◌, [], sym, subst}
 use Rattle.pb_records.specs.Records.{election_records}
-use Rattle.pb_election.specs.Beginnings.{HasRead}
-use Rattle.pb_election.specs.SoFar.{SoFar, election_of}
+use Rattle.pb_election.specs.Inside.Beginnings.{HasRead}
+use Rattle.pb_election.specs.Inside.SoFar.{SoFar, election_of}
 use Rattle.pb_election.specs.Instance.{Instance}
 use Rattle.pb_election.specs.Text.{IsElection, PbText}
 use Rattle.pb_election.proofs.Apart.{apart}
@@ -23,7 +23,8 @@ pub returns-in-Ok-clause-found : goal.returns-in-Ok-clause-found
 returns-in-Ok-clause-found c =
     let recs = election_records c.args.bytes.now in
     let text = finished c.take_all.new.draft recs c.in-Ok.ensures.taken c.in-Ok.ensures.none in
-    subst (λ (e : Instance). PbText recs e × IsElection e) (sym c.into_election.ensures) (text, sound recs (election_of c.take_all.new.draft) text)
+    subst (λ (e : Instance). PbText recs e × IsElection e) (sym c.into_election.ensures)
+    (text, sound recs (election_of c.take_all.new.draft) text)
 
 pub returns-in-Ok-clause-only : goal.returns-in-Ok-clause-only
 returns-in-Ok-clause-only c =

@@ -13,7 +13,8 @@ returns-in_default-number_up_to-clause-exact c =
     let rest = c.without_last_zeros-fraction.ensures ∙ ap without_last_zeros c.in-Some.ensures.fraction in
     let fine : length (fraction c.args.text.now) ≤ 6 = omega (arith, ap length rest) in
     let large = beyond (10 ^ 12) (number_of c.in-Some.whole.now) c.in_default-number_up_to.ensures in
-    money-large c.args.text.now (sym c.in-Some.ensures.number) fine (units-large c.args.text.now (number_of c.in-Some.whole.now) (ap number_of c.in-Some.ensures.whole) large)
+    money-large c.args.text.now (sym c.in-Some.ensures.number) fine
+    (units-large c.args.text.now (number_of c.in-Some.whole.now) (ap number_of c.in-Some.ensures.whole) large)
 
 pub returns-in_default-number_up_to-clause-only : goal.returns-in_default-number_up_to-clause-only
 returns-in_default-number_up_to-clause-only c =
@@ -21,13 +22,15 @@ returns-in_default-number_up_to-clause-only c =
 
 pub fraction_millionths-requires-clause-digits : goal.fraction_millionths-requires-clause-digits
 fraction_millionths-requires-clause-digits c =
-    ap all_ascii_digits c.without_last_zeros-fraction.ensures ∙ zeros-digits c.in-Some.fraction.now c.in-Some.ensures.digits.1
+    ap all_ascii_digits c.without_last_zeros-fraction.ensures
+    ∙ zeros-digits c.in-Some.fraction.now c.in-Some.ensures.digits.1
 
 pub returns-then-millionths-clause-exact : goal.returns-then-millionths-clause-exact
 returns-then-millionths-clause-exact c =
     let rest = c.without_last_zeros-fraction.ensures ∙ ap without_last_zeros c.in-Some.ensures.fraction in
     let fine : length (fraction c.args.text.now) ≤ 6 = omega (arith, ap length rest) in
-    let units = same (10 ^ 12) (number_of c.in-Some.whole.now) c.in-Some-number_up_to.units c.in-Some-number_up_to.ensures ∙ ap number_of c.in-Some.ensures.whole in
+    let units = same (10 ^ 12) (number_of c.in-Some.whole.now) c.in-Some-number_up_to.units
+    c.in-Some-number_up_to.ensures ∙ ap number_of c.in-Some.ensures.whole in
     let part = c.fraction_millionths.ensures.value ∙ ap (λ f. number_of f * 10 ^ (6 - length f)) rest in
     let value = parts-value c.args.text.now c.in-Some-number_up_to.units c.fraction_millionths.result units part in
     money-large c.args.text.now (sym c.in-Some.ensures.number) fine (omega (arith, value))
@@ -38,7 +41,8 @@ returns-then-millionths-clause-only c = answers-only c.args.text.now _ (returns-
 pub returns-clause-found : goal.returns-clause-found
 returns-clause-found c =
     let rest = c.without_last_zeros-fraction.ensures ∙ ap without_last_zeros c.in-Some.ensures.fraction in
-    let units = same (10 ^ 12) (number_of c.in-Some.whole.now) c.in-Some-number_up_to.units c.in-Some-number_up_to.ensures ∙ ap number_of c.in-Some.ensures.whole in
+    let units = same (10 ^ 12) (number_of c.in-Some.whole.now) c.in-Some-number_up_to.units
+    c.in-Some-number_up_to.ensures ∙ ap number_of c.in-Some.ensures.whole in
     let part = c.fraction_millionths.ensures.value ∙ ap (λ f. number_of f * 10 ^ (6 - length f)) rest in
     record {
       number = sym c.in-Some.ensures.number;

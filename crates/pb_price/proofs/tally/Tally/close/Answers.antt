@@ -2,18 +2,20 @@ use Rattle.std.proofs.Common.{rules, nat_lt, ◌≡◌, ◌+◌, ◌^◌, get_or
 use Rattle.std.proofs.lemmas.Int.{ints}
 use Rattle.std.proofs.lemmas.List.{with_items_is}
 use Rattle.pb_election.specs.Instance.{IsSet, projects}
-use Rattle.pb_price.specs.Tallies.{AreSmall, IsWithin}
-use Rattle.pb_price.specs.Noted.{noted}
-use Rattle.pb_price.specs.Looked.{compared}
+use Rattle.pb_price.specs.Inside.Tallies.{AreSmall, IsWithin}
+use Rattle.pb_price.specs.Inside.Noted.{noted}
+use Rattle.pb_price.specs.Inside.Looked.{compared}
 use Rattle.pb_price.proofs.Bounds.{ballot-bound, changed-as, largest-bound, left-bound, most-bound, over-few, over-small, spent-bound, steps-bound, sums-bound}
 use Rattle.pb_price.proofs.Closing.{closed, left-kept, most-kept}
 use Rattle.pb_price.proofs.tally.Tally.close.Goals as goal
 
 pub left_of-left-requires-clause-spent : goal.left_of-left-requires-clause-spent
-left_of-left-requires-clause-spent c = omega (arith, spent-bound c.args.election.now c.requires.tallied.0 c.args.self.now c.requires.tallied.1)
+left_of-left-requires-clause-spent c =
+    omega (arith, spent-bound c.args.election.now c.requires.tallied.0 c.args.self.now c.requires.tallied.1)
 
 pub offer_of-offer-requires : goal.offer_of-offer-requires
-offer_of-offer-requires c = omega (arith, largest-bound c.args.election.now c.requires.tallied.0 c.args.self.now c.requires.tallied.1)
+offer_of-offer-requires c =
+    omega (arith, largest-bound c.args.election.now c.requires.tallied.0 c.args.self.now c.requires.tallied.1)
 
 pub overflow_add-voter : goal.overflow_add-voter
 overflow_add-voter c = omega (arith, c.requires.more, c.requires.tallied.1.sound.few_voters)
@@ -23,16 +25,33 @@ ballot-ballot-requires c = (omega arith, omega (arith, c.requires.more))
 
 pub give-requires : goal.give-requires
 give-requires c =
-    let long : length c.deref_mut.result.now ≡ projects c.args.election.now = ap length c.deref_mut.ensures.value ∙ c.requires.tallied.1.sums.as_many in
+    let long : length c.deref_mut.result.now ≡ projects c.args.election.now =
+    ap length c.deref_mut.ensures.value ∙ c.requires.tallied.1.sums.as_many in
     record {
       ballot = subst (λ n. IsSet 1 n c.ballot-ballot.result.now) (sym long) c.ballot-ballot.ensures.rising;
-      left = subst (IsWithin (10 ^ 32)) (sym (left-kept c.args.election.now c.requires.tallied.0 c.args.self.now c.left_of-left.result c.requires.tallied.1 c.left_of-left.ensures)) (left-bound c.args.election.now c.requires.tallied.0 c.args.self.now (c.args.self.now.closed + 1) c.requires.tallied.1);
-      offer = subst (IsWithin (10 ^ 32)) (sym (most-kept c.args.election.now c.requires.tallied.0 c.args.self.now c.left_of-left.result c.offer_of-offer.result c.requires.tallied.1 c.left_of-left.ensures c.offer_of-offer.ensures)) (most-bound c.args.election.now c.requires.tallied.0 c.args.self.now (c.args.self.now.closed + 1) c.requires.tallied.1);
-      fits = λ k d w. subst (λ xs. AreSmall (get_or xs k d)) (sym c.deref_mut.ensures.value) (sums-bound c.args.election.now c.requires.tallied.0 c.args.self.now k d c.requires.tallied.1 c.requires.more (omega arith));
+      left =
+          subst (IsWithin (10 ^ 32))
+          (sym
+          (left-kept c.args.election.now c.requires.tallied.0 c.args.self.now c.left_of-left.result c.requires.tallied.1
+          c.left_of-left.ensures))
+          (left-bound c.args.election.now c.requires.tallied.0 c.args.self.now (c.args.self.now.closed + 1)
+          c.requires.tallied.1);
+      offer =
+          subst (IsWithin (10 ^ 32))
+          (sym
+          (most-kept c.args.election.now c.requires.tallied.0 c.args.self.now c.left_of-left.result
+          c.offer_of-offer.result c.requires.tallied.1 c.left_of-left.ensures c.offer_of-offer.ensures))
+          (most-bound c.args.election.now c.requires.tallied.0 c.args.self.now (c.args.self.now.closed + 1)
+          c.requires.tallied.1);
+      fits = λ k d w. subst (λ xs. AreSmall (get_or xs k d)) (sym c.deref_mut.ensures.value)
+          (sums-bound c.args.election.now c.requires.tallied.0 c.args.self.now k d c.requires.tallied.1 c.requires.more
+          (omega arith));
     }
 
 pub overflow_cast-compared : goal.overflow_cast-compared
-overflow_cast-compared c = search (rules, arith, ints, spent-bound c.args.election.now c.requires.tallied.0 c.args.self.now c.requires.tallied.1)
+overflow_cast-compared c =
+    search
+    (rules, arith, ints, spent-bound c.args.election.now c.requires.tallied.0 c.args.self.now c.requires.tallied.1)
 
 pub note-requires : goal.note-requires
 note-requires c =
@@ -50,20 +69,38 @@ note-requires c =
 
 pub overflow_add-self : goal.overflow_add-self
 overflow_add-self c =
-    omega (arith, ap length c.ballot-ballot.ensures.value, ballot-bound c.args.election.now (c.args.self.now.closed + 1), c.requires.tallied.1.sound.few_approvals)
+    omega (
+      arith,
+      ap length c.ballot-ballot.ensures.value,
+      ballot-bound c.args.election.now (c.args.self.now.closed + 1),
+      c.requires.tallied.1.sound.few_approvals,
+    )
 
 pub overflow_add-self-2 : goal.overflow_add-self-2
 overflow_add-self-2 c =
-    omega (arith, steps-bound c.args.election.now c.requires.tallied.0 c.args.self.now c.requires.tallied.1 c.requires.tallied.2, ap length c.ballot-ballot.ensures.value, ballot-bound c.args.election.now (c.args.self.now.closed + 1), c.requires.tallied.1.sound.few_approvals)
+    omega (
+      arith,
+      steps-bound c.args.election.now c.requires.tallied.0 c.args.self.now c.requires.tallied.1
+          c.requires.tallied.2,
+      ap length c.ballot-ballot.ensures.value,
+      ballot-bound c.args.election.now (c.args.self.now.closed + 1),
+      c.requires.tallied.1.sound.few_approvals,
+    )
 
 pub returns-clause-taken : goal.returns-clause-taken
 returns-clause-taken c = λ a h. (
-    let items_are = with_items_is c.args.self.now.projects c.give.new.projects (c.give.ensures.as_many ∙ c.deref_mut.ensures.len) in
+    let items_are =
+    with_items_is c.args.self.now.projects c.give.new.projects (c.give.ensures.as_many ∙ c.deref_mut.ensures.len) in
     closed c.args.election.now a c.args.self.now _ _ _ h c.requires.more
     (left-kept c.args.election.now a c.args.self.now c.left_of-left.result h c.left_of-left.ensures)
-    (most-kept c.args.election.now a c.args.self.now c.left_of-left.result c.offer_of-offer.result h c.left_of-left.ensures c.offer_of-offer.ensures)
+    (most-kept c.args.election.now a c.args.self.now c.left_of-left.result c.offer_of-offer.result h
+    c.left_of-left.ensures c.offer_of-offer.ensures)
     (changed-as _ _ _ _ _ _ _ c.deref_mut.ensures.value (sym items_are) c.ballot-ballot.ensures.value c.give.ensures)
     refl refl refl refl
-    (c.note.ensures ∙ ap (λ z. noted (nat_lt c.args.self.now.budget c.args.self.now.spent) (compared (c.args.self.now.closed + 1) c.args.self.now.budget z) c.args.self.now.over_budget) (omega (arith, ints, spent-bound c.args.election.now a c.args.self.now h)))
+    (c.note.ensures
+    ∙ ap
+    (λ z. noted (nat_lt c.args.self.now.budget c.args.self.now.spent)
+    (compared (c.args.self.now.closed + 1) c.args.self.now.budget z) c.args.self.now.over_budget)
+    (omega (arith, ints, spent-bound c.args.election.now a c.args.self.now h)))
     (ap (λ xs. c.args.self.now.steps + (length xs + 1)) c.ballot-ballot.ensures.value) refl refl
     )

@@ -6,7 +6,11 @@ loop-self-init c = record { taken = λ a h. h; order = c.requires.order }
 
 pub close-requires : goal.close-requires
 close-requires c = record {
-  tallied = (c.requires.tallied.0, c.loop-self.invariant.taken c.requires.tallied.0 c.requires.tallied.1, c.requires.tallied.2);
+  tallied = (
+    c.requires.tallied.0,
+    c.loop-self.invariant.taken c.requires.tallied.0 c.requires.tallied.1,
+    c.requires.tallied.2,
+  );
   more = omega (arith, c.requires.last, c.loop-self-test.true);
 }
 

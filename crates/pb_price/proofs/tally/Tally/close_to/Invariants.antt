@@ -1,5 +1,5 @@
 use Rattle.std.proofs.Common.{◌≤◌, ◌-◌}
-use Rattle.pb_price.specs.Tallies.{Taken, Tallied}
+use Rattle.pb_price.specs.Inside.Tallies.{Taken, Tallied}
 use Rattle.pb_price.proofs.tally.Tally.close_to.Given as goal
 
 abbrev pub invariant-loop-self : goal.invariant-loop-self

@@ -9,7 +9,14 @@ pub overflow_add-self : goal.overflow_add-self
 overflow_add-self c =
     let a = c.requires.tallied.0 in
     let h = c.requires.tallied.1 in
-    omega (arith, steps-bound c.args.election.now c.requires.tallied.0 c.args.self.now c.requires.tallied.1 c.requires.tallied.2, ap length c.ballot-ballot.ensures.value, ballot-bound c.args.election.now (c.args.self.now.closed + 1), c.requires.tallied.1.sound.few_approvals)
+    omega (
+      arith,
+      steps-bound c.args.election.now c.requires.tallied.0 c.args.self.now c.requires.tallied.1
+          c.requires.tallied.2,
+      ap length c.ballot-ballot.ensures.value,
+      ballot-bound c.args.election.now (c.args.self.now.closed + 1),
+      c.requires.tallied.1.sound.few_approvals,
+    )
 
 pub overflow_add-voter : goal.overflow_add-voter
 overflow_add-voter c = omega (arith, c.requires.more, c.requires.tallied.1.sound.few_voters)
@@ -19,11 +26,13 @@ ballot-ballot-requires c = (omega arith, omega (arith, c.requires.more))
 
 pub mark-requires : goal.mark-requires
 mark-requires c =
-    subst (λ n. IsSet 1 n c.ballot-ballot.result.now) (sym (ap length c.deref_mut.ensures.value ∙ c.requires.tallied.1.sums.as_many)) c.ballot-ballot.ensures.rising
+    subst (λ n. IsSet 1 n c.ballot-ballot.result.now)
+    (sym (ap length c.deref_mut.ensures.value ∙ c.requires.tallied.1.sums.as_many)) c.ballot-ballot.ensures.rising
 
 pub returns-clause-taken : goal.returns-clause-taken
 returns-clause-taken c = λ a h. (
-    let items_are = with_items_is c.args.self.now.projects c.mark.new.projects (c.mark.ensures.as_many ∙ c.deref_mut.ensures.len) in
+    let items_are =
+    with_items_is c.args.self.now.projects c.mark.new.projects (c.mark.ensures.as_many ∙ c.deref_mut.ensures.len) in
     opened c.args.election.now a c.args.self.now _ h c.if-self.false
     (changed-as _ _ _ _ _ _ _ c.deref_mut.ensures.value (sym items_are) c.ballot-ballot.ensures.value c.mark.ensures)
     refl refl refl refl refl

@@ -9,9 +9,13 @@ use Rattle.pb_records.proofs.records.Records.open.Goals as goal
 pub returns-clause-records : goal.returns-clause-records
 returns-clause-records c =
     let e = c.from_reader-reader.ensures in
-    let before : c.flexible.result.now.config ≡ default_config = rw c.flexible.ensures (rw c.has_headers.ensures c.new.ensures.config) in
-    let config = e.config ∙ rw c.delimiter.ensures (ap (λ (k : Config). record k { delimiter = c.args.delimiter }) before) in
-    opened c.from_reader-reader.result (csv_settings c.args.delimiter) c.after_marks.result.now c.args.bytes.now config e.state e.source c.after_marks.ensures
+    let before : c.flexible.result.now.config ≡ default_config =
+    rw c.flexible.ensures (rw c.has_headers.ensures c.new.ensures.config) in
+    let config = e.config
+    ∙ rw c.delimiter.ensures (ap (λ (k : Config). record k { delimiter = c.args.delimiter }) before) in
+    opened c.from_reader-reader.result (csv_settings c.args.delimiter) c.after_marks.result.now c.args.bytes.now config
+    e.state e.source c.after_marks.ensures
 
 pub returns-clause-few : goal.returns-clause-few
-returns-clause-few c = rw (returns-clause-records c) (omega (arith, count-records (csv_settings c.args.delimiter) c.args.bytes.now))
+returns-clause-few c =
+    rw (returns-clause-records c) (omega (arith, count-records (csv_settings c.args.delimiter) c.args.bytes.now))

@@ -8,21 +8,28 @@ invariant_of-self c =
     let s = c.self.invariant c.if-self.false in
     let e = c.in-Ok-true.ensures in
     let r = rw c.in-Ok-true.field-0-test at (e.reads s.trim s.ready) in
-    λ n. (read_found c.self.inside.reader c.read_record.new.self (fields_of c.read_record.new.row) s r (e.ready s.trim) e.flexible).0
+    λ n. (read_found c.self.inside.reader c.read_record.new.self (fields_of c.read_record.new.row) s r (e.ready s.trim)
+    e.flexible).0
 
 pub returns-in-Ok-true-clause-found : goal.returns-in-Ok-true-clause-found
 returns-in-Ok-true-clause-found c =
     let s = c.self.invariant c.if-self.false in
     let e = c.in-Ok-true.ensures in
     let r = rw c.in-Ok-true.field-0-test at (e.reads s.trim s.ready) in
-    let found = (read_found c.self.inside.reader c.read_record.new.self (fields_of c.read_record.new.row) s r (e.ready s.trim) e.flexible).1 in
+    let found =
+    (read_found c.self.inside.reader c.read_record.new.self (fields_of c.read_record.new.row) s r (e.ready s.trim)
+    e.flexible).1 in
     (sym c.self.view_is ∙ rw c.if-self.false found, text-yes (fields_of c.read_record.new.row) (e.text s.trim))
 
 pub returns-in-Ok-false-clause-found : goal.returns-in-Ok-false-clause-found
 returns-in-Ok-false-clause-found c =
     let s = c.self.invariant c.if-self.false in
-    let r = rw c.in-Ok-false.field-0-test at (c.in-Ok-false.ensures.reads s.trim s.ready) in
-    (sym c.self.view_is ∙ rw c.if-self.false (read_none c.self.inside.reader c.read_record.new.self (fields_of c.read_record.new.row) s r), refl)
+    let r = rw c.in-Ok-false.field-0-test at (c.in-Ok-false.ensures.reads s.trim s.ready) in (
+      sym c.self.view_is
+          ∙ rw c.if-self.false
+          (read_none c.self.inside.reader c.read_record.new.self (fields_of c.read_record.new.row) s r),
+      refl,
+    )
 
 pub returns-in-Utf8-clause-found : goal.returns-in-Utf8-clause-found
 returns-in-Utf8-clause-found c =

@@ -27,29 +27,34 @@ index-requires-2 g c =
 pub offset_bounds-deref-start : goal.offset_bounds-deref-start
 offset_bounds-deref-start g c =
     let within = rw (← c.self.view_is) at c.requires in
-    let run = run-at c.self.inside.starts.items c.self.inside.entries.items c.args.place c.index.result.now c.index-2.result.now c.self.invariant within c.index.ensures c.index-2.ensures in
+    let run = run-at c.self.inside.starts.items c.self.inside.entries.items c.args.place c.index.result.now
+    c.index-2.result.now c.self.invariant within c.index.ensures c.index-2.ensures in
     search rules
 
 pub slice_bounds-result-count : goal.slice_bounds-result-count
 slice_bounds-result-count g c =
     let within = rw (← c.self.view_is) at c.requires in
-    let run = run-at c.self.inside.starts.items c.self.inside.entries.items c.args.place c.index.result.now c.index-2.result.now c.self.invariant within c.index.ensures c.index-2.ensures in
+    let run = run-at c.self.inside.starts.items c.self.inside.entries.items c.args.place c.index.result.now
+    c.index-2.result.now c.self.invariant within c.index.ensures c.index-2.ensures in
     search rules
 
 pub slice_bounds-result-start : goal.slice_bounds-result-start
 slice_bounds-result-start g c =
     let within = rw (← c.self.view_is) at c.requires in
-    let run = run-at c.self.inside.starts.items c.self.inside.entries.items c.args.place c.index.result.now c.index-2.result.now c.self.invariant within c.index.ensures c.index-2.ensures in
+    let run = run-at c.self.inside.starts.items c.self.inside.entries.items c.args.place c.index.result.now
+    c.index-2.result.now c.self.invariant within c.index.ensures c.index-2.ensures in
     search rules
 
 pub slice_bounds-result-end : goal.slice_bounds-result-end
 slice_bounds-result-end g c =
     let within = rw (← c.self.view_is) at c.requires in
-    let run = run-at c.self.inside.starts.items c.self.inside.entries.items c.args.place c.index.result.now c.index-2.result.now c.self.invariant within c.index.ensures c.index-2.ensures in
+    let run = run-at c.self.inside.starts.items c.self.inside.entries.items c.args.place c.index.result.now
+    c.index-2.result.now c.self.invariant within c.index.ensures c.index-2.ensures in
     search rules
 
 pub returns : goal.returns
 returns g c =
     let within = rw (← c.self.view_is) at c.requires in
-    let run = run-at c.self.inside.starts.items c.self.inside.entries.items c.args.place c.index.result.now c.index-2.result.now c.self.invariant within c.index.ensures c.index-2.ensures in
+    let run = run-at c.self.inside.starts.items c.self.inside.entries.items c.args.place c.index.result.now
+    c.index-2.result.now c.self.invariant within c.index.ensures c.index-2.ensures in
     rw (← c.self.view_is, c.deref.ensures.value) run.run

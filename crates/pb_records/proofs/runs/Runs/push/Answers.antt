@@ -23,4 +23,5 @@ returns g c =
     let run = c.args.run.now in
     let end : c.len.result ≡ length entries = search rules in
     let all : c.extend_from_slice.new.self.items ≡ entries ++ run = grind arith in
-    rw (← c.self.view_is, c.in_ok-push.ensures.items, end, all) (runs-push c.self.inside.starts.items entries run c.self.invariant)
+    rw (← c.self.view_is, c.in_ok-push.ensures.items, end, all)
+    (runs-push c.self.inside.starts.items entries run c.self.invariant)

@@ -1,0 +1,4 @@
+-- What the code's own parts stand for, step by step. No claim on a file cites these.
+pub mod RecordReader
+pub mod Position
+pub mod Drafts
