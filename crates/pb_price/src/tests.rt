@@ -128,18 +128,22 @@ fn a_bad_last_row_is_refused_before_any_verdict(rt: HostRuntime) -> Result<(), F
 /// A voter without rows has its whole budget left, whether it comes before, between or after the voters that pay.
 #[test]
 fn voters_without_rows_have_money_left(rt: HostRuntime) -> Result<(), Fail> {
-    let elections: [&[u8]; 3] = [
-        b"META\nkey;value\nbudget;10\nvote_type;approval\nPROJECTS\nproject_id;cost;selected\nx;5;1\nc;4;0\nVOTES\nvoter_id;vote\n1;x\n2;c\n",
-        b"META\nkey;value\nbudget;10\nvote_type;approval\nPROJECTS\nproject_id;cost;selected\nx;5;1\nc;4;0\nVOTES\nvoter_id;vote\n1;c\n2;x\n",
-        b"META\nkey;value\nbudget;10\nvote_type;approval\nPROJECTS\nproject_id;cost;selected\nx;10;1\nc;4;0\nVOTES\nvoter_id;vote\n1;x\n2;c\n3;x\n",
-    ];
-    let certificates: [&[u8]; 3] = [
-        b"pb-prices,1\ndenominator,1\nvoter_budget,5\nvoter,project,payment\n1,x,5\n",
-        b"pb-prices,1\ndenominator,1\nvoter_budget,5\nvoter,project,payment\n2,x,5\n",
-        b"pb-prices,1\ndenominator,1\nvoter_budget,5\nvoter,project,payment\n1,x,5\n3,x,5\n",
+    let files: [(&[u8], &[u8]); 3] = [
+        (
+            b"META\nkey;value\nbudget;10\nvote_type;approval\nPROJECTS\nproject_id;cost;selected\nx;5;1\nc;4;0\nVOTES\nvoter_id;vote\n1;x\n2;c\n",
+            b"pb-prices,1\ndenominator,1\nvoter_budget,5\nvoter,project,payment\n1,x,5\n",
+        ),
+        (
+            b"META\nkey;value\nbudget;10\nvote_type;approval\nPROJECTS\nproject_id;cost;selected\nx;5;1\nc;4;0\nVOTES\nvoter_id;vote\n1;c\n2;x\n",
+            b"pb-prices,1\ndenominator,1\nvoter_budget,5\nvoter,project,payment\n2,x,5\n",
+        ),
+        (
+            b"META\nkey;value\nbudget;10\nvote_type;approval\nPROJECTS\nproject_id;cost;selected\nx;10;1\nc;4;0\nVOTES\nvoter_id;vote\n1;x\n2;c\n3;x\n",
+            b"pb-prices,1\ndenominator,1\nvoter_budget,5\nvoter,project,payment\n1,x,5\n3,x,5\n",
+        ),
     ];
     let expected = Verdict::Failed(Failure::C5(2));
-    for (election, certificate) in elections.iter().zip(certificates.iter()) {
+    for (election, certificate) in files {
         let (verdict, checked) = both(&rt, election, certificate, PLAIN_ALONE)?;
         assert_eq!(rt; verdict, expected);
         assert_eq!(rt; checked.verdict, expected);
@@ -253,10 +257,10 @@ fn margins_of_a_voter_over_its_budget(rt: HostRuntime) -> Result<(), Fail> {
     };
     let margins = margins(&rt, SAMPLE, OVERSPENT)?;
     assert_eq!(rt; margins.grains_per_unit, 1_000_000);
-    assert_eq!(rt; margins.projects.len(), 3);
-    for (project, expected) in margins.projects.iter().zip([park, library, pool].iter()) {
-        assert_eq!(rt; *project, *expected);
-    }
+    assert_eq!(rt;
+        margins.projects.as_slice(),
+        [park, library, pool].as_slice()
+    );
     Ok(())
 }
 
@@ -288,10 +292,7 @@ fn margins_in_thirds_are_exact(rt: HostRuntime) -> Result<(), Fail> {
     };
     let margins = margins(&rt, THIRDS, THIRDS_PRICES)?;
     assert_eq!(rt; margins.grains_per_unit, 3_000_000);
-    assert_eq!(rt; margins.projects.len(), 3);
-    for (project, expected) in margins.projects.iter().zip([x, y_or_z, y_or_z].iter()) {
-        assert_eq!(rt; *project, *expected);
-    }
+    assert_eq!(rt; margins.projects.as_slice(), [x, y_or_z, y_or_z].as_slice());
     Ok(())
 }
 
