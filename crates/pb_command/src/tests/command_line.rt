@@ -53,6 +53,18 @@ fn gives_each_task(rt: HostRuntime) -> Result<(), Fail> {
             "Both { election: \"-e.pb\", prices: \"-p.csv\", violation: \"-v.csv\", outcome: Some(\"o.csv\"), mode: Mode { stable: false, exhaustive: false, cover: false } }",
         ),
         (
+            "pbaudit explain e.pb c.csv --stable --outcome=o.csv",
+            "Explain { election: \"e.pb\", certificate: \"c.csv\", outcome: Some(\"o.csv\"), mode: Mode { stable: true, exhaustive: true, cover: false } }",
+        ),
+        (
+            "pbaudit explain --no-exhaustive --cover -- -e.pb -c.csv",
+            "Explain { election: \"-e.pb\", certificate: \"-c.csv\", outcome: None, mode: Mode { stable: false, exhaustive: false, cover: true } }",
+        ),
+        (
+            "pbaudit margins e.pb c.csv --outcome o.csv",
+            "Margins { election: \"e.pb\", certificate: \"c.csv\", outcome: Some(\"o.csv\") }",
+        ),
+        (
             "pbaudit tidy e.pb c.csv",
             "Tidy { election: \"e.pb\", certificate: \"c.csv\" }",
         ),
@@ -87,6 +99,9 @@ fn tells_help_from_usage(rt: HostRuntime) -> Result<(), Fail> {
         ("pbaudit violation e.pb v.csv --stable", "usage\n"),
         ("pbaudit both e.pb p.csv", "usage\n"),
         ("pbaudit both e.pb p.csv v.csv w.csv", "usage\n"),
+        ("pbaudit explain e.pb", "usage\n"),
+        ("pbaudit margins e.pb", "usage\n"),
+        ("pbaudit margins e.pb c.csv --stable", "usage\n"),
         ("pbaudit tidy e.pb", "usage\n"),
         ("pbaudit folder", "usage\n"),
         ("pbaudit folder one two", "usage\n"),
