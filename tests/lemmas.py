@@ -3,8 +3,9 @@
 
     tests/lemmas.py
 
-A name counts as used where another declaration of its file has it, where a file imports it, or where one has it behind
-a dot, as by the name of its module. The last line is 'N passed, M failed': one that nothing uses has failed.
+It looks at declarations at the margin. A name counts as used where another declaration of its file has it, where a file
+of proofs/ or specs/ imports it or has it behind a dot, or where a source has it. So one that shares its name with one in
+use may be missed. The last line is 'N passed, M failed': one that nothing uses has failed.
 """
 import pathlib
 import re
