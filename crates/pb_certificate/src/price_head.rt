@@ -17,7 +17,7 @@ use pb_records::Cursor;
 const MOST_DENOMINATOR: u128 = 1_000_000_000;
 
 /// The numbers that the head of a price certificate states.
-#[derive(Clone, Copy, Debug, PartialEq, Eq)]
+#[derive(Clone, Copy)]
 pub struct PriceHead {
     /// The denominator of all amounts, from 1 to 10^9.
     pub denominator: u32,

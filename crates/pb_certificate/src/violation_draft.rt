@@ -15,7 +15,7 @@ use pb_records::{Draft, Stop, cell};
 use std::alloc::{AllocError, Global};
 
 /// What the next record of a violation certificate is to be.
-#[derive(Clone, Copy, Debug, PartialEq, Eq)]
+#[derive(Clone, Copy)]
 pub enum Awaited {
     /// The record that names the format and its version.
     Format,

@@ -1,5 +1,5 @@
 -- What the words on the records before a place find in each beginning of a text is what has been read of it.
-use Rattle.std.proofs.Common.{◌≡◌, ◌∙◌, ◌++◌, List, [], ◌∷◌, refl, sym, ap, arith, Bool, true, false, Some, append_assoc, append-nil, length}
+use Rattle.std.proofs.Common.{◌≡◌, ◌∙◌, ◌++◌, List, [], ◌∷◌, refl, sym, ap, arith, Bool, true, false, Some, append_assoc, append-nil}
 use Rattle.std.specs.Prelude.{count_by, if◌then◌else◌}
 use Rattle.std.proofs.lemmas.List.{length-map}
 use Rattle.pb_records.specs.Records.{Rec}
@@ -8,24 +8,12 @@ use Rattle.pb_election.specs.declared.sections.Role.TheVariants.{First, Header, 
 use Rattle.pb_election.specs.declared.sections.Section.{Section}
 use Rattle.pb_election.specs.declared.sections.Section.TheVariants.{Meta, Projects, Votes}
 use Rattle.pb_election.specs.Markers.{is_marker, marker_of, marks, same_section}
-use Rattle.pb_election.specs.Rows.{ballot_in, ballots_in, columns_of, ids_in, vote_column}
-use Rattle.pb_election.specs.Faults.{before_of, behind_marker, first_of, header_of, rest_of, role_of, rows_of, up_to_marker}
+use Rattle.pb_election.specs.Faults.{before_of, behind_marker, first_of, rest_of, role_of, up_to_marker}
 use Rattle.pb_election.specs.Text.{IsPart, Part, part_records}
 use Rattle.pb_election.specs.Inside.SoFar.{before_next}
 use Rattle.pb_election.specs.Inside.Beginnings.{Beginning, AtStart, AfterMeta, InMeta, AfterProjects, InProjects, AfterVotes, InVotes, Good, no_part, so_far_in, so_far_of, beginning_records}
 use Rattle.pb_election.proofs.FoundParts.{behind, behind-here, found, past, up-all, up-part}
 use Rattle.pb_election.proofs.Spots.{count-append, count-behind, role-header, role-rows}
-
--- by the header and the rows of each section
-seen-by : (recs : List Rec) (role : Role) (a b c : Part) → role_of recs ≡ role → rows_of Meta recs ≡ a.rows
-    → header_of Projects recs ≡ b.header → rows_of Projects recs ≡ b.rows
-    → header_of Votes recs ≡ c.header → rows_of Votes recs ≡ c.rows
-    → before_of recs ≡ before_next (so_far_in role a b c)
-unfolding before_of
-seen-by recs role a b c r am bh bm ch cm =
-    let size : length (ballots_in (vote_column c.header) (ids_in (columns_of b.header) b.rows) c.rows) ≡ length c.rows =
-    length-map c.rows (ballot_in (vote_column c.header) (ids_in (columns_of b.header) b.rows)) in
-    rw (r, am, bh, bm, ch, cm, size) refl
 
 marks-its : (s : Section) (r : Rec) → marker_of r ≡ Some s → marks s r ≡ true
 marks-its Meta r e = rw e refl
@@ -86,9 +74,9 @@ seen-found : (recs : List Rec) (role : Role) (a b c : Part) (A B C : List Rec) �
     → found Meta recs ≡ A → found Projects recs ≡ B → found Votes recs ≡ C
     → rest_of A ≡ a.rows → first_of B ≡ b.header → rest_of B ≡ b.rows → first_of C ≡ c.header → rest_of C ≡ c.rows
     → before_of recs ≡ before_next (so_far_in role a b c)
+unfolding before_of
 seen-found recs role a b c A B C r fa fb fc am bh bm ch cm =
-    seen-by recs role a b c r (ap rest_of fa ∙ am) (ap first_of fb ∙ bh) (ap rest_of fb ∙ bm) (ap first_of fc ∙ ch)
-    (ap rest_of fc ∙ cm)
+    rw (r, fa, fb, fc, am, bh, bm, ch, cm, length-map) refl
 
 pub before-text : (x : Beginning) → Good x → before_of (beginning_records x) ≡ before_next (so_far_of x)
 before-text AtStart h =

@@ -14,7 +14,7 @@ use Rattle.pb_election.specs.declared.sections.Section.TheVariants.{Meta, Projec
 use Rattle.pb_election.specs.Names.{is_among}
 use Rattle.pb_records.specs.Cells.{is_text}
 use Rattle.pb_election.specs.Markers.{marker_of}
-use Rattle.pb_election.specs.Rows.{ballot_in, cost_in, has_key, id_in, is_approval, is_id, is_known, key_in, needed_columns, read_columns, times, value_in}
+use Rattle.pb_election.specs.Rows.{ballot_in, cost_in, has_key, id_in, is_approval, is_id, is_known, key_in, needed_columns, read_columns, occurrences, value_in}
 use Rattle.pb_election.specs.Faults.{Before, has_stood, is_no_money, lowest_fault, lowest_fault_at_end}
 use Rattle.pb_election.specs.Text.{IsHeader}
 
@@ -28,18 +28,18 @@ pub clear-header : (s : Section) (b : Before) (r : Rec) → b.role ≡ Header s 
 unfolding lowest_fault
 clear-header s b r e t m h = rw (e, t, m, needed (needed_columns s) h.needed, once (read_columns s) h.once) refl
   where
-    needed : (names : List Field) → AllByRecursion (λ name. 1 ≤ times name r) names
-        → list_any (λ name. times name r == 0) names ≡ false
+    needed : (names : List Field) → AllByRecursion (λ name. 1 ≤ occurrences name r) names
+        → list_any (λ name. occurrences name r == 0) names ≡ false
     needed [] k = refl
     needed (name ∷ names) k =
-        let z : (times name r == 0) ≡ false = search (rules, tests, k.0) in
+        let z : (occurrences name r == 0) ≡ false = search (rules, tests, k.0) in
         rw (z, needed names k.1) refl
 
-    once : (names : List Field) → AllByRecursion (λ name. times name r ≤ 1) names
-        → list_any (λ name. nat_lt 1 (times name r)) names ≡ false
+    once : (names : List Field) → AllByRecursion (λ name. occurrences name r ≤ 1) names
+        → list_any (λ name. nat_lt 1 (occurrences name r)) names ≡ false
     once [] k = refl
     once (name ∷ names) k =
-        let z : nat_lt 1 (times name r) ≡ false = search (rules, tests, k.0) in
+        let z : nat_lt 1 (occurrences name r) ≡ false = search (rules, tests, k.0) in
         rw (z, once names k.1) refl
 
 pub is-money : (text : Field) → IsMoney text → is_no_money text ≡ false

@@ -1,6 +1,6 @@
 -- A beginning and one more record, at which no fault stands.
-use Rattle.std.proofs.Common.{◌≡◌, ◌≤◌, ◌∙◌, ◌+◌, ◌++◌, ℕ, List, [], ◌∷◌, refl, sym, ap, arith, inl, inr, Bool, true, false, Option, Some, None, append_assoc, length, length-append}
-use Rattle.std.specs.Prelude.{IfSome, IsSomeAnd, IsTrue, ◌||◌, count_by, find, if◌then◌else◌, is_some, map, Result, Ok, Err}
+use Rattle.std.proofs.Common.{◌≡◌, ◌≤◌, ◌∙◌, ◌+◌, ◌++◌, ℕ, List, [], ◌∷◌, refl, sym, arith, inl, inr, Bool, true, false, Option, Some, None, append_assoc, length, length-append, zero-add}
+use Rattle.std.specs.Prelude.{IfSome, IsSomeAnd, IsTrue, ◌||◌, count_by, find, if◌then◌else◌, is_some, Result, Ok, Err}
 use Rattle.std.specs.List.{AllByRecursion, IsDistinct, list_any}
 use Rattle.std.specs.Option.{option_map, option_map_or, option_or}
 use Rattle.std.specs.Str.{bytes_eq}
@@ -10,9 +10,9 @@ use Rattle.std.proofs.lemmas.List.{length-map, map-append}
 use Rattle.std.proofs.lemmas.List.Folds.{find-append, list_any-append}
 use Rattle.std.proofs.lemmas.List.Sums.{sum_by-append}
 use Rattle.std.proofs.lemmas.Map.Keys.{IsDistinct-push}
-use Rattle.pb_money.specs.Money.{IsMoney, millionths, money_of}
+use Rattle.pb_money.specs.Money.{IsMoney, money_of}
 use Rattle.pb_money.specs.declared.MoneyFault.{MoneyFault}
-use Rattle.pb_money.proofs.Laws.{is-money}
+use Rattle.pb_money.proofs.Laws.{is-money, money-value}
 use Rattle.pb_records.specs.Records.{Field, Rec}
 use Rattle.pb_election.specs.Instance.{approvals}
 use Rattle.pb_election.specs.declared.keys.Key.{Key}
@@ -22,7 +22,7 @@ use Rattle.pb_election.specs.declared.sections.Section.TheVariants.{Meta, Projec
 use Rattle.pb_election.specs.Names.{is_among}
 use Rattle.pb_election.specs.Markers.{is_marker, marker_of, marks}
 use Rattle.pb_records.specs.Cells.{is_text}
-use Rattle.pb_election.specs.Rows.{ballot_in, ballots_in, columns_of, cost_in, costs_in, funded_in, has_key, id_in, ids_in, is_approval, is_id, is_known, key_in, others_in, says_funded, says_neither, selected_in, stated_value, value_in, vote_column}
+use Rattle.pb_election.specs.Rows.{ballot_in, ballots_in, columns_of, cost_in, has_key, id_in, ids_in, is_approval, is_id, is_known, key_in, stated_value, value_in, vote_column}
 use Rattle.pb_election.specs.Faults.{has_stood, is_no_money, keys_in, lowest_fault}
 use Rattle.pb_election.specs.Text.{EachKeyOnce, IsPart, Part, part_records}
 use Rattle.pb_election.specs.Inside.SoFar.{before_next, next}
@@ -54,36 +54,24 @@ text-extend (InMeta a) r = by (is_marker r)
         ≡ part_records a ++ (r ∷ [])
     by true = refl
     by false = refl
-text-extend (AfterProjects a m) r = sym (append_assoc (part_records a) (m ∷ []) (r ∷ []))
+text-extend (AfterProjects a m) r = simp append_assoc
 text-extend (InProjects a b) r = by (is_marker r)
   where
     by : (t : Bool) → beginning_records (if t then AfterVotes a b r else InProjects a (more b r))
         ≡ (part_records a ++ part_records b) ++ (r ∷ [])
-    by true = sym (append_assoc (part_records a) (part_records b) (r ∷ []))
-    by false = sym (append_assoc (part_records a) (part_records b) (r ∷ []))
-text-extend (AfterVotes a b m) r =
-    sym
-    (append_assoc (part_records a) (part_records b ++ (m ∷ [])) (r ∷ [])
-    ∙ ap (λ l. part_records a ++ l) (append_assoc (part_records b) (m ∷ []) (r ∷ [])))
-text-extend (InVotes a b c) r =
-    sym
-    (append_assoc (part_records a) (part_records b ++ part_records c) (r ∷ [])
-    ∙ ap (λ l. part_records a ++ l) (append_assoc (part_records b) (part_records c) (r ∷ [])))
+    by true = simp append_assoc
+    by false = simp append_assoc
+text-extend (AfterVotes a b m) r = simp append_assoc
+text-extend (InVotes a b c) r = simp append_assoc
 
 marks-section : (s : Section) (r : Rec) → marks s r ≡ true → marker_of r ≡ Some s
 marks-section s r h = by (marker_of r) s refl h
   where
     by : (o : Option Section) (s : Section) → marker_of r ≡ o → marks s r ≡ true → marker_of r ≡ Some s
-    by None s e h = cc (rw e at h)
     by (Some Meta) Meta e h = e
-    by (Some Meta) Projects e h = cc (rw e at h)
-    by (Some Meta) Votes e h = cc (rw e at h)
-    by (Some Projects) Meta e h = cc (rw e at h)
     by (Some Projects) Projects e h = e
-    by (Some Projects) Votes e h = cc (rw e at h)
-    by (Some Votes) Meta e h = cc (rw e at h)
-    by (Some Votes) Projects e h = cc (rw e at h)
     by (Some Votes) Votes e h = e
+    by _ _ e h = cc (rw e at h)
 
 no-marker : (r : Rec) → is_marker r ≡ false → marker_of r ≡ None
 no-marker r h = by (marker_of r) refl h
@@ -121,10 +109,7 @@ any-new p xs r e = list_any-append p xs (r ∷ []) ∙ rw e (or-yes (list_any p 
 
 stated_value-other : (key : Key) (xs : List Rec) (r : Rec) → has_key key r ≡ false
     → stated_value key (xs ++ (r ∷ [])) ≡ stated_value key xs
-stated_value-other key xs r e =
-    let found : find (has_key key) (xs ++ (r ∷ [])) ≡ find (has_key key) xs =
-    find-append (has_key key) xs (r ∷ []) ∙ rw e (or-none (find (has_key key) xs)) in
-    ap (option_map value_in) found
+stated_value-other key xs r e = simp (find-append, e, or-none)
   where
     or-none : (o : Option Rec) → option_or o None ≡ o
     or-none None = refl
@@ -132,10 +117,7 @@ stated_value-other key xs r e =
 
 stated_value-new : (key : Key) (xs : List Rec) (r : Rec) → list_any (has_key key) xs ≡ false → has_key key r ≡ true
     → stated_value key (xs ++ (r ∷ [])) ≡ Some (value_in r)
-stated_value-new key xs r none e =
-    let found : find (has_key key) (xs ++ (r ∷ [])) ≡ Some r =
-    find-append (has_key key) xs (r ∷ []) ∙ rw (none-found (has_key key) xs none, e) refl in
-    ap (option_map value_in) found
+stated_value-new key xs r none e = simp (find-append, none-found, e)
 
 count-push : (p : Rec → Bool) (xs : List Rec) (r : Rec) → count_by p xs ≤ 1 → (p r ≡ true → list_any p xs ≡ false)
     → count_by p (xs ++ (r ∷ [])) ≤ 1
@@ -156,26 +138,11 @@ count-push p xs r h new =
         rw o.0 (none-count ys o.1)
 
 has-it : (r : Rec) (key : Key) (o : Option Key) → key_in r ≡ o → has_key key r ≡ true → o ≡ Some key
-has-it r Budget None e h = cc (rw e at h)
-has-it r VoteType None e h = cc (rw e at h)
-has-it r NumProjects None e h = cc (rw e at h)
-has-it r NumVotes None e h = cc (rw e at h)
 has-it r Budget (Some Budget) e h = refl
-has-it r Budget (Some VoteType) e h = cc (rw e at h)
-has-it r Budget (Some NumProjects) e h = cc (rw e at h)
-has-it r Budget (Some NumVotes) e h = cc (rw e at h)
-has-it r VoteType (Some Budget) e h = cc (rw e at h)
 has-it r VoteType (Some VoteType) e h = refl
-has-it r VoteType (Some NumProjects) e h = cc (rw e at h)
-has-it r VoteType (Some NumVotes) e h = cc (rw e at h)
-has-it r NumProjects (Some Budget) e h = cc (rw e at h)
-has-it r NumProjects (Some VoteType) e h = cc (rw e at h)
 has-it r NumProjects (Some NumProjects) e h = refl
-has-it r NumProjects (Some NumVotes) e h = cc (rw e at h)
-has-it r NumVotes (Some Budget) e h = cc (rw e at h)
-has-it r NumVotes (Some VoteType) e h = cc (rw e at h)
-has-it r NumVotes (Some NumProjects) e h = cc (rw e at h)
 has-it r NumVotes (Some NumVotes) e h = refl
+has-it r _ _ e h = cc (rw e at h)
 
 -- a key that did not stand before
 new-key : (xs : List Rec) (r : Rec) (key : Key) → option_map_or (has_stood (keys_in xs)) (key_in r) false ≡ false
@@ -206,7 +173,7 @@ money-is text h = by (money_of text) refl
     by (Err f) e = cc (rw e at h)
     by (Ok v) e =
         let m = is-money text v e in
-        rw m.value at m
+        rw (money-value text v m) at m
 
 good-meta : (a : Part) (r : Rec) → GoodMeta a → marker_of r ≡ None
     → option_map_or (has_stood (keys_in a.rows)) (key_in r) false ≡ false
@@ -224,86 +191,11 @@ good-meta a r h m new type money =
 next-meta : (a : Part) (r : Rec) (o : Option Key) → key_in r ≡ o → is_marker r ≡ false
     → option_map_or (has_stood (keys_in a.rows)) o false ≡ false
     → next (so_far_of (InMeta a)) r ≡ so_far_of (InMeta (more a r))
-next-meta a r None e m new =
-    let no : (key : Key) → has_key key r ≡ false = λ key. rw e refl in
-    rw (
-      m,
-      e,
-      any-other (has_key Budget) a.rows r (no Budget),
-      any-other (has_key VoteType) a.rows r (no VoteType),
-      any-other (has_key NumProjects) a.rows r (no NumProjects),
-      any-other (has_key NumVotes) a.rows r (no NumVotes),
-      stated_value-other Budget a.rows r (no Budget),
-      stated_value-other NumProjects a.rows r (no NumProjects),
-      stated_value-other NumVotes a.rows r (no NumVotes),
-    ) refl
-next-meta a r (Some Budget) e m new =
-    let is : has_key Budget r ≡ true = rw e refl in
-    let b : has_key VoteType r ≡ false = rw e refl in
-    let c : has_key NumProjects r ≡ false = rw e refl in
-    let d : has_key NumVotes r ≡ false = rw e refl in
-    let none : list_any (has_key Budget) a.rows ≡ false = new in
-    rw (
-      m,
-      e,
-      any-new (has_key Budget) a.rows r is,
-      any-other (has_key VoteType) a.rows r b,
-      any-other (has_key NumProjects) a.rows r c,
-      any-other (has_key NumVotes) a.rows r d,
-      stated_value-new Budget a.rows r none is,
-      stated_value-other NumProjects a.rows r c,
-      stated_value-other NumVotes a.rows r d,
-    ) refl
-next-meta a r (Some VoteType) e m new =
-    let b : has_key Budget r ≡ false = rw e refl in
-    let is : has_key VoteType r ≡ true = rw e refl in
-    let c : has_key NumProjects r ≡ false = rw e refl in
-    let d : has_key NumVotes r ≡ false = rw e refl in
-    rw (
-      m,
-      e,
-      any-other (has_key Budget) a.rows r b,
-      any-new (has_key VoteType) a.rows r is,
-      any-other (has_key NumProjects) a.rows r c,
-      any-other (has_key NumVotes) a.rows r d,
-      stated_value-other Budget a.rows r b,
-      stated_value-other NumProjects a.rows r c,
-      stated_value-other NumVotes a.rows r d,
-    ) refl
-next-meta a r (Some NumProjects) e m new =
-    let b : has_key Budget r ≡ false = rw e refl in
-    let c : has_key VoteType r ≡ false = rw e refl in
-    let is : has_key NumProjects r ≡ true = rw e refl in
-    let d : has_key NumVotes r ≡ false = rw e refl in
-    let none : list_any (has_key NumProjects) a.rows ≡ false = new in
-    rw (
-      m,
-      e,
-      any-other (has_key Budget) a.rows r b,
-      any-other (has_key VoteType) a.rows r c,
-      any-new (has_key NumProjects) a.rows r is,
-      any-other (has_key NumVotes) a.rows r d,
-      stated_value-other Budget a.rows r b,
-      stated_value-new NumProjects a.rows r none is,
-      stated_value-other NumVotes a.rows r d,
-    ) refl
-next-meta a r (Some NumVotes) e m new =
-    let b : has_key Budget r ≡ false = rw e refl in
-    let c : has_key VoteType r ≡ false = rw e refl in
-    let d : has_key NumProjects r ≡ false = rw e refl in
-    let is : has_key NumVotes r ≡ true = rw e refl in
-    let none : list_any (has_key NumVotes) a.rows ≡ false = new in
-    rw (
-      m,
-      e,
-      any-other (has_key Budget) a.rows r b,
-      any-other (has_key VoteType) a.rows r c,
-      any-other (has_key NumProjects) a.rows r d,
-      any-new (has_key NumVotes) a.rows r is,
-      stated_value-other Budget a.rows r b,
-      stated_value-other NumProjects a.rows r d,
-      stated_value-new NumVotes a.rows r none is,
-    ) refl
+next-meta a r None e m new = simp (m, e, any-other, stated_value-other)
+next-meta a r (Some Budget) e m new = simp (m, e, any-other, any-new, stated_value-other, stated_value-new)
+next-meta a r (Some VoteType) e m new = simp (m, e, any-other, any-new, stated_value-other)
+next-meta a r (Some NumProjects) e m new = simp (m, e, any-other, any-new, stated_value-other, stated_value-new)
+next-meta a r (Some NumVotes) e m new = simp (m, e, any-other, any-new, stated_value-other, stated_value-new)
 
 -- META with a budget and the vote type is whole
 some-stated : (key : Key) (P : Field → Type 0) (xs : List Rec) → IfSome (stated_value key xs) P
@@ -342,8 +234,6 @@ good-projects : (b : Part) (r : Rec) → GoodProjects b → marker_of r ≡ None
     → length (ids_in (columns_of b.header) b.rows) + 1 ≤ 20000 → GoodProjects (more b r)
 good-projects b r h m id money new few =
     let columns = columns_of b.header in
-    let ids : ids_in columns (b.rows ++ (r ∷ [])) ≡ ids_in columns b.rows ++ (id_in columns r ∷ []) =
-    map-append (id_in columns) b.rows (r ∷ []) in
     record {
       part = part-more Projects b r h.part m;
       header = h.header;
@@ -352,40 +242,20 @@ good-projects b r h m id money new few =
         costs = all-push (λ row. IsMoney (cost_in columns row)) b.rows r h.rows.costs
             (money-is (cost_in columns r) money);
         distinct =
-            rw ids (IsDistinct-push nat_list_eq_equiv (ids_in columns b.rows) (id_in columns r) h.rows.distinct new);
+            simp map-append
+            (IsDistinct-push nat_list_eq_equiv (ids_in columns b.rows) (id_in columns r) h.rows.distinct new);
         few = omega (arith, length-append b.rows (r ∷ []), length-map b.rows (id_in columns), few);
       };
     }
 
 next-project : (a b : Part) (r : Rec) → is_marker r ≡ false
     → next (so_far_of (InProjects a b)) r ≡ so_far_of (InProjects a (more b r))
-next-project a b r m =
-    let columns = columns_of b.header in
-    let ids : ids_in columns (b.rows ++ (r ∷ [])) ≡ ids_in columns b.rows ++ (id_in columns r ∷ []) =
-    map-append (id_in columns) b.rows (r ∷ []) in
-    let costs : costs_in columns (b.rows ++ (r ∷ []))
-    ≡ costs_in columns b.rows ++ (millionths (cost_in columns r) ∷ []) =
-    map-append (λ row. millionths (cost_in columns row)) b.rows (r ∷ []) in
-    let marks : map (λ row. says_funded (selected_in columns row)) (b.rows ++ (r ∷ []))
-    ≡ map (λ row. says_funded (selected_in columns row)) b.rows ++ (says_funded (selected_in columns r) ∷ []) =
-    map-append (λ row. says_funded (selected_in columns row)) b.rows (r ∷ []) in
-    let funded : funded_in columns (b.rows ++ (r ∷ []))
-    ≡ option_map (λ ms. ms ++ (says_funded (selected_in columns r) ∷ [])) (funded_in columns b.rows) =
-    fund (is_some columns.selected) _ _ _ marks in
-    let others : others_in columns (b.rows ++ (r ∷ []))
-    ≡ others_in columns b.rows + (if says_neither columns r then 1 else 0) =
-    count-append (says_neither columns) b.rows (r ∷ [])
-    ∙ ap (λ n. others_in columns b.rows + n) (one (says_neither columns r)) in
-    rw (m, ids, costs, funded, others) refl
+next-project a b r m = simp (m, map-append, fund, count-append, zero-add)
   where
-    fund : (b : Bool) (xs ys : List Bool) (y : Bool) → ys ≡ xs ++ (y ∷ [])
-        → (if b then Some ys else None) ≡ option_map (λ ms. ms ++ (y ∷ [])) (if b then Some xs else None)
-    fund true xs ys y e = ap Some e
-    fund false xs ys y e = refl
-
-    one : (b : Bool) → 0 + (if b then 1 else 0) ≡ (if b then 1 else 0)
-    one true = refl
-    one false = refl
+    fund : (b : Bool) (xs : List Bool) (y : Bool)
+        → (if b then Some (xs ++ (y ∷ [])) else None) ≡ option_map (λ ms. ms ++ (y ∷ [])) (if b then Some xs else None)
+    fund true xs y = refl
+    fund false xs y = refl
 
 -- One more row of VOTES.
 
@@ -398,26 +268,18 @@ good-votes : (b c : Part) (r : Rec) → GoodVotes b c → marker_of r ≡ None
 good-votes b c r h m known few sizes =
     let ids = ids_in (columns_of b.header) b.rows in
     let vote = vote_column c.header in
-    let split : ballots_in vote ids (c.rows ++ (r ∷ [])) ≡ ballots_in vote ids c.rows ++ (ballot_in vote ids r ∷ []) =
-    map-append (ballot_in vote ids) c.rows (r ∷ []) in
-    let total = sum_by-append length (ballots_in vote ids c.rows) (ballot_in vote ids r ∷ []) in
     record {
       part = part-more Votes c r h.part m;
       header = h.header;
       rows = record {
         known = all-push (λ row. IsTrue (is_known vote ids row)) c.rows r h.rows.known known;
         few = omega (arith, length-append c.rows (r ∷ []), length-map c.rows (ballot_in vote ids), few);
-        few_approvals = rw split (omega (arith, total, sizes));
+        few_approvals = simp (map-append, sum_by-append) (omega (arith, sizes));
       };
     }
 
 next-vote : (a b c : Part) (r : Rec) → next (so_far_of (InVotes a b c)) r ≡ so_far_of (InVotes a b (more c r))
-next-vote a b c r =
-    let ids = ids_in (columns_of b.header) b.rows in
-    let vote = vote_column c.header in
-    let split : ballots_in vote ids (c.rows ++ (r ∷ [])) ≡ ballots_in vote ids c.rows ++ (ballot_in vote ids r ∷ []) =
-    map-append (ballot_in vote ids) c.rows (r ∷ []) in
-    rw split refl
+next-vote a b c r = simp map-append
 
 -- One more record.
 

@@ -1,5 +1,5 @@
 -- What has been read of some records, none of them blank and none of them at fault.
-use Rattle.std.proofs.Common.{◌≡◌, ◌≤◌, ◌<◌, ◌∙◌, ◌++◌, ℕ, suc, List, [], ◌∷◌, refl, sym, ap, arith, inl, inr, true, false, Option, Some, None, append_assoc, append-nil, length, length-append, subst, take}
+use Rattle.std.proofs.Common.{◌≡◌, ◌≤◌, ◌<◌, ◌∙◌, ◌++◌, ℕ, suc, List, [], ◌∷◌, refl, sym, ap, arith, inl, inr, true, false, Option, Some, None, append_assoc, append-nil, length, length-append, take}
 use Rattle.std.proofs.lemmas.Bool.Decides.{nat_tests}
 use Rattle.std.specs.Prelude.{IfErr, IsTrue, OnOk, ◌==◌, ◌⊎◌, not, slice_get, Result, Ok, Err}
 use Rattle.std.specs.List.{AllByRecursion}
@@ -19,12 +19,12 @@ use Rattle.pb_records.specs.Cells.{is_blank, is_text, nonblank}
 use Rattle.pb_records.specs.FirstFault.{NoFault, fault_after, fault_at}
 use Rattle.pb_election.specs.Faults.{PbFault, before_of, election_form, lowest_fault, lowest_fault_at_end}
 use Rattle.pb_election.specs.Text.{PbText}
-use Rattle.pb_election.specs.Inside.SoFar.{SoFar, Steps, before_next, election_of, next, nothing, step, step_by}
+use Rattle.pb_election.specs.Inside.SoFar.{SoFar, Steps, before_next, next}
 use Rattle.pb_election.specs.Inside.Beginnings.{Beginning, AtStart, AfterMeta, InMeta, AfterProjects, InProjects, AfterVotes, InVotes, Good, HasRead, so_far_of, beginning_records}
 use Rattle.pb_election.proofs.BeginningLemmas.{before-text}
 use Rattle.pb_election.proofs.Extends.{all-push, extend, extends, text-extend}
 
-unfoldable pub read-nothing : HasRead nothing []
+unfoldable pub read-nothing : HasRead (so_far_of AtStart) []
 read-nothing = record { beginning = AtStart; good = tt; same = refl; records = refl; text = tt }
 
 before_of-next : (s : SoFar) (recs : List Rec) → HasRead s recs → before_of recs ≡ before_next s
@@ -54,42 +54,20 @@ read-next s recs r h l =
       text = all-push (λ r. IsTrue (is_text r)) recs r h.text t.text;
     }
 
--- What a step says of the faults.
-
-pub step-ok : (s t : SoFar) (r : Rec) → step s r ≡ Ok t → (lowest_fault (before_next s) r ≡ None) × (t ≡ next s r)
-unfolding step
-step-ok s t r e = by (lowest_fault (before_next s) r) refl e
-  where
-    by : (o : Option ElectionFault) → lowest_fault (before_next s) r ≡ o → step_by o s r ≡ Ok t
-        → (lowest_fault (before_next s) r ≡ None) × (t ≡ next s r)
-    by None l h = (l, cc h)
-    by (Some f) l h = cc h
-
-pub step-err : (s : SoFar) (r : Rec) (f : ElectionFault) → step s r ≡ Err f → lowest_fault (before_next s) r ≡ Some f
-unfolding step
-step-err s r f e = by (lowest_fault (before_next s) r) refl e
-  where
-    by : (o : Option ElectionFault) → lowest_fault (before_next s) r ≡ o → step_by o s r ≡ Err f
-        → lowest_fault (before_next s) r ≡ Some f
-    by None l h = cc h
-    by (Some g) l h =
-        let e : g ≡ f = cc h in
-        l ∙ ap Some e
-
 -- The end.
 
 -- records at whose end no fault stands are the text of an election
-whole : (s : SoFar) (recs left : List Rec) (x : Beginning) → Good x → s ≡ so_far_of x
-    → nonblank recs ≡ beginning_records x → AllByRecursion (λ r. IsTrue (is_text r)) (nonblank recs)
-    → lowest_fault_at_end (before_next (so_far_of x)) ≡ None → PbText recs (election_of s)
+whole : (recs : List Rec) (x : Beginning) → Good x → nonblank recs ≡ beginning_records x
+    → AllByRecursion (λ r. IsTrue (is_text r)) (nonblank recs)
+    → lowest_fault_at_end (before_next (so_far_of x)) ≡ None → PbText recs (so_far_of x).election
 unfolding lowest_fault_at_end
-whole s recs left AtStart h e t x n = cc n
-whole s recs left (AfterMeta r) h e t x n = cc n
-whole s recs left (InMeta a) h e t x n = cc n
-whole s recs left (AfterProjects a r) h e t x n = cc n
-whole s recs left (InProjects a b) h e t x n = cc n
-whole s recs left (AfterVotes a b r) h e t x n = cc n
-whole s recs left (InVotes a b c) h e t x n =
+whole recs AtStart h t x n = cc n
+whole recs (AfterMeta r) h t x n = cc n
+whole recs (InMeta a) h t x n = cc n
+whole recs (AfterProjects a r) h t x n = cc n
+whole recs (InProjects a b) h t x n = cc n
+whole recs (AfterVotes a b r) h t x n = cc n
+whole recs (InVotes a b c) h t x n =
     record {
       meta = a;
       projects = b;
@@ -104,14 +82,13 @@ whole s recs left (InVotes a b c) h e t x n =
       meta_rows = h.0.rows;
       project_rows = h.1.rows;
       vote_rows = h.2.rows;
-      states = ap election_of e;
+      states = refl;
     }
 
 pub text-of-all : (s : SoFar) (recs : List Rec) → HasRead s (nonblank recs) → lowest_fault_at_end (before_next s) ≡ None
-    → PbText recs (election_of s)
+    → PbText recs s.election
 text-of-all s recs h n =
-    whole s recs [] h.beginning h.good h.same h.records h.text
-    (ap (λ x. lowest_fault_at_end (before_next x)) (sym h.same) ∙ n)
+    rw h.same (whole recs h.beginning h.good h.records h.text (rw h.same at n))
 
 -- Each list of records is the text of an election, or has a first fault.
 
@@ -153,7 +130,7 @@ answered-from recs taken [] s e h n = by (lowest_fault_at_end (before_next s)) r
   where
     by : (o : Option ElectionFault) → lowest_fault_at_end (before_next s) ≡ o → Answer recs
     by None l = let all : taken ≡ recs = sym (e ∙ append-nil taken) in
-        inl (election_of s, text-of-all s recs (rw all at h) l)
+        inl (s.election, text-of-all s recs (rw all at h) l)
     by (Some f) l =
         let all : recs ≡ taken = e ∙ append-nil taken in
         let here : fault_at election_form taken (suc (length taken)) ≡ Some f =
@@ -196,33 +173,23 @@ answered-from recs taken (r ∷ rest) s e h n =
         at-fault recs (length taken) f (rw e (omega (arith, length-append taken (r ∷ rest)))) n here
 
 pub answered : (recs : List Rec) → Answer recs
-answered recs = answered-from recs [] recs nothing refl read-nothing first
+answered recs = answered-from recs [] recs (so_far_of AtStart) refl read-nothing first
   where
     first : UpTo recs (suc 0)
     first = λ k l. let z : k ≡ 0 = omega arith in rw z refl
 
 -- What the calls that take records answer.
 
-takes : (s t : SoFar) (r : Rec) → step s r ≡ Ok t → Takes election_form (HasRead s) (HasRead t) r
-takes s t r e =
-    let k = step-ok s t r e in
-    λ before h. (
-      fault-next s before r h ∙ k.0,
-      subst (λ (x : SoFar). HasRead x (before ++ (r ∷ []))) (sym k.1) (read-next s before r h k.0),
-    )
-
-stops : (s : SoFar) (r : Rec) (f : ElectionFault) → step s r ≡ Err f → StopsAt election_form (HasRead s) r (Fault f)
-stops s r f e = λ before h. fault-next s before r h ∙ step-err s r f e
-
 pub taken : {T : Type 0} (answer : Result T (Stop ElectionFault)) (s t : SoFar) (r : Rec) → Steps answer s t r
     → OnOk answer (Takes election_form (HasRead s) (HasRead t) r)
-taken (Ok x) s t r e = takes s t r e
+taken (Ok x) s t r e =
+    λ before h. (fault-next s before r h ∙ e.0, rw e.1 (read-next s before r h e.0))
 taken (Err f) s t r e = tt
 
 pub stopped : {T : Type 0} (answer : Result T (Stop ElectionFault)) (s t : SoFar) (r : Rec) → Steps answer s t r
     → IfErr answer (λ stop. StopsAt election_form (HasRead s) r stop)
 stopped (Ok x) s t r e = tt
-stopped (Err (Fault f)) s t r e = stops s r f e
+stopped (Err (Fault f)) s t r e = λ before h. fault-next s before r h ∙ e
 stopped (Err Memory) s t r e = tt
 
 pub not-text : (before : List Rec) (r : Rec) → is_text r ≡ false → election_form before (Some r) ≡ Some NotUtf8
@@ -231,6 +198,6 @@ not-text before r e = rw e refl
 
 -- records without a fault, all of which were read, are the text of the election that was read
 pub finished : (s : SoFar) (recs : List Rec) → HasRead s (nonblank recs) → NoFault election_form recs
-    → PbText recs (election_of s)
+    → PbText recs s.election
 finished s recs h none =
     text-of-all s recs h (sym (fault-end s (nonblank recs) h) ∙ sym (fault-last recs) ∙ none (suc (length recs)))

@@ -15,7 +15,7 @@ use Rattle.pb_election.specs.declared.columns.Columns.{Columns}
 use Rattle.pb_election.specs.declared.keys.Key.TheVariants.{Budget}
 use Rattle.pb_records.specs.Cells.{clean, is_text}
 use Rattle.pb_election.specs.Names.{is_among}
-use Rattle.pb_election.specs.Rows.{ballot_in, ballots_in, columns_of, cost_in, costs_in, funded_in, id_in, ids_in, is_id, names_in, positions_of, says_funded, says_neither, selected_in, stated_value, under, vote_column}
+use Rattle.pb_election.specs.Rows.{ballot_in, ballots_in, columns_of, cost_in, costs_in, funded_in, id_in, ids_in, is_id, names_in, positions_of, says_funded, says_neither, selected_in, stated_value, field_in, vote_column}
 use Rattle.pb_election.specs.Text.{IsElection, IsId, PbText, part_records}
 use Rattle.pb_records.proofs.Cleaning.{clean-clean, is_utf8-clean}
 
@@ -48,7 +48,7 @@ ballot-set names ids = positions-set (λ p. is_among names p.1) 1 (length ids) i
 ballots-sets : (column : Option ℕ) (ids : List Field) (rows : List Rec)
     → AllByRecursion (IsSet 1 (length ids)) (ballots_in column ids rows)
 ballots-sets column ids [] = tt
-ballots-sets column ids (r ∷ rs) = (ballot-set (names_in (under column r)) ids, ballots-sets column ids rs)
+ballots-sets column ids (r ∷ rs) = (ballot-set (names_in (field_in column r)) ids, ballots-sets column ids rs)
 
 -- Ids.
 
@@ -70,9 +70,9 @@ field-text [] i h = utf8-nil
 field-text (f ∷ fs) zero h = (and-true (is_utf8 f) (list_all is_utf8 fs) h).0
 field-text (f ∷ fs) (suc i) h = field-text fs i (and-true (is_utf8 f) (list_all is_utf8 fs) h).1
 
-under-id : (o : Option ℕ) (r : Rec) → is_text r ≡ true → IsTrue (is_id (under o r)) → IsId (under o r)
-under-id None r t h = record { text = utf8-nil; clean = clean-nil; bytes = h }
-under-id (Some i) r t h =
+field_in-id : (o : Option ℕ) (r : Rec) → is_text r ≡ true → IsTrue (is_id (field_in o r)) → IsId (field_in o r)
+field_in-id None r t h = record { text = utf8-nil; clean = clean-nil; bytes = h }
+field_in-id (Some i) r t h =
     record {
       text = is_utf8-clean (unwrap_or (field_at r i) []) (field-text r i t);
       clean = clean-clean (unwrap_or (field_at r i) []);
@@ -82,7 +82,7 @@ under-id (Some i) r t h =
 ids-are : (columns : Columns) (rows : List Rec) → AllByRecursion (λ r. IsTrue (is_text r)) rows
     → AllByRecursion (λ row. IsTrue (is_id (id_in columns row))) rows → AllByRecursion IsId (ids_in columns rows)
 ids-are columns [] t h = tt
-ids-are columns (r ∷ rs) t h = (under-id columns.id r t.0 h.0, ids-are columns rs t.1 h.1)
+ids-are columns (r ∷ rs) t h = (field_in-id columns.id r t.0 h.0, ids-are columns rs t.1 h.1)
 
 -- Costs, marks and counts.
 

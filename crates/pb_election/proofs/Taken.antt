@@ -14,7 +14,7 @@ use Rattle.pb_election.specs.Markers.{is_marker, marks}
 use Rattle.pb_records.specs.Cells.{is_text}
 use Rattle.pb_election.specs.declared.refusal.ElectionFault.TheVariants as fault
 use Rattle.pb_election.specs.declared.keys.Key.TheVariants.{Budget, VoteType}
-use Rattle.pb_election.specs.Rows.{ballot_in, cost_in, has_key, id_in, is_approval, is_id, is_known, key_in, needed_columns, read_columns, times, value_in}
+use Rattle.pb_election.specs.Rows.{ballot_in, cost_in, has_key, id_in, is_approval, is_id, is_known, key_in, needed_columns, read_columns, occurrences, value_in}
 use Rattle.pb_election.specs.Instance.{most_approvals, most_projects, most_voters}
 use Rattle.pb_election.specs.Faults.{Before, has_stood, in_order, is_no_money, lowest_fault, stands}
 use Rattle.pb_election.specs.Text.{IsHeader}
@@ -87,25 +87,25 @@ pub taken-header : (s : Section) (b : Before) (r : Rec) → b.role ≡ Header s 
     → (is_text r ≡ true) × (is_marker r ≡ false) × IsHeader s r
 taken-header s b r e h =
     let n = none b r h in
-    let misses : list_any (λ name. times name r == 0) (needed_columns s) ≡ false = rw e at n.missing_column in
-    let repeats : list_any (λ name. nat_lt 1 (times name r)) (read_columns s) ≡ false = rw e at n.repeated_column in (
+    let misses : list_any (λ name. occurrences name r == 0) (needed_columns s) ≡ false = rw e at n.missing_column in
+    let repeats : list_any (λ name. nat_lt 1 (occurrences name r)) (read_columns s) ≡ false = rw e at n.repeated_column in (
       not-false (is_text r) n.text,
       rw e at n.no_header,
       record { needed = needed (needed_columns s) misses; once = once (read_columns s) repeats },
     )
   where
-    needed : (names : List Field) → list_any (λ name. times name r == 0) names ≡ false
-        → AllByRecursion (λ name. 1 ≤ times name r) names
+    needed : (names : List Field) → list_any (λ name. occurrences name r == 0) names ≡ false
+        → AllByRecursion (λ name. 1 ≤ occurrences name r) names
     needed [] k = tt
     needed (name ∷ names) k =
-        let o = or-false (times name r == 0) (list_any (λ name. times name r == 0) names) k in
+        let o = or-false (occurrences name r == 0) (list_any (λ name. occurrences name r == 0) names) k in
         (search (rules, tests, o.0), needed names o.1)
 
-    once : (names : List Field) → list_any (λ name. nat_lt 1 (times name r)) names ≡ false
-        → AllByRecursion (λ name. times name r ≤ 1) names
+    once : (names : List Field) → list_any (λ name. nat_lt 1 (occurrences name r)) names ≡ false
+        → AllByRecursion (λ name. occurrences name r ≤ 1) names
     once [] k = tt
     once (name ∷ names) k =
-        let o = or-false (nat_lt 1 (times name r)) (list_any (λ name. nat_lt 1 (times name r)) names) k in
+        let o = or-false (nat_lt 1 (occurrences name r)) (list_any (λ name. nat_lt 1 (occurrences name r)) names) k in
         (search (rules, tests, o.0), once names o.1)
 
 and-left : (a b : Bool) → (a && b) ≡ true → a ≡ true

@@ -10,7 +10,7 @@ use Rattle.pb_election.specs.Names.{is_among}
 use Rattle.pb_election.specs.Markers.{is_marker, marks, same_section}
 use Rattle.pb_records.specs.Cells.{is_text}
 use Rattle.pb_records.specs.FirstFault.{Form, IsFirstFault}
-use Rattle.pb_election.specs.Rows.{ballot_in, ballots_in, columns_of, cost_in, has_key, id_in, ids_in, is_approval, is_id, is_known, key_in, needed_columns, read_columns, times, value_in, vote_column}
+use Rattle.pb_election.specs.Rows.{ballot_in, ballots_in, columns_of, cost_in, has_key, id_in, ids_in, is_approval, is_id, is_known, key_in, needed_columns, read_columns, occurrences, value_in, vote_column}
 use Rattle.pb_election.specs.declared.refusal.ElectionFault.{ElectionFault}
 use Rattle.pb_election.specs.declared.refusal.ElectionFault.TheVariants as fault
 use Rattle.pb_election.specs.declared.refusal.Refusal.{Refusal}
@@ -142,12 +142,12 @@ is_no_money text = not (is_ok (money_of text))
 -- comes before)
 abbrev pub misses_column : Role → Rec → Bool
 misses_column First r = false
-misses_column (Header s) r = list_any (λ name. times name r == 0) (needed_columns s)
+misses_column (Header s) r = list_any (λ name. occurrences name r == 0) (needed_columns s)
 misses_column (Inside s) r = false
 
 abbrev pub repeats_column : Role → Rec → Bool
 repeats_column First r = false
-repeats_column (Header s) r = list_any (λ name. nat_lt 1 (times name r)) (read_columns s)
+repeats_column (Header s) r = list_any (λ name. nat_lt 1 (occurrences name r)) (read_columns s)
 repeats_column (Inside s) r = false
 
 -- the row of a project too many, of a voter too many, or with which the approvals are too many

@@ -84,17 +84,17 @@ read_columns Projects = codes "project_id" ∷ codes "cost" ∷ codes "selected"
 read_columns Votes = codes "vote" ∷ []
 
 -- how many columns have a name
-abbrev pub times : Field → Rec → ℕ
-times name header = count_by (is_named name) header
+abbrev pub occurrences : Field → Rec → ℕ
+occurrences name header = count_by (is_named name) header
 
 -- the place of the column of a name
 abbrev pub column_named : Field → Rec → Option ℕ
 column_named name header = position_from (is_named name) 0 header
 
 -- the field of a row in a column, empty where the row is too short
-abbrev pub under : Option ℕ → Rec → Field
-under None row = []
-under (Some i) row = cell i row
+abbrev pub field_in : Option ℕ → Rec → Field
+field_in None row = []
+field_in (Some i) row = cell i row
 
 -- PROJECTS
 
@@ -108,13 +108,13 @@ columns_of header =
     }
 
 abbrev pub id_in : Columns → Rec → Field
-id_in columns row = under columns.id row
+id_in columns row = field_in columns.id row
 
 abbrev pub cost_in : Columns → Rec → Field
-cost_in columns row = under columns.cost row
+cost_in columns row = field_in columns.cost row
 
 abbrev pub selected_in : Columns → Rec → Field
-selected_in columns row = under columns.selected row
+selected_in columns row = field_in columns.selected row
 
 -- an id is not empty, and has no byte below 32 and no byte 127
 abbrev pub is_control : ℕ → Bool
@@ -165,11 +165,11 @@ positions_of names ids = map (λ p. p.0) (filter (λ p. is_among names p.1) (enu
 
 -- the ballot of a row: the set of the projects that its vote names
 abbrev pub ballot_in : Option ℕ → List Field → Rec → List ℕ
-ballot_in column ids row = positions_of (names_in (under column row)) ids
+ballot_in column ids row = positions_of (names_in (field_in column row)) ids
 
 abbrev pub ballots_in : Option ℕ → List Field → List Rec → List (List ℕ)
 ballots_in column ids rows = map (ballot_in column ids) rows
 
 -- whether each piece of a row's vote is the id of a project
 unfoldable pub is_known : Option ℕ → List Field → Rec → Bool
-is_known column ids row = list_all (is_among ids) (names_in (under column row))
+is_known column ids row = list_all (is_among ids) (names_in (field_in column row))

@@ -9,7 +9,7 @@ use Rattle.pb_records.specs.Records.{Field, Rec, election_records}
 use Rattle.pb_election.specs.Instance.{Instance, IsBallot, approvals, most_approvals, most_projects, most_voters, projects, voters}
 use Rattle.pb_records.specs.Cells.{clean, is_text, nonblank}
 use Rattle.pb_election.specs.Markers.{marker_of}
-use Rattle.pb_election.specs.Rows.{ballots_in, columns_of, cost_in, costs_in, declared_count, funded_in, has_key, id_in, ids_in, is_approval, is_id, is_known, needed_columns, others_in, read_columns, read_keys, stated_value, times, vote_column}
+use Rattle.pb_election.specs.Rows.{ballots_in, columns_of, cost_in, costs_in, declared_count, funded_in, has_key, id_in, ids_in, is_approval, is_id, is_known, needed_columns, others_in, read_columns, read_keys, stated_value, occurrences, vote_column}
 use Rattle.pb_election.specs.declared.columns.Columns.{Columns}
 use Rattle.pb_election.specs.declared.keys.Key.TheVariants.{Budget, NumProjects, NumVotes, VoteType}
 use Rattle.pb_election.specs.declared.sections.Section.{Section}
@@ -31,8 +31,8 @@ pub record IsPart (s : Section) (part : Part) : Type 0 where
 
 -- a header has each needed column, and each column that is read only once
 pub record IsHeader (s : Section) (header : Rec) : Type 0 where
-  pub needed : AllByRecursion (λ name. 1 ≤ times name header) (needed_columns s)
-  pub once : AllByRecursion (λ name. times name header ≤ 1) (read_columns s)
+  pub needed : AllByRecursion (λ name. 1 ≤ occurrences name header) (needed_columns s)
+  pub once : AllByRecursion (λ name. occurrences name header ≤ 1) (read_columns s)
 
 -- each key that is read stands in one row at most
 abbrev pub EachKeyOnce : List Rec → Type 0

@@ -11,7 +11,7 @@ use csv::StringRecord;
 use pb_records::{cell, clean};
 
 /// The places of the columns of PROJECTS that are read, from 0.
-#[derive(Clone, Copy, Debug, PartialEq, Eq)]
+#[derive(Clone, Copy)]
 pub struct Columns {
     pub id: Option<usize>,
     pub cost: Option<usize>,
@@ -46,7 +46,7 @@ fn column_named(name: &str, header: &StringRecord) -> Option<usize>
 // Whether no column has a name, which has no capital letters.
 fn is_missing(name: &str, header: &StringRecord) -> bool
     requires { lower name.now ≡ name.now }
-    ensures { result ≡ (rows.times name.now (fields_of header.now) == 0) }
+    ensures { result ≡ (rows.occurrences name.now (fields_of header.now) == 0) }
 {
     column_named(name, header).is_none()
 }
@@ -54,7 +54,7 @@ fn is_missing(name: &str, header: &StringRecord) -> bool
 // Whether two columns have a name, which has no capital letters.
 fn is_repeated(name: &str, header: &StringRecord) -> bool
     requires { lower name.now ≡ name.now }
-    ensures { result ≡ nat_lt 1 (rows.times name.now (fields_of header.now)) }
+    ensures { result ≡ nat_lt 1 (rows.occurrences name.now (fields_of header.now)) }
 {
     match column_named(name, header) {
         Some(first) => column_from(name, header, first + 1).is_some(),
@@ -64,7 +64,7 @@ fn is_repeated(name: &str, header: &StringRecord) -> bool
 
 /// Whether a section's header misses a column that it must have.
 pub(crate) fn misses(section: Section, header: &StringRecord) -> bool
-    ensures { result ≡ list_any (λ name. rows.times name (fields_of header.now) == 0) (rows.needed_columns section) }
+    ensures { result ≡ list_any (λ name. rows.occurrences name (fields_of header.now) == 0) (rows.needed_columns section) }
 {
     match section {
         Section::Meta => false,
@@ -75,7 +75,7 @@ pub(crate) fn misses(section: Section, header: &StringRecord) -> bool
 
 /// Whether a column that is read stands twice in a section's header.
 pub(crate) fn repeats(section: Section, header: &StringRecord) -> bool
-    ensures { result ≡ list_any (λ name. nat_lt 1 (rows.times name (fields_of header.now))) (rows.read_columns section) }
+    ensures { result ≡ list_any (λ name. nat_lt 1 (rows.occurrences name (fields_of header.now))) (rows.read_columns section) }
 {
     match section {
         Section::Meta => false,
@@ -107,8 +107,8 @@ pub(crate) fn vote_column(header: &StringRecord) -> Option<usize>
 }
 
 /// The field of a row in a column, cleaned, and empty where there is no such column or field.
-pub(crate) fn under(column: Option<usize>, row: &StringRecord) -> &str
-    ensures { result.now ≡ rows.under column (fields_of row.now) }
+pub(crate) fn field_in(column: Option<usize>, row: &StringRecord) -> &str
+    ensures { result.now ≡ rows.field_in column (fields_of row.now) }
 {
     match column {
         Some(i) => cell(row, i),

@@ -1,7 +1,7 @@
 //! An election as far as its file has been read.
 ghost use Rattle.std.specs.Prelude.{◌≡◌, ◌≤◌, ◌<◌, ◌+◌, true, false, length, None, Some, IfOk, OnOk};
 ghost use Rattle.csv.specs.Records.{fields_of};
-ghost use Rattle.pb_election.specs.Inside.Beginnings.{HasRead};
+ghost use Rattle.pb_election.specs.Inside.Beginnings.{AtStart, HasRead, so_far_of};
 ghost use Rattle.pb_election.specs.Names.{is_among};
 ghost use Rattle.pb_records.specs.Cells.{is_text};
 ghost use Rattle.pb_election.specs.Markers.{marker_of};
@@ -9,11 +9,11 @@ ghost use Rattle.pb_election.specs.Faults.{election_form, lowest_fault_at_end};
 ghost use Rattle.pb_election.specs.Inside.Ids.{ids_kept};
 ghost use Rattle.pb_election.specs.Instance.{most_projects};
 ghost use Rattle.pb_election.specs.Rows as rows;
-ghost use Rattle.pb_election.specs.Inside.SoFar.{Steps, before_next, election_of, nothing};
+ghost use Rattle.pb_election.specs.Inside.SoFar.{Steps, before_next};
 ghost use Rattle.pb_election.specs.Text.{IsElection};
 ghost use Rattle.pb_election.specs.Inside.ProjectRows.{AddsProject};
 
-use crate::columns::{Columns, columns_of, misses, repeats, under, vote_column};
+use crate::columns::{Columns, columns_of, field_in, misses, repeats, vote_column};
 use crate::election::Election;
 use crate::ids::{add_id, has_id, is_id};
 use crate::keys::{Key, Keys, count_in, is_approval, key_in};
@@ -87,16 +87,18 @@ impl Model for ElectionDraft {
     ghost view = { λ a. record {
       role = a.role;
       keys = a.meta.keys;
-      limit = a.meta.limit;
-      declared_projects = a.meta.declared_projects;
-      declared_votes = a.meta.declared_votes;
       columns = a.projects.columns;
-      ids = ids_kept a.projects.ids.keys;
-      costs = a.projects.costs.items;
-      selected = option_map (λ v. v.items) a.projects.selected;
-      other_selected = a.projects.other_selected;
       vote_column = a.votes.column;
-      ballots = a.votes.ballots;
+      election = record {
+        limit = a.meta.limit;
+        ids = ids_kept a.projects.ids.keys;
+        costs = a.projects.costs.items;
+        selected = option_map (λ v. v.items) a.projects.selected;
+        other_selected = a.projects.other_selected;
+        declared_projects = a.meta.declared_projects;
+        declared_votes = a.meta.declared_votes;
+        ballots = a.votes.ballots;
+      };
     } };
 
     ghost invariant = { λ a. (length a.projects.ids.keys ≤ most_projects) × (a.projects.other_selected ≤ length a.projects.ids.keys) × (approvals a.votes.ballots ≤ most_approvals) };
@@ -104,7 +106,7 @@ impl Model for ElectionDraft {
 
 impl ElectionDraft {
     pub fn new(alloc: Global) -> Result<ElectionDraft, AllocError>
-        ensures { IfOk result (λ draft. draft ≡ nothing) }
+        ensures { IfOk result (λ draft. draft ≡ so_far_of AtStart) }
     {
         Ok(ElectionDraft {
             alloc,
@@ -140,7 +142,6 @@ impl ElectionDraft {
     }
 
     // One more record, which is text and not blank.
-    #[tactic(auto, unfolding(crate::specs::Inside::SoFar::step, crate::specs::Faults::lowest_fault))]
     fn take_record(&mut self, row: &StringRecord) -> Result<(), Stop<ElectionFault>>
         requires { is_text (fields_of row.now) ≡ true }
         ensures { Steps result self.old self.new (fields_of row.now) }
@@ -156,7 +157,7 @@ impl ElectionDraft {
         }
     }
 
-    #[tactic(auto, unfolding(crate::specs::Inside::SoFar::step, crate::specs::Faults::lowest_fault))]
+    #[tactic(auto, unfolding(crate::specs::Faults::lowest_fault))]
     fn take_first(&mut self, row: &StringRecord) -> Result<(), Stop<ElectionFault>>
         requires text { is_text (fields_of row.now) ≡ true }
         requires role { self.old.role ≡ Role.First }
@@ -169,7 +170,7 @@ impl ElectionDraft {
         Ok(())
     }
 
-    #[tactic(auto, unfolding(crate::specs::Inside::SoFar::step, crate::specs::Faults::lowest_fault))]
+    #[tactic(auto, unfolding(crate::specs::Faults::lowest_fault))]
     fn take_meta_header(&mut self, row: &StringRecord) -> Result<(), Stop<ElectionFault>>
         requires text { is_text (fields_of row.now) ≡ true }
         requires role { self.old.role ≡ Role.Header Section.Meta }
@@ -182,7 +183,7 @@ impl ElectionDraft {
         Ok(())
     }
 
-    #[tactic(auto, unfolding(crate::specs::Inside::SoFar::step, crate::specs::Faults::lowest_fault))]
+    #[tactic(auto, unfolding(crate::specs::Faults::lowest_fault))]
     fn take_project_header(&mut self, row: &StringRecord) -> Result<(), Stop<ElectionFault>>
         requires text { is_text (fields_of row.now) ≡ true }
         requires role { self.old.role ≡ Role.Header Section.Projects }
@@ -204,7 +205,7 @@ impl ElectionDraft {
         Ok(())
     }
 
-    #[tactic(auto, unfolding(crate::specs::Inside::SoFar::step, crate::specs::Faults::lowest_fault))]
+    #[tactic(auto, unfolding(crate::specs::Faults::lowest_fault))]
     fn take_vote_header(&mut self, row: &StringRecord) -> Result<(), Stop<ElectionFault>>
         requires text { is_text (fields_of row.now) ≡ true }
         requires role { self.old.role ≡ Role.Header Section.Votes }
@@ -224,7 +225,7 @@ impl ElectionDraft {
         Ok(())
     }
 
-    #[tactic(auto, unfolding(crate::specs::Inside::SoFar::step, crate::specs::Faults::lowest_fault))]
+    #[tactic(auto, unfolding(crate::specs::Faults::lowest_fault))]
     fn take_meta(&mut self, row: &StringRecord) -> Result<(), Stop<ElectionFault>>
         requires text { is_text (fields_of row.now) ≡ true }
         requires role { self.old.role ≡ Role.Inside Section.Meta }
@@ -247,7 +248,7 @@ impl ElectionDraft {
     }
 
     // A row of META whose key is read.
-    #[tactic(auto, unfolding(crate::specs::Inside::SoFar::step, crate::specs::Faults::lowest_fault))]
+    #[tactic(auto, unfolding(crate::specs::Faults::lowest_fault))]
     fn take_key(&mut self, key: Key, row: &StringRecord) -> Result<(), Stop<ElectionFault>>
         requires text { is_text (fields_of row.now) ≡ true }
         requires role { self.old.role ≡ Role.Inside Section.Meta }
@@ -288,7 +289,7 @@ impl ElectionDraft {
         }
     }
 
-    #[tactic(auto, unfolding(crate::specs::Inside::SoFar::step, crate::specs::Faults::lowest_fault))]
+    #[tactic(auto, unfolding(crate::specs::Faults::lowest_fault))]
     fn take_project(&mut self, row: &StringRecord) -> Result<(), Stop<ElectionFault>>
         requires text { is_text (fields_of row.now) ≡ true }
         requires role { self.old.role ≡ Role.Inside Section.Projects }
@@ -301,10 +302,10 @@ impl ElectionDraft {
             self.role = Role::Header(Section::Votes);
             return Ok(());
         }
-        let Ok(cost) = Money::read(under(self.projects.columns.cost, row).as_bytes()) else {
+        let Ok(cost) = Money::read(field_in(self.projects.columns.cost, row).as_bytes()) else {
             return Err(Stop::Fault(ElectionFault::BadMoney));
         };
-        let id = under(self.projects.columns.id, row);
+        let id = field_in(self.projects.columns.id, row);
         if !is_id(id) {
             return Err(Stop::Fault(ElectionFault::BadId));
         }
@@ -314,14 +315,14 @@ impl ElectionDraft {
         if self.projects.ids.len() >= MOST_PROJECTS {
             return Err(Stop::Fault(ElectionFault::TooMany));
         }
-        let selected = under(self.projects.columns.selected, row);
+        let selected = field_in(self.projects.columns.selected, row);
         match self.projects.add(self.alloc, id, cost, selected) {
             Ok(()) => Ok(()),
             Err(_) => Err(Stop::Memory),
         }
     }
 
-    #[tactic(auto, unfolding(crate::specs::Inside::SoFar::step, crate::specs::Faults::lowest_fault, crate::specs::Rows::is_known))]
+    #[tactic(auto, unfolding(crate::specs::Faults::lowest_fault, crate::specs::Rows::is_known))]
     fn take_vote(&mut self, row: &StringRecord) -> Result<(), Stop<ElectionFault>>
         requires text { is_text (fields_of row.now) ≡ true }
         requires role { self.old.role ≡ Role.Inside Section.Votes }
@@ -330,7 +331,7 @@ impl ElectionDraft {
         if marker_of(row).is_some() {
             return Err(Stop::Fault(ElectionFault::UnexpectedSection));
         }
-        let vote = under(self.votes.column, row);
+        let vote = field_in(self.votes.column, row);
         let Ok(known) = ballot_in(&self.projects.ids, vote, &mut self.votes.ballot) else {
             return Err(Stop::Memory);
         };
@@ -364,8 +365,8 @@ impl ElectionDraft {
 
     /// The election that was read.
     pub fn into_election(self) -> Election
-        requires { IsElection (election_of self) }
-        ensures { result ≡ election_of self }
+        requires { IsElection self.election }
+        ensures { result ≡ self.election }
     {
         let ElectionDraft {
             alloc: _,

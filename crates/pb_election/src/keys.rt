@@ -15,7 +15,7 @@ use pb_records::cell;
 const MOST_DECLARED: u128 = 1_000_000_000_000_000_000;
 
 /// A key of META that is read.
-#[derive(Clone, Copy, Debug, PartialEq, Eq)]
+#[derive(Clone, Copy)]
 pub enum Key {
     Budget,
     VoteType,
@@ -24,7 +24,7 @@ pub enum Key {
 }
 
 /// Which of the keys have stood in META so far.
-#[derive(Clone, Copy, Debug, PartialEq, Eq)]
+#[derive(Clone, Copy)]
 pub struct Keys {
     pub budget: bool,
     pub vote_type: bool,

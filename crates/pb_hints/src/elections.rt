@@ -5,7 +5,7 @@ use crate::excerpt::quoted;
 use crate::lines::{last_line, line_at, rest_of_line};
 use crate::quotes::quote_remark;
 use crate::remark::{Remark, text};
-use crate::story::{Section, Story, small, times, under};
+use crate::story::{Section, Story, field_in, occurrences, small};
 use crate::walk::{Walk, without_marks};
 use pb_election::{ElectionFault, MOST_VOTERS};
 use pb_money::{Money, MoneyFault};
@@ -177,11 +177,12 @@ impl Scene<'_> {
 
     fn unexpected_section(&self) -> Result<String, AllocError> {
         let marked = Section::marked_by(self.walk.row()).unwrap_or(Section::Meta);
-        let name = marked.name();
-        if marked <= self.section() {
-            return format!(in self.alloc; "the section {name} begins a second time");
+        if marked == Section::Votes && self.section() == Section::Meta {
+            let words = "the section VOTES begins, and PROJECTS has to come before it";
+            return text(self.alloc, words);
         }
-        format!(in self.alloc; "the section {name} begins, and PROJECTS has to come before it")
+        let name = marked.name();
+        format!(in self.alloc; "the section {name} begins a second time")
     }
 
     fn missing_key(&self) -> Result<String, AllocError> {
@@ -219,13 +220,16 @@ impl Scene<'_> {
     fn amount(&self) -> (&'static str, &str) {
         match self.section() {
             Section::Meta => ("budget", cell(self.walk.row(), 1)),
-            _ => ("cost", under(self.story.cost, self.walk.row())),
+            _ => ("cost", field_in(self.story.cost, self.walk.row())),
         }
     }
 
     fn missing_column(&self) -> Result<String, AllocError> {
         let section = self.section().name();
-        let column = self.columns().iter().find(|name| self.times(name) == 0);
+        let column = self
+            .columns()
+            .iter()
+            .find(|name| self.occurrences(name) == 0);
         let column = column.copied().unwrap_or("");
         let words = format!(in self.alloc; "the header of {section} has no column {column}: ")?;
         self.with_line(&words)
@@ -233,7 +237,10 @@ impl Scene<'_> {
 
     fn repeated_column(&self) -> Result<String, AllocError> {
         let section = self.section().name();
-        let column = self.columns().iter().find(|name| self.times(name) > 1);
+        let column = self
+            .columns()
+            .iter()
+            .find(|name| self.occurrences(name) > 1);
         let column = column.copied().unwrap_or("selected");
         format!(in self.alloc; "the header of {section} has the column {column} twice")
     }
@@ -247,12 +254,12 @@ impl Scene<'_> {
         }
     }
 
-    fn times(&self, name: &str) -> usize {
-        times(self.walk.row(), name)
+    fn occurrences(&self, name: &str) -> usize {
+        occurrences(self.walk.row(), name)
     }
 
     fn bad_id(&self) -> Result<String, AllocError> {
-        let id = under(self.story.id, self.walk.row());
+        let id = field_in(self.story.id, self.walk.row());
         if id.is_empty() {
             return text(self.alloc, "the project_id is empty");
         }
@@ -264,7 +271,7 @@ impl Scene<'_> {
     }
 
     fn repeated_project(&self) -> Result<String, AllocError> {
-        let id = under(self.story.id, self.walk.row());
+        let id = field_in(self.story.id, self.walk.row());
         let first = match self.story.projects.get(id) {
             Some(start) => line_at(self.file, *start),
             None => 1,
@@ -278,7 +285,7 @@ impl Scene<'_> {
     }
 
     fn unknown_project(&self) -> Result<String, AllocError> {
-        let vote = under(self.story.vote, self.walk.row());
+        let vote = field_in(self.story.vote, self.walk.row());
         let unknown = vote.split(',').map(|name| clean(name)).find(|name| !name.is_empty()
             && !self.story.projects.contains_key(*name));
         let mut sentence = quoted(

@@ -4,7 +4,7 @@ use crate::remark::{Remark, text};
 use std::alloc::{AllocError, Global};
 
 /// Where a quote is opened, and where it is closed: how many bytes of the text stand before it.
-#[derive(Clone, Copy, Debug, PartialEq, Eq)]
+#[derive(Clone, Copy)]
 pub(crate) struct Quote {
     pub opened: usize,
     /// None where it holds the rest of the file.

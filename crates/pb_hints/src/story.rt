@@ -7,7 +7,7 @@ use std::alloc::{AllocError, Global};
 use std::collections::BTreeMap;
 
 /// A section of an election.
-#[derive(Clone, Copy, Debug, PartialEq, Eq, PartialOrd, Ord)]
+#[derive(Clone, Copy, PartialEq, Eq)]
 pub(crate) enum Section {
     Meta,
     Projects,
@@ -92,7 +92,7 @@ impl Story {
         match self.section {
             Some(Section::Meta) => self.take_meta(row, start)?,
             Some(Section::Projects) => {
-                let id = String::from_str(self.alloc, under(self.id, row))?;
+                let id = String::from_str(self.alloc, field_in(self.id, row))?;
                 self.projects.insert(id, start)?;
             }
             _ => {}
@@ -141,7 +141,7 @@ pub(crate) fn column(header: &StringRecord, name: &str) -> Option<usize> {
 }
 
 /// How many columns have a name.
-pub(crate) fn times(header: &StringRecord, name: &str) -> usize {
+pub(crate) fn occurrences(header: &StringRecord, name: &str) -> usize {
     header
         .iter()
         .filter(|field| clean(field).eq_ignore_ascii_case(name))
@@ -149,7 +149,7 @@ pub(crate) fn times(header: &StringRecord, name: &str) -> usize {
 }
 
 /// The field of a row in a column, cleaned, and empty where there is none.
-pub(crate) fn under(column: Option<usize>, row: &StringRecord) -> &str {
+pub(crate) fn field_in(column: Option<usize>, row: &StringRecord) -> &str {
     match column {
         Some(place) => cell(row, place),
         None => "",

@@ -1,5 +1,5 @@
 //! The voters of an election, by their rows and by `voter_id`.
-use crate::story::{Section, Story, under};
+use crate::story::{Section, Story, field_in};
 use crate::walk::{Before, Walk, without_marks};
 use csv::StringRecord;
 use std::alloc::{AllocError, Global};
@@ -25,7 +25,7 @@ impl Before for Search<'_> {
     fn take(&mut self, row: &StringRecord, start: usize) -> Result<(), AllocError> {
         self.story.take(row, start)?;
         let is_voter = self.story.section == Some(Section::Votes) && self.story.rows > 0;
-        if is_voter && self.found.is_none() && under(self.story.voter_id, row) == self.voter_id {
+        if is_voter && self.found.is_none() && field_in(self.story.voter_id, row) == self.voter_id {
             self.found = Some(self.story.rows);
         }
         Ok(())

@@ -19,7 +19,7 @@ marked-cons true n m rest e = sym (lt-ltb 0 (suc m) (omega arith))
 marked-cons false n m rest e = e ∙ shift n m
 
 -- there is a mark where its place is within the text
-marked : (p : ℕ → Bool) (xs : List ℕ) → list_any p xs ≡ nat_lt (position_or_len p xs) (length xs)
+pub marked : (p : ℕ → Bool) (xs : List ℕ) → list_any p xs ≡ nat_lt (position_or_len p xs) (length xs)
 marked p [] = refl
 marked p (x ∷ xs) = marked-cons (p x) (position_or_len p xs) (length xs) (list_any p xs) (marked p xs)
 

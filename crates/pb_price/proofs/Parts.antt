@@ -3,7 +3,7 @@ use Rattle.std.proofs.Common.{◌≡◌, ℕ, Bool, true, false, List, [], ◌�
 use Rattle.std.specs.Prelude.{Some, None, map, slice_get}
 use Rattle.pb_election.specs.Instance.{Instance}
 use Rattle.pb_certificate.specs.Prices.{Prices}
-use Rattle.pb_cohesion.specs.Conditions.{C2, culprits_of_C1, culprits_of_C2, culprits_of_C3, culprits_of_C4, culprits_of_C5, culprits_of_S5}
+use Rattle.pb_cohesion.specs.Conditions.{culprits_of_C1, culprits_of_C2, culprits_of_C3, culprits_of_C4, culprits_of_C5, culprits_of_S5}
 use Rattle.pb_cohesion.proofs.Firsts.{first-left, first-right, none-first}
 use Rattle.pb_price.specs.First.{First, failures_of_budgets, failures_of_outcome, failures_of_payments, failures_of_supporters}
 use Rattle.pb_price.specs.declared.Mode.{Mode}

@@ -78,7 +78,7 @@ fn findings_by(election: &Election, outcome: &Outcome, denominator: u32, tally: 
 }
 
 // The findings on projects, as far as these were looked at.
-#[derive(Clone, Copy, Debug, PartialEq, Eq)]
+#[derive(Clone, Copy)]
 struct ProjectFindings {
     exhaustive: Finding,
     c3: Finding,

@@ -15,7 +15,7 @@ use pb_money::payment_grains;
 use std::alloc::{AllocError, Global};
 
 /// What a project has by the payments that were taken.
-#[derive(Clone, Copy, Debug, PartialEq, Eq)]
+#[derive(Clone, Copy)]
 pub(crate) struct ProjectSums {
     /// What is paid for it.
     pub paid: u128,

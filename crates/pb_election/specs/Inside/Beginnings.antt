@@ -2,18 +2,17 @@
 -- file states is said in Text and Faults, without this module.
 use Rattle.std.specs.Prelude.{◌≡◌, ◌++◌, IfSome, IsTrue, List, [], ◌∷◌, Some}
 use Rattle.std.specs.List.{AllByRecursion}
-use Rattle.std.specs.Option.{option_map_or}
-use Rattle.pb_money.specs.Money.{IsMoney, millionths}
+use Rattle.pb_money.specs.Money.{IsMoney}
 use Rattle.pb_records.specs.Records.{Rec}
-use Rattle.pb_election.specs.declared.keys.Key.TheVariants.{Budget, NumProjects, NumVotes, VoteType}
+use Rattle.pb_election.specs.declared.keys.Key.TheVariants.{Budget, VoteType}
 use Rattle.pb_election.specs.declared.sections.Role.{Role}
 use Rattle.pb_election.specs.declared.sections.Role.TheVariants.{First, Header, Inside}
 use Rattle.pb_election.specs.declared.sections.Section.TheVariants.{Meta, Projects, Votes}
 use Rattle.pb_records.specs.Cells.{is_text}
 use Rattle.pb_election.specs.Markers.{marker_of}
-use Rattle.pb_election.specs.Rows.{ballots_in, columns_of, costs_in, declared_count, funded_in, ids_in, is_approval, others_in, stated_value, vote_column}
+use Rattle.pb_election.specs.Rows.{columns_of, ids_in, is_approval, stated_value, vote_column}
 use Rattle.pb_election.specs.Faults.{keys_in}
-use Rattle.pb_election.specs.Text.{AreMetaRows, AreProjectRows, AreVoteRows, EachKeyOnce, IsHeader, IsPart, Part, part_records}
+use Rattle.pb_election.specs.Text.{AreMetaRows, AreProjectRows, AreVoteRows, EachKeyOnce, IsHeader, IsPart, Part, election_in, part_records}
 use Rattle.pb_election.specs.Inside.SoFar.{SoFar}
 
 pub data Beginning : Type 0 where
@@ -41,21 +40,12 @@ no_part = record { marker = []; header = []; rows = [] }
 -- what three sections state so far
 abbrev pub so_far_in : Role → Part → Part → Part → SoFar
 so_far_in role a b c =
-    let columns = columns_of b.header in
-    let ids = ids_in columns b.rows in
     record {
       role = role;
       keys = keys_in a.rows;
-      limit = option_map_or millionths (stated_value Budget a.rows) 0;
-      declared_projects = declared_count NumProjects a.rows;
-      declared_votes = declared_count NumVotes a.rows;
-      columns = columns;
-      ids = ids;
-      costs = costs_in columns b.rows;
-      selected = funded_in columns b.rows;
-      other_selected = others_in columns b.rows;
+      columns = columns_of b.header;
       vote_column = vote_column c.header;
-      ballots = ballots_in (vote_column c.header) ids c.rows;
+      election = election_in a b c;
     }
 
 abbrev pub so_far_of : Beginning → SoFar

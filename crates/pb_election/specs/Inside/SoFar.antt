@@ -1,10 +1,10 @@
 -- For the reader's own parts: what has been read of an election so far, and what one more record adds to it. What a file
 -- states is said in Text and Faults, without this module.
-use Rattle.std.specs.Prelude.{◌≡◌, ◌+◌, ◌++◌, ⊤, if◌then◌else◌, Bool, true, false, ℕ, List, [], ◌∷◌, length, Option, Some, None, Result, Ok, Err}
+use Rattle.std.specs.Prelude.{◌≡◌, ◌+◌, ◌++◌, ⊤, if◌then◌else◌, true, ℕ, [], ◌∷◌, Option, Some, None, Result, Ok, Err}
 use Rattle.std.specs.Option.{option_map}
 use Rattle.pb_money.specs.Money.{millionths}
 use Rattle.pb_records.specs.Records.{Field, Rec}
-use Rattle.pb_election.specs.Instance.{Instance, approvals}
+use Rattle.pb_election.specs.Instance.{Instance, approvals, voters}
 use Rattle.pb_election.specs.declared.columns.Columns.{Columns}
 use Rattle.pb_election.specs.declared.keys.Key.{Key}
 use Rattle.pb_election.specs.declared.keys.Key.TheVariants.{Budget, NumProjects, NumVotes, VoteType}
@@ -20,18 +20,11 @@ use Rattle.pb_election.specs.Rows.{ballot_in, columns_of, cost_in, count_in, fun
 use Rattle.pb_election.specs.Faults.{Before, lowest_fault}
 
 pub record SoFar : Type 0 where
-  pub role : Role
-  pub keys : Keys
-  pub limit : ℕ
-  pub declared_projects : Option ℕ
-  pub declared_votes : Option ℕ
+  pub role : Role  -- of the next record
+  pub keys : Keys  -- those that have stood
   pub columns : Columns
-  pub ids : List Field
-  pub costs : List ℕ
-  pub selected : Option (List Bool)
-  pub other_selected : ℕ
   pub vote_column : Option ℕ
-  pub ballots : List (List ℕ)
+  pub election : Instance
 
 -- what the faults at the next place depend on
 abbrev pub before_next : SoFar → Before
@@ -40,95 +33,65 @@ before_next s =
       role = s.role;
       keys = s.keys;
       columns = s.columns;
-      ids = s.ids;
+      ids = s.election.ids;
       vote_column = s.vote_column;
-      voters = length s.ballots;
-      approvals = approvals s.ballots;
+      voters = voters s.election;
+      approvals = approvals s.election.ballots;
     }
 
-abbrev pub with_role : Role → SoFar → SoFar
-with_role role s = record s { role = role }
+-- one more row of META: its key has stood, and its value is stated
+abbrev pub with_key : Option Key → Keys → Keys
+with_key None keys = keys
+with_key (Some Budget) keys = record keys { budget = true }
+with_key (Some VoteType) keys = record keys { vote_type = true }
+with_key (Some NumProjects) keys = record keys { num_projects = true }
+with_key (Some NumVotes) keys = record keys { num_votes = true }
 
--- one more row of META
-abbrev pub with_key : Option Key → Field → SoFar → SoFar
-with_key None value s = s
-with_key (Some Budget) value s = record s { keys = record s.keys { budget = true }; limit = millionths value }
-with_key (Some VoteType) value s = record s { keys = record s.keys { vote_type = true } }
-with_key (Some NumProjects) value s =
-    record s { keys = record s.keys { num_projects = true }; declared_projects = count_in value }
-with_key (Some NumVotes) value s =
-    record s { keys = record s.keys { num_votes = true }; declared_votes = count_in value }
+abbrev pub with_value : Option Key → Field → Instance → Instance
+with_value (Some Budget) value e = record e { limit = millionths value }
+with_value (Some NumProjects) value e = record e { declared_projects = count_in value }
+with_value (Some NumVotes) value e = record e { declared_votes = count_in value }
+with_value _ value e = e
 
 -- one more row of PROJECTS
-abbrev pub with_project : Rec → SoFar → SoFar
-with_project r s =
-    record s {
-      ids = s.ids ++ (id_in s.columns r ∷ []);
-      costs = s.costs ++ (millionths (cost_in s.columns r) ∷ []);
-      selected = option_map (λ marks. marks ++ (says_funded (selected_in s.columns r) ∷ [])) s.selected;
-      other_selected = s.other_selected + (if says_neither s.columns r then 1 else 0);
+abbrev pub with_project : Columns → Rec → Instance → Instance
+with_project columns r e =
+    record e {
+      ids = e.ids ++ (id_in columns r ∷ []);
+      costs = e.costs ++ (millionths (cost_in columns r) ∷ []);
+      selected = option_map (λ marks. marks ++ (says_funded (selected_in columns r) ∷ [])) e.selected;
+      other_selected = e.other_selected + (if says_neither columns r then 1 else 0);
     }
 
 -- one more row of VOTES
-abbrev pub with_ballot : List ℕ → SoFar → SoFar
-with_ballot ballot s = record s { ballots = s.ballots ++ (ballot ∷ []) }
+abbrev pub with_ballot : Option ℕ → Rec → Instance → Instance
+with_ballot column r e = record e { ballots = e.ballots ++ (ballot_in column e.ids r ∷ []) }
 
 -- one more record, at which no fault stands
 abbrev pub next_by : Role → SoFar → Rec → SoFar
-next_by First s r = with_role (Header Meta) s
-next_by (Header Meta) s r = with_role (Inside Meta) s
+next_by First s r = record s { role = Header Meta }
+next_by (Header Meta) s r = record s { role = Inside Meta }
 next_by (Header Projects) s r =
-    record s { role = Inside Projects; columns = columns_of r; selected = funded_in (columns_of r) [] }
+    record s {
+      role = Inside Projects;
+      columns = columns_of r;
+      election = record s.election { selected = funded_in (columns_of r) [] };
+    }
 next_by (Header Votes) s r = record s { role = Inside Votes; vote_column = vote_column r }
-next_by (Inside Meta) s r = if is_marker r then with_role (Header Projects) s else with_key (key_in r) (value_in r) s
-next_by (Inside Projects) s r = if is_marker r then with_role (Header Votes) s else with_project r s
-next_by (Inside Votes) s r = with_ballot (ballot_in s.vote_column s.ids r) s
+next_by (Inside Meta) s r =
+    if is_marker r then record s { role = Header Projects }
+    else record s { keys = with_key (key_in r) s.keys; election = with_value (key_in r) (value_in r) s.election }
+next_by (Inside Projects) s r =
+    if is_marker r then record s { role = Header Votes }
+    else record s { election = with_project s.columns r s.election }
+next_by (Inside Votes) s r = record s { election = with_ballot s.vote_column r s.election }
 
 abbrev pub next : SoFar → Rec → SoFar
 next s r = next_by s.role s r
 
--- before any record
-abbrev pub nothing : SoFar
-nothing =
-    record {
-      role = First;
-      keys = record { budget = false; vote_type = false; num_projects = false; num_votes = false };
-      limit = 0;
-      declared_projects = None;
-      declared_votes = None;
-      columns = record { id = None; cost = None; selected = None };
-      ids = [];
-      costs = [];
-      selected = None;
-      other_selected = 0;
-      vote_column = None;
-      ballots = [];
-    }
-
--- what one more record does: the fault with the lowest number there, or it is taken
-abbrev pub step_by : Option ElectionFault → SoFar → Rec → Result SoFar ElectionFault
-step_by None s r = Ok (next s r)
-step_by (Some f) s r = Err f
-
-unfoldable pub step : SoFar → Rec → Result SoFar ElectionFault
-step s r = step_by (lowest_fault (before_next s) r) s r
-
--- the answer to one more record is the step's, or memory was refused
+-- what the answer to one more record says: no fault stands there and it was taken, or which fault there has the lowest
+-- number; nothing where memory was refused
 abbrev pub Steps : {T : Type 0} → Result T (Stop ElectionFault) → SoFar → SoFar → Rec → Type 0
-Steps (Ok x) old new r = step old r ≡ Ok new
-Steps (Err (Fault f)) old new r = step old r ≡ Err f
+Steps (Ok x) old new r = (lowest_fault (before_next old) r ≡ None) × (new ≡ next old r)
+Steps (Err (Fault f)) old new r = lowest_fault (before_next old) r ≡ Some f
 Steps (Err Memory) old new r = ⊤
-
--- the election that was read
-abbrev pub election_of : SoFar → Instance
-election_of s =
-    record {
-      limit = s.limit;
-      ids = s.ids;
-      costs = s.costs;
-      selected = s.selected;
-      other_selected = s.other_selected;
-      declared_projects = s.declared_projects;
-      declared_votes = s.declared_votes;
-      ballots = s.ballots;
-    }

@@ -1,4 +1,4 @@
-use Rattle.std.proofs.Common.{◌+◌, ◌*◌, ◌≤◌, ◌-◌, ◌^◌, length, ◌∙◌, ap, arith}
+use Rattle.std.proofs.Common.{◌+◌, ◌≤◌, ◌-◌, length, ◌∙◌, ap, arith}
 use Rattle.pb_cohesion.specs.ViolationFindings.{violation_findings}
 use Rattle.pb_cohesion.proofs.Counted.{findings-are}
 use Rattle.pb_cohesion.proofs.Loops.{set-length}

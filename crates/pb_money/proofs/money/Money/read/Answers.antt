@@ -2,9 +2,9 @@ use Rattle.std.proofs.Common.{◌≤◌, ◌∙◌, ◌-◌, ◌*◌, ◌^◌, s
 use Rattle.std.specs.Str.{all_ascii_digits}
 use Rattle.pb_money.specs.Digits.{number_of}
 use Rattle.pb_money.specs.Money.{fraction, without_last_zeros}
-use Rattle.pb_money.proofs.Amounts.{money-large, parts-value, units-large}
+use Rattle.pb_money.proofs.Amounts.{amount_faults, money-large, parts-value, units-large}
 use Rattle.pb_money.proofs.Fractions.{zeros-digits}
-use Rattle.pb_money.proofs.Laws.{answers-only, money-is}
+use Rattle.pb_money.proofs.Laws.{answers-only, money-is, money-tested}
 use Rattle.pb_money.proofs.Numbers.{beyond, same}
 use Rattle.pb_money.proofs.money.Money.read.Goals as goal
 
@@ -44,15 +44,17 @@ returns-clause-found c =
     let units = same (10 ^ 12) (number_of c.in-Some.whole.now) c.in-Some-number_up_to.units
     c.in-Some-number_up_to.ensures ∙ ap number_of c.in-Some.ensures.whole in
     let part = c.fraction_millionths.ensures.value ∙ ap (λ f. number_of f * 10 ^ (6 - length f)) rest in
-    record {
-      number = sym c.in-Some.ensures.number;
-      fine = omega (arith, ap length rest);
-      value = parts-value c.args.text.now c.in-Some-number_up_to.units c.fraction_millionths.result units part;
-      small = omega arith;
-    }
+    money-tested c.args.text.now _ (sym c.in-Some.ensures.number) (omega (arith, ap length rest))
+    (parts-value c.args.text.now c.in-Some-number_up_to.units c.fraction_millionths.result units part) (omega arith)
 
 pub returns-clause-exact : goal.returns-clause-exact
 returns-clause-exact c = sym (money-is c.args.text.now _ (returns-clause-found c))
 
 pub returns-clause-only : goal.returns-clause-only
 returns-clause-only c = answers-only c.args.text.now _ (returns-clause-exact c)
+
+pub returns-in_default-clause-only : goal.returns-in_default-clause-only
+returns-in_default-clause-only c = answers-only c.args.text.now _ (grind (arith, amount_faults))
+
+pub returns-then-fraction-gt6-clause-only : goal.returns-then-fraction-gt6-clause-only
+returns-then-fraction-gt6-clause-only c = answers-only c.args.text.now _ (grind (arith, amount_faults))
