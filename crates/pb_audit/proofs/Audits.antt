@@ -13,15 +13,10 @@ use Rattle.pb_audit.specs.Answers.{Answer, AnswersAudit, AnswersTidy, Reply, ref
 use Rattle.pb_audit.specs.Inputs.{InTurn, Stated, StatesElection, StatesOutcome, refusal_of}
 use Rattle.pb_audit.specs.Lines.{Refusal}
 use Rattle.pb_audit.specs.Readers.{AuditReadings, Delivers, IsUntouched, Reading, ReadsAudit, ReadsTidy, file_reading, reading}
-use Rattle.pb_audit.specs.Inside.Taking.{AnswersCertificate, AuditsOutcome, Gives, IfTaken, ReadsOutcome, TidiesPrices, settled_answer, stopped}
+use Rattle.pb_audit.specs.Inside.Taking.{AnswersCertificate, AuditsOutcome, Gives, IfTaken, Promised, ReadsOutcome, TidiesPrices, settled_answer, stopped}
 use Rattle.pb_audit.specs.declared.input.Stop.{Stop}
 use Rattle.pb_audit.specs.declared.input.Stop.TheVariants as stop
 use Rattle.pb_audit.specs.declared.status.Status.{Status}
-
--- what a status promises of each reply of a kind
-abbrev pub Promised : {A : Type 0} → (Instance → List Bool → A → Reply) → (Status → Instance → List Bool → A → Type 0)
-    → Type 0
-Promised {A} reply promise = (e : Instance) (w : List Bool) (c : A) → promise (reply e w c).status e w c
 
 abbrev pub status_of : Reply → Status
 status_of r = r.status

@@ -23,12 +23,12 @@ use Rattle.pb_audit.specs.Answers.{Answer, Reply, answer_of, refused, text_of}
 use Rattle.pb_audit.specs.Inputs.{StatesElection, StatesPrices, refusal_of}
 use Rattle.pb_audit.specs.Margins.{AlwaysYes, AnswersMargins, ReadsMargins, flag_of, margin_head, margin_rows, margins_reply, record_line, row_of, table_of}
 use Rattle.pb_audit.specs.Readers.{AuditReadings, Delivers, TellsReply}
-use Rattle.pb_audit.specs.Inside.Taking.{AnswersCertificate, AuditsOutcome, Gives, IfTaken, ReadsOutcome, TablesMargins, settled_answer, stopped}
+use Rattle.pb_audit.specs.Inside.Taking.{AnswersCertificate, AuditsOutcome, Gives, IfTaken, Promised, ReadsOutcome, TablesMargins, settled_answer, stopped}
 use Rattle.pb_audit.specs.declared.input.InputName.TheVariants.{Certificate}
 use Rattle.pb_audit.specs.declared.status.Status.TheVariants.{Yes}
 use Rattle.pb_audit.specs.declared.input.Stop.{Stop}
 use Rattle.pb_audit.specs.declared.input.Stop.TheVariants as stop
-use Rattle.pb_audit.proofs.Audits.{Promised, certificate_answered, readers_settled}
+use Rattle.pb_audit.proofs.Audits.{certificate_answered, readers_settled}
 
 -- Fields.
 

@@ -13,10 +13,10 @@ use Rattle.pb_audit.specs.Margins.{AlwaysYes, AnswersMargins, margins_reply}
 use Rattle.pb_audit.specs.OneAnswer.{JustOne}
 use Rattle.pb_audit.specs.Promises.{PricesPromise, ViolationPromises}
 use Rattle.pb_audit.specs.Readers.{TellsReply}
-use Rattle.pb_audit.specs.Inside.Taking.{AuditsOutcome}
+use Rattle.pb_audit.specs.Inside.Taking.{AuditsOutcome, Promised}
 use Rattle.pb_audit.specs.declared.input.InputName.TheVariants as name
 use Rattle.pb_audit.specs.declared.status.Status.{Status}
-use Rattle.pb_audit.proofs.Audits.{Promised, certificate_answered, election_refused, outcome_refused}
+use Rattle.pb_audit.proofs.Audits.{certificate_answered, election_refused, outcome_refused}
 use Rattle.pb_audit.proofs.Boths as boths
 use Rattle.pb_audit.proofs.Boths.{both_answered, prices_refused}
 use Rattle.pb_audit.proofs.OneStated.{election-one, file-one, outcome-one, prices-one, violation-one}

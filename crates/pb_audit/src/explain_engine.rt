@@ -1,7 +1,7 @@
 //! Explaining verdicts: what each condition on prices, or each test of a violation, comes to.
-ghost use Rattle.std.specs.Prelude.{◌≡◌, ◌≤◌, ◌^◌, IfOk, IfSome, option_copied, option_map};
+ghost use Rattle.std.specs.Prelude.{◌≡◌, ◌≤◌, ◌^◌, IfOk, IfSome, option_copied};
 ghost use Rattle.pb_audit.specs.Answers.{verdict_reply};
-ghost use Rattle.pb_audit.specs.Explained.{AnswersExplained, AnswersExplainedFiles, ReadsExplained, StatesCertificate, explained_prices, explained_reply, explained_violation, is_violation, with_table};
+ghost use Rattle.pb_audit.specs.Explained.{AnswersExplainedFiles, Certificate, ExplainedPromise, ReadsExplained, StatesCertificate, explained_prices, explained_reply, explained_violation, is_violation, with_table};
 ghost use Rattle.pb_audit.specs.Inputs.{StatesPrices, StatesViolation};
 ghost use Rattle.pb_audit.specs.Inside.Loaded.{lent};
 ghost use Rattle.pb_audit.specs.Named.{PricesNameProject};
@@ -15,11 +15,12 @@ ghost use Rattle.pb_explain.specs.PriceTable.{NameProjects, price_table};
 ghost use Rattle.pb_price.specs.First.{verdict_of};
 ghost use Rattle.pb_price.specs.Told.{first_told};
 
-use crate::answer::{Reply, settled, write_reply};
+use crate::answer::Reply;
+use crate::auditing::{Audit, audit_reply, run_audit};
 use crate::input::{InputFault, InputName, Stop, stop_at};
-use crate::loaded::{File, Loaded, bytes_of, optional_file};
+use crate::loaded::{File, bytes_of};
 use crate::price_engine::verdict_reply;
-use crate::taking::{election_of, outcome_of, take_election, take_outcome, violation_of};
+use crate::taking::violation_of;
 use crate::violation_engine::group_reply;
 use crate::{Fault, Status};
 use pb_certificate::{Violation, is_violation};
@@ -45,14 +46,8 @@ pub fn explained_reply(
     // The reply is the one on these bytes, and its status promises what it does for the verdict alone.
     ensures { IfOk result (AnswersExplainedFiles mode election.now (option_copied outcome.entry) certificate.now) }
 {
-    let work = explain_work(
-        alloc,
-        File::in_memory(election),
-        optional_file(outcome),
-        File::in_memory(certificate),
-        mode,
-    );
-    settled(alloc, work)
+    let audit = ExplainAudit { mode };
+    audit_reply(alloc, &audit, election, outcome, certificate)
 }
 
 /// Reads an election, an outcome file where one is given, and a certificate of either kind, of at most 2^28 bytes each, and
@@ -71,57 +66,38 @@ pub fn run_explain<E: Source, O: Source, C: Source, W: Sink>(
     // that of `explained_reply`, with what its status promises.
     ensures { WritesReply W.Sink (ReadsExplained mode (audit_readings E.Source election.old election.new O.Source outcome.old outcome.new C.Source certificate.old certificate.new)) result out.old out.new }
 {
-    let work = take_work(alloc, election, outcome, certificate, mode);
-    let reply = settled(alloc, work)?;
-    write_reply(alloc, &reply, out)
+    let audit = ExplainAudit { mode };
+    run_audit(alloc, &audit, election, outcome, certificate, out)
 }
 
-/// The reply on what files state.
-fn explain_work(
-    alloc: Global,
-    election: File<'_>,
-    outcome: Option<File<'_>>,
-    certificate: File<'_>,
+/// The explanation of a verdict, on prices in a mode.
+#[derive(Drop)]
+struct ExplainAudit {
     mode: Mode,
-) -> Result<Reply, Stop>
-    ensures { IfSome (settled result) (AnswersExplained mode (lent election.entry) (option_map lent outcome.entry) (lent certificate.entry)) }
-{
-    let election = election_of(alloc, election)?;
-    let outcome = outcome_of(alloc, outcome, &election)?;
-    explain_on(alloc, &election, &outcome, certificate, mode)
 }
 
-/// The reply on what readers deliver.
-fn take_work<E: Source, O: Source, C: Source>(
-    alloc: Global,
-    election: &mut E,
-    outcome: &mut Option<O>,
-    certificate: &mut C,
-    mode: Mode,
-) -> Result<Reply, Stop>
-    ensures { IfSome (settled result) (ReadsExplained mode (audit_readings E.Source election.old election.new O.Source outcome.old outcome.new C.Source certificate.old certificate.new)) }
-{
-    let election = take_election(alloc, election)?;
-    let outcome = take_outcome(alloc, outcome, &election)?;
-    let certificate = Loaded::load(alloc, certificate)?;
-    explain_on(alloc, &election, &outcome, certificate.lend(), mode)
-}
+impl Audit for ExplainAudit {
+    ghost Subject = { Certificate };
 
-/// The reply on a certificate of either kind for an election and an outcome that were accepted.
-fn explain_on(
-    alloc: Global,
-    election: &Election,
-    outcome: &Outcome,
-    certificate: File<'_>,
-    mode: Mode,
-) -> Result<Reply, Stop>
-    requires { Fits outcome.now election.now }
-    ensures { IfSome (settled result) (AnswersCertificate StatesCertificate (explained_reply mode) election.now (outcome.now).marks (lent certificate.entry)) }
-{
-    if claims_violation(alloc, certificate)? {
-        violation_on(alloc, election, outcome, certificate)
-    } else {
-        prices_on(alloc, election, outcome, certificate, mode)
+    ghost States = { StatesCertificate };
+
+    ghost reply = { λ audit. explained_reply audit.mode };
+
+    ghost Promises = { λ audit. ExplainedPromise audit.mode };
+
+    #[tactic(auto, using(crate::proofs::Explained::explained_promise))]
+    fn reply_on(
+        &self,
+        alloc: Global,
+        election: &Election,
+        outcome: &Outcome,
+        certificate: File<'_>,
+    ) -> Result<Reply, Stop> {
+        if claims_violation(alloc, certificate)? {
+            violation_on(alloc, election, outcome, certificate)
+        } else {
+            prices_on(alloc, election, outcome, certificate, self.mode)
+        }
     }
 }
 

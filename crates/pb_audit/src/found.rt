@@ -1,6 +1,6 @@
 //! What is found of the files of one name.
 ghost use Rattle.std.specs.Prelude.{◌≡◌, IfOk, Ok, None, option_map};
-ghost use Rattle.pb_audit.specs.Answers.{AnswersPrices, AnswersViolation};
+ghost use Rattle.pb_audit.specs.Answers.{AnswersAudit};
 ghost use Rattle.pb_audit.specs.Inside.Folders.{files_of, found_as};
 ghost use Rattle.pb_audit.specs.Inputs.{StatesElection};
 ghost use Rattle.pb_audit.specs.Inside.Loaded.{delivery_of};
@@ -8,12 +8,13 @@ ghost use Rattle.pb_audit.specs.Reports.{Finds, FindsCertificate};
 ghost use Rattle.pb_records.specs.Loading.{Delivery};
 
 use crate::answer::{Reply, settled, stopped};
+use crate::auditing::{Audit, audit_for};
 use crate::folder::Entry;
 use crate::loaded::Loaded;
-use crate::price_engine::prices_for;
+use crate::price_engine::PriceAudit;
 use crate::read_engine::election_reply;
 use crate::taking::election_of;
-use crate::violation_engine::violation_for;
+use crate::violation_engine::ViolationAudit;
 use pb_election::Election;
 use pb_price::Mode;
 use std::alloc::{AllocError, Global};
@@ -50,8 +51,8 @@ fn found_on(
     ensures { StatesElection (delivery_of (entry.now).election) (Ok election.now) → IfOk result (λ found. Finds mode (files_of entry.now) (found_as entry.now found)) }
 {
     let read = election_reply(alloc, election)?;
-    let prices = prices_found(alloc, election, &entry.prices, mode)?;
-    let violation = violation_found(alloc, election, &entry.violation)?;
+    let prices = certificate_found(alloc, &PriceAudit { mode }, election, &entry.prices)?;
+    let violation = certificate_found(alloc, &ViolationAudit, election, &entry.violation)?;
     Ok(Found {
         read,
         prices,
@@ -59,33 +60,18 @@ fn found_on(
     })
 }
 
-/// The reply on the price certificate of an election, where it is there.
-fn prices_found(
+/// The reply on a certificate of an election, where it is there.
+fn certificate_found<A: Audit>(
     alloc: Global,
+    audit: &A,
     election: &Election,
     certificate: &Option<Loaded>,
-    mode: Mode,
 ) -> Result<Option<Reply>, AllocError>
-    ensures { (file : Delivery) → StatesElection file (Ok election.now) → IfOk result (FindsCertificate (AnswersPrices mode file None) (option_map delivery_of certificate.now)) }
+    ensures { (file : Delivery) → StatesElection file (Ok election.now) → IfOk result (FindsCertificate (AnswersAudit A.States (A.reply audit.now) (A.Promises audit.now) file None) (option_map delivery_of certificate.now)) }
 {
     let Some(certificate) = certificate else {
         return Ok(None);
     };
-    let work = prices_for(alloc, election, None, certificate.lend(), mode);
-    Ok(Some(settled(alloc, work)?))
-}
-
-/// The reply on the violation certificate of an election, where it is there.
-fn violation_found(
-    alloc: Global,
-    election: &Election,
-    certificate: &Option<Loaded>,
-) -> Result<Option<Reply>, AllocError>
-    ensures { (file : Delivery) → StatesElection file (Ok election.now) → IfOk result (FindsCertificate (AnswersViolation file None) (option_map delivery_of certificate.now)) }
-{
-    let Some(certificate) = certificate else {
-        return Ok(None);
-    };
-    let work = violation_for(alloc, election, None, certificate.lend());
+    let work = audit_for(alloc, audit, election, None, certificate.lend());
     Ok(Some(settled(alloc, work)?))
 }

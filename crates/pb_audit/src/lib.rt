@@ -3,6 +3,7 @@
 #![tactic(auto)]
 
 mod answer;
+mod auditing;
 mod both_engine;
 mod explain_engine;
 mod folder;

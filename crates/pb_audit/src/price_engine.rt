@@ -1,20 +1,22 @@
 //! Auditing prices: whether they support an outcome.
-ghost use Rattle.std.specs.Prelude.{◌≡◌, IfOk, IfSome, Ok, option_copied, option_map};
-ghost use Rattle.pb_audit.specs.Answers.{AnswersPriceFiles, AnswersPrices, price_reply};
+ghost use Rattle.std.specs.Prelude.{◌≡◌, IfOk, option_copied};
+ghost use Rattle.pb_audit.specs.Answers.{AnswersPriceFiles, price_reply};
 ghost use Rattle.pb_audit.specs.Answers as spec;
-ghost use Rattle.pb_audit.specs.Inputs.{StatesElection, StatesPrices};
+ghost use Rattle.pb_audit.specs.Inputs.{StatesPrices};
 ghost use Rattle.pb_audit.specs.Inside.Loaded.{lent};
 ghost use Rattle.pb_audit.specs.Named.{PricesNameProject};
+ghost use Rattle.pb_audit.specs.Promises.{PricesPromise};
 ghost use Rattle.pb_audit.specs.Readers.{ReadsPrices, audit_readings};
-ghost use Rattle.pb_audit.specs.Inside.Taking.{AnswersCertificate, IfTaken, JudgesPrices, settled};
+ghost use Rattle.pb_audit.specs.Inside.Taking.{IfTaken, JudgesPrices};
 ghost use Rattle.pb_audit.specs.Writing.{WritesReply};
+ghost use Rattle.pb_audit.specs.declared.input.InputName.TheVariants as name;
+ghost use Rattle.pb_certificate.specs.Prices.{Prices};
 ghost use Rattle.pb_election.specs.Outcome.{Fits};
-ghost use Rattle.pb_records.specs.Loading.{Delivery};
 
-use crate::answer::{Reply, one_line, settled, write_reply};
+use crate::answer::{Reply, one_line};
+use crate::auditing::{Audit, audit_reply, run_audit};
 use crate::input::{InputFault, InputName, Stop, stop_at};
-use crate::loaded::{File, Loaded, bytes_of, optional_file};
-use crate::taking::{election_of, outcome_of, take_election, take_outcome};
+use crate::loaded::{File, bytes_of};
 use crate::verdict_lines::{price_line, price_status};
 use crate::{Fault, Status};
 use pb_election::{Election, Outcome, Sink, Source};
@@ -35,14 +37,8 @@ pub fn prices_reply(
     // outcome; a yes speaks of every group, and a no by C5 or S5 of the supporters of the project that it names.
     ensures { IfOk result (AnswersPriceFiles mode election.now (option_copied outcome.entry) certificate.now) }
 {
-    let work = price_work(
-        alloc,
-        File::in_memory(election),
-        optional_file(outcome),
-        File::in_memory(certificate),
-        mode,
-    );
-    settled(alloc, work)
+    let audit = PriceAudit { mode };
+    audit_reply(alloc, &audit, election, outcome, certificate)
 }
 
 /// Reads an election, an outcome file where one is given, and a price certificate, of at most 2^28 bytes each, and
@@ -60,69 +56,37 @@ pub fn run_prices<E: Source, O: Source, C: Source, W: Sink>(
     // that of `prices_reply`, with what its status promises.
     ensures { WritesReply W.Sink (ReadsPrices mode (audit_readings E.Source election.old election.new O.Source outcome.old outcome.new C.Source certificate.old certificate.new)) result out.old out.new }
 {
-    let work = take_work(alloc, election, outcome, certificate, mode);
-    let reply = settled(alloc, work)?;
-    write_reply(alloc, &reply, out)
+    let audit = PriceAudit { mode };
+    run_audit(alloc, &audit, election, outcome, certificate, out)
 }
 
-/// The reply on what files state.
-fn price_work(
-    alloc: Global,
-    election: File<'_>,
-    outcome: Option<File<'_>>,
-    certificate: File<'_>,
-    mode: Mode,
-) -> Result<Reply, Stop>
-    ensures { IfSome (settled result) (AnswersPrices mode (lent election.entry) (option_map lent outcome.entry) (lent certificate.entry)) }
-{
-    let election = election_of(alloc, election)?;
-    prices_for(alloc, &election, outcome, certificate, mode)
+/// The audit of prices, in a mode.
+#[derive(Drop)]
+pub(crate) struct PriceAudit {
+    pub(crate) mode: Mode,
 }
 
-/// The reply on prices for an election that was accepted.
-pub(crate) fn prices_for(
-    alloc: Global,
-    election: &Election,
-    outcome: Option<File<'_>>,
-    certificate: File<'_>,
-    mode: Mode,
-) -> Result<Reply, Stop>
-    ensures { (file : Delivery) → StatesElection file (Ok election.now) → IfSome (settled result) (AnswersPrices mode file (option_map lent outcome.entry) (lent certificate.entry)) }
-{
-    let outcome = outcome_of(alloc, outcome, election)?;
-    prices_on(alloc, election, &outcome, certificate, mode)
-}
+impl Audit for PriceAudit {
+    ghost Subject = { Prices };
 
-/// The reply on what readers deliver.
-fn take_work<E: Source, O: Source, C: Source>(
-    alloc: Global,
-    election: &mut E,
-    outcome: &mut Option<O>,
-    certificate: &mut C,
-    mode: Mode,
-) -> Result<Reply, Stop>
-    ensures { IfSome (settled result) (ReadsPrices mode (audit_readings E.Source election.old election.new O.Source outcome.old outcome.new C.Source certificate.old certificate.new)) }
-{
-    let election = take_election(alloc, election)?;
-    let outcome = take_outcome(alloc, outcome, &election)?;
-    let certificate = Loaded::load(alloc, certificate)?;
-    prices_on(alloc, &election, &outcome, certificate.lend(), mode)
-}
+    ghost States = { StatesPrices name.Certificate };
 
-/// The reply on a certificate for an election and an outcome that were accepted.
-fn prices_on(
-    alloc: Global,
-    election: &Election,
-    outcome: &Outcome,
-    certificate: File<'_>,
-    mode: Mode,
-) -> Result<Reply, Stop>
-    requires { Fits outcome.now election.now }
-    ensures { IfSome (settled result) (AnswersCertificate (StatesPrices InputName.Certificate) (price_reply mode) election.now (outcome.now).marks (lent certificate.entry)) }
-{
-    let input = InputName::Certificate;
-    let verdict = price_verdict(alloc, election, outcome, input, certificate, mode)?;
-    Ok(verdict_reply(alloc, election, verdict, mode)?)
+    ghost reply = { λ audit. price_reply audit.mode };
+
+    ghost Promises = { λ audit. PricesPromise audit.mode };
+
+    #[tactic(auto, using(crate::proofs::Promises::prices_promise))]
+    fn reply_on(
+        &self,
+        alloc: Global,
+        election: &Election,
+        outcome: &Outcome,
+        certificate: File<'_>,
+    ) -> Result<Reply, Stop> {
+        let input = InputName::Certificate;
+        let verdict = price_verdict(alloc, election, outcome, input, certificate, self.mode)?;
+        Ok(verdict_reply(alloc, election, verdict, self.mode)?)
+    }
 }
 
 /// The line of a verdict on prices.

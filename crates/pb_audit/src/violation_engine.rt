@@ -1,20 +1,21 @@
 //! Auditing violations: whether a group was treated worse than it deserves.
-ghost use Rattle.std.specs.Prelude.{◌≡◌, IfOk, IfSome, Ok, option_copied, option_map};
-ghost use Rattle.pb_audit.specs.Answers.{AnswersViolation, AnswersViolationFiles, violation_reply};
-ghost use Rattle.pb_audit.specs.Inputs.{StatesElection, StatesViolation};
-ghost use Rattle.pb_audit.specs.Inside.Loaded.{lent};
+ghost use Rattle.std.specs.Prelude.{◌≡◌, IfOk, option_copied};
+ghost use Rattle.pb_audit.specs.Answers.{AnswersViolationFiles, violation_reply};
+ghost use Rattle.pb_audit.specs.Both.{GroupAndDemand};
+ghost use Rattle.pb_audit.specs.Inputs.{StatesViolation};
+ghost use Rattle.pb_audit.specs.Promises.{ViolationPromises};
 ghost use Rattle.pb_audit.specs.Readers.{ReadsViolation, audit_readings};
-ghost use Rattle.pb_audit.specs.Inside.Taking.{AnswersCertificate, settled};
 ghost use Rattle.pb_audit.specs.Writing.{WritesReply};
+ghost use Rattle.pb_audit.specs.declared.input.InputName.TheVariants as name;
 ghost use Rattle.pb_certificate.specs.Claim as claims;
 ghost use Rattle.pb_election.specs.Instance.{IsSet, projects};
 ghost use Rattle.pb_election.specs.Outcome as outcomes;
-ghost use Rattle.pb_records.specs.Loading.{Delivery};
 
-use crate::answer::{Reply, one_line, settled, write_reply};
+use crate::answer::{Reply, one_line};
+use crate::auditing::{Audit, audit_reply, run_audit};
 use crate::input::{InputName, Stop};
-use crate::loaded::{File, Loaded, optional_file};
-use crate::taking::{election_of, outcome_of, take_election, take_outcome, violation_of};
+use crate::loaded::File;
+use crate::taking::violation_of;
 use crate::verdict_lines::{violation_line, violation_status};
 use crate::{Fault, Status};
 use pb_certificate::Violation;
@@ -36,13 +37,7 @@ pub fn violation_reply(
     // are a violation by the measure that the certificate states.
     ensures { IfOk result (AnswersViolationFiles election.now (option_copied outcome.entry) certificate.now) }
 {
-    let work = violation_work(
-        alloc,
-        File::in_memory(election),
-        optional_file(outcome),
-        File::in_memory(certificate),
-    );
-    settled(alloc, work)
+    audit_reply(alloc, &ViolationAudit, election, outcome, certificate)
 }
 
 /// Reads an election, an outcome file where one is given, and a violation certificate, of at most 2^28 bytes each, and
@@ -60,64 +55,32 @@ pub fn run_violation<E: Source, O: Source, C: Source, W: Sink>(
     // that of `violation_reply`, with what its status promises.
     ensures { WritesReply W.Sink (ReadsViolation (audit_readings E.Source election.old election.new O.Source outcome.old outcome.new C.Source certificate.old certificate.new)) result out.old out.new }
 {
-    let work = take_work(alloc, election, outcome, certificate);
-    let reply = settled(alloc, work)?;
-    write_reply(alloc, &reply, out)
+    run_audit(alloc, &ViolationAudit, election, outcome, certificate, out)
 }
 
-/// The reply on what files state.
-fn violation_work(
-    alloc: Global,
-    election: File<'_>,
-    outcome: Option<File<'_>>,
-    certificate: File<'_>,
-) -> Result<Reply, Stop>
-    ensures { IfSome (settled result) (AnswersViolation (lent election.entry) (option_map lent outcome.entry) (lent certificate.entry)) }
-{
-    let election = election_of(alloc, election)?;
-    violation_for(alloc, &election, outcome, certificate)
-}
+/// The audit of a violation.
+pub(crate) struct ViolationAudit;
 
-/// The reply on a group for an election that was accepted.
-pub(crate) fn violation_for(
-    alloc: Global,
-    election: &Election,
-    outcome: Option<File<'_>>,
-    certificate: File<'_>,
-) -> Result<Reply, Stop>
-    ensures { (file : Delivery) → StatesElection file (Ok election.now) → IfSome (settled result) (AnswersViolation file (option_map lent outcome.entry) (lent certificate.entry)) }
-{
-    let outcome = outcome_of(alloc, outcome, election)?;
-    violation_on(alloc, election, &outcome, certificate)
-}
+impl Audit for ViolationAudit {
+    ghost Subject = { GroupAndDemand };
 
-/// The reply on what readers deliver.
-fn take_work<E: Source, O: Source, C: Source>(
-    alloc: Global,
-    election: &mut E,
-    outcome: &mut Option<O>,
-    certificate: &mut C,
-) -> Result<Reply, Stop>
-    ensures { IfSome (settled result) (ReadsViolation (audit_readings E.Source election.old election.new O.Source outcome.old outcome.new C.Source certificate.old certificate.new)) }
-{
-    let election = take_election(alloc, election)?;
-    let outcome = take_outcome(alloc, outcome, &election)?;
-    let certificate = Loaded::load(alloc, certificate)?;
-    violation_on(alloc, &election, &outcome, certificate.lend())
-}
+    ghost States = { StatesViolation name.Certificate };
 
-/// The reply on a certificate for an election and an outcome that were accepted.
-fn violation_on(
-    alloc: Global,
-    election: &Election,
-    outcome: &Outcome,
-    certificate: File<'_>,
-) -> Result<Reply, Stop>
-    requires { outcomes.Fits outcome.now election.now }
-    ensures { IfSome (settled result) (AnswersCertificate (StatesViolation InputName.Certificate) violation_reply election.now (outcome.now).marks (lent certificate.entry)) }
-{
-    let violation = violation_of(alloc, InputName::Certificate, certificate, election)?;
-    Ok(group_reply(alloc, election, outcome, &violation)?)
+    ghost reply = { λ _. violation_reply };
+
+    ghost Promises = { λ _. ViolationPromises };
+
+    #[tactic(auto, using(crate::proofs::Promises::violation_promises))]
+    fn reply_on(
+        &self,
+        alloc: Global,
+        election: &Election,
+        outcome: &Outcome,
+        certificate: File<'_>,
+    ) -> Result<Reply, Stop> {
+        let violation = violation_of(alloc, InputName::Certificate, certificate, election)?;
+        Ok(group_reply(alloc, election, outcome, &violation)?)
+    }
 }
 
 /// The line of the verdict on a group and its demand.

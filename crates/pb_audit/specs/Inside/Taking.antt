@@ -28,6 +28,7 @@ use Rattle.pb_audit.specs.declared.input.InputName.{InputName}
 use Rattle.pb_audit.specs.declared.input.InputName.TheVariants as name
 use Rattle.pb_audit.specs.declared.input.Stop.{Stop}
 use Rattle.pb_audit.specs.declared.input.Stop.TheVariants as stop
+use Rattle.pb_audit.specs.declared.status.Status.{Status}
 
 -- what an input that was taken states, memory aside
 abbrev pub IfTaken : {A : Type 0} → Result A Stop → (Stated A → Type 0) → Type 0
@@ -94,6 +95,11 @@ pub record AnswersCertificate {A : Type 0} (states : Instance → Delivery → S
   pub c : Stated A
   pub given : states e certificate c
   pub out : r ≡ with_input c (λ a. reply e w a)
+
+-- the status of each reply of a kind keeps what it promises
+abbrev pub Promised : {A : Type 0} → (Instance → List Bool → A → Reply) → (Status → Instance → List Bool → A → Type 0)
+    → Type 0
+Promised {A} reply promise = (e : Instance) (w : List Bool) (c : A) → promise (reply e w c).status e w c
 
 -- the reply that some work came to: its own, or the line of the input that was refused; there is none where memory was
 -- wanted

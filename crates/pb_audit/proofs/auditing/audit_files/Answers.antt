@@ -1,18 +1,14 @@
 use Rattle.std.proofs.Common.{◌≡◌, rules}
 use Rattle.std.specs.Prelude.{Err, option_map}
 use Rattle.pb_audit.specs.Inside.Loaded.{lent}
-use Rattle.pb_audit.specs.Answers.{price_reply}
-use Rattle.pb_audit.specs.Inputs.{StatesPrices}
-use Rattle.pb_audit.specs.declared.input.InputName.TheVariants.{Certificate}
-use Rattle.pb_audit.specs.Promises.{PricesPromise}
 use Rattle.pb_audit.proofs.Audits.{stopped_at_election}
-use Rattle.pb_audit.proofs.price_engine.price_work.Goals as goal
+use Rattle.pb_audit.proofs.auditing.audit_files.Goals as goal
 
 pub returns-in_err-election : goal.returns-in_err-election
-returns-in_err-election c =
+returns-in_err-election g c =
     let is : c.from_residual.result ≡ Err c.in_err-election.field-0.0 = search rules in
     rw is (
-    stopped_at_election (StatesPrices Certificate) (price_reply c.args.mode) (PricesPromise c.args.mode)
+    stopped_at_election g.A.Audit.States (g.A.Audit.reply c.args.audit.now) (g.A.Audit.Promises c.args.audit.now)
     (lent c.args.election) (option_map lent c.args.outcome) (lent c.args.certificate)
     c.in_err-election.field-0.0 c.in_err-election.ensures
     )

@@ -1,0 +1,128 @@
+//! Auditing an election, an outcome and a certificate, whatever kind of certificate it is.
+ghost use Rattle.std.specs.Prelude.{◌≡◌, Bool, IfOk, IfSome, List, Ok, option_copied, option_map};
+ghost use Rattle.pb_audit.specs.Answers.{AnswersAudit, Reply};
+ghost use Rattle.pb_audit.specs.Inputs.{Stated, StatesElection, in_memory};
+ghost use Rattle.pb_audit.specs.Inside.Loaded.{lent};
+ghost use Rattle.pb_audit.specs.Inside.Taking.{AnswersCertificate, Promised, settled};
+ghost use Rattle.pb_audit.specs.Readers.{ReadsAudit, audit_readings};
+ghost use Rattle.pb_audit.specs.Writing.{WritesReply};
+ghost use Rattle.pb_audit.specs.declared.status.Status.{Status};
+ghost use Rattle.pb_election.specs.Instance.{Instance};
+ghost use Rattle.pb_election.specs.Outcome.{Fits};
+ghost use Rattle.pb_records.specs.Loading.{Delivery};
+
+use crate::answer::{Reply, settled, write_reply};
+use crate::input::Stop;
+use crate::loaded::{File, Loaded, optional_file};
+use crate::taking::{election_of, outcome_of, take_election, take_outcome};
+use crate::{Fault, Status};
+use pb_election::{Election, Outcome, Sink, Source};
+use std::alloc::{AllocError, Global};
+
+/// How certificates of one kind are audited.
+pub(crate) trait Audit {
+    // What a certificate of this kind states, such as prices.
+    ghost Subject: { Type 0 };
+
+    // A file states this for an election, or is refused.
+    ghost States: { Instance → Delivery → Stated Subject → Type 0 };
+
+    // The reply on what is stated, for an election and an outcome.
+    ghost reply: { Self → Instance → List Bool → Subject → Reply };
+
+    // What the status of a reply promises of them.
+    ghost Promises: { Self → Status → Instance → List Bool → Subject → Type 0 };
+
+    /// The reply on a certificate, for an election and an outcome that were accepted. The status of each reply of this
+    /// kind keeps its promise.
+    fn reply_on(
+        &self,
+        alloc: Global,
+        election: &Election,
+        outcome: &Outcome,
+        certificate: File<'_>,
+    ) -> Result<Reply, Stop>
+        requires { Fits outcome.now election.now }
+        ensures reply { IfSome (settled result) (AnswersCertificate States (reply self.now) election.now (outcome.now).marks (lent certificate.entry)) }
+        ensures promised { Promised (reply self.now) (Promises self.now) };
+}
+
+/// The reply on an election, an outcome file where one is given, and a certificate, all in memory.
+pub(crate) fn audit_reply<A: Audit>(
+    alloc: Global,
+    audit: &A,
+    election: &[u8],
+    outcome: Option<&[u8]>,
+    certificate: &[u8],
+) -> Result<Reply, AllocError>
+    ensures { IfOk result (AnswersAudit A.States (A.reply audit.now) (A.Promises audit.now) (in_memory election.now) (option_map in_memory (option_copied outcome.entry)) (in_memory certificate.now)) }
+{
+    let work = audit_files(
+        alloc,
+        audit,
+        File::in_memory(election),
+        optional_file(outcome),
+        File::in_memory(certificate),
+    );
+    settled(alloc, work)
+}
+
+/// Reads an election, an outcome file where one is given, and a certificate, and writes the text of the reply.
+pub(crate) fn run_audit<A: Audit, E: Source, O: Source, C: Source, W: Sink>(
+    alloc: Global,
+    audit: &A,
+    election: &mut E,
+    outcome: &mut Option<O>,
+    certificate: &mut C,
+    out: &mut W,
+) -> Result<Status, Fault>
+    ensures { WritesReply W.Sink (ReadsAudit A.States (A.reply audit.now) (A.Promises audit.now) (audit_readings E.Source election.old election.new O.Source outcome.old outcome.new C.Source certificate.old certificate.new)) result out.old out.new }
+{
+    let work = audit_readers(alloc, audit, election, outcome, certificate);
+    let reply = settled(alloc, work)?;
+    write_reply(alloc, &reply, out)
+}
+
+/// The reply on what files state.
+fn audit_files<A: Audit>(
+    alloc: Global,
+    audit: &A,
+    election: File<'_>,
+    outcome: Option<File<'_>>,
+    certificate: File<'_>,
+) -> Result<Reply, Stop>
+    ensures { IfSome (settled result) (AnswersAudit A.States (A.reply audit.now) (A.Promises audit.now) (lent election.entry) (option_map lent outcome.entry) (lent certificate.entry)) }
+{
+    let election = election_of(alloc, election)?;
+    audit_for(alloc, audit, &election, outcome, certificate)
+}
+
+/// The reply for an election that was accepted.
+pub(crate) fn audit_for<A: Audit>(
+    alloc: Global,
+    audit: &A,
+    election: &Election,
+    outcome: Option<File<'_>>,
+    certificate: File<'_>,
+) -> Result<Reply, Stop>
+    ensures { (file : Delivery) → StatesElection file (Ok election.now) → IfSome (settled result) (AnswersAudit A.States (A.reply audit.now) (A.Promises audit.now) file (option_map lent outcome.entry) (lent certificate.entry)) }
+{
+    let outcome = outcome_of(alloc, outcome, election)?;
+    audit.reply_on(alloc, election, &outcome, certificate)
+}
+
+/// The reply on what readers deliver.
+fn audit_readers<A: Audit, E: Source, O: Source, C: Source>(
+    alloc: Global,
+    audit: &A,
+    election: &mut E,
+    outcome: &mut Option<O>,
+    certificate: &mut C,
+) -> Result<Reply, Stop>
+    ensures { IfSome (settled result) (ReadsAudit A.States (A.reply audit.now) (A.Promises audit.now) (audit_readings E.Source election.old election.new O.Source outcome.old outcome.new C.Source certificate.old certificate.new)) }
+{
+    let election = take_election(alloc, election)?;
+    let outcome = take_outcome(alloc, outcome, &election)?;
+    let certificate = Loaded::load(alloc, certificate)?;
+    audit.reply_on(alloc, &election, &outcome, certificate.lend())
+}
