@@ -1,6 +1,8 @@
 -- A command grows as its description does.
-use Rattle.std.proofs.Common.{◌≡◌, ◌∙◌, ◌||◌, ap, ap₂, false}
-use Rattle.std.specs.Prelude.{Some}
+use Rattle.std.proofs.Common.{◌≡◌, ◌∙◌, ◌||◌, ◌≤◌, ◌<◌, ◌+◌, ℕ, List, ap, ap₂, false, length, subst, sym, take, take_all}
+use Rattle.std.proofs.Math.ListN.{get_or}
+use Rattle.std.proofs.lemmas.List.Sums.{fold_more}
+use Rattle.std.specs.Prelude.{Some, fold}
 use Rattle.clap.specs.Words.{AddsArg, AddsSubcommand, App, Rule, app_of, rule_of, with_rule, with_subcommand}
 use Rattle.clap.specs.Simple.{app_of_fields}
 use Rattle.clap.specs.declared.builder.arg.Arg.{Arg}
@@ -37,3 +39,15 @@ adds_command old sub new app below is under added = (
   added.shape under.1 ∙ ap₂ with_subcommand is.0 (ap (λ (a : App). a.top) under.0),
   added.globals ∙ (ap (λ b. b || (out-Command sub).has_globals) is.1 ∙ ap (λ b. false || b) under.1),
 )
+
+-- the next of a list
+pub takes_next : {X : Type 0} (step : App → X → App) (start : App) (xs : List X) (i : ℕ) (d : X) → i < length xs
+    → (c : Command) → IsCommand (step (fold step start (take i xs)) (get_or xs i d)) c
+    → IsCommand (fold step start (take (i + 1) xs)) c
+takes_next step start xs i d in_list c is =
+    subst (λ app. IsCommand app c) (sym (fold_more step start xs i d in_list)) is
+
+-- a list that is gone through
+pub gone_through : {X : Type 0} (step : App → X → App) (start : App) (xs : List X) (i : ℕ) (c : Command)
+    → IsCommand (fold step start (take i xs)) c → length xs ≤ i → IsCommand (fold step start xs) c
+gone_through step start xs i c is past = subst (λ all. IsCommand (fold step start all) c) (take_all i xs past) is
