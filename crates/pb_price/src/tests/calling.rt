@@ -1,11 +1,12 @@
 //! A caller of these crates, which docs/CALLING.md shows.
 
-ghost use Rattle.std.specs.Prelude.{◌≡◌, Bool, List, Some, true};
+ghost use Rattle.std.specs.Prelude.{◌≡◌, Bool, List, Some, false, true};
 ghost use Rattle.pb_election.specs.Instance.{Instance};
 ghost use Rattle.pb_election.specs.Text.{IsTextOf};
 ghost use Rattle.pb_certificate.specs.Faults.{certificate_records};
 ghost use Rattle.pb_certificate.specs.Prices as spec;
 ghost use Rattle.pb_certificate.specs.PriceText.{IsPriceText};
+ghost use Rattle.pb_cohesion.specs.Conditions.{Supports};
 ghost use Rattle.pb_cohesion.specs.EveryGroup.{NoGroupHasMoreLeft};
 
 use super::{SAMPLE, SAMPLE_PRICES};
@@ -20,6 +21,8 @@ use std::test::Fail;
 fn is_supported(alloc: Global, election: &[u8], certificate: &[u8]) -> Option<bool>
     // After a yes no group of an unfunded project's supporters has more left than it costs, by what the two files state.
     ensures yes { result ≡ Some true → (e : Instance) × (w : List Bool) × (p : spec.Prices) × IsTextOf election.now e × (e.selected ≡ Some w) × IsPriceText (certificate_records certificate.now) e p × NoGroupHasMoreLeft e w p }
+    // After a no the prices don't support the outcome by the plain conditions.
+    ensures no { result ≡ Some false → (e : Instance) × (w : List Bool) × (p : spec.Prices) × IsTextOf election.now e × (e.selected ≡ Some w) × IsPriceText (certificate_records certificate.now) e p × (Supports false true false e w p → ⊥) }
 {
     let Ok(election) = Election::read(alloc, election) else {
         return None;
@@ -31,7 +34,8 @@ fn is_supported(alloc: Global, election: &[u8], certificate: &[u8]) -> Option<bo
         return None;
     };
     match check(alloc, &election, &outcome, &prices, Mode::PLAIN) {
-        Ok(verdict) => Some(verdict == Verdict::Supported),
+        Ok(Verdict::Supported) => Some(true),
+        Ok(Verdict::Failed(_)) => Some(false),
         Err(_) => None,
     }
 }
