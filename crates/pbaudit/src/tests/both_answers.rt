@@ -127,35 +127,59 @@ fn first_refused_input_is_named(rt: HostRuntime) -> Result<(), Fail> {
     Ok(())
 }
 
+/// What is printed on sample files where each input is interrupted at the read of this number, and how often each input
+/// was read.
+fn interrupted(alloc: Global, at: [usize; 4]) -> Result<(String, [usize; 4]), Fail> {
+    let [at_election, at_outcome, at_prices, at_violation] = at;
+    let mut election = InterruptedReader::new(ELECTION, usize::MAX, at_election);
+    let mut outcome = InterruptedReader::new(OUTCOME, usize::MAX, at_outcome);
+    let mut prices = InterruptedReader::new(PRICES, usize::MAX, at_prices);
+    let mut violation = InterruptedReader::new(FAIR_VIOLATION, usize::MAX, at_violation);
+    let (printed, _) = engines::both(
+        alloc,
+        &mut election,
+        Some(&mut outcome),
+        &mut prices,
+        &mut violation,
+        PLAIN,
+    )?;
+    let reads = [election.reads, outcome.reads, prices.reads, violation.reads];
+    Ok((printed, reads))
+}
+
 #[test]
 fn each_input_is_read_in_its_turn(rt: HostRuntime) -> Result<(), Fail> {
-    let alloc = rt.alloc();
-    for (broken, line) in [
-        (0, "refused election 18 Read record 0\n"),
-        (1, "refused outcome 18 Read record 0\n"),
-        (2, "refused prices 18 Read record 0\n"),
-        (3, "refused violation 18 Read record 0\n"),
-        (4, "supported priceable\nfailed V4 voter 1\n"),
-    ] {
-        for at in 1..=2 {
-            let at_of = |input: u32| if input == broken { at } else { 0 };
-            let mut election = InterruptedReader::new(ELECTION, usize::MAX, at_of(0));
-            let mut outcome = InterruptedReader::new(OUTCOME, usize::MAX, at_of(1));
-            let mut prices = InterruptedReader::new(PRICES, usize::MAX, at_of(2));
-            let mut violation = InterruptedReader::new(FAIR_VIOLATION, usize::MAX, at_of(3));
-            let (printed, _) = engines::both(
-                alloc,
-                &mut election,
-                Some(&mut outcome),
-                &mut prices,
-                &mut violation,
-                PLAIN,
-            )?;
+    for at in 1..=2 {
+        for (interrupted_at, reads, line) in [
+            (
+                [at, 0, 0, 0],
+                [at, 0, 0, 0],
+                "refused election 18 Read record 0\n",
+            ),
+            (
+                [0, at, 0, 0],
+                [2, at, 0, 0],
+                "refused outcome 18 Read record 0\n",
+            ),
+            (
+                [0, 0, at, 0],
+                [2, 2, at, 0],
+                "refused prices 18 Read record 0\n",
+            ),
+            (
+                [0, 0, 0, at],
+                [2, 2, 2, at],
+                "refused violation 18 Read record 0\n",
+            ),
+            (
+                [0, 0, 0, 0],
+                [2, 2, 2, 2],
+                "supported priceable\nfailed V4 voter 1\n",
+            ),
+        ] {
+            let (printed, counted) = interrupted(rt.alloc(), interrupted_at)?;
             assert!(rt; printed.as_str() == line, "{printed}");
-            let reads = [election.reads, outcome.reads, prices.reads, violation.reads];
-            let reads_of = |input: u32| if input < broken { 2 } else { at_of(input) };
-            let wanted = [reads_of(0), reads_of(1), reads_of(2), reads_of(3)];
-            assert!(rt; reads == wanted, "{line}{at}");
+            assert!(rt; counted == reads, "{line}{at}");
         }
     }
     Ok(())

@@ -7,42 +7,32 @@ use std::test::Fail;
 
 /// A front of a text. A line is whole without its end too.
 #[derive(Drop)]
-struct Front {
-    bytes: Vec<u8>,
+struct Front<'a> {
+    bytes: &'a [u8],
     whole_lines: usize,
     /// Whether a part of another line follows.
     begun: bool,
 }
 
 /// All fronts of a text, from none of its bytes to all of them.
-fn fronts(alloc: Global, text: &str) -> Result<Vec<Front>, AllocError> {
+fn fronts(alloc: Global, text: &str) -> Result<Vec<Front<'_>>, AllocError> {
     let mut all = Vec::new(alloc);
-    let mut front = Front {
-        bytes: Vec::new(alloc),
-        whole_lines: 0,
-        begun: false,
-    };
-    for line in text.lines() {
-        for byte in line.bytes() {
-            all.push(copy(&front)?)?;
-            front.bytes.push(byte)?;
-            front.begun = true;
+    let mut whole_lines = 0usize;
+    let mut begun = false;
+    for end in 0..=text.len() {
+        let (bytes, rest) = text.as_bytes().split_at(end);
+        if rest.starts_with(b"\n") {
+            whole_lines = whole_lines.saturating_add(1);
+            begun = false;
         }
-        front.begun = false;
-        front.whole_lines = front.whole_lines.saturating_add(1);
-        all.push(copy(&front)?)?;
-        front.bytes.push(b'\n')?;
+        all.push(Front {
+            bytes,
+            whole_lines,
+            begun,
+        })?;
+        begun = !rest.starts_with(b"\n");
     }
-    all.push(front)?;
     Ok(all)
-}
-
-fn copy(front: &Front) -> Result<Front, AllocError> {
-    Ok(Front {
-        bytes: front.bytes.clone()?,
-        whole_lines: front.whole_lines,
-        begun: front.begun,
-    })
 }
 
 /// What is printed on the sample election where so many of its lines are left.
@@ -68,9 +58,9 @@ fn cut_election_is_answered_by_its_lines(rt: HostRuntime) -> Result<(), Fail> {
     let fronts = fronts(alloc, ELECTION)?;
     assert!(rt; fronts.len() == ELECTION.len() + 1);
     for front in &fronts {
-        let mut file = front.bytes.as_slice();
+        let mut file = front.bytes;
         let (printed, status) = engines::read(alloc, &mut file)?;
-        let left = String::from_utf8(front.bytes.clone()?)?;
+        let left = String::from_utf8(Vec::from_slice(alloc, front.bytes)?)?;
         let is_header = front.whole_lines == 13 && left.as_str().ends_with("\nvote");
         if front.begun && front.whole_lines < 14 && !is_header {
             assert!(rt; status == Status::Refused, "{left}");
@@ -95,7 +85,7 @@ fn cut_row_of_prices_is_refused(rt: HostRuntime) -> Result<(), Fail> {
     let fronts = fronts(alloc, PRICES)?;
     assert!(rt; fronts.len() == PRICES.len() + 1);
     for front in &fronts {
-        let (mut election, mut certificate) = (ELECTION.as_bytes(), front.bytes.as_slice());
+        let (mut election, mut certificate) = (ELECTION.as_bytes(), front.bytes);
         let none: Option<&mut &[u8]> = None;
         let answer = engines::prices(alloc, &mut election, none, &mut certificate, PLAIN)?;
         let (printed, status) = answer;
@@ -113,7 +103,7 @@ fn cut_row_of_prices_is_refused(rt: HostRuntime) -> Result<(), Fail> {
             (7, false) => (format!(in alloc; "failed C3 project b\n")?, Status::No),
             _ => (format!(in alloc; "supported priceable\n")?, Status::Yes),
         };
-        let left = String::from_utf8(front.bytes.clone()?)?;
+        let left = String::from_utf8(Vec::from_slice(alloc, front.bytes)?)?;
         assert!(rt; printed.as_str() == want.as_str(), "{left}: {printed}");
         assert!(rt; status == wanted, "{left}: {printed}");
     }

@@ -28,10 +28,7 @@ pub fn prices<E: Read, O: Read + Drop, C: Read>(
     certificate: &mut C,
     mode: Mode,
 ) -> Result<(String, Status), Fail> {
-    let mut outcome = match outcome {
-        Some(reader) => Some(Input::new(reader)),
-        None => None,
-    };
+    let mut outcome = outcome.map(|reader| Input::new(reader));
     let mut writer = FakeWriter::new(alloc);
     let status = run_prices(
         alloc,
@@ -51,10 +48,7 @@ pub fn violation<E: Read, O: Read + Drop, C: Read>(
     outcome: Option<O>,
     certificate: &mut C,
 ) -> Result<(String, Status), Fail> {
-    let mut outcome = match outcome {
-        Some(reader) => Some(Input::new(reader)),
-        None => None,
-    };
+    let mut outcome = outcome.map(|reader| Input::new(reader));
     let mut writer = FakeWriter::new(alloc);
     let status = run_violation(
         alloc,
@@ -75,10 +69,7 @@ pub fn both<E: Read, O: Read + Drop, P: Read, V: Read>(
     violation: &mut V,
     mode: Mode,
 ) -> Result<(String, Status), Fail> {
-    let mut outcome = match outcome {
-        Some(reader) => Some(Input::new(reader)),
-        None => None,
-    };
+    let mut outcome = outcome.map(|reader| Input::new(reader));
     let mut writer = FakeWriter::new(alloc);
     let status = run_both(
         alloc,
@@ -100,10 +91,7 @@ pub fn explain<E: Read, O: Read + Drop, C: Read>(
     certificate: &mut C,
     mode: Mode,
 ) -> Result<(String, Status), Fail> {
-    let mut outcome = match outcome {
-        Some(reader) => Some(Input::new(reader)),
-        None => None,
-    };
+    let mut outcome = outcome.map(|reader| Input::new(reader));
     let mut writer = FakeWriter::new(alloc);
     let status = run_explain(
         alloc,
@@ -123,10 +111,7 @@ pub fn margins<E: Read, O: Read + Drop, C: Read>(
     outcome: Option<O>,
     certificate: &mut C,
 ) -> Result<(String, Status), Fail> {
-    let mut outcome = match outcome {
-        Some(reader) => Some(Input::new(reader)),
-        None => None,
-    };
+    let mut outcome = outcome.map(|reader| Input::new(reader));
     let mut writer = FakeWriter::new(alloc);
     let status = run_margins(
         alloc,

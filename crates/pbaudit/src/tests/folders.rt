@@ -1,7 +1,7 @@
 //! Audits of real folders.
 use super::fakes::{FakeTerminal, FakeWriter};
 use super::room::Room;
-use super::runs::{command, expect, expect_line, told};
+use super::runs::{Ending, command, expect, expect_line, told};
 use super::samples::{
     ELECTION, FAIR_VIOLATION, LONE_PRICES, PLAIN, PRICES, SPLIT_ELECTION, SPLIT_PRICES, with_pool,
 };
@@ -10,6 +10,7 @@ use crate::listing::{ListFault, Listing};
 use crate::progress::Progress;
 use crate::run;
 use pb_audit::Status;
+use std::alloc::{AllocError, Global};
 use std::io::ErrorKind;
 use std::os::unix::fs::symlink;
 use std::test::Fail;
@@ -19,6 +20,18 @@ const READ: &str = "read 3 voters 3 projects 2 funded";
 
 const REFUSED: &str = "refused election 2 NoMeta record 1";
 
+/// An audit of a folder with these switches is to end with this status, and with this on standard output.
+fn expect_folder(
+    rt: &HostRuntime,
+    room: &Room<'_>,
+    switches: &str,
+    status: u8,
+    text: &str,
+) -> Result<(), Fail> {
+    let line = format!(in rt.alloc(); "folder {}{switches}", room.path()?)?;
+    expect_line(rt, &line, status, text)
+}
+
 #[test]
 fn entries_are_told_in_order_and_a_refusal_decides_the_status(rt: HostRuntime) -> Result<(), Fail> {
     let room = Room::new(&rt, "two")?;
@@ -26,11 +39,10 @@ fn entries_are_told_in_order_and_a_refusal_decides_the_status(rt: HostRuntime) -
     room.write("one.pb", ELECTION.as_bytes())?;
     room.write("one.violation.csv", FAIR_VIOLATION.as_bytes())?;
     room.write("one.prices.csv", PRICES.as_bytes())?;
-    let folder = room.path()?;
-    let line = format!(in rt.alloc(); "folder {folder}")?;
-    expect_line(
+    expect_folder(
         &rt,
-        &line,
+        &room,
+        "",
         2,
         "one.pb: read 3 voters 3 projects 2 funded\n\
          one.prices.csv: supported priceable\n\
@@ -76,21 +88,34 @@ fn mode_of_a_folder_is_that_of_the_words(rt: HostRuntime) -> Result<(), Fail> {
              b.pb: read 2 voters 2 projects 1 funded\nb.prices.csv: {second}\n\
              total 2 elections {total} 0 refused\n"
         )?;
-        let folder = room.path()?;
-        let line = format!(in alloc; "folder {folder}{switch}")?;
-        expect_line(&rt, &line, status, &text)?;
+        expect_folder(&rt, &room, switch, status, &text)?;
     }
     Ok(())
 }
 
+/// Sample elections of these names are written, which gives the lines that are to be printed on them.
+fn write_elections(rt: &HostRuntime, room: &Room<'_>, names: &[&str]) -> Result<String, Fail> {
+    let mut lines = String::new(rt.alloc());
+    for name in names {
+        room.write(&format!(in rt.alloc(); "{name}.pb")?, ELECTION.as_bytes())?;
+        writeln!(lines, "{name}.pb: {READ}")?;
+    }
+    Ok(lines)
+}
+
+/// The longest name of an election without its end, 252 bytes.
+fn long_name(alloc: Global) -> Result<String, AllocError> {
+    let mut name = String::new(alloc);
+    for _ in 0..252 {
+        name.push('z')?;
+    }
+    Ok(name)
+}
+
 #[test]
 fn names_are_in_byte_order_and_come_out_as_they_are(rt: HostRuntime) -> Result<(), Fail> {
-    let alloc = rt.alloc();
     let room = Room::new(&rt, "names")?;
-    let mut long = String::new(alloc);
-    for _ in 0..252 {
-        long.push('z')?;
-    }
+    let long = long_name(rt.alloc())?;
     // In byte order. A name goes before those that it begins, though `.` comes after `-`.
     let names = [
         " ",
@@ -112,22 +137,28 @@ fn names_are_in_byte_order_and_come_out_as_they_are(rt: HostRuntime) -> Result<(
         "\u{e9}",
         "\u{4f60}",
     ];
-    let mut wanted = String::new(alloc);
-    for name in names {
-        room.write(&format!(in alloc; "{name}.pb")?, ELECTION.as_bytes())?;
-        writeln!(wanted, "{name}.pb: {READ}")?;
-    }
+    let mut wanted = write_elections(&rt, &room, &names)?;
     wanted.push_str("total 18 elections 0 yes 0 no 0 refused\n")?;
-    let folder = room.path()?;
-    let line = format!(in alloc; "folder {folder}")?;
-    expect_line(&rt, &line, 0, &wanted)
+    expect_folder(&rt, &room, "", 0, &wanted)
+}
+
+/// Folders and links with names of entries.
+fn make_folders_and_links(rt: &HostRuntime, room: &Room<'_>) -> Result<(), Fail> {
+    for name in ["folder.pb", "a.prices.csv"] {
+        fs::create_dir(rt, room.path_of(name)?.as_str())?;
+    }
+    let election = room.path_of("a.pb")?;
+    for name in ["link.pb", "a.violation.csv"] {
+        symlink(rt, election.as_str(), room.path_of(name)?.as_str())?;
+    }
+    Ok(())
 }
 
 #[test]
 fn only_regular_files_with_clean_names_are_entries(rt: HostRuntime) -> Result<(), Fail> {
     let room = Room::new(&rt, "entries")?;
-    let election = room.write("a.pb", ELECTION.as_bytes())?;
     for name in [
+        "a.pb",
         ".pb",
         "b.PB",
         "b.pb.old",
@@ -138,41 +169,25 @@ fn only_regular_files_with_clean_names_are_entries(rt: HostRuntime) -> Result<()
     ] {
         room.write(name, ELECTION.as_bytes())?;
     }
-    fs::create_dir(&rt, room.path_of("folder.pb")?.as_str())?;
-    fs::create_dir(&rt, room.path_of("a.prices.csv")?.as_str())?;
-    symlink(&rt, election.as_str(), room.path_of("link.pb")?.as_str())?;
-    symlink(
-        &rt,
-        election.as_str(),
-        room.path_of("a.violation.csv")?.as_str(),
-    )?;
-    let folder = room.path()?;
-    let line = format!(in rt.alloc(); "folder {folder}")?;
-    expect_line(
-        &rt,
-        &line,
-        0,
-        "a.pb: read 3 voters 3 projects 2 funded\ntotal 1 elections 0 yes 0 no 0 refused\n",
-    )
+    make_folders_and_links(&rt, &room)?;
+    let text = "a.pb: read 3 voters 3 projects 2 funded\ntotal 1 elections 0 yes 0 no 0 refused\n";
+    expect_folder(&rt, &room, "", 0, text)
 }
 
 #[test]
 fn folder_without_elections_says_so(rt: HostRuntime) -> Result<(), Fail> {
     let room = Room::new(&rt, "none")?;
     let folder = room.path()?;
-    let line = format!(in rt.alloc(); "folder {folder}")?;
-    let words: Vec<&str> = line.split(' ').collect(rt.alloc())?;
-    let told = told(&rt, &words)?;
-    assert!(rt; told.status == 0);
+    let Ending {
+        status,
+        printed,
+        complaint,
+    } = told(&rt, &["folder", &folder])?;
     assert!(rt;
-        told.printed.as_str() == "total 0 elections 0 yes 0 no 0 refused\n",
-        "{}",
-        told.printed
-    );
-    assert!(rt;
-        told.complaint.as_str().lines().count() == 1,
-        "{}",
-        told.complaint
+        status == 0
+            && printed.as_str() == "total 0 elections 0 yes 0 no 0 refused\n"
+            && complaint.as_str().lines().count() == 1,
+        "{status} {printed} {complaint}"
     );
     Ok(())
 }
@@ -228,30 +243,33 @@ fn files_that_vanish_after_the_listing_are_refused(rt: HostRuntime) -> Result<()
     Ok(())
 }
 
-#[test]
-fn terminal_is_told_how_far_it_is(rt: HostRuntime) -> Result<(), Fail> {
+/// An audit of a folder where standard error is a terminal: its status, what the terminal gets, and what is printed.
+fn told_on_a_terminal(rt: &HostRuntime, folder: &str) -> Result<(u8, String, String), Fail> {
     let alloc = rt.alloc();
-    let room = Room::new(&rt, "terminal")?;
-    room.write("one.pb", ELECTION.as_bytes())?;
-    room.write("two.pb", b"")?;
+    let words = command(alloc, &["folder", folder])?;
     let mut out = FakeWriter::new(alloc);
     let mut err = FakeTerminal {
         written: Vec::new(alloc),
     };
-    let folder = room.path()?;
-    let line = format!(in alloc; "folder {folder}")?;
-    let words: Vec<&str> = line.split(' ').collect(alloc)?;
-    let words = command(alloc, &words)?;
-    let status = run(&rt, Ok(words), &mut b"".as_slice(), &mut out, &mut err);
-    assert!(rt; status == 2);
+    let status = run(rt, Ok(words), &mut b"".as_slice(), &mut out, &mut err);
     let shown = String::from_utf8(err.written)?;
+    Ok((status, shown, String::from_utf8(out.written)?))
+}
+
+#[test]
+fn terminal_is_told_how_far_it_is(rt: HostRuntime) -> Result<(), Fail> {
+    let room = Room::new(&rt, "terminal")?;
+    room.write("one.pb", ELECTION.as_bytes())?;
+    room.write("two.pb", b"")?;
+    let folder = room.path()?;
+    let (status, shown, printed) = told_on_a_terminal(&rt, &folder)?;
+    assert!(rt; status == 2);
     let wanted = "\r\u{1b}[K1 of 2: one.pb\r\u{1b}[K2 of 2: two.pb\r\u{1b}[K";
     assert!(rt; shown.as_str() == wanted, "{shown:?}");
-    let text = format!(in alloc;
+    let text = format!(in rt.alloc();
         "one.pb: {READ}\ntwo.pb: {REFUSED}\ntotal 2 elections 0 yes 0 no 1 refused\n"
     )?;
-    let printed = String::from_utf8(out.written)?;
-    assert!(rt; printed.as_str() == text.as_str(), "{printed}");
+    assert!(rt; printed == text, "{printed}");
     Ok(())
 }
 

@@ -2,6 +2,7 @@
 use super::room::Room;
 use super::runs::told;
 use super::samples::{ELECTION, PRICES, with_lines};
+use std::alloc::{AllocError, Global};
 use std::test::Fail;
 
 /// A change to a sample file, and what is to be told of the changed one.
@@ -17,6 +18,15 @@ pub struct Row<'a> {
     pub hint: &'a [&'a str],
 }
 
+/// A hint on a file of this name, by what stands behind the name in each line.
+fn lines_on(alloc: Global, name: &str, hint: &[&str]) -> Result<String, AllocError> {
+    let mut lines = String::new(alloc);
+    for remark in hint {
+        writeln!(lines, "{name}{remark}")?;
+    }
+    Ok(lines)
+}
+
 /// A run by these words is to refuse a file with this line, and to tell this of it on standard error.
 pub fn expect_hint(
     rt: &HostRuntime,
@@ -25,12 +35,9 @@ pub fn expect_hint(
     name: &str,
     hint: &[&str],
 ) -> Result<(), Fail> {
-    let told = told(rt, words)?;
+    let wanted = lines_on(rt.alloc(), name, hint)?;
     let printed = format!(in rt.alloc(); "refused {line}\n")?;
-    let mut wanted = String::new(rt.alloc());
-    for remark in hint {
-        writeln!(wanted, "{name}{remark}")?;
-    }
+    let told = told(rt, words)?;
     if told.status == 2 && told.printed == printed && told.complaint == wanted {
         return Ok(());
     }
@@ -58,10 +65,10 @@ pub fn expect_on_prices(rt: &HostRuntime, name: &str, rows: &[Row<'_>]) -> Resul
     for row in rows {
         let bytes = with_lines(alloc, PRICES, row.kept, row.removed, row.new)?;
         let path = room.write("p.csv", &bytes)?;
-        let prices = ["prices", election.as_str(), path.as_str()];
-        expect_hint(rt, &prices, row.line, &path, row.hint)?;
-        let tidy = ["tidy", election.as_str(), path.as_str()];
-        expect_hint(rt, &tidy, row.line, &path, row.hint)?;
+        let words = ["prices", &election, &path];
+        expect_hint(rt, &words, row.line, &path, row.hint)?;
+        let words = ["tidy", &election, &path];
+        expect_hint(rt, &words, row.line, &path, row.hint)?;
     }
     Ok(())
 }

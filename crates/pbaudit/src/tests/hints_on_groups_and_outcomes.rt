@@ -104,21 +104,9 @@ fn hint_shows_the_record_of_an_outcome_file(rt: HostRuntime) -> Result<(), Fail>
         ),
     ] {
         let path = room.write("o.csv", bytes.as_bytes())?;
-        let words = [
-            "prices",
-            election.as_str(),
-            "missing",
-            "--outcome",
-            path.as_str(),
-        ];
+        let words = ["prices", &election, "missing", "--outcome", &path];
         expect_hint(&rt, &words, line, &path, &[hint])?;
-        let words = [
-            "violation",
-            election.as_str(),
-            "missing",
-            "--outcome",
-            path.as_str(),
-        ];
+        let words = ["violation", &election, "missing", "--outcome", &path];
         expect_hint(&rt, &words, line, &path, &[hint])?;
     }
     Ok(())

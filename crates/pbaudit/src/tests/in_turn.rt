@@ -12,12 +12,8 @@ use pb_audit::{
 use pb_certificate::{Prices, WriteFault};
 use pb_election::{Election, Input, Output};
 use std::alloc::Global;
-use std::cmp::Ordering;
 use std::io::Write;
 use std::test::Fail;
-
-/// The inputs in the order in which they are taken, by their names in refusals.
-const INPUTS: [&str; 3] = ["election", "outcome", "certificate"];
 
 /// What a reader gives at most at a time.
 const PIECE: usize = 16;
@@ -104,10 +100,26 @@ impl Command {
     }
 }
 
+/// A command whose inputs are interrupted at the reads of these numbers is to refuse the input of this name, and to
+/// have read each of them so often.
+fn expect_refused(
+    rt: &HostRuntime,
+    command: Command,
+    interrupted_at: [usize; 3],
+    name: &str,
+    wanted: [usize; 3],
+) -> Result<(), Fail> {
+    let want = format!(in rt.alloc(); "refused {name} 18 Read record 0\n")?;
+    let (printed, status, reads) = command.run(rt.alloc(), interrupted_at)?;
+    if printed == want && status == Status::Refused && reads == wanted {
+        return Ok(());
+    }
+    Err(Fail::new(format_args!("{interrupted_at:?} {reads:?}, wanted {wanted:?}: {printed}")))
+}
+
 /// The input whose read fails is refused. Those before it were read to their ends, and those after it not at all.
 #[test]
 fn each_read_fails_in_turn(rt: HostRuntime) -> Result<(), Fail> {
-    let alloc = rt.alloc();
     for command in [
         Command::Read,
         Command::Prices,
@@ -116,27 +128,20 @@ fn each_read_fails_in_turn(rt: HostRuntime) -> Result<(), Fail> {
         Command::Margins,
         Command::Tidy,
     ] {
-        let all_reads = command.reads();
-        for (broken, name) in INPUTS.iter().enumerate() {
-            let want = format!(in alloc; "refused {name} 18 Read record 0\n")?;
-            for at in 1..=all_reads[broken] {
-                let mut interrupted_at = [0; 3];
-                interrupted_at[broken] = at;
-                let (printed, status, reads) = command.run(alloc, interrupted_at)?;
-                assert!(rt; printed.as_str() == want.as_str(), "{name} {at}: {printed}");
-                assert!(rt; status == Status::Refused, "{name} {at}");
-                for (input, count) in reads.iter().enumerate() {
-                    let wanted = match input.cmp(&broken) {
-                        Ordering::Less => all_reads[input],
-                        Ordering::Equal => at,
-                        Ordering::Greater => 0,
-                    };
-                    assert!(rt; *count == wanted, "{name} {at}");
-                }
-            }
+        let [election, outcome, certificate] = command.reads();
+        for at in 1..=election {
+            expect_refused(&rt, command, [at, 0, 0], "election", [at, 0, 0])?;
         }
-        let (printed, _, reads) = command.run(alloc, [0; 3])?;
-        assert!(rt; reads == all_reads, "{printed}");
+        for at in 1..=outcome {
+            let reads = [election, at, 0];
+            expect_refused(&rt, command, [0, at, 0], "outcome", reads)?;
+        }
+        for at in 1..=certificate {
+            let reads = [election, outcome, at];
+            expect_refused(&rt, command, [0, 0, at], "certificate", reads)?;
+        }
+        let (printed, _, reads) = command.run(rt.alloc(), [0; 3])?;
+        assert!(rt; reads == command.reads(), "{printed}");
     }
     Ok(())
 }
@@ -171,54 +176,71 @@ impl Written {
     /// How it ends on this writer.
     fn to<W: Write>(self, alloc: Global, writer: &mut W) -> Result<Result<Status, Fault>, Fail> {
         let mut out = Output::new(writer);
-        let mut none: Option<Input<&[u8]>> = None;
-        let mut election = Input::new(ELECTION.as_bytes());
-        let mut prices = Input::new(PRICES.as_bytes());
-        let ending = match self {
+        let (mut election, mut prices) = (input(ELECTION), input(PRICES));
+        Ok(match self {
             Written::Election => run_read(alloc, &mut election, &mut out),
             Written::Prices => run_prices(
                 alloc,
                 &mut election,
-                &mut none,
+                &mut no_input(),
                 &mut prices,
                 PLAIN,
                 &mut out,
             ),
             Written::Violation => run_violation(
                 alloc,
-                &mut Input::new(UNFAIR_ELECTION.as_bytes()),
-                &mut none,
-                &mut Input::new(VIOLATION.as_bytes()),
+                &mut input(UNFAIR_ELECTION),
+                &mut no_input(),
+                &mut input(VIOLATION),
                 &mut out,
             ),
             Written::Explain => run_explain(
                 alloc,
                 &mut election,
-                &mut none,
+                &mut no_input(),
                 &mut prices,
                 PLAIN,
                 &mut out,
             ),
-            Written::Margins => {
-                run_margins(alloc, &mut election, &mut none, &mut prices, &mut out)
-            }
+            Written::Margins => run_margins(
+                alloc,
+                &mut election,
+                &mut no_input(),
+                &mut prices,
+                &mut out,
+            ),
             Written::Tidy => run_tidy(alloc, &mut election, &mut prices, &mut out),
             Written::Folder => folder_text(alloc, &[], PLAIN)?.write(&mut out),
-            Written::Canonical => {
-                let election = Election::read(alloc, ELECTION.as_bytes())?;
-                let prices = Prices::read(alloc, PRICES.as_bytes(), &election)?;
-                if !prices.fits(&election) {
-                    return Err(Fail::new("prices of another election"));
-                }
-                match prices.write(alloc, &election, &mut out) {
-                    Ok(()) => Ok(Status::Yes),
-                    Err(WriteFault::Write) => Err(Fault::Write),
-                    Err(WriteFault::Memory) => Err(Fault::Memory),
-                }
-            }
-        };
-        Ok(ending)
+            Written::Canonical => write_canonical(alloc, &mut out)?,
+        })
     }
+}
+
+/// A text as an input.
+fn input(text: &str) -> Input<&[u8]> {
+    Input::new(text.as_bytes())
+}
+
+/// No outcome file.
+fn no_input() -> Option<Input<&'static [u8]>> {
+    None
+}
+
+/// How it ends to write the sample prices by the call of the library.
+fn write_canonical<W: Write>(
+    alloc: Global,
+    out: &mut Output<W>,
+) -> Result<Result<Status, Fault>, Fail> {
+    let election = Election::read(alloc, ELECTION.as_bytes())?;
+    let prices = Prices::read(alloc, PRICES.as_bytes(), &election)?;
+    if !prices.fits(&election) {
+        return Err(Fail::new("prices of another election"));
+    }
+    Ok(match prices.write(alloc, &election, out) {
+        Ok(()) => Ok(Status::Yes),
+        Err(WriteFault::Write) => Err(Fault::Write),
+        Err(WriteFault::Memory) => Err(Fault::Memory),
+    })
 }
 
 const WRITTEN: [Written; 8] = [
@@ -232,59 +254,73 @@ const WRITTEN: [Written; 8] = [
     Written::Canonical,
 ];
 
+/// A call is to end with a fault at the write of this number, and to have written what was taken before.
+fn expect_front(
+    rt: &HostRuntime,
+    call: Written,
+    piece: usize,
+    at: usize,
+    lapse: Lapse,
+) -> Result<(), Fail> {
+    let mut writer = LapsingWriter::new(rt.alloc(), piece, lapse);
+    let ending = call.to(rt.alloc(), &mut writer)?;
+    let before = at.saturating_sub(1).saturating_mul(piece);
+    if ending == Err(Fault::Write)
+        && writer.written.len() == before
+        && call.text().as_bytes().starts_with(&writer.written)
+        && writer.writes == at
+        && writer.flushes == 0
+    {
+        return Ok(());
+    }
+    Err(Fail::new(format_args!("{}{piece} {at}", call.text())))
+}
+
 /// A write that takes no byte, or is interrupted, ends the run with what was written before, and nothing is tried again.
 #[test]
 fn each_write_fails_in_turn(rt: HostRuntime) -> Result<(), Fail> {
-    let alloc = rt.alloc();
     for call in WRITTEN {
-        let text = call.text();
         for piece in [1, 7, 1000] {
-            for at in 1..=text.len().div_ceil(piece) {
-                for lapse in [Lapse::TakesNone(at), Lapse::Interrupted(at)] {
-                    let mut writer = LapsingWriter::new(alloc, piece, lapse);
-                    let ending = call.to(alloc, &mut writer)?;
-                    assert!(rt; ending == Err(Fault::Write), "{text}{piece} {at}");
-                    let before = at.saturating_sub(1).saturating_mul(piece);
-                    assert!(rt; writer.written.len() == before, "{text}{piece} {at}");
-                    assert!(rt;
-                        text.as_bytes().starts_with(&writer.written),
-                        "{text}{piece} {at}"
-                    );
-                    assert!(rt;
-                        writer.writes == at && writer.flushes == 0,
-                        "{text}{piece} {at}"
-                    );
-                }
+            for at in 1..=call.text().len().div_ceil(piece) {
+                expect_front(&rt, call, piece, at, Lapse::TakesNone(at))?;
+                expect_front(&rt, call, piece, at, Lapse::Interrupted(at))?;
             }
         }
     }
     Ok(())
 }
 
+/// A call is to write its whole text by so many writes, to flush once, and to end like this.
+fn expect_whole(
+    rt: &HostRuntime,
+    call: Written,
+    piece: usize,
+    lapse: Lapse,
+    writes: usize,
+    want: Result<Status, Fault>,
+) -> Result<(), Fail> {
+    let mut writer = LapsingWriter::new(rt.alloc(), piece, lapse);
+    let ending = call.to(rt.alloc(), &mut writer)?;
+    if ending == want
+        && writer.written.as_slice() == call.text().as_bytes()
+        && writer.writes == writes
+        && writer.flushes == 1
+    {
+        return Ok(());
+    }
+    Err(Fail::new(format_args!("{}{piece}", call.text())))
+}
+
 /// However little a write takes, the whole text is written, and then flushed once. A flush that fails is a fault though.
 #[test]
 fn flush_fails_once_all_is_written(rt: HostRuntime) -> Result<(), Fail> {
-    let alloc = rt.alloc();
     for call in WRITTEN {
-        let text = call.text();
         for piece in [1, 7, 1000] {
-            for (lapse, want) in [
-                (Lapse::TakesNone(0), Ok(Status::Yes)),
-                (Lapse::Unflushed, Err(Fault::Write)),
-            ] {
-                let mut writer = LapsingWriter::new(alloc, piece, lapse);
-                let ending = call.to(alloc, &mut writer)?;
-                assert!(rt; ending == want, "{text}{piece}");
-                assert!(rt;
-                    writer.written.as_slice() == text.as_bytes(),
-                    "{text}{piece}"
-                );
-                assert!(rt;
-                    writer.writes == text.len().div_ceil(piece),
-                    "{text}{piece}"
-                );
-                assert!(rt; writer.flushes == 1, "{text}{piece}");
-            }
+            let writes = call.text().len().div_ceil(piece);
+            let done = Ok(Status::Yes);
+            expect_whole(&rt, call, piece, Lapse::TakesNone(0), writes, done)?;
+            let failed = Err(Fault::Write);
+            expect_whole(&rt, call, piece, Lapse::Unflushed, writes, failed)?;
         }
     }
     Ok(())

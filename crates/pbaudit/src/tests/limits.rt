@@ -41,6 +41,19 @@ fn expect_read(alloc: Global, election: &str, line: &str) -> Result<(), Fail> {
     expect(engines::read(alloc, &mut election)?, line)
 }
 
+/// An election whose line behind the first `kept` ones is this row is to be read with this line.
+fn expect_read_with(
+    alloc: Global,
+    election: &str,
+    kept: usize,
+    row: &str,
+    line: &str,
+) -> Result<(), Fail> {
+    let file = with_lines(alloc, election, kept, 1, row.as_bytes())?;
+    let mut file = file.as_slice();
+    expect(engines::read(alloc, &mut file)?, line)
+}
+
 /// Prices are to be answered by this line.
 fn expect_prices(
     alloc: Global,
@@ -51,6 +64,66 @@ fn expect_prices(
     let none: Option<&mut &[u8]> = None;
     let answer = engines::prices(alloc, &mut election, none, &mut certificate, PLAIN)?;
     expect(answer, line)
+}
+
+/// The sample prices are to be answered by this line where the line of the sample election behind the first `kept` ones
+/// is this row.
+fn expect_election_with(alloc: Global, kept: usize, row: &str, line: &str) -> Result<(), Fail> {
+    let election = with_lines(alloc, ELECTION, kept, 1, row.as_bytes())?;
+    expect_prices(alloc, &election, PRICES.as_bytes(), line)
+}
+
+/// The sample prices whose line behind the first `kept` ones is this row are to be answered by this line.
+fn expect_prices_with(alloc: Global, kept: usize, row: &str, line: &str) -> Result<(), Fail> {
+    let certificate = with_lines(alloc, PRICES, kept, 1, row.as_bytes())?;
+    expect_prices(alloc, ELECTION.as_bytes(), &certificate, line)
+}
+
+/// `tidy` is to print this on prices.
+fn expect_tidy(alloc: Global, election: &str, prices: &str, text: &str) -> Result<(), Fail> {
+    let (mut election, mut prices) = (election.as_bytes(), prices.as_bytes());
+    let (printed, _) = engines::tidy(alloc, &mut election, &mut prices)?;
+    if printed.as_str() == text {
+        return Ok(());
+    }
+    Err(Fail::new(format_args!("wanted {text}, printed {printed}")))
+}
+
+/// A violation is to be answered by this line.
+fn expect_violation(
+    alloc: Global,
+    election: &str,
+    outcome: Option<&str>,
+    violation: &str,
+    line: &str,
+) -> Result<(), Fail> {
+    let (mut election, mut violation) = (election.as_bytes(), violation.as_bytes());
+    let mut outcome = outcome.map(|text| text.as_bytes());
+    let answer = engines::violation(alloc, &mut election, outcome.as_mut(), &mut violation)?;
+    expect(answer, line)
+}
+
+/// A text with this in place of each `#`.
+fn filled(alloc: Global, text: &str, by: &str) -> Result<String, AllocError> {
+    let mut all = String::new(alloc);
+    for (number, part) in text.split('#').enumerate() {
+        if number > 0 {
+            all.push_str(by)?;
+        }
+        all.push_str(part)?;
+    }
+    Ok(all)
+}
+
+/// A head, then a row with each number from 1 to 600 in place of `#`, and then a last row.
+fn rows(alloc: Global, head: &str, row: &str, last: &str) -> Result<String, AllocError> {
+    let mut text = String::from_str(alloc, head)?;
+    for number in 1..=600u32 {
+        let number = format!(in alloc; "{number}")?;
+        text.push_str(&filled(alloc, row, &number)?)?;
+    }
+    text.push_str(last)?;
+    Ok(text)
 }
 
 #[test]
@@ -89,34 +162,32 @@ fn voter_past_the_limit_is_refused_at_its_record(rt: HostRuntime) -> Result<(), 
 fn repeated_row_is_found_behind_many_others(rt: HostRuntime) -> Result<(), Fail> {
     let alloc = rt.alloc();
     let election = election(alloc, 600, 600, "p1")?;
-    let mut prices = String::from_str(alloc, NO_MONEY)?;
-    let mut violation = String::from_str(alloc, "pb-violation,1\n")?;
-    let mut outcome = String::from_str(alloc, "pb-outcome,1\n")?;
-    for number in 1..=600 {
-        writeln!(prices, "{number},p{number},0")?;
-        writeln!(violation, "voter,{number}\nproject,p{number}")?;
-        writeln!(outcome, "project,p{number}")?;
+    for (last, text) in [
+        ("", NO_MONEY),
+        (
+            "600,p600,0\n",
+            "refused certificate 27 Repeated record 605\n",
+        ),
+    ] {
+        let prices = rows(alloc, NO_MONEY, "#,p#,0\n", last)?;
+        expect_tidy(alloc, &election, &prices, text)?;
     }
-    let (mut file, mut certificate) = (election.as_bytes(), prices.as_bytes());
-    let (printed, _) = engines::tidy(alloc, &mut file, &mut certificate)?;
-    assert!(rt; printed.as_str() == NO_MONEY);
-    let (mut file, mut funded) = (election.as_bytes(), outcome.as_bytes());
-    let mut certificate = violation.as_bytes();
-    let answer = engines::violation(alloc, &mut file, Some(&mut funded), &mut certificate)?;
-    expect(answer, "failed V2 voter 1 project p2")?;
-    prices.push_str("600,p600,0\n")?;
-    let (mut file, mut certificate) = (election.as_bytes(), prices.as_bytes());
-    let answer = engines::tidy(alloc, &mut file, &mut certificate)?;
-    expect(answer, "refused certificate 27 Repeated record 605")?;
-    violation.push_str("voter,600\n")?;
-    let none: Option<&mut &[u8]> = None;
-    let (mut file, mut certificate) = (election.as_bytes(), violation.as_bytes());
-    let answer = engines::violation(alloc, &mut file, none, &mut certificate)?;
-    expect(answer, "refused certificate 27 Repeated record 1202")?;
-    outcome.push_str("project,p600\n")?;
-    let (mut file, mut funded) = (election.as_bytes(), outcome.as_bytes());
-    let answer = engines::violation(alloc, &mut file, Some(&mut funded), &mut certificate)?;
-    expect(answer, "refused outcome 27 Repeated record 602")
+    let group = rows(alloc, "pb-violation,1\n", "voter,#\nproject,p#\n", "")?;
+    for (last, line) in [
+        ("", "failed V2 voter 1 project p2"),
+        ("project,p600\n", "refused outcome 27 Repeated record 602"),
+    ] {
+        let outcome = rows(alloc, "pb-outcome,1\n", "project,p#\n", last)?;
+        expect_violation(alloc, &election, Some(&outcome), &group, line)?;
+    }
+    let group = rows(
+        alloc,
+        "pb-violation,1\n",
+        "voter,#\nproject,p#\n",
+        "voter,600\n",
+    )?;
+    let line = "refused certificate 27 Repeated record 1202";
+    expect_violation(alloc, &election, None, &group, line)
 }
 
 #[test]
@@ -124,115 +195,85 @@ fn empty_election_is_answered_by_each_command(rt: HostRuntime) -> Result<(), Fai
     let alloc = rt.alloc();
     let text = election(alloc, 0, 0, "")?;
     expect_read(alloc, &text, "read 0 voters 0 projects 0 funded")?;
-    expect_prices(
-        alloc,
-        text.as_bytes(),
-        NO_MONEY.as_bytes(),
-        "supported priceable",
-    )?;
-    let (mut file, mut certificate) = (text.as_bytes(), NO_MONEY.as_bytes());
-    let (printed, _) = engines::tidy(alloc, &mut file, &mut certificate)?;
-    assert!(rt; printed.as_str() == NO_MONEY);
-    let (mut file, mut outcome) = (text.as_bytes(), b"pb-outcome,1\n".as_slice());
-    let mut certificate = b"pb-violation,1\n".as_slice();
-    let answer = engines::violation(alloc, &mut file, Some(&mut outcome), &mut certificate)?;
-    expect(answer, "failed V1")?;
-    let (mut file, mut certificate) = (text.as_bytes(), b"pb-violation,1\nproject,x\n".as_slice());
-    let none: Option<&mut &[u8]> = None;
-    let answer = engines::violation(alloc, &mut file, none, &mut certificate)?;
-    expect(answer, "refused certificate 25 UnknownProject record 2")
+    let line = "supported priceable";
+    expect_prices(alloc, text.as_bytes(), NO_MONEY.as_bytes(), line)?;
+    expect_tidy(alloc, &text, NO_MONEY, NO_MONEY)?;
+    let outcome = Some("pb-outcome,1\n");
+    expect_violation(alloc, &text, outcome, "pb-violation,1\n", "failed V1")?;
+    let line = "refused certificate 25 UnknownProject record 2";
+    expect_violation(alloc, &text, None, "pb-violation,1\nproject,x\n", line)
 }
 
 #[test]
 fn amounts_are_taken_up_to_the_limit_in_any_spelling(rt: HostRuntime) -> Result<(), Fail> {
-    let alloc = rt.alloc();
-    for (line_before, row, line) in [
+    let read = "read 0 voters 1 projects 1 funded";
+    for (kept, row, line) in [
+        (2, "budget;1000000000000\n", read),
         (
             2,
-            "budget;1000000000000",
-            "read 0 voters 1 projects 1 funded",
+            "budget;0000000000000000000000000001000000000000,000000000000000000000000000\n",
+            read,
         ),
         (
             2,
-            "budget;0000000000000000000000000001000000000000,000000000000000000000000000",
-            "read 0 voters 1 projects 1 funded",
-        ),
-        (
-            2,
-            "budget;1000000000000.000001",
+            "budget;1000000000000.000001\n",
             "refused election 9 BadMoney record 3",
         ),
         (
             2,
-            "budget;1000000000001",
+            "budget;1000000000001\n",
             "refused election 9 BadMoney record 3",
         ),
+        (6, "x;1000000000000.000000;1\n", read),
+        (6, "x;999999999999.999999;1\n", read),
         (
             6,
-            "x;1000000000000.000000;1",
-            "read 0 voters 1 projects 1 funded",
-        ),
-        (
-            6,
-            "x;999999999999.999999;1",
-            "read 0 voters 1 projects 1 funded",
-        ),
-        (
-            6,
-            "x;1000000000000.000001;1",
+            "x;1000000000000.000001;1\n",
             "refused election 9 BadMoney record 7",
         ),
     ] {
-        let row = format!(in alloc; "{row}\n")?;
-        let file = with_lines(alloc, NO_VOTERS, line_before, 1, row.as_bytes())?;
-        let mut file = file.as_slice();
-        expect(engines::read(alloc, &mut file)?, line)?;
+        expect_read_with(rt.alloc(), NO_VOTERS, kept, row, line)?;
     }
     Ok(())
 }
 
+/// `#` stands for 1,000 zeros.
 #[test]
 fn zeros_in_front_change_no_number(rt: HostRuntime) -> Result<(), Fail> {
     let alloc = rt.alloc();
-    let mut zeros = String::new(alloc);
-    for _ in 0..1_000 {
-        zeros.push('0')?;
-    }
-    let row = format!(in alloc; "budget;{zeros}1,50{zeros}\n")?;
-    let file = with_lines(alloc, NO_VOTERS, 2, 1, row.as_bytes())?;
-    let mut file = file.as_slice();
-    expect(
-        engines::read(alloc, &mut file)?,
+    let zeros = filled(
+        alloc,
+        "####################",
+        "00000000000000000000000000000000000000000000000000",
+    )?;
+    let row = filled(alloc, "budget;#1,50#\n", &zeros)?;
+    expect_read_with(
+        alloc,
+        NO_VOTERS,
+        2,
+        &row,
         "read 0 voters 1 projects 1 funded",
     )?;
-    let text = format!(in alloc;
-        "pb-prices,1\ndenominator,{zeros}1\nvoter_budget,{zeros}4\nvoter,project,payment\n{zeros}1,a,{zeros}2\n1,b,2\n2,a,4\n3,b,2\n"
+    let text = filled(
+        alloc,
+        "pb-prices,1\ndenominator,#1\nvoter_budget,#4\nvoter,project,payment\n#1,a,#2\n1,b,2\n2,a,4\n3,b,2\n",
+        &zeros,
     )?;
-    let (mut file, mut certificate) = (ELECTION.as_bytes(), text.as_bytes());
-    let (printed, _) = engines::tidy(alloc, &mut file, &mut certificate)?;
-    assert!(rt; printed.as_str() == PRICES);
-    let line = "supported priceable";
-    let row = format!(in alloc; "voter_budget,{zeros}4\n")?;
-    let certificate = with_lines(alloc, PRICES, 2, 1, row.as_bytes())?;
-    expect_prices(alloc, ELECTION.as_bytes(), &certificate, line)?;
-    let row = format!(in alloc; "a;{zeros}6;Park;1\n")?;
-    let election = with_lines(alloc, ELECTION, 9, 1, row.as_bytes())?;
-    expect_prices(alloc, &election, PRICES.as_bytes(), line)
+    expect_tidy(alloc, ELECTION, &text, PRICES)?;
+    let row = filled(alloc, "voter_budget,#4\n", &zeros)?;
+    expect_prices_with(alloc, 2, &row, "supported priceable")?;
+    let row = filled(alloc, "a;#6;Park;1\n", &zeros)?;
+    expect_election_with(alloc, 9, &row, "supported priceable")
 }
 
 #[test]
 fn prices_are_refused_past_the_greatest_limit_and_voter_budget(
     rt: HostRuntime,
 ) -> Result<(), Fail> {
-    let alloc = rt.alloc();
-    let row = b"budget;1000000000000.000001\n";
-    let election = with_lines(alloc, ELECTION, 5, 1, row)?;
     let line = "refused election 9 BadMoney record 6";
-    expect_prices(alloc, &election, PRICES.as_bytes(), line)?;
-    let row = b"voter_budget,1000000000000000000001\n";
-    let certificate = with_lines(alloc, PRICES, 2, 1, row)?;
+    expect_election_with(rt.alloc(), 5, "budget;1000000000000.000001\n", line)?;
     let line = "refused certificate 23 BadNumber record 3";
-    expect_prices(alloc, ELECTION.as_bytes(), &certificate, line)
+    expect_prices_with(rt.alloc(), 2, "voter_budget,1000000000000000000001\n", line)
 }
 
 #[test]
@@ -245,19 +286,17 @@ fn greatest_debt_is_told_and_not_lost(rt: HostRuntime) -> Result<(), Fail> {
 
 #[test]
 fn declared_count_past_its_limit_is_no_note(rt: HostRuntime) -> Result<(), Fail> {
-    let alloc = rt.alloc();
-    for (count, notes) in [
+    for (row, line) in [
         (
-            "1000000000000000000",
-            "\nnote: num_votes says 1000000000000000000, counted 3",
+            "num_votes;1000000000000000000\n",
+            "read 3 voters 3 projects 2 funded\nnote: num_votes says 1000000000000000000, counted 3",
         ),
-        ("1000000000000000001", ""),
+        (
+            "num_votes;1000000000000000001\n",
+            "read 3 voters 3 projects 2 funded",
+        ),
     ] {
-        let row = format!(in alloc; "num_votes;{count}\n")?;
-        let file = with_lines(alloc, ELECTION, 4, 1, row.as_bytes())?;
-        let mut file = file.as_slice();
-        let text = format!(in alloc; "read 3 voters 3 projects 2 funded{notes}")?;
-        expect(engines::read(alloc, &mut file)?, &text)?;
+        expect_read_with(rt.alloc(), ELECTION, 4, row, line)?;
     }
     Ok(())
 }
@@ -295,10 +334,8 @@ fn numbers_of_prices_are_taken_up_to_their_limits(rt: HostRuntime) -> Result<(),
     ] {
         let row = format!(in alloc; "1,a,{payment}\n")?;
         let text = certificate(alloc, denominator, budget, &row)?;
-        let (mut file, mut certificate) = (ELECTION.as_bytes(), text.as_bytes());
-        let (printed, _) = engines::tidy(alloc, &mut file, &mut certificate)?;
         let want = if line.is_empty() { text.as_str() } else { line };
-        assert!(rt; printed.as_str() == want, "{printed}");
+        expect_tidy(alloc, ELECTION, &text, want)?;
     }
     Ok(())
 }

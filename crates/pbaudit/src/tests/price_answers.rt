@@ -9,7 +9,6 @@ use super::samples::{
 use pb_audit::Status;
 use pb_price::Mode;
 use std::alloc::Global;
-use std::process::Abort;
 use std::test::Fail;
 
 /// What is printed on a price certificate, and how it ends.
@@ -43,7 +42,6 @@ fn status_of(line: &str) -> Status {
 
 /// A price certificate for the election's own outcome is to be answered by this line.
 fn expect(
-    rt: &impl Abort,
     alloc: Global,
     election: &[u8],
     certificate: &str,
@@ -51,30 +49,30 @@ fn expect(
     want: &str,
 ) -> Result<(), Fail> {
     let (printed, status) = audit(alloc, election, None, certificate.as_bytes(), mode)?;
-    assert!(rt; printed.as_str() == want, "{certificate}: {printed}");
-    assert!(rt; status == status_of(want), "{certificate}: {printed}");
-    Ok(())
+    if printed.as_str() == want && status == status_of(want) {
+        return Ok(());
+    }
+    Err(Fail::new(format_args!("{certificate}: {printed}")))
+}
+
+/// A price certificate of these rows is to be answered by this line.
+fn expect_of_rows(
+    alloc: Global,
+    election: &str,
+    denominator: &str,
+    budget: &str,
+    rows: &str,
+    want: &str,
+) -> Result<(), Fail> {
+    let prices = certificate(alloc, denominator, budget, rows)?;
+    expect(alloc, election.as_bytes(), &prices, PLAIN, want)
 }
 
 #[test]
 fn sample_prices_are_supported_in_both_forms(rt: HostRuntime) -> Result<(), Fail> {
     let election = ELECTION.as_bytes();
-    expect(
-        &rt,
-        rt.alloc(),
-        election,
-        PRICES,
-        PLAIN,
-        "supported priceable\n",
-    )?;
-    expect(
-        &rt,
-        rt.alloc(),
-        election,
-        PRICES,
-        STABLE,
-        "supported stable\n",
-    )
+    expect(rt.alloc(), election, PRICES, PLAIN, "supported priceable\n")?;
+    expect(rt.alloc(), election, PRICES, STABLE, "supported stable\n")
 }
 
 #[test]
@@ -85,11 +83,11 @@ fn supporters_may_have_just_the_cost_left(rt: HostRuntime) -> Result<(), Fail> {
         (1, PLAIN, "failed C5 project c\n"),
     ] {
         let election = with_pool(rt.alloc(), cost)?;
-        expect(&rt, rt.alloc(), &election, PRICES, mode, want)?;
+        expect(rt.alloc(), &election, PRICES, mode, want)?;
     }
     let cheap = with_lines(rt.alloc(), SPLIT_ELECTION, 7, 1, b"c;4;0\n")?;
     let want = "failed C5 project c\n";
-    expect(&rt, rt.alloc(), &cheap, SPLIT_PRICES, NOT_EXHAUSTIVE, want)
+    expect(rt.alloc(), &cheap, SPLIT_PRICES, NOT_EXHAUSTIVE, want)
 }
 
 #[test]
@@ -99,7 +97,7 @@ fn stable_form_asks_for_more(rt: HostRuntime) -> Result<(), Fail> {
         (PLAIN, "supported priceable\n"),
         (STABLE, "failed S5 project c\n"),
     ] {
-        expect(&rt, rt.alloc(), &election, LONE_PRICES, mode, want)?;
+        expect(rt.alloc(), &election, LONE_PRICES, mode, want)?;
     }
     Ok(())
 }
@@ -109,30 +107,34 @@ fn ballots_may_repeat_projects(rt: HostRuntime) -> Result<(), Fail> {
     let alloc = rt.alloc();
     let want = "supported priceable\n";
     let election = with_lines(alloc, ELECTION, 14, 1, b"1;a, a,,b \n")?;
-    expect(&rt, rt.alloc(), &election, PRICES, PLAIN, want)?;
+    expect(rt.alloc(), &election, PRICES, PLAIN, want)?;
     let cheap = "c;2;Pool;0\nVOTES\nvoter_id;vote\n1;a,b\n2;a\n3;b,c,c\n";
     let election = with_lines(alloc, ELECTION, 11, 6, cheap.as_bytes())?;
-    expect(&rt, rt.alloc(), &election, PRICES, PLAIN, want)
+    expect(rt.alloc(), &election, PRICES, PLAIN, want)
 }
 
 #[test]
 fn outcome_is_within_the_limit_and_uses_it_up(rt: HostRuntime) -> Result<(), Fail> {
     let over = with_lines(rt.alloc(), ELECTION, 9, 1, b"a;7;Park;1\n")?;
-    expect(&rt, rt.alloc(), &over, PRICES, PLAIN, "failed Feasible\n")?;
+    expect(rt.alloc(), &over, PRICES, PLAIN, "failed Feasible\n")?;
     let split = SPLIT_ELECTION.as_bytes();
     let want = "failed Exhaustive project c\n";
-    expect(&rt, rt.alloc(), split, SPLIT_PRICES, PLAIN, want)?;
+    expect(rt.alloc(), split, SPLIT_PRICES, PLAIN, want)?;
     let want = "supported priceable\n";
-    expect(&rt, rt.alloc(), split, SPLIT_PRICES, NOT_EXHAUSTIVE, want)
+    expect(rt.alloc(), split, SPLIT_PRICES, NOT_EXHAUSTIVE, want)
 }
+
+/// A price certificate of no rows by which each voter has 10/3.
+const NO_PAYMENTS: &str = "\
+pb-prices,1
+denominator,3
+voter_budget,10
+voter,project,payment
+";
 
 /// Three voters with 10/3 each have just the limit of 10, and not more.
 #[test]
 fn budgets_cover_the_limit(rt: HostRuntime) -> Result<(), Fail> {
-    let alloc = rt.alloc();
-    let sample = ELECTION.as_bytes();
-    let split = SPLIT_ELECTION.as_bytes();
-    let even = certificate(alloc, "3", "10", "")?;
     let stable = Mode {
         stable: true,
         ..COVER
@@ -142,15 +144,25 @@ fn budgets_cover_the_limit(rt: HostRuntime) -> Result<(), Fail> {
         ..COVER
     };
     for (election, prices, mode, want) in [
-        (sample, PRICES, COVER, "supported priceable\n"),
-        (sample, PRICES, stable, "supported stable\n"),
-        (sample, even.as_str(), COVER, "failed Cover\n"),
-        (sample, even.as_str(), PLAIN, "failed C3 project a\n"),
-        (split, SPLIT_PRICES, COVER, "failed Exhaustive project c\n"),
-        (split, SPLIT_PRICES, not_exhaustive, "failed Cover\n"),
-        (NO_VOTERS.as_bytes(), NO_MONEY, COVER, "failed Cover\n"),
+        (ELECTION, PRICES, COVER, "supported priceable\n"),
+        (ELECTION, PRICES, stable, "supported stable\n"),
+        (ELECTION, NO_PAYMENTS, COVER, "failed Cover\n"),
+        (ELECTION, NO_PAYMENTS, PLAIN, "failed C3 project a\n"),
+        (
+            SPLIT_ELECTION,
+            SPLIT_PRICES,
+            COVER,
+            "failed Exhaustive project c\n",
+        ),
+        (
+            SPLIT_ELECTION,
+            SPLIT_PRICES,
+            not_exhaustive,
+            "failed Cover\n",
+        ),
+        (NO_VOTERS, NO_MONEY, COVER, "failed Cover\n"),
     ] {
-        expect(&rt, alloc, election, prices, mode, want)?;
+        expect(rt.alloc(), election.as_bytes(), prices, mode, want)?;
     }
     Ok(())
 }
@@ -166,8 +178,7 @@ fn first_condition_that_fails_is_told_with_its_first_culprit(rt: HostRuntime) ->
             "failed C4 project c\n",
         ),
     ] {
-        let prices = certificate(rt.alloc(), "1", "4", rows)?;
-        expect(&rt, rt.alloc(), ELECTION.as_bytes(), &prices, PLAIN, want)?;
+        expect_of_rows(rt.alloc(), ELECTION, "1", "4", rows, want)?;
     }
     Ok(())
 }
@@ -177,14 +188,7 @@ fn voter_over_its_budget_is_told_before_what_is_left(rt: HostRuntime) -> Result<
     let cheap = "c;1;Pool;0\nVOTES\nvoter_id;vote\n1;a,b\n2;a,c\n3;b,c\n";
     let election = with_lines(rt.alloc(), ELECTION, 11, 6, cheap.as_bytes())?;
     let prices = certificate(rt.alloc(), "1", "4", "1,b,2\n2,a,6\n3,b,2\n")?;
-    expect(
-        &rt,
-        rt.alloc(),
-        &election,
-        &prices,
-        PLAIN,
-        "failed C2 voter 2\n",
-    )
+    expect(rt.alloc(), &election, &prices, PLAIN, "failed C2 voter 2\n")
 }
 
 #[test]
@@ -198,15 +202,7 @@ fn thirds_are_exact_and_rounded_ones_are_not(rt: HostRuntime) -> Result<(), Fail
             "failed C3 project x\n",
         ),
     ] {
-        let prices = certificate(rt.alloc(), denominator, budget, rows)?;
-        expect(
-            &rt,
-            rt.alloc(),
-            SHARED_ELECTION.as_bytes(),
-            &prices,
-            PLAIN,
-            want,
-        )?;
+        expect_of_rows(rt.alloc(), SHARED_ELECTION, denominator, budget, rows, want)?;
     }
     Ok(())
 }
@@ -215,11 +211,11 @@ fn thirds_are_exact_and_rounded_ones_are_not(rt: HostRuntime) -> Result<(), Fail
 fn nobody_pays_where_there_are_no_voters(rt: HostRuntime) -> Result<(), Fail> {
     let free = NO_VOTERS.as_bytes();
     let want = "supported priceable\n";
-    expect(&rt, rt.alloc(), free, NO_MONEY, PLAIN, want)?;
+    expect(rt.alloc(), free, NO_MONEY, PLAIN, want)?;
     let new = "budget;1\nvote_type;approval\nPROJECTS\nproject_id;cost;selected\nx;1;1\n";
     let costly = with_lines(rt.alloc(), NO_VOTERS, 2, 5, new.as_bytes())?;
     let want = "failed C3 project x\n";
-    expect(&rt, rt.alloc(), &costly, NO_MONEY, PLAIN, want)
+    expect(rt.alloc(), &costly, NO_MONEY, PLAIN, want)
 }
 
 #[test]
@@ -231,13 +227,13 @@ fn greatest_amounts_are_compared_and_one_more_is_refused(rt: HostRuntime) -> Res
             "refused certificate 23 BadNumber record 5\n",
         ),
     ] {
-        let prices = certificate(rt.alloc(), "1000000000", "1000000000000000000000", row)?;
-        expect(
-            &rt,
+        let budget = "1000000000000000000000";
+        expect_of_rows(
             rt.alloc(),
-            LARGEST_ELECTION.as_bytes(),
-            &prices,
-            PLAIN,
+            LARGEST_ELECTION,
+            "1000000000",
+            budget,
+            row,
             want,
         )?;
     }
@@ -249,15 +245,22 @@ fn refused_row_is_told_before_any_verdict(rt: HostRuntime) -> Result<(), Fail> {
     for (rows, want) in [
         (
             "1,a,2\n1,a,2\n1,b,2\n2,a,4\n3,b,2\n",
-            "27 Repeated record 6",
+            "refused certificate 27 Repeated record 6\n",
         ),
-        ("2,a,4\n1,a,2\n1,b,2\n3,b,2\n", "26 OutOfOrder record 6"),
-        ("0,a,2\n1,b,2\n2,a,4\n3,b,2\n", "24 UnknownVoter record 5"),
-        ("4,a,2\n1,b,2\n2,a,4\n3,b,2\n", "24 UnknownVoter record 5"),
+        (
+            "2,a,4\n1,a,2\n1,b,2\n3,b,2\n",
+            "refused certificate 26 OutOfOrder record 6\n",
+        ),
+        (
+            "0,a,2\n1,b,2\n2,a,4\n3,b,2\n",
+            "refused certificate 24 UnknownVoter record 5\n",
+        ),
+        (
+            "4,a,2\n1,b,2\n2,a,4\n3,b,2\n",
+            "refused certificate 24 UnknownVoter record 5\n",
+        ),
     ] {
-        let prices = certificate(rt.alloc(), "1", "4", rows)?;
-        let line = format!(in rt.alloc(); "refused certificate {want}\n")?;
-        expect(&rt, rt.alloc(), ELECTION.as_bytes(), &prices, PLAIN, &line)?;
+        expect_of_rows(rt.alloc(), ELECTION, "1", "4", rows, want)?;
     }
     Ok(())
 }
@@ -268,17 +271,17 @@ fn open_quotes_hold_the_rest_of_a_file(rt: HostRuntime) -> Result<(), Fail> {
     let alloc = rt.alloc();
     let election = with_lines(alloc, ELECTION, 14, 1, b"1;\"a,b\n")?;
     let line = "refused election 14 UnknownProject record 15\n";
-    expect(&rt, alloc, &election, PRICES, PLAIN, line)?;
+    expect(alloc, &election, PRICES, PLAIN, line)?;
     let prices = String::from_utf8(with_lines(alloc, PRICES, 4, 1, b"1,\"a,2\n")?)?;
     let line = "refused certificate 22 BadRow record 5\n";
-    expect(&rt, alloc, ELECTION.as_bytes(), &prices, PLAIN, line)
+    expect(alloc, ELECTION.as_bytes(), &prices, PLAIN, line)
 }
 
 #[test]
 fn outcome_is_wanted_and_a_file_can_give_it(rt: HostRuntime) -> Result<(), Fail> {
     let election = without_outcome(rt.alloc())?;
     let want = "refused election 17 NoOutcome record 0\n";
-    expect(&rt, rt.alloc(), &election, PRICES, PLAIN, want)?;
+    expect(rt.alloc(), &election, PRICES, PLAIN, want)?;
     let outcome = Some(OUTCOME);
     let (printed, status) = audit(rt.alloc(), &election, outcome, PRICES.as_bytes(), PLAIN)?;
     assert!(rt; printed.as_str() == "supported priceable\n", "{printed}");

@@ -1,6 +1,7 @@
 //! The calls of the library on files as records.
 use csv::StringRecord;
 use pb_records::{Cursor, Input, LoadFault, Next, Output, cell, clean, is_blank, load, put};
+use std::process::Abort;
 use std::test::Fail;
 
 #[test]
@@ -39,32 +40,38 @@ fn cleaning_takes_off_ascii_blanks_alone(rt: HostRuntime) -> Result<(), Fail> {
     Ok(())
 }
 
+/// What comes next is to be this, at this place, and a record of these fields.
+fn expect_next(
+    rt: &impl Abort,
+    cursor: &mut Cursor<'_>,
+    want: Next,
+    place: u64,
+    fields: &[&str],
+) -> Result<(), Fail> {
+    assert!(rt; cursor.advance()? == want);
+    assert!(rt; cursor.place() == place);
+    for (number, field) in fields.iter().enumerate() {
+        assert!(rt; cursor.row().get(number) == Some(*field), "{field}");
+    }
+    Ok(())
+}
+
 #[test]
 fn cursor_skips_blank_records_and_counts_them(rt: HostRuntime) -> Result<(), Fail> {
     let file = b"\xEF\xBB\xBFa,1\r\n\n ,\n\"b\nc\",\"\"\"2\"\"\"\n,,\n".as_slice();
     let mut cursor = Cursor::open(rt.alloc(), file, b',');
     assert!(rt; cursor.place() == 0);
-    assert!(rt; cursor.advance()? == Next::Record);
-    assert!(rt; cursor.place() == 1);
-    assert!(rt; cursor.row().get(0) == Some("a"));
-    assert!(rt; cursor.row().get(1) == Some("1"));
+    expect_next(&rt, &mut cursor, Next::Record, 1, &["a", "1"])?;
     assert!(rt; cursor.row().get(2) == None);
-    assert!(rt; cursor.advance()? == Next::Record);
-    assert!(rt; cursor.place() == 3);
-    assert!(rt; cursor.row().get(0) == Some("b\nc"));
-    assert!(rt; cursor.row().get(1) == Some("\"2\""));
-    assert!(rt; cursor.advance()? == Next::End);
-    assert!(rt; cursor.place() == 4);
-    assert!(rt; cursor.advance()? == Next::End);
-    assert!(rt; cursor.place() == 4);
-    Ok(())
+    expect_next(&rt, &mut cursor, Next::Record, 3, &["b\nc", "\"2\""])?;
+    expect_next(&rt, &mut cursor, Next::End, 4, &[])?;
+    expect_next(&rt, &mut cursor, Next::End, 4, &[])
 }
 
 #[test]
 fn record_that_is_not_utf8_is_told_and_passed(rt: HostRuntime) -> Result<(), Fail> {
     let mut cursor = Cursor::open(rt.alloc(), b";\na;\xFF\nb\n".as_slice(), b';');
-    assert!(rt; cursor.advance()? == Next::NotText);
-    assert!(rt; cursor.place() == 2);
+    expect_next(&rt, &mut cursor, Next::NotText, 2, &[])?;
     assert!(rt; cursor.advance()? == Next::End);
     Ok(())
 }

@@ -41,4 +41,19 @@ impl<'a> Room<'a> {
         fs::write(self.rt, &path, bytes)?;
         Ok(path)
     }
+
+    /// These words, where each word with a dot in it is the path of that name in the folder.
+    pub fn line_of(&self, words: &str) -> Result<String, Fail> {
+        let mut line = String::new(self.rt.alloc());
+        for (number, word) in words.split(' ').enumerate() {
+            if number > 0 {
+                line.push(' ')?;
+            }
+            if word.contains('.') {
+                write!(line, "{}/", self.path)?;
+            }
+            line.push_str(word)?;
+        }
+        Ok(line)
+    }
 }

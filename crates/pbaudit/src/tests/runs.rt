@@ -8,7 +8,12 @@ use super::samples::{
 };
 use crate::run;
 use std::alloc::{AllocError, Global};
+use std::fs;
 use std::test::Fail;
+
+const NO_META: &str = "refused election 2 NoMeta record 1\n";
+
+const NO_OUTCOME_HEAD: &str = "refused outcome 21 BadHead record 1\n";
 
 /// Words for the program, after its own name.
 pub fn command(alloc: Global, words: &[&str]) -> Result<Vec<String>, AllocError> {
@@ -65,6 +70,18 @@ pub fn expect_line(rt: &HostRuntime, line: &str, status: u8, text: &str) -> Resu
     expect(rt, &words, status, text)
 }
 
+/// The same of runs, each by a line of words, in which those with a dot are files in this folder.
+pub fn expect_each(
+    rt: &HostRuntime,
+    room: &Room<'_>,
+    runs: &[(&str, u8, &str)],
+) -> Result<(), Fail> {
+    for (words, status, text) in runs {
+        expect_line(rt, &room.line_of(words)?, *status, text)?;
+    }
+    Ok(())
+}
+
 #[test]
 fn reads_standard_input_where_no_words_are_given(rt: HostRuntime) -> Result<(), Fail> {
     expect(&rt, &[], 0, "read 3 voters 3 projects 2 funded\n")
@@ -73,190 +90,206 @@ fn reads_standard_input_where_no_words_are_given(rt: HostRuntime) -> Result<(), 
 #[test]
 fn reads_the_file_and_not_standard_input(rt: HostRuntime) -> Result<(), Fail> {
     let room = Room::new(&rt, "read")?;
-    let election = room.write("e.pb", NO_VOTERS.as_bytes())?;
-    expect(
-        &rt,
-        &["read", election.as_str()],
-        0,
-        "read 0 voters 1 projects 1 funded\n",
-    )
+    room.write("e.pb", NO_VOTERS.as_bytes())?;
+    let runs = [("read e.pb", 0, "read 0 voters 1 projects 1 funded\n")];
+    expect_each(&rt, &room, &runs)
 }
 
 #[test]
 fn takes_the_files_of_prices_in_their_places(rt: HostRuntime) -> Result<(), Fail> {
     let room = Room::new(&rt, "prices")?;
-    let election = room.write("e.pb", ELECTION.as_bytes())?;
-    let prices = room.write("p.csv", PRICES.as_bytes())?;
-    let (election, prices) = (election.as_str(), prices.as_str());
-    expect(
-        &rt,
-        &["prices", election, prices],
-        0,
-        "supported priceable\n",
-    )?;
-    let line = "refused election 2 NoMeta record 1\n";
-    expect(&rt, &["prices", prices, election], 2, line)
+    room.write("e.pb", ELECTION.as_bytes())?;
+    room.write("p.csv", PRICES.as_bytes())?;
+    let runs = [
+        ("prices e.pb p.csv", 0, "supported priceable\n"),
+        ("prices p.csv e.pb", 2, NO_META),
+    ];
+    expect_each(&rt, &room, &runs)
 }
 
 #[test]
 fn mode_of_prices_is_that_of_the_words(rt: HostRuntime) -> Result<(), Fail> {
     let room = Room::new(&rt, "mode")?;
-    let cheap = room.write("cheap.pb", &with_pool(rt.alloc(), 2)?)?;
-    let lone = room.write("lone.csv", LONE_PRICES.as_bytes())?;
-    let (cheap, lone) = (cheap.as_str(), lone.as_str());
-    expect(&rt, &["prices", cheap, lone], 0, "supported priceable\n")?;
-    let stable = ["prices", cheap, lone, "--stable"];
-    expect(&rt, &stable, 1, "failed S5 project c\n")?;
-    let split = room.write("split.pb", SPLIT_ELECTION.as_bytes())?;
-    let half = room.write("half.csv", SPLIT_PRICES.as_bytes())?;
-    let (split, half) = (split.as_str(), half.as_str());
-    expect(
-        &rt,
-        &["prices", split, half],
-        1,
-        "failed Exhaustive project c\n",
-    )?;
-    let loose = ["prices", split, half, "--no-exhaustive"];
-    expect(&rt, &loose, 0, "supported priceable\n")
+    room.write("cheap.pb", &with_pool(rt.alloc(), 2)?)?;
+    room.write("lone.csv", LONE_PRICES.as_bytes())?;
+    room.write("split.pb", SPLIT_ELECTION.as_bytes())?;
+    room.write("half.csv", SPLIT_PRICES.as_bytes())?;
+    let runs = [
+        ("prices cheap.pb lone.csv", 0, "supported priceable\n"),
+        (
+            "prices cheap.pb lone.csv --stable",
+            1,
+            "failed S5 project c\n",
+        ),
+        (
+            "prices split.pb half.csv",
+            1,
+            "failed Exhaustive project c\n",
+        ),
+        (
+            "prices split.pb half.csv --no-exhaustive",
+            0,
+            "supported priceable\n",
+        ),
+    ];
+    expect_each(&rt, &room, &runs)
 }
 
 #[test]
 fn outcome_of_prices_is_that_of_the_words(rt: HostRuntime) -> Result<(), Fail> {
     let room = Room::new(&rt, "prices-outcome")?;
-    let election = room.write("e.pb", ELECTION.as_bytes())?;
-    let prices = room.write("p.csv", POOL_PRICES.as_bytes())?;
-    let outcome = room.write("o.csv", POOL_OUTCOME.as_bytes())?;
-    let (election, prices, outcome) = (election.as_str(), prices.as_str(), outcome.as_str());
-    let own = ["prices", election, prices];
-    expect(&rt, &own, 1, "failed C3 project a\n")?;
-    let other = ["prices", election, prices, "--outcome", outcome];
-    expect(&rt, &other, 1, "failed C5 project a\n")?;
-    let swapped = ["prices", election, outcome, "--outcome", prices];
-    expect(&rt, &swapped, 2, "refused outcome 21 BadHead record 1\n")
+    room.write("e.pb", ELECTION.as_bytes())?;
+    room.write("p.csv", POOL_PRICES.as_bytes())?;
+    room.write("o.csv", POOL_OUTCOME.as_bytes())?;
+    let runs = [
+        ("prices e.pb p.csv", 1, "failed C3 project a\n"),
+        (
+            "prices e.pb p.csv --outcome o.csv",
+            1,
+            "failed C5 project a\n",
+        ),
+        ("prices e.pb o.csv --outcome p.csv", 2, NO_OUTCOME_HEAD),
+    ];
+    expect_each(&rt, &room, &runs)
 }
 
 #[test]
 fn takes_the_files_of_a_violation_in_their_places(rt: HostRuntime) -> Result<(), Fail> {
     let room = Room::new(&rt, "violation")?;
-    let election = room.write("e.pb", UNFAIR_ELECTION.as_bytes())?;
-    let violation = room.write("v.csv", VIOLATION.as_bytes())?;
-    let (election, violation) = (election.as_str(), violation.as_str());
-    expect(&rt, &["violation", election, violation], 0, "violation\n")?;
-    let line = "refused election 2 NoMeta record 1\n";
-    expect(&rt, &["violation", violation, election], 2, line)
+    room.write("e.pb", UNFAIR_ELECTION.as_bytes())?;
+    room.write("v.csv", VIOLATION.as_bytes())?;
+    let runs = [
+        ("violation e.pb v.csv", 0, "violation\n"),
+        ("violation v.csv e.pb", 2, NO_META),
+    ];
+    expect_each(&rt, &room, &runs)
 }
 
 #[test]
 fn outcome_of_a_violation_is_that_of_the_words(rt: HostRuntime) -> Result<(), Fail> {
     let room = Room::new(&rt, "violation-outcome")?;
-    let election = room.write("e.pb", UNFAIR_ELECTION.as_bytes())?;
-    let violation = room.write("v.csv", VIOLATION.as_bytes())?;
-    let outcome = room.write("o.csv", b"pb-outcome,1\nproject,x1\nproject,x2\n")?;
-    let (election, violation, outcome) = (election.as_str(), violation.as_str(), outcome.as_str());
-    let other = ["violation", election, violation, "--outcome", outcome];
-    expect(&rt, &other, 1, "failed V4 voter 1\n")?;
-    let swapped = ["violation", election, outcome, "--outcome", violation];
-    expect(&rt, &swapped, 2, "refused outcome 21 BadHead record 1\n")
+    room.write("e.pb", UNFAIR_ELECTION.as_bytes())?;
+    room.write("v.csv", VIOLATION.as_bytes())?;
+    room.write("o.csv", b"pb-outcome,1\nproject,x1\nproject,x2\n")?;
+    let runs = [
+        (
+            "violation e.pb v.csv --outcome o.csv",
+            1,
+            "failed V4 voter 1\n",
+        ),
+        ("violation e.pb o.csv --outcome v.csv", 2, NO_OUTCOME_HEAD),
+    ];
+    expect_each(&rt, &room, &runs)
 }
 
 #[test]
 fn takes_the_files_of_both_in_their_places(rt: HostRuntime) -> Result<(), Fail> {
     let room = Room::new(&rt, "both")?;
-    let election = room.write("e.pb", SMALL_SHARE_ELECTION.as_bytes())?;
-    let prices = room.write("p.csv", EVEN_PRICES.as_bytes())?;
-    let violation = room.write("v.csv", VIOLATION.as_bytes())?;
-    let (election, prices, violation) = (election.as_str(), prices.as_str(), violation.as_str());
-    let yes = "supported priceable\nviolation\n";
-    expect(&rt, &["both", election, prices, violation], 0, yes)?;
-    let swapped = ["both", election, violation, prices];
-    expect(&rt, &swapped, 2, "refused prices 21 BadHead record 1\n")?;
-    let twice = ["both", election, prices, prices];
-    expect(&rt, &twice, 2, "refused violation 21 BadHead record 1\n")?;
-    let line = "refused election 2 NoMeta record 1\n";
-    expect(&rt, &["both", prices, election, violation], 2, line)
+    room.write("e.pb", SMALL_SHARE_ELECTION.as_bytes())?;
+    room.write("p.csv", EVEN_PRICES.as_bytes())?;
+    room.write("v.csv", VIOLATION.as_bytes())?;
+    let runs = [
+        (
+            "both e.pb p.csv v.csv",
+            0,
+            "supported priceable\nviolation\n",
+        ),
+        (
+            "both e.pb v.csv p.csv",
+            2,
+            "refused prices 21 BadHead record 1\n",
+        ),
+        (
+            "both e.pb p.csv p.csv",
+            2,
+            "refused violation 21 BadHead record 1\n",
+        ),
+        ("both p.csv e.pb v.csv", 2, NO_META),
+    ];
+    expect_each(&rt, &room, &runs)
 }
 
 #[test]
 fn mode_and_outcome_of_both_are_those_of_the_words(rt: HostRuntime) -> Result<(), Fail> {
-    let alloc = rt.alloc();
     let room = Room::new(&rt, "both-mode")?;
-    let election = room.write("e.pb", SMALL_SHARE_ELECTION.as_bytes())?;
-    let prices = room.write("p.csv", EVEN_PRICES.as_bytes())?;
-    let violation = room.write("v.csv", VIOLATION.as_bytes())?;
-    let outcome = room.write("o.csv", b"pb-outcome,1\nproject,x1\n")?;
-    let line = format!(in alloc; "both {election} {prices} {violation}")?;
-    for (words, want) in [
-        ("--stable", "failed S5 project x1\nviolation\n"),
-        ("--cover", "failed Cover\nviolation\n"),
-    ] {
-        expect_line(&rt, &format!(in alloc; "{line} {words}")?, 1, want)?;
-    }
-    let other = format!(in alloc; "{line} --outcome {outcome}")?;
-    let want = "failed Exhaustive project x2\nviolation\n";
-    expect_line(&rt, &other, 1, want)?;
-    let loose = format!(in alloc; "{other} --no-exhaustive")?;
-    expect_line(&rt, &loose, 1, "failed C3 project x1\nviolation\n")?;
-    let swapped = format!(in alloc; "both {election} {prices} {outcome} --outcome {violation}")?;
-    expect_line(&rt, &swapped, 2, "refused outcome 21 BadHead record 1\n")
+    room.write("e.pb", SMALL_SHARE_ELECTION.as_bytes())?;
+    room.write("p.csv", EVEN_PRICES.as_bytes())?;
+    room.write("v.csv", VIOLATION.as_bytes())?;
+    room.write("o.csv", b"pb-outcome,1\nproject,x1\n")?;
+    let runs = [
+        (
+            "both e.pb p.csv v.csv --stable",
+            1,
+            "failed S5 project x1\nviolation\n",
+        ),
+        (
+            "both e.pb p.csv v.csv --cover",
+            1,
+            "failed Cover\nviolation\n",
+        ),
+        (
+            "both e.pb p.csv v.csv --outcome o.csv",
+            1,
+            "failed Exhaustive project x2\nviolation\n",
+        ),
+        (
+            "both e.pb p.csv v.csv --outcome o.csv --no-exhaustive",
+            1,
+            "failed C3 project x1\nviolation\n",
+        ),
+        ("both e.pb p.csv o.csv --outcome v.csv", 2, NO_OUTCOME_HEAD),
+    ];
+    expect_each(&rt, &room, &runs)
 }
 
 #[test]
 fn takes_the_files_of_tidy_in_their_places(rt: HostRuntime) -> Result<(), Fail> {
     let room = Room::new(&rt, "tidy")?;
-    let election = room.write("e.pb", ELECTION.as_bytes())?;
-    let prices = room.write("p.csv", UNTIDY_PRICES.as_bytes())?;
-    let (election, prices) = (election.as_str(), prices.as_str());
-    expect(&rt, &["tidy", election, prices], 0, PRICES)?;
-    let line = "refused election 2 NoMeta record 1\n";
-    expect(&rt, &["tidy", prices, election], 2, line)
+    room.write("e.pb", ELECTION.as_bytes())?;
+    room.write("p.csv", UNTIDY_PRICES.as_bytes())?;
+    let runs = [
+        ("tidy e.pb p.csv", 0, PRICES),
+        ("tidy p.csv e.pb", 2, NO_META),
+    ];
+    expect_each(&rt, &room, &runs)
 }
 
-/// Each command on a file that can't be read in place of an election, of an outcome and of a certificate.
-fn expect_unread(rt: &HostRuntime, room: &Room<'_>, unread: &str) -> Result<(), Fail> {
-    let alloc = rt.alloc();
-    let election = room.write("e.pb", ELECTION.as_bytes())?;
-    let refused = "refused election 18 Read record 0\n";
-    expect_line(rt, &format!(in alloc; "read {unread}")?, 2, refused)?;
-    expect_line(
-        rt,
-        &format!(in alloc; "tidy {unread} {unread}")?,
-        2,
-        refused,
-    )?;
-    for name in ["prices", "violation"] {
-        let line = format!(in alloc; "{name} {unread} {unread} --outcome {unread}")?;
-        expect_line(rt, &line, 2, refused)?;
-        let line = format!(in alloc; "{name} {election} {unread} --outcome {unread}")?;
-        expect_line(rt, &line, 2, "refused outcome 18 Read record 0\n")?;
+/// Each command on a file u.csv that can't be read in place of an election, of an outcome and of a certificate.
+fn expect_unread(rt: &HostRuntime, room: &Room<'_>) -> Result<(), Fail> {
+    room.write("e.pb", ELECTION.as_bytes())?;
+    room.write("p.csv", PRICES.as_bytes())?;
+    for (words, input) in [
+        ("read u.csv", "election"),
+        ("tidy u.csv u.csv", "election"),
+        ("prices u.csv u.csv --outcome u.csv", "election"),
+        ("violation u.csv u.csv --outcome u.csv", "election"),
+        ("both u.csv u.csv u.csv --outcome u.csv", "election"),
+        ("prices e.pb u.csv --outcome u.csv", "outcome"),
+        ("violation e.pb u.csv --outcome u.csv", "outcome"),
+        ("both e.pb u.csv u.csv --outcome u.csv", "outcome"),
+        ("prices e.pb u.csv", "certificate"),
+        ("violation e.pb u.csv", "certificate"),
+        ("tidy e.pb u.csv", "certificate"),
+        ("both e.pb u.csv u.csv", "prices"),
+        ("both e.pb p.csv u.csv", "violation"),
+    ] {
+        let refused = format!(in rt.alloc(); "refused {input} 18 Read record 0\n")?;
+        expect_each(rt, room, &[(words, 2, refused.as_str())])?;
     }
-    for name in ["prices", "violation", "tidy"] {
-        let line = format!(in alloc; "{name} {election} {unread}")?;
-        expect_line(rt, &line, 2, "refused certificate 18 Read record 0\n")?;
-    }
-    let prices = room.write("p.csv", PRICES.as_bytes())?;
-    let line = format!(in alloc; "both {election} {unread} {unread}")?;
-    expect_line(rt, &line, 2, "refused prices 18 Read record 0\n")?;
-    let line = format!(in alloc; "both {election} {prices} {unread}")?;
-    expect_line(rt, &line, 2, "refused violation 18 Read record 0\n")?;
-    let line = format!(in alloc; "both {unread} {unread} {unread} --outcome {unread}")?;
-    expect_line(rt, &line, 2, refused)?;
-    let line = format!(in alloc; "both {election} {unread} {unread} --outcome {unread}")?;
-    expect_line(rt, &line, 2, "refused outcome 18 Read record 0\n")?;
     Ok(())
 }
 
 #[test]
 fn missing_file_is_refused(rt: HostRuntime) -> Result<(), Fail> {
     let room = Room::new(&rt, "missing")?;
-    let missing = room.path_of("missing")?;
-    expect_unread(&rt, &room, missing.as_str())
+    expect_unread(&rt, &room)
 }
 
 #[test]
 fn folder_in_place_of_a_file_is_refused(rt: HostRuntime) -> Result<(), Fail> {
     let room = Room::new(&rt, "folder")?;
-    let folder = room.path()?;
-    expect_unread(&rt, &room, &folder)
+    fs::create_dir(&rt, room.path_of("u.csv")?.as_str())?;
+    expect_unread(&rt, &room)
 }
 
 /// A run by these words on output that fails after five bytes is to have written these, and to end with the fault.
@@ -283,27 +316,32 @@ fn expect_write_fault(rt: &HostRuntime, words: &[&str], written: &str) -> Result
     )))
 }
 
+/// The same by a line of words that are divided by blanks.
+fn expect_write_fault_of_line(rt: &HostRuntime, line: &str, written: &str) -> Result<(), Fail> {
+    let words: Vec<&str> = line.split(' ').collect(rt.alloc())?;
+    expect_write_fault(rt, &words, written)
+}
+
 #[test]
 fn output_that_is_not_taken_is_a_write_fault(rt: HostRuntime) -> Result<(), Fail> {
     let room = Room::new(&rt, "write")?;
-    let election = room.write("e.pb", ELECTION.as_bytes())?;
-    let prices = room.write("p.csv", PRICES.as_bytes())?;
-    let unfair = room.write("u.pb", UNFAIR_ELECTION.as_bytes())?;
-    let violation = room.write("v.csv", VIOLATION.as_bytes())?;
-    let (election, prices) = (election.as_str(), prices.as_str());
+    room.write("e.pb", ELECTION.as_bytes())?;
+    room.write("p.csv", PRICES.as_bytes())?;
+    room.write("u.pb", UNFAIR_ELECTION.as_bytes())?;
+    room.write("v.csv", VIOLATION.as_bytes())?;
     expect_write_fault(&rt, &[], "read ")?;
-    expect_write_fault(&rt, &["read", election], "read ")?;
-    expect_write_fault(&rt, &["read", prices], "refus")?;
-    expect_write_fault(&rt, &["prices", election, prices], "suppo")?;
-    expect_write_fault(&rt, &["tidy", election, prices], "pb-pr")?;
-    expect_write_fault(
-        &rt,
-        &["violation", unfair.as_str(), violation.as_str()],
-        "viola",
-    )?;
-    let all = ["both", election, prices, violation.as_str()];
-    expect_write_fault(&rt, &all, "refus")?;
-    expect_write_fault(&rt, &["--help"], "Audit")
+    for (words, written) in [
+        ("read e.pb", "read "),
+        ("read p.csv", "refus"),
+        ("prices e.pb p.csv", "suppo"),
+        ("tidy e.pb p.csv", "pb-pr"),
+        ("violation u.pb v.csv", "viola"),
+        ("both e.pb p.csv v.csv", "refus"),
+        ("--help", "Audit"),
+    ] {
+        expect_write_fault_of_line(&rt, &room.line_of(words)?, written)?;
+    }
+    Ok(())
 }
 
 #[test]
