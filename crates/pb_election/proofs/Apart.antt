@@ -1,7 +1,7 @@
 -- In the text of an election no fault stands anywhere.
 use Rattle.std.proofs.Common.{◌≡◌, ◌≤◌, ◌∙◌, ◌+◌, ◌++◌, ℕ, suc, zero, List, [], ◌∷◌, refl, sym, ap, subst, arith, inl, inr, true, false, Option, Some, None, append_assoc, append-nil, length, length-append, take, drop}
 use Rattle.std.specs.Prelude.{IsTrue, IsSomeAnd, count_by, not, slice_get}
-use Rattle.std.specs.List.{AllByRecursion}
+use Rattle.std.specs.List.{AllByRecursion, list_any}
 use Rattle.std.specs.Option.{option_map_or}
 use Rattle.std.proofs.lemmas.Bool.{cases_Bool}
 use Rattle.std.proofs.lemmas.List.{length-map, map-append}
@@ -14,7 +14,6 @@ use Rattle.pb_election.specs.declared.refusal.ElectionFault.{ElectionFault}
 use Rattle.pb_election.specs.declared.columns.Columns.{Columns}
 use Rattle.pb_election.specs.declared.keys.Key.{Key}
 use Rattle.pb_election.specs.declared.keys.Key.TheVariants.{Budget, VoteType}
-use Rattle.pb_election.specs.declared.keys.Keys.{Keys}
 use Rattle.pb_election.specs.declared.sections.Role.TheVariants.{Header, Inside}
 use Rattle.pb_election.specs.declared.sections.Section.{Section}
 use Rattle.pb_election.specs.declared.sections.Section.TheVariants.{Meta, Projects, Votes}
@@ -23,7 +22,7 @@ use Rattle.pb_records.specs.Cells.{is_blank, is_text, nonblank}
 use Rattle.pb_election.specs.Markers.{is_marker, marker_of, marks}
 use Rattle.pb_election.specs.Rows.{ballot_in, ballots_in, columns_of, cost_in, has_key, id_in, ids_in, is_approval, is_id, is_known, key_in, stated_value, value_in, vote_column}
 use Rattle.pb_records.specs.FirstFault.{NoFault, fault_after}
-use Rattle.pb_election.specs.Faults.{PbFault, before_of, election_form, first_of, has_stood, header_of, keys_in, lowest_fault, lowest_fault_at_end, rest_of, role_of, rows_of, up_to_marker}
+use Rattle.pb_election.specs.Faults.{PbFault, before_of, election_form, first_of, header_of, lowest_fault, lowest_fault_at_end, rest_of, role_of, rows_of, up_to_marker}
 use Rattle.pb_election.specs.Text.{AreMetaRows, AreProjectRows, AreVoteRows, EachKeyOnce, IsHeader, IsPart, Part, part_records, PbText}
 use Rattle.pb_election.proofs.FoundParts.{behind, behind-here, found, past, up-all, up-part}
 use Rattle.pb_election.proofs.Distinct.{distinct-at}
@@ -101,13 +100,13 @@ module _ (a b c : Part) (ha : IsPart Meta a) (hb : IsPart Projects b) (hc : IsPa
   meta-row xs r zs w e t =
       let f = found-a xs (r ∷ zs) e in
       let once : EachKeyOnce (xs ++ r ∷ zs) = rw e at w.once in
-      let keys : keys_in (rows_of Meta (a.marker ∷ a.header ∷ xs)) ≡ keys_in xs = ap (λ l. keys_in (rest_of l)) f in
+      let rows : rows_of Meta (a.marker ∷ a.header ∷ xs) ≡ xs = ap rest_of f in
       let role : role_of (a.marker ∷ a.header ∷ xs) ≡ Inside Meta =
       role-rows [] Meta a.marker a.header xs ha.marker
       (ha.others.0, all-front (λ r. marker_of r ≡ None) xs (r ∷ zs) (rw e at ha.others.1)) in
       clear-meta-row (before_of (a.marker ∷ a.header ∷ xs)) r role t
       (all-at (λ r. marker_of r ≡ None) xs r zs (rw e at ha.others.1))
-      (subst (λ (ks : Keys). option_map_or (has_stood ks) (key_in r) false ≡ false) (sym keys)
+      (subst (λ (l : List Rec). option_map_or (λ key. list_any (has_key key) l) (key_in r) false ≡ false) (sym rows)
       (key-new xs r zs once))
       (elim (cases_Bool (has_key VoteType r)) [
         | inl has ↦
@@ -124,13 +123,13 @@ module _ (a b c : Part) (ha : IsPart Meta a) (hb : IsPart Projects b) (hc : IsPa
       → lowest_fault (before_of (part_records a)) b.marker ≡ None
   unfolding before_of
   projects-marker w t =
-      let keys : keys_in (rows_of Meta (part_records a)) ≡ keys_in a.rows = ap (λ l. keys_in (rest_of l)) found-a-all in
+      let rows : rows_of Meta (part_records a) ≡ a.rows = ap rest_of found-a-all in
       let role : role_of (part_records a) ≡ Inside Meta =
       role-rows [] Meta a.marker a.header a.rows ha.marker ha.others in
       let budget = key-there Budget IsMoney a.rows w.budget in
       let vote_type = key-there VoteType (λ v. IsTrue (is_approval v)) a.rows w.vote_type in
       clear-projects (before_of (part_records a)) b.marker role t hb.marker
-      (ap (λ (ks : Keys). ks.budget) keys ∙ budget) (ap (λ (ks : Keys). ks.vote_type) keys ∙ vote_type)
+      (ap (list_any (has_key Budget)) rows ∙ budget) (ap (list_any (has_key VoteType)) rows ∙ vote_type)
 
   -- a row of PROJECTS
   project-row : (xs : List Rec) (r : Rec) (zs : List Rec) → AreProjectRows (columns_of b.header) b.rows

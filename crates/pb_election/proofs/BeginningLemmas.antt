@@ -1,17 +1,22 @@
 -- What the words on the records before a place find in each beginning of a text is what has been read of it.
 use Rattle.std.proofs.Common.{◌≡◌, ◌∙◌, ◌++◌, List, [], ◌∷◌, refl, sym, ap, arith, Bool, true, false, Some, append_assoc, append-nil}
 use Rattle.std.specs.Prelude.{count_by, if◌then◌else◌}
+use Rattle.std.specs.List.{list_any}
 use Rattle.std.proofs.lemmas.List.{length-map}
+use Rattle.std.proofs.Math.Path.{fun_ext}
 use Rattle.pb_records.specs.Records.{Rec}
+use Rattle.pb_election.specs.declared.keys.Key.{Key}
 use Rattle.pb_election.specs.declared.sections.Role.{Role}
 use Rattle.pb_election.specs.declared.sections.Role.TheVariants.{First, Header, Inside}
 use Rattle.pb_election.specs.declared.sections.Section.{Section}
 use Rattle.pb_election.specs.declared.sections.Section.TheVariants.{Meta, Projects, Votes}
 use Rattle.pb_election.specs.Markers.{is_marker, marker_of, marks, same_section}
-use Rattle.pb_election.specs.Faults.{before_of, behind_marker, first_of, rest_of, role_of, up_to_marker}
+use Rattle.pb_election.specs.Faults.{Before, before_of, behind_marker, first_of, rest_of, role_of, up_to_marker}
 use Rattle.pb_election.specs.Text.{IsPart, Part, part_records}
+use Rattle.pb_election.specs.Rows.{has_key}
 use Rattle.pb_election.specs.Inside.SoFar.{before_next}
 use Rattle.pb_election.specs.Inside.Beginnings.{Beginning, AtStart, AfterMeta, InMeta, AfterProjects, InProjects, AfterVotes, InVotes, Good, no_part, so_far_in, so_far_of, beginning_records}
+use Rattle.pb_election.proofs.KeyLemmas.{has_stood-is}
 use Rattle.pb_election.proofs.FoundParts.{behind, behind-here, found, past, up-all, up-part}
 use Rattle.pb_election.proofs.Spots.{count-append, count-behind, role-header, role-rows}
 
@@ -76,7 +81,10 @@ seen-found : (recs : List Rec) (role : Role) (a b c : Part) (A B C : List Rec) �
     → before_of recs ≡ before_next (so_far_in role a b c)
 unfolding before_of
 seen-found recs role a b c A B C r fa fb fc am bh bm ch cm =
-    rw (r, fa, fb, fc, am, bh, bm, ch, cm, length-map) refl
+    let with_keys : (Key → Bool) → Before = λ stood. record (before_next (so_far_in role a b c)) { has_stood = stood } in
+    let found : before_of recs ≡ with_keys (λ key. list_any (has_key key) a.rows) =
+    rw (r, fa, fb, fc, am, bh, bm, ch, cm, length-map) refl in
+    found ∙ ap with_keys (fun_ext (λ key. sym (has_stood-is a.rows key)))
 
 pub before-text : (x : Beginning) → Good x → before_of (beginning_records x) ≡ before_next (so_far_of x)
 before-text AtStart h =

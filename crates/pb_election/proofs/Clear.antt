@@ -15,7 +15,7 @@ use Rattle.pb_election.specs.Names.{is_among}
 use Rattle.pb_records.specs.Cells.{is_text}
 use Rattle.pb_election.specs.Markers.{marker_of}
 use Rattle.pb_election.specs.Rows.{ballot_in, cost_in, has_key, id_in, is_approval, is_id, is_known, key_in, needed_columns, read_columns, occurrences, value_in}
-use Rattle.pb_election.specs.Faults.{Before, has_stood, is_no_money, lowest_fault, lowest_fault_at_end}
+use Rattle.pb_election.specs.Faults.{Before, is_no_money, lowest_fault, lowest_fault_at_end}
 use Rattle.pb_election.specs.Text.{IsHeader}
 
 pub clear-first : (b : Before) (r : Rec) → b.role ≡ First → is_text r ≡ true → marker_of r ≡ Some Meta
@@ -46,14 +46,14 @@ pub is-money : (text : Field) → IsMoney text → is_no_money text ≡ false
 is-money text h = rw (money-is text (millionths text) h) refl
 
 pub clear-meta-row : (b : Before) (r : Rec) → b.role ≡ Inside Meta → is_text r ≡ true → marker_of r ≡ None
-    → option_map_or (has_stood b.keys) (key_in r) false ≡ false
+    → option_map_or b.has_stood (key_in r) false ≡ false
     → (has_key VoteType r && not (is_approval (value_in r))) ≡ false
     → (has_key Budget r && is_no_money (value_in r)) ≡ false → lowest_fault b r ≡ None
 unfolding lowest_fault
 clear-meta-row b r e t m k v c = rw (e, t, m, k, v, c) refl
 
 pub clear-projects : (b : Before) (r : Rec) → b.role ≡ Inside Meta → is_text r ≡ true → marker_of r ≡ Some Projects
-    → b.keys.budget ≡ true → b.keys.vote_type ≡ true → lowest_fault b r ≡ None
+    → b.has_stood Budget ≡ true → b.has_stood VoteType ≡ true → lowest_fault b r ≡ None
 unfolding lowest_fault
 clear-projects b r e t m k v = rw (e, t, m, k, v) refl
 

@@ -23,9 +23,9 @@ use Rattle.pb_election.specs.Names.{is_among}
 use Rattle.pb_election.specs.Markers.{is_marker, marker_of, marks}
 use Rattle.pb_records.specs.Cells.{is_text}
 use Rattle.pb_election.specs.Rows.{ballot_in, ballots_in, columns_of, cost_in, has_key, id_in, ids_in, is_approval, is_id, is_known, key_in, stated_value, value_in, vote_column}
-use Rattle.pb_election.specs.Faults.{has_stood, is_no_money, keys_in, lowest_fault}
+use Rattle.pb_election.specs.Faults.{is_no_money, lowest_fault}
 use Rattle.pb_election.specs.Text.{EachKeyOnce, IsPart, Part, part_records}
-use Rattle.pb_election.specs.Inside.SoFar.{before_next, next}
+use Rattle.pb_election.specs.Inside.SoFar.{before_next, has_stood, keys_in, next}
 use Rattle.pb_election.specs.Inside.Beginnings.{Beginning, AtStart, AfterMeta, InMeta, AfterProjects, InProjects, AfterVotes, InVotes, AllMeta, Good, GoodMeta, GoodProjects, GoodVotes, so_far_of, beginning_records}
 use Rattle.pb_election.proofs.KeyLemmas.{count-append, has_stood-is, none-found, once-at, once-by, or-false}
 use Rattle.pb_election.proofs.Taken.{taken-first, taken-header, taken-meta-row, taken-project-row, taken-projects-marker, taken-vote-row, taken-votes-marker}

@@ -10,7 +10,7 @@ use Rattle.pb_records.specs.Records.{Field, Rec}
 use Rattle.pb_election.specs.declared.keys.Key.{Key}
 use Rattle.pb_election.specs.declared.keys.Key.TheVariants.{Budget, NumProjects, NumVotes, VoteType}
 use Rattle.pb_election.specs.Rows.{has_key, key_in, same_key, stated_value, value_in}
-use Rattle.pb_election.specs.Faults.{has_stood, keys_in}
+use Rattle.pb_election.specs.Inside.SoFar.{has_stood, keys_in}
 use Rattle.pb_election.specs.Text.{EachKeyOnce}
 
 pub count-append : (p : Rec → Bool) (xs ys : List Rec) → count_by p (xs ++ ys) ≡ count_by p xs + count_by p ys
@@ -20,7 +20,7 @@ pub or-false : (a b : Bool) → (a || b) ≡ false → (a ≡ false) × (b ≡ f
 or-false true b h = cc h
 or-false false b h = (refl, h)
 
--- a key stood before exactly where some row has it
+-- by the reader's own marks a key stood before exactly where some row has it
 pub has_stood-is : (rows : List Rec) (key : Key) → has_stood (keys_in rows) key ≡ list_any (has_key key) rows
 has_stood-is rows Budget = refl
 has_stood-is rows VoteType = refl
@@ -73,13 +73,12 @@ none-found p (x ∷ xs) h =
 
 -- where each read key stands once, each row has a new key
 pub key-new : (xs : List Rec) (r : Rec) (zs : List Rec) → EachKeyOnce (xs ++ r ∷ zs)
-    → option_map_or (has_stood (keys_in xs)) (key_in r) false ≡ false
+    → option_map_or (λ key. list_any (has_key key) xs) (key_in r) false ≡ false
 key-new xs r zs h = by (key_in r) refl
   where
-    by : (o : Option Key) → key_in r ≡ o → option_map_or (has_stood (keys_in xs)) o false ≡ false
+    by : (o : Option Key) → key_in r ≡ o → option_map_or (λ key. list_any (has_key key) xs) o false ≡ false
     by None e = refl
-    by (Some key) e = has_stood-is xs key
-        ∙ none-yet (has_key key) xs r zs (once-at (xs ++ r ∷ zs) key h) (has-its-key r key e)
+    by (Some key) e = none-yet (has_key key) xs r zs (once-at (xs ++ r ∷ zs) key h) (has-its-key r key e)
 
 -- where each read key stands once, the value of a row with a read key is the one that is stated
 pub stated_value-here : (key : Key) (xs : List Rec) (r : Rec) (zs : List Rec) → EachKeyOnce (xs ++ r ∷ zs)

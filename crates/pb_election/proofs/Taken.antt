@@ -16,7 +16,7 @@ use Rattle.pb_election.specs.declared.refusal.ElectionFault.TheVariants as fault
 use Rattle.pb_election.specs.declared.keys.Key.TheVariants.{Budget, VoteType}
 use Rattle.pb_election.specs.Rows.{ballot_in, cost_in, has_key, id_in, is_approval, is_id, is_known, key_in, needed_columns, read_columns, occurrences, value_in}
 use Rattle.pb_election.specs.Instance.{most_approvals, most_projects, most_voters}
-use Rattle.pb_election.specs.Faults.{Before, has_stood, in_order, is_no_money, lowest_fault, stands}
+use Rattle.pb_election.specs.Faults.{Before, in_order, is_no_money, lowest_fault, stands}
 use Rattle.pb_election.specs.Text.{IsHeader}
 
 none-stands : (t : ElectionFault → Bool) (fs : List ElectionFault) → ◌≡◌ {A = Option ElectionFault} (find t fs) None
@@ -123,20 +123,20 @@ where-it-has false wrong h e = cc e
 
 -- the marker of PROJECTS
 pub taken-projects-marker : (b : Before) (r : Rec) → b.role ≡ Inside Meta → is_marker r ≡ true → lowest_fault b r ≡ None
-    → (is_text r ≡ true) × (marks Projects r ≡ true) × (b.keys.budget ≡ true) × (b.keys.vote_type ≡ true)
+    → (is_text r ≡ true) × (marks Projects r ≡ true) × (b.has_stood Budget ≡ true) × (b.has_stood VoteType ≡ true)
 taken-projects-marker b r e m h =
     let n = none b r h in
     let marks_it = not-false (marks Projects r) (rw (e, m) at n.unexpected) in
-    let keys = not-false (b.keys.budget && b.keys.vote_type) (rw (e, marks_it) at n.missing_key) in (
+    let keys = not-false (b.has_stood Budget && b.has_stood VoteType) (rw (e, marks_it) at n.missing_key) in (
       not-false (is_text r) n.text,
       marks_it,
-      and-left b.keys.budget b.keys.vote_type keys,
-      and-right b.keys.budget b.keys.vote_type keys,
+      and-left (b.has_stood Budget) (b.has_stood VoteType) keys,
+      and-right (b.has_stood Budget) (b.has_stood VoteType) keys,
     )
 
 -- a row of META
 pub taken-meta-row : (b : Before) (r : Rec) → b.role ≡ Inside Meta → is_marker r ≡ false → lowest_fault b r ≡ None
-    → (is_text r ≡ true) × (option_map_or (has_stood b.keys) (key_in r) false ≡ false)
+    → (is_text r ≡ true) × (option_map_or b.has_stood (key_in r) false ≡ false)
     × (has_key VoteType r ≡ true → IsTrue (is_approval (value_in r)))
     × (has_key Budget r ≡ true → is_no_money (value_in r) ≡ false)
 taken-meta-row b r e m h =

@@ -16,8 +16,7 @@ use Rattle.pb_election.specs.declared.refusal.ElectionFault.TheVariants as fault
 use Rattle.pb_election.specs.declared.refusal.Refusal.{Refusal}
 use Rattle.pb_election.specs.declared.columns.Columns.{Columns}
 use Rattle.pb_election.specs.declared.keys.Key.{Key}
-use Rattle.pb_election.specs.declared.keys.Key.TheVariants.{Budget, NumProjects, NumVotes, VoteType}
-use Rattle.pb_election.specs.declared.keys.Keys.{Keys}
+use Rattle.pb_election.specs.declared.keys.Key.TheVariants.{Budget, VoteType}
 use Rattle.pb_election.specs.declared.sections.Role.{Role}
 use Rattle.pb_election.specs.declared.sections.Role.TheVariants.{First, Header, Inside}
 use Rattle.pb_election.specs.declared.sections.Section.{Section}
@@ -79,27 +78,10 @@ header_of s before = first_of (up_to_marker (behind_marker s before))
 abbrev pub rows_of : Section → List Rec → List Rec
 rows_of s before = rest_of (up_to_marker (behind_marker s before))
 
--- which of the keys that are read stand in some rows
-abbrev pub keys_in : List Rec → Keys
-keys_in rows =
-    record {
-      budget = list_any (has_key Budget) rows;
-      vote_type = list_any (has_key VoteType) rows;
-      num_projects = list_any (has_key NumProjects) rows;
-      num_votes = list_any (has_key NumVotes) rows;
-    }
-
--- whether a key is one of those that stand in some rows
-abbrev pub has_stood : Keys → Key → Bool
-has_stood keys Budget = keys.budget
-has_stood keys VoteType = keys.vote_type
-has_stood keys NumProjects = keys.num_projects
-has_stood keys NumVotes = keys.num_votes
-
 -- all that the faults at a place depend on, of the records before it
 pub record Before : Type 0 where
   pub role : Role
-  pub keys : Keys
+  pub has_stood : Key → Bool  -- whether an earlier row of META has the key
   pub columns : Columns
   pub ids : List Field
   pub vote_column : Option ℕ
@@ -113,7 +95,7 @@ before_of before =
     let column = vote_column (header_of Votes before) in
     record {
       role = role_of before;
-      keys = keys_in (rows_of Meta before);
+      has_stood = λ key. list_any (has_key key) (rows_of Meta before);
       columns = columns;
       ids = ids;
       vote_column = column;
@@ -165,8 +147,9 @@ stands b r fault.NoMeta = is_first b.role && not (marks Meta r)
 stands b r fault.NoHeader = is_header b.role && is_marker r
 stands b r fault.MissingSection = false
 stands b r fault.UnexpectedSection = is_unexpected b.role r
-stands b r fault.MissingKey = is_inside Meta b.role && marks Projects r && not (b.keys.budget && b.keys.vote_type)
-stands b r fault.RepeatedKey = is_row Meta b.role r && option_map_or (has_stood b.keys) (key_in r) false
+stands b r fault.MissingKey =
+    is_inside Meta b.role && marks Projects r && not (b.has_stood Budget && b.has_stood VoteType)
+stands b r fault.RepeatedKey = is_row Meta b.role r && option_map_or b.has_stood (key_in r) false
 stands b r fault.NotApproval = is_row Meta b.role r && has_key VoteType r && not (is_approval (value_in r))
 stands b r fault.BadMoney =
     (is_row Meta b.role r && has_key Budget r && is_no_money (value_in r))

@@ -3,7 +3,7 @@ ghost use Rattle.std.specs.Prelude.{◌≡◌};
 ghost use Rattle.std.specs.Str.{bytes_eq};
 ghost use Rattle.csv.specs.Records.{fields_of};
 ghost use Rattle.pb_election.specs.Names.{lower};
-ghost use Rattle.pb_election.specs.Faults as faults;
+ghost use Rattle.pb_election.specs.Inside.SoFar as so_far;
 ghost use Rattle.pb_election.specs.Rows as rows;
 
 use crate::markers::is_named;
@@ -35,7 +35,7 @@ pub struct Keys {
 impl Keys {
     /// Whether this key has stood.
     pub(crate) fn has_stood(self, key: Key) -> bool
-        ensures { result ≡ faults.has_stood self key }
+        ensures { result ≡ so_far.has_stood self key }
     {
         match key {
             Key::Budget => self.budget,

@@ -74,6 +74,21 @@ pub fn take_all<A, D: Draft<A>>(
     ensures stopped { IfErr result (λ stop. StopsFirst (D.form against.now) (records_of delimiter bytes.now) stop) }
 {
     let mut cursor = Cursor::open(alloc, bytes, delimiter);
+    take_records(&mut cursor, against, draft)
+}
+
+// The same for a cursor before the first record.
+fn take_records<A, D: Draft<A>>(
+    cursor: &mut Cursor<'_>,
+    against: &A,
+    draft: &mut D,
+) -> Result<(), Stop<FaultAt<D::Fault>>>
+    requires none { D.HasTaken against.now draft.old [] }
+    requires first { cursor.old.place ≡ 0 }
+    ensures taken { OnOk result (D.HasTaken against.now draft.new (nonblank cursor.old.left)) }
+    ensures none { OnOk result (NoFault (D.form against.now) cursor.old.left) }
+    ensures stopped { IfErr result (λ stop. StopsFirst (D.form against.now) cursor.old.left stop) }
+{
     'rows: loop {
         match cursor.advance() {
             Err(_) => return Err(Stop::Memory),

@@ -11,9 +11,8 @@ use Rattle.pb_election.specs.declared.sections.Section.TheVariants.{Meta, Projec
 use Rattle.pb_records.specs.Cells.{is_text}
 use Rattle.pb_election.specs.Markers.{marker_of}
 use Rattle.pb_election.specs.Rows.{columns_of, ids_in, is_approval, stated_value, vote_column}
-use Rattle.pb_election.specs.Faults.{keys_in}
 use Rattle.pb_election.specs.Text.{AreMetaRows, AreProjectRows, AreVoteRows, EachKeyOnce, IsHeader, IsPart, Part, election_in, part_records}
-use Rattle.pb_election.specs.Inside.SoFar.{SoFar}
+use Rattle.pb_election.specs.Inside.SoFar.{SoFar, keys_in}
 
 pub data Beginning : Type 0 where
   AtStart : Beginning

@@ -1,6 +1,7 @@
 -- For the reader's own parts: what has been read of an election so far, and what one more record adds to it. What a file
 -- states is said in Text and Faults, without this module.
-use Rattle.std.specs.Prelude.{◌≡◌, ◌+◌, ◌++◌, ⊤, if◌then◌else◌, true, ℕ, [], ◌∷◌, Option, Some, None, Result, Ok, Err}
+use Rattle.std.specs.Prelude.{◌≡◌, ◌+◌, ◌++◌, ⊤, if◌then◌else◌, Bool, true, ℕ, List, [], ◌∷◌, Option, Some, None, Result, Ok, Err}
+use Rattle.std.specs.List.{list_any}
 use Rattle.std.specs.Option.{option_map}
 use Rattle.pb_money.specs.Money.{millionths}
 use Rattle.pb_records.specs.Records.{Field, Rec}
@@ -16,7 +17,7 @@ use Rattle.pb_election.specs.declared.refusal.ElectionFault.{ElectionFault}
 use Rattle.pb_records.specs.declared.drafts.Stop.{Stop}
 use Rattle.pb_records.specs.declared.drafts.Stop.TheVariants.{Fault, Memory}
 use Rattle.pb_election.specs.Markers.{is_marker}
-use Rattle.pb_election.specs.Rows.{ballot_in, columns_of, cost_in, count_in, funded_in, id_in, key_in, says_funded, says_neither, selected_in, value_in, vote_column}
+use Rattle.pb_election.specs.Rows.{ballot_in, columns_of, cost_in, count_in, funded_in, has_key, id_in, key_in, says_funded, says_neither, selected_in, value_in, vote_column}
 use Rattle.pb_election.specs.Faults.{Before, lowest_fault}
 
 pub record SoFar : Type 0 where
@@ -26,12 +27,29 @@ pub record SoFar : Type 0 where
   pub vote_column : Option ℕ
   pub election : Instance
 
+-- which of the keys that are read stand in some rows
+abbrev pub keys_in : List Rec → Keys
+keys_in rows =
+    record {
+      budget = list_any (has_key Budget) rows;
+      vote_type = list_any (has_key VoteType) rows;
+      num_projects = list_any (has_key NumProjects) rows;
+      num_votes = list_any (has_key NumVotes) rows;
+    }
+
+-- whether a key is one of those that stand in some rows
+abbrev pub has_stood : Keys → Key → Bool
+has_stood keys Budget = keys.budget
+has_stood keys VoteType = keys.vote_type
+has_stood keys NumProjects = keys.num_projects
+has_stood keys NumVotes = keys.num_votes
+
 -- what the faults at the next place depend on
 abbrev pub before_next : SoFar → Before
 before_next s =
     record {
       role = s.role;
-      keys = s.keys;
+      has_stood = λ key. has_stood s.keys key;
       columns = s.columns;
       ids = s.election.ids;
       vote_column = s.vote_column;

@@ -1,11 +1,10 @@
 use Rattle.std.proofs.Common.{length}
-use Rattle.pb_records.specs.Records.{records_of}
 use Rattle.pb_records.proofs.DraftProgress.{Progress}
-use Rattle.pb_records.proofs.drafts.take_all.Given as goal
+use Rattle.pb_records.proofs.drafts.take_records.Given as goal
 
 abbrev pub invariant-rows : goal.invariant-rows
 invariant-rows g l =
-    Progress (g.D.Draft.form l.against) (g.D.Draft.HasTaken l.against l.draft) (records_of l.delimiter l.bytes)
+    Progress (g.D.Draft.form l.against) (g.D.Draft.HasTaken l.against l.draft) l.fn.cursor.left
     l.cursor.left l.cursor.place
 
 abbrev pub decreases-rows : goal.decreases-rows

@@ -1,12 +1,11 @@
-use Rattle.pb_records.specs.Records.{records_of}
 use Rattle.pb_records.proofs.DraftProgress.{progress-end, progress-fault, progress-next, progress-none, progress-not-text, progress-start}
-use Rattle.pb_records.proofs.drafts.take_all.Goals as goal
+use Rattle.pb_records.proofs.drafts.take_records.Goals as goal
 
 pub rows-init : goal.rows-init
 rows-init g c =
-    rw (c.open-cursor.ensures.left, c.open-cursor.ensures.place)
+    rw c.requires.first
     (progress-start (g.D.Draft.form c.args.against.now) (g.D.Draft.HasTaken c.args.against.now c.args.draft.now)
-    (records_of c.args.delimiter c.args.bytes.now) c.requires)
+    c.args.cursor.now.left c.requires.none)
 
 pub returns-in-Ok-NotText-clause-stopped : goal.returns-in-Ok-NotText-clause-stopped
 returns-in-Ok-NotText-clause-stopped g c =
@@ -29,7 +28,7 @@ returns-in-None-clause-none g c =
     let met = rw c.in-Ok-End.field-0-is at c.in-Ok-End.ensures.next in
     progress-none c.rows.invariant met c.in-None.ensures
 
-pub returns-clause-stopped : goal.returns-clause-stopped
-returns-clause-stopped g c =
+pub returns-in-Some-clause-stopped : goal.returns-in-Some-clause-stopped
+returns-in-Some-clause-stopped g c =
     let met = rw c.in-Ok-End.field-0-is at c.in-Ok-End.ensures.next in
     rw c.place-in-Some.ensures.value (progress-end c.in-Some.fault c.rows.invariant met c.in-Some.ensures)
