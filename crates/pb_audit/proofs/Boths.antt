@@ -12,17 +12,20 @@ use Rattle.pb_cohesion.specs.Groups.{AreProjects, IsGroup, Violates}
 use Rattle.pb_cohesion.specs.Satisfactions.{worth_by}
 use Rattle.pb_price.specs.declared.Mode.{Mode}
 use Rattle.pb_price.specs.declared.Verdict.{Verdict}
-use Rattle.pb_audit.specs.Answers.{Reply, price_reply, refused, violation_reply, with_input}
+use Rattle.pb_reply.specs.Replies.{Reply, refused, with_input}
+use Rattle.pb_audit.specs.Answers.{price_reply, violation_reply}
 use Rattle.pb_audit.specs.Both.{AnswersBoth, BothPromise, GroupAndDemand, ReadsBoth, beside, both_on, yes_where_both}
-use Rattle.pb_audit.specs.Inputs.{InTurn, Stated, StatesElection, StatesPrices, StatesViolation, refusal_of}
-use Rattle.pb_audit.specs.Lines.{Refusal}
-use Rattle.pb_audit.specs.Readers.{AuditReadings, Delivers, IsUntouched, Reading}
-use Rattle.pb_audit.specs.Inside.Taking.{AnswersCertificate, AuditsOutcome, Gives, IfTaken, JudgesPrices, ReadsOutcome, stopped}
-use Rattle.pb_audit.specs.declared.input.InputName.TheVariants as name
-use Rattle.pb_audit.specs.declared.input.Stop.{Stop}
-use Rattle.pb_audit.specs.declared.input.Stop.TheVariants as stop
-use Rattle.pb_audit.specs.declared.status.Status.{Status}
-use Rattle.pb_audit.specs.declared.status.Status.TheVariants.{Yes, No, Refused}
+use Rattle.pb_reply.specs.Inputs.{InTurn, Stated, StatesElection, StatesPrices, StatesViolation, refusal_of}
+use Rattle.pb_reply.specs.Lines.{Refusal}
+use Rattle.pb_audit.specs.Readers.{AuditReadings}
+use Rattle.pb_reply.specs.Readings.{Delivers, IsUntouched, Reading}
+use Rattle.pb_audit.specs.Inside.Certificates.{AnswersCertificate, JudgesPrices}
+use Rattle.pb_reply.specs.Inside.Taking.{AuditsOutcome, Gives, IfTaken, ReadsOutcome, stopped}
+use Rattle.pb_reply.specs.declared.input.InputName.TheVariants as name
+use Rattle.pb_reply.specs.declared.input.Stop.{Stop}
+use Rattle.pb_reply.specs.declared.input.Stop.TheVariants as stop
+use Rattle.pb_reply.specs.declared.status.Status.{Status}
+use Rattle.pb_reply.specs.declared.status.Status.TheVariants.{Yes, No, Refused}
 use Rattle.pb_audit.proofs.Promises.{no-yes, prices_promise, violation_promises}
 
 both_yes : (first second : Status) → (yes_where_both first second ≡ Yes) ↔ ((first ≡ Yes) × (second ≡ Yes))

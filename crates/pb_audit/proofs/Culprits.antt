@@ -16,8 +16,8 @@ use Rattle.pb_price.specs.declared.Failure.{Failure}
 use Rattle.pb_price.specs.declared.Failure.TheVariants as failure
 use Rattle.pb_price.specs.declared.Mode.{Mode}
 use Rattle.pb_price.specs.declared.Verdict.{Verdict}
-use Rattle.pb_audit.specs.Lines.{price_failed, violation_failed}
-use Rattle.pb_audit.specs.Named.{NamesProject, PricesNameProject, ViolationNamesProject}
+use Rattle.pb_reply.specs.Lines.{price_failed, violation_failed}
+use Rattle.pb_reply.specs.Named.{NamesProject, PricesNameProject, ViolationNamesProject}
 
 -- what holds of all elements, through the lists that culprits are made of
 pub all-append : {X : Type 0} (P : X → Type 0) (xs ys : List X) → AllByRecursion P xs → AllByRecursion P ys

@@ -22,12 +22,13 @@ use Rattle.pb_price.specs.declared.Findings.{Findings}
 use Rattle.pb_price.specs.declared.Mode.{Mode}
 use Rattle.pb_price.proofs.Told.{tell-first}
 use Rattle.pb_explain.specs.PriceTable.{NameProjects, ShowsProject, price_table}
-use Rattle.pb_audit.specs.Answers.{Reply, verdict_reply, with_input}
+use Rattle.pb_reply.specs.Replies.{Reply, with_input}
+use Rattle.pb_audit.specs.Answers.{verdict_reply}
 use Rattle.pb_audit.specs.Explained.{ExplainedPromise, OfPrices, OfViolation, StatesCertificate, explained_prices, explained_reply, explained_violation, is_violation, with_table}
-use Rattle.pb_audit.specs.Inputs.{Stated, StatesPrices, StatesViolation}
-use Rattle.pb_audit.specs.Named.{PricesNameProject}
-use Rattle.pb_audit.specs.Inside.Taking.{AnswersCertificate, Promised}
-use Rattle.pb_audit.specs.declared.input.InputName.TheVariants.{Certificate}
+use Rattle.pb_reply.specs.Inputs.{Stated, StatesPrices, StatesViolation}
+use Rattle.pb_reply.specs.Named.{PricesNameProject}
+use Rattle.pb_audit.specs.Inside.Certificates.{AnswersCertificate, Promised}
+use Rattle.pb_reply.specs.declared.input.InputName.TheVariants.{Certificate}
 use Rattle.pb_audit.proofs.Culprits.{all-filter, all-first, among-projects, missing-name, prices_name_projects, projects-are, unapproved-name}
 use Rattle.pb_audit.proofs.Promises.{prices_promise, violation_promises}
 

@@ -10,7 +10,7 @@ use Rattle.csv.specs.Writing.{default_writer, row_text}
 use Rattle.pb_election.specs.Instance.{Instance, id_of, projects}
 use Rattle.pb_election.specs.Text.{IsId}
 use Rattle.pb_records.specs.Loading.{Delivery}
-use Rattle.pb_records.specs.Records.{Field, Rec}
+use Rattle.pb_records.specs.Records.{Field, Rec, Text}
 use Rattle.pb_certificate.specs.Canon.{line, lines, line_end}
 use Rattle.pb_certificate.specs.Prices.{Prices}
 use Rattle.pb_certificate.proofs.Lines.{IsPlain, decimal-plain, id-plain, row-line}
@@ -18,16 +18,17 @@ use Rattle.pb_certificate.proofs.Written.{range-push}
 use Rattle.pb_price.specs.Margins.{AreMargins, margins_of_project}
 use Rattle.pb_price.specs.declared.Margins.{Margins}
 use Rattle.pb_price.specs.declared.ProjectMargins.{ProjectMargins}
-use Rattle.pb_explain.specs.Amounts.{Text}
-use Rattle.pb_audit.specs.Answers.{Answer, Reply, answer_of, refused, text_of}
-use Rattle.pb_audit.specs.Inputs.{StatesElection, StatesPrices, refusal_of}
+use Rattle.pb_reply.specs.Replies.{Answer, Reply, answer_of, refused, text_of, TellsReply}
+use Rattle.pb_reply.specs.Inputs.{StatesElection, StatesPrices, refusal_of}
 use Rattle.pb_audit.specs.Margins.{AlwaysYes, AnswersMargins, ReadsMargins, flag_of, margin_head, margin_rows, margins_reply, record_line, row_of, table_of}
-use Rattle.pb_audit.specs.Readers.{AuditReadings, Delivers, TellsReply}
-use Rattle.pb_audit.specs.Inside.Taking.{AnswersCertificate, AuditsOutcome, Gives, IfTaken, Promised, ReadsOutcome, TablesMargins, settled_answer, stopped}
-use Rattle.pb_audit.specs.declared.input.InputName.TheVariants.{Certificate}
-use Rattle.pb_audit.specs.declared.status.Status.TheVariants.{Yes}
-use Rattle.pb_audit.specs.declared.input.Stop.{Stop}
-use Rattle.pb_audit.specs.declared.input.Stop.TheVariants as stop
+use Rattle.pb_audit.specs.Readers.{AuditReadings}
+use Rattle.pb_reply.specs.Readings.{Delivers}
+use Rattle.pb_audit.specs.Inside.Certificates.{AnswersCertificate, Promised, TablesMargins}
+use Rattle.pb_reply.specs.Inside.Taking.{AuditsOutcome, Gives, IfTaken, ReadsOutcome, settled_answer, stopped}
+use Rattle.pb_reply.specs.declared.input.InputName.TheVariants.{Certificate}
+use Rattle.pb_reply.specs.declared.status.Status.TheVariants.{Yes}
+use Rattle.pb_reply.specs.declared.input.Stop.{Stop}
+use Rattle.pb_reply.specs.declared.input.Stop.TheVariants as stop
 use Rattle.pb_audit.proofs.Audits.{certificate_answered, readers_settled}
 
 -- Fields.

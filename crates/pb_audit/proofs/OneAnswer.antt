@@ -6,16 +6,17 @@ use Rattle.pb_records.specs.Loading.{Delivery}
 use Rattle.pb_certificate.specs.Prices.{Prices}
 use Rattle.pb_price.specs.First.{First, verdict_of}
 use Rattle.pb_price.specs.declared.Mode.{Mode}
-use Rattle.pb_audit.specs.Answers.{Answer, AnswersAudit, AnswersElection, AnswersPrices, AnswersTidy, AnswersViolation, FilesState, OfAccepted, Reply, answer_of, audit_reply, price_reply, read_reply, refused, tidy_answer, violation_reply, with_input}
+use Rattle.pb_reply.specs.Replies.{Answer, Reply, answer_of, refused, with_input, TellsReply}
+use Rattle.pb_audit.specs.Answers.{AnswersAudit, AnswersElection, AnswersPrices, AnswersTidy, AnswersViolation, FilesState, OfAccepted, audit_reply, price_reply, read_reply, tidy_answer, violation_reply}
 use Rattle.pb_audit.specs.Both.{AnswersBoth, GroupAndDemand, beside, both_on, both_reply}
-use Rattle.pb_audit.specs.Inputs.{Stated, StatesElection, StatesOutcome, StatesPrices, StatesViolation, audited}
+use Rattle.pb_reply.specs.Inputs.{Stated, StatesElection, StatesOutcome, StatesPrices, StatesViolation, audited}
 use Rattle.pb_audit.specs.Margins.{AlwaysYes, AnswersMargins, margins_reply}
 use Rattle.pb_audit.specs.OneAnswer.{JustOne}
 use Rattle.pb_audit.specs.Promises.{PricesPromise, ViolationPromises}
-use Rattle.pb_audit.specs.Readers.{TellsReply}
-use Rattle.pb_audit.specs.Inside.Taking.{AuditsOutcome, Promised}
-use Rattle.pb_audit.specs.declared.input.InputName.TheVariants as name
-use Rattle.pb_audit.specs.declared.status.Status.{Status}
+use Rattle.pb_reply.specs.Inside.Taking.{AuditsOutcome}
+use Rattle.pb_audit.specs.Inside.Certificates.{Promised}
+use Rattle.pb_reply.specs.declared.input.InputName.TheVariants as name
+use Rattle.pb_reply.specs.declared.status.Status.{Status}
 use Rattle.pb_audit.proofs.Audits.{certificate_answered, election_refused, outcome_refused}
 use Rattle.pb_audit.proofs.Boths as boths
 use Rattle.pb_audit.proofs.Boths.{both_answered, prices_refused}

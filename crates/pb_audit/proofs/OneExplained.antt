@@ -7,9 +7,9 @@ use Rattle.pb_certificate.specs.Prices.{Prices}
 use Rattle.pb_price.specs.declared.Mode.{Mode}
 use Rattle.pb_audit.specs.Both.{GroupAndDemand}
 use Rattle.pb_audit.specs.Explained.{AnswersExplained, Certificate, ExplainedPromise, OfPrices, OfViolation, StatesCertificate, explained_reply, is_violation}
-use Rattle.pb_audit.specs.Inputs.{Stated, StatesPrices, StatesViolation}
+use Rattle.pb_reply.specs.Inputs.{Stated, StatesPrices, StatesViolation}
 use Rattle.pb_audit.specs.OneAnswer.{JustOne}
-use Rattle.pb_audit.specs.declared.input.InputName.TheVariants as name
+use Rattle.pb_reply.specs.declared.input.InputName.TheVariants as name
 use Rattle.pb_audit.proofs.Explained.{explained_promise}
 use Rattle.pb_audit.proofs.OneAnswer.{audit-one}
 use Rattle.pb_audit.proofs.OneStated.{prices-one, violation-one}

@@ -2,7 +2,8 @@
 use Rattle.std.proofs.Common.{◌≡◌, ◌∙◌, List, [], ◌∷◌, Option, Some, None, ap, refl, subst, sym}
 use Rattle.pb_records.specs.Loading.{Delivery}
 use Rattle.pb_price.specs.declared.Mode.{Mode}
-use Rattle.pb_audit.specs.Answers.{AnswersPrices, AnswersViolation, Reply}
+use Rattle.pb_audit.specs.Answers.{AnswersPrices, AnswersViolation}
+use Rattle.pb_reply.specs.Replies.{Reply}
 use Rattle.pb_audit.specs.OneAnswer.{JustOne}
 use Rattle.pb_audit.specs.Reports.{Files, Finds, FindsCertificate, FindsEach, Found, ReportOf, report_on, where_accepted}
 use Rattle.pb_audit.proofs.OneAnswer.{price-reply-one, read-one, violation-reply-one}

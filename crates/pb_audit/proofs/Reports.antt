@@ -3,10 +3,10 @@ use Rattle.std.proofs.Common.{◌≡◌, ◌∙◌, ap, subst, sym, List, [], �
 use Rattle.std.specs.Prelude.{flat_map}
 use Rattle.std.proofs.lemmas.List.{flat_map_more}
 use Rattle.std.proofs.lemmas.List.Concat.{flat_map-append}
-use Rattle.pb_audit.specs.Answers.{text_of}
+use Rattle.pb_reply.specs.Replies.{text_of}
 use Rattle.pb_audit.specs.Reports.{Files, Finds, FindsEach, Found, HasTaken, Progress, endings_of, lines_of}
 use Rattle.pb_price.specs.declared.Mode.{Mode}
-use Rattle.pb_explain.specs.Amounts.{Text}
+use Rattle.pb_records.specs.Records.{Text}
 
 pub finds_more : (m : Mode) (entries : List Files) (all : List Found) (files : Files) (found : Found)
     → FindsEach m entries all → Finds m files found → FindsEach m (entries ++ files ∷ []) (all ++ found ∷ [])

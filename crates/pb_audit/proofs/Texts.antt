@@ -4,12 +4,11 @@ use Rattle.std.proofs.lemmas.List.Concat.{flat_map-append}
 use Rattle.std.specs.Prelude.{Option, Result, codes}
 use Rattle.std.proofs.lemmas.Result.{IfOk-weaker}
 use Rattle.pb_records.specs.declared.loading.Sink.{Ghosts as Sink}
-use Rattle.pb_explain.specs.Amounts.{Text}
-use Rattle.pb_audit.specs.Answers.{Answer, Reply, answer_of, text_of}
-use Rattle.pb_audit.specs.Readers.{TellsReply}
-use Rattle.pb_audit.specs.Writing.{Writes}
-use Rattle.pb_audit.specs.declared.status.Fault.{Fault}
-use Rattle.pb_audit.specs.declared.status.Status.{Status}
+use Rattle.pb_records.specs.Records.{Text}
+use Rattle.pb_reply.specs.Replies.{Answer, Reply, answer_of, text_of, TellsReply}
+use Rattle.pb_reply.specs.Writing.{Writes}
+use Rattle.pb_reply.specs.declared.status.Fault.{Fault}
+use Rattle.pb_reply.specs.declared.status.Status.{Status}
 use Rattle.pb_audit.specs.Reports.{certificate_lines, file_lines, lines_of}
 
 -- lines after lines

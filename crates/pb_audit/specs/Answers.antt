@@ -1,51 +1,23 @@
 -- What each command answers: lines or a text, and how it ends, from what its inputs state.
-use Rattle.std.specs.Prelude.{◌≡◌, Bool, ℕ, List, [], ◌∷◌, ◌++◌, flat_map, IfOk, Option, Ok, Err}
+use Rattle.std.specs.Prelude.{◌≡◌, Bool, ℕ, List, [], ◌∷◌, ◌++◌, IfOk, Option, Ok, Err}
 use Rattle.std.specs.Option.{option_map}
 use Rattle.pb_election.specs.Instance.{Instance}
 use Rattle.pb_records.specs.Loading.{Delivery}
-use Rattle.pb_certificate.specs.Canon.{Canon, line_end}
+use Rattle.pb_certificate.specs.Canon.{Canon}
 use Rattle.pb_certificate.specs.Prices.{Prices}
 use Rattle.pb_certificate.specs.declared.measure.Measure.{Measure}
 use Rattle.pb_cohesion.specs.FirstV.{FirstV, violation_verdict_of}
 use Rattle.pb_cohesion.specs.Satisfactions.{worth_by}
-use Rattle.pb_cohesion.specs.declared.ViolationVerdict.{ViolationVerdict}
-use Rattle.pb_cohesion.specs.declared.ViolationVerdict.TheVariants as violation_verdict
 use Rattle.pb_price.specs.First.{First, verdict_of}
 use Rattle.pb_price.specs.declared.Mode.{Mode}
 use Rattle.pb_price.specs.declared.Verdict.{Verdict}
-use Rattle.pb_price.specs.declared.Verdict.TheVariants as verdict
-use Rattle.pb_explain.specs.Amounts.{Text}
-use Rattle.pb_audit.specs.Inputs.{Stated, StatesElection, StatesFile, StatesOutcome, StatesPrices, StatesViolation, audited, in_memory}
-use Rattle.pb_audit.specs.Lines.{Refusal, notes, price_line, read_line, refusal_line, violation_line}
+use Rattle.pb_reply.specs.Replies.{Answer, Reply, answer_of, price_status, refused, violation_status, with_input}
+use Rattle.pb_reply.specs.Inputs.{Stated, StatesElection, StatesFile, StatesOutcome, StatesPrices, StatesViolation, audited, in_memory}
+use Rattle.pb_reply.specs.Lines.{notes, price_line, read_line, violation_line}
 use Rattle.pb_audit.specs.Promises.{PricesPromise, ViolationPromises}
-use Rattle.pb_audit.specs.declared.input.InputName.TheVariants as name
-use Rattle.pb_audit.specs.declared.status.Status.{Status}
-use Rattle.pb_audit.specs.declared.status.Status.TheVariants.{Yes, No, Refused}
-
--- a reply: its lines, and how it ends
-pub record Reply : Type 0 where
-  pub lines : List Text
-  pub status : Status
-
--- an answer: its text, and how it ends
-pub record Answer : Type 0 where
-  pub text : Text
-  pub status : Status
-
--- each line with its end, LF
-abbrev pub text_of : List Text → Text
-text_of lines = flat_map (λ l. l ++ (line_end ∷ [])) lines
-
-abbrev pub answer_of : Reply → Answer
-answer_of reply = record { text = text_of reply.lines; status = reply.status }
-
-abbrev pub refused : Refusal → Reply
-refused r = record { lines = refusal_line r ∷ []; status = Refused }
-
--- the reply on an input: the first that is refused decides
-abbrev pub with_input : {A : Type 0} → Stated A → (A → Reply) → Reply
-with_input (Ok a) reply = reply a
-with_input (Err r) reply = refused r
+use Rattle.pb_reply.specs.declared.input.InputName.TheVariants as name
+use Rattle.pb_reply.specs.declared.status.Status.{Status}
+use Rattle.pb_reply.specs.declared.status.Status.TheVariants.{Yes}
 
 -- the read line and the notes
 abbrev pub read_reply : Stated Instance → Reply
@@ -56,15 +28,6 @@ abbrev pub tidy_answer : Stated Instance → Stated Prices → Answer
 tidy_answer (Ok e) (Ok p) = record { text = Canon e p; status = Yes }
 tidy_answer (Ok e) (Err r) = answer_of (refused r)
 tidy_answer (Err r) certificate = answer_of (refused r)
-
--- yes where nothing fails
-abbrev pub price_status : Verdict → Status
-price_status verdict.Supported = Yes
-price_status (verdict.Failed f) = No
-
-abbrev pub violation_status : ViolationVerdict → Status
-violation_status violation_verdict.Violation = Yes
-violation_status (violation_verdict.Failed f) = No
 
 -- the verdict on prices
 abbrev pub verdict_reply : Mode → Instance → Verdict → Reply

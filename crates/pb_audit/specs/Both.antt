@@ -11,13 +11,15 @@ use Rattle.pb_cohesion.specs.Groups.{Violates}
 use Rattle.pb_cohesion.specs.Satisfactions.{worth_by}
 use Rattle.pb_price.specs.declared.Mode.{Mode}
 use Rattle.pb_price.specs.declared.Verdict.{Verdict}
-use Rattle.pb_audit.specs.Answers.{FilesState, OfAccepted, Reply, audit_reply, price_reply, verdict_reply, violation_reply, with_input}
-use Rattle.pb_audit.specs.Inputs.{InTurn, Stated, StatesPrices, StatesViolation, audited, in_memory}
+use Rattle.pb_audit.specs.Answers.{FilesState, OfAccepted, audit_reply, price_reply, verdict_reply, violation_reply}
+use Rattle.pb_reply.specs.Replies.{Reply, with_input}
+use Rattle.pb_reply.specs.Inputs.{InTurn, Stated, StatesPrices, StatesViolation, audited, in_memory}
 use Rattle.pb_audit.specs.Promises.{PricesPromise, ViolationPromises}
-use Rattle.pb_audit.specs.Readers.{AfterOutcome, AuditReadings, Delivers, DeliversFile, IsUntouched, Reading}
-use Rattle.pb_audit.specs.declared.input.InputName.TheVariants as name
-use Rattle.pb_audit.specs.declared.status.Status.{Status}
-use Rattle.pb_audit.specs.declared.status.Status.TheVariants.{Yes, No, Refused}
+use Rattle.pb_audit.specs.Readers.{AfterOutcome, AuditReadings}
+use Rattle.pb_reply.specs.Readings.{Delivers, DeliversFile, IsUntouched, Reading}
+use Rattle.pb_reply.specs.declared.input.InputName.TheVariants as name
+use Rattle.pb_reply.specs.declared.status.Status.{Status}
+use Rattle.pb_reply.specs.declared.status.Status.TheVariants.{Yes, No, Refused}
 
 -- what a violation certificate states: its measure, a group and what it demands
 abbrev pub GroupAndDemand : Type 0

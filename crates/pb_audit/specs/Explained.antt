@@ -14,13 +14,14 @@ use Rattle.pb_price.specs.Findings.{findings}
 use Rattle.pb_price.specs.declared.Mode.{Mode}
 use Rattle.pb_explain.specs.PriceTable.{price_table}
 use Rattle.pb_explain.specs.ViolationTable.{violation_table}
-use Rattle.pb_explain.specs.Amounts.{Text}
-use Rattle.pb_audit.specs.Answers.{AnswersAudit, Reply, price_reply, violation_reply}
-use Rattle.pb_audit.specs.Inputs.{Stated, StatesPrices, StatesViolation, in_memory}
+use Rattle.pb_records.specs.Records.{Text}
+use Rattle.pb_audit.specs.Answers.{AnswersAudit, price_reply, violation_reply}
+use Rattle.pb_reply.specs.Replies.{Reply}
+use Rattle.pb_reply.specs.Inputs.{Stated, StatesPrices, StatesViolation, in_memory}
 use Rattle.pb_audit.specs.Promises.{PricesPromise, ViolationPromises}
 use Rattle.pb_audit.specs.Readers.{AuditReadings, ReadsAudit}
-use Rattle.pb_audit.specs.declared.input.InputName.TheVariants as name
-use Rattle.pb_audit.specs.declared.status.Status.{Status}
+use Rattle.pb_reply.specs.declared.input.InputName.TheVariants as name
+use Rattle.pb_reply.specs.declared.status.Status.{Status}
 
 -- what a certificate of either kind states: prices, or the measure, the group and the demand of a violation
 pub data Certificate : Type 0 where

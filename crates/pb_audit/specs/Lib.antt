@@ -1,6 +1,3 @@
-pub mod Lines
-pub mod Named
-pub mod Inputs
 pub mod Promises
 pub mod Answers
 pub mod OneAnswer
@@ -9,5 +6,4 @@ pub mod Both
 pub mod Margins
 pub mod Explained
 pub mod Reports
-pub mod Writing
 pub mod Inside

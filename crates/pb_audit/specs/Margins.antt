@@ -4,19 +4,19 @@ use Rattle.std.specs.Fmt.{signed_decimal}
 use Rattle.std.specs.List.{join_with_byte}
 use Rattle.std.specs.Option.{option_map}
 use Rattle.pb_records.specs.Loading.{Delivery}
-use Rattle.pb_records.specs.Records.{Field, Rec}
+use Rattle.pb_records.specs.Records.{Field, Rec, Text}
 use Rattle.pb_election.specs.Instance.{Instance, all_projects, id_of}
 use Rattle.pb_certificate.specs.Canon.{comma, written}
 use Rattle.pb_certificate.specs.Prices.{Prices}
 use Rattle.pb_price.specs.Margins.{margins_of_project}
 use Rattle.pb_price.specs.declared.ProjectMargins.{ProjectMargins}
-use Rattle.pb_explain.specs.Amounts.{Text}
-use Rattle.pb_audit.specs.Answers.{Answer, AnswersAudit, Reply}
-use Rattle.pb_audit.specs.Inputs.{StatesPrices, in_memory}
-use Rattle.pb_audit.specs.Readers.{AuditReadings, ReadsAudit, TellsReply}
-use Rattle.pb_audit.specs.declared.input.InputName.TheVariants as name
-use Rattle.pb_audit.specs.declared.status.Status.{Status}
-use Rattle.pb_audit.specs.declared.status.Status.TheVariants.{Yes}
+use Rattle.pb_reply.specs.Replies.{Answer, Reply, TellsReply}
+use Rattle.pb_audit.specs.Answers.{AnswersAudit}
+use Rattle.pb_reply.specs.Inputs.{StatesPrices, in_memory}
+use Rattle.pb_audit.specs.Readers.{AuditReadings, ReadsAudit}
+use Rattle.pb_reply.specs.declared.input.InputName.TheVariants as name
+use Rattle.pb_reply.specs.declared.status.Status.{Status}
+use Rattle.pb_reply.specs.declared.status.Status.TheVariants.{Yes}
 
 -- the head: the name of the format and its version, how many grains one unit of the currency has, and the columns
 abbrev pub margin_head : ℕ → List Rec

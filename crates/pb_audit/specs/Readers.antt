@@ -1,40 +1,16 @@
--- What the readers of the inputs delivered, and what they state with it. Here `Source R` is what the trait says of readers of
--- a type R: the bytes that are left, and the counts.
-use Rattle.std.specs.Prelude.{◌≡◌, Bool, ℕ, List, Option, Some, None}
-use Rattle.std.specs.Option.{option_map}
+-- What each command answers on what readers delivered of its inputs.
+use Rattle.std.specs.Prelude.{◌≡◌, Bool, List, Option}
 use Rattle.pb_election.specs.Instance.{Instance}
-use Rattle.pb_records.specs.Loading.{Delivered, Delivery, ReadCounts}
+use Rattle.pb_records.specs.Loading.{Delivery}
 use Rattle.pb_records.specs.declared.loading.Source.{Ghosts as Source}
 use Rattle.pb_price.specs.declared.Mode.{Mode}
-use Rattle.pb_audit.specs.Answers.{Answer, AnswersAudit, AnswersElection, AnswersTidy, Reply, answer_of, price_reply, violation_reply}
-use Rattle.pb_audit.specs.Inputs.{InTurn, Stated, StatesPrices, StatesViolation, audited, most_bytes}
+use Rattle.pb_reply.specs.Readings.{Delivers, DeliversFile, FileReading, IsUntouched, Reading, file_reading, reading}
+use Rattle.pb_reply.specs.Replies.{Answer, Reply}
+use Rattle.pb_audit.specs.Answers.{AnswersAudit, AnswersElection, AnswersTidy, price_reply, violation_reply}
+use Rattle.pb_reply.specs.Inputs.{InTurn, Stated, StatesPrices, StatesViolation, audited}
 use Rattle.pb_audit.specs.Promises.{PricesPromise, ViolationPromises}
-use Rattle.pb_audit.specs.declared.input.InputName.TheVariants as name
-use Rattle.pb_audit.specs.declared.status.Status.{Status}
-
--- a reader: the bytes that are left, where it tells them, and its counts
-pub record Reader : Type 0 where
-  pub left : Option (List ℕ)
-  pub counts : ReadCounts
-
--- a reader before and after some work
-pub record Reading : Type 0 where
-  pub before : Reader
-  pub after : Reader
-
-abbrev pub reader : {R : Type 0} → Source R → R → Reader
-reader source r = record { left = source.left r; counts = source.counts r }
-
-abbrev pub reading : {R : Type 0} → Source R → R → R → Reading
-reading source old new = record { before = reader source old; after = reader source new }
-
--- the same of a reader that is given or not
-pub record FileReading : Type 0 where
-  pub before : Option Reader
-  pub after : Option Reader
-
-abbrev pub file_reading : {R : Type 0} → Source R → Option R → Option R → FileReading
-file_reading source old new = record { before = option_map (reader source) old; after = option_map (reader source) new }
+use Rattle.pb_reply.specs.declared.input.InputName.TheVariants as name
+use Rattle.pb_reply.specs.declared.status.Status.{Status}
 
 -- the readers of an audit, before and after: of the election, of the outcome file where one is given, and of the certificate
 pub record AuditReadings : Type 0 where
@@ -50,26 +26,6 @@ audit_readings e old_election new_election o old_outcome new_outcome c old_certi
   outcome = file_reading o old_outcome new_outcome;
   certificate = reading c old_certificate new_certificate;
 }
-
--- what a reader delivered
-abbrev pub Delivers : Reading → Delivery → Type 0
-Delivers r delivery = Delivered r.before.left r.before.counts r.after.counts most_bytes delivery
-
--- the same of a reader that is given or not
-abbrev pub DeliversFile : Option Reader → Option Reader → Option Delivery → Type 0
-DeliversFile None None None = Unit {0}
-DeliversFile (Some before) (Some after) (Some delivery) = Delivers (record { before = before; after = after }) delivery
-DeliversFile _ _ _ = ⊥
-
--- the reader is as it was
-abbrev pub IsUntouched : Reading → Type 0
-IsUntouched r = r.after ≡ r.before
-
--- the answer is the text of one of these replies
-pub record TellsReply (is_reply : Reply → Type 0) (answer : Answer) : Type 0 where
-  pub reply : Reply
-  pub of_inputs : is_reply reply
-  pub out : answer ≡ answer_of reply
 
 -- the reply on the election that a reader delivered
 pub record ReadsElection (election : Reading) (r : Reply) : Type 0 where

@@ -2,12 +2,13 @@
 use Rattle.std.specs.Prelude.{◌≡◌, ◌&&◌, not, nat_lt, if◌then◌else◌, Bool, true, false, List, [], ◌∷◌, ◌++◌, count_by, flat_map, map, take, Option, Some, None, codes, decimal}
 use Rattle.pb_records.specs.Loading.{Delivery}
 use Rattle.pb_price.specs.declared.Mode.{Mode}
-use Rattle.pb_explain.specs.Amounts.{Text}
-use Rattle.pb_audit.specs.Answers.{Answer, AnswersElection, AnswersPrices, AnswersViolation, Reply, text_of}
+use Rattle.pb_records.specs.Records.{Text}
+use Rattle.pb_reply.specs.Replies.{Answer, Reply, text_of}
+use Rattle.pb_audit.specs.Answers.{AnswersElection, AnswersPrices, AnswersViolation}
 use Rattle.pb_audit.specs.declared.total.Ending.{Ending}
 use Rattle.pb_audit.specs.declared.total.Total.{Total}
-use Rattle.pb_audit.specs.declared.status.Status.{Status}
-use Rattle.pb_audit.specs.declared.status.Status.TheVariants.{Yes, No, Refused}
+use Rattle.pb_reply.specs.declared.status.Status.{Status}
+use Rattle.pb_reply.specs.declared.status.Status.TheVariants.{Yes, No, Refused}
 
 -- the files of one name, as they are delivered: an election, and its certificates where they are there
 pub record Files : Type 0 where

@@ -1,22 +1,23 @@
 //! Auditing an election, an outcome and a certificate, whatever kind of certificate it is.
 ghost use Rattle.std.specs.Prelude.{◌≡◌, Bool, IfOk, IfSome, List, Ok, option_copied, option_map};
-ghost use Rattle.pb_audit.specs.Answers.{AnswersAudit, Reply};
-ghost use Rattle.pb_audit.specs.Inputs.{Stated, StatesElection, in_memory};
-ghost use Rattle.pb_audit.specs.Inside.Loaded.{lent};
-ghost use Rattle.pb_audit.specs.Inside.Taking.{AnswersCertificate, Promised, settled};
+ghost use Rattle.pb_audit.specs.Answers.{AnswersAudit};
+ghost use Rattle.pb_reply.specs.Replies.{Reply};
+ghost use Rattle.pb_reply.specs.Inputs.{Stated, StatesElection, in_memory};
+ghost use Rattle.pb_reply.specs.Inside.Loaded.{lent};
+ghost use Rattle.pb_audit.specs.Inside.Certificates.{AnswersCertificate, Promised};
+ghost use Rattle.pb_reply.specs.Inside.Taking.{settled};
 ghost use Rattle.pb_audit.specs.Readers.{ReadsAudit, audit_readings};
-ghost use Rattle.pb_audit.specs.Writing.{WritesReply};
-ghost use Rattle.pb_audit.specs.declared.status.Status.{Status};
+ghost use Rattle.pb_reply.specs.Writing.{WritesReply};
+ghost use Rattle.pb_reply.specs.declared.status.Status.{Status};
 ghost use Rattle.pb_election.specs.Instance.{Instance};
 ghost use Rattle.pb_election.specs.Outcome.{Fits};
 ghost use Rattle.pb_records.specs.Loading.{Delivery};
 
-use crate::answer::{Reply, settled, write_reply};
-use crate::input::Stop;
-use crate::loaded::{File, Loaded, optional_file};
-use crate::taking::{election_of, outcome_of, take_election, take_outcome};
-use crate::{Fault, Status};
 use pb_election::{Election, Outcome, Sink, Source};
+use pb_reply::{
+    Fault, File, Loaded, Reply, Status, Stop, election_of, optional_file, outcome_of, settled,
+    take_election, take_outcome, write_reply,
+};
 use std::alloc::{AllocError, Global};
 
 /// How certificates of one kind are audited.

@@ -2,23 +2,24 @@
 ghost use Rattle.std.specs.Prelude.{◌≡◌, IfOk, IfSome, option_copied, option_map};
 ghost use Rattle.pb_audit.specs.Both.{AnswersBoth, AnswersBothFiles, ReadsBoth};
 ghost use Rattle.pb_audit.specs.Both as spec;
-ghost use Rattle.pb_audit.specs.Inputs.{StatesViolation};
-ghost use Rattle.pb_audit.specs.Inside.Loaded.{lent};
-ghost use Rattle.pb_audit.specs.Named.{PricesNameProject};
-ghost use Rattle.pb_audit.specs.Readers.{audit_readings, reading};
-ghost use Rattle.pb_audit.specs.Inside.Taking.{AnswersCertificate, Gives, IfTaken, JudgesPrices, settled};
-ghost use Rattle.pb_audit.specs.Writing.{WritesReply};
+ghost use Rattle.pb_reply.specs.Inputs.{StatesViolation};
+ghost use Rattle.pb_reply.specs.Inside.Loaded.{lent};
+ghost use Rattle.pb_reply.specs.Named.{PricesNameProject};
+ghost use Rattle.pb_audit.specs.Readers.{audit_readings};
+ghost use Rattle.pb_reply.specs.Readings.{reading};
+ghost use Rattle.pb_audit.specs.Inside.Certificates.{AnswersCertificate, JudgesPrices};
+ghost use Rattle.pb_reply.specs.Inside.Taking.{Gives, IfTaken, settled};
+ghost use Rattle.pb_reply.specs.Writing.{WritesReply};
 ghost use Rattle.pb_election.specs.Outcome.{Fits};
 
-use crate::answer::{Reply, settled, write_reply};
-use crate::input::{InputName, Stop};
-use crate::loaded::{File, Loaded, optional_file};
 use crate::price_engine::{price_verdict, verdict_reply};
-use crate::taking::{election_of, outcome_of, take_election, take_outcome, violation_of};
 use crate::violation_engine::group_reply;
-use crate::{Fault, Status};
 use pb_election::{Election, Outcome, Sink, Source};
 use pb_price::{Mode, Verdict};
+use pb_reply::{
+    Fault, File, InputName, Loaded, Reply, Status, Stop, election_of, optional_file, outcome_of,
+    settled, take_election, take_outcome, violation_of, write_reply,
+};
 use std::alloc::{AllocError, Global};
 
 /// The reply on an election, an outcome file where one is given, a price certificate and a violation certificate, all in

@@ -2,12 +2,13 @@
 ghost use Rattle.std.specs.Prelude.{◌≡◌, ◌≤◌, ◌^◌, IfOk, IfSome, option_copied};
 ghost use Rattle.pb_audit.specs.Answers.{verdict_reply};
 ghost use Rattle.pb_audit.specs.Explained.{AnswersExplainedFiles, Certificate, ExplainedPromise, ReadsExplained, StatesCertificate, explained_prices, explained_reply, explained_violation, is_violation, with_table};
-ghost use Rattle.pb_audit.specs.Inputs.{StatesPrices, StatesViolation};
-ghost use Rattle.pb_audit.specs.Inside.Loaded.{lent};
-ghost use Rattle.pb_audit.specs.Named.{PricesNameProject};
+ghost use Rattle.pb_reply.specs.Inputs.{StatesPrices, StatesViolation};
+ghost use Rattle.pb_reply.specs.Inside.Loaded.{lent};
+ghost use Rattle.pb_reply.specs.Named.{PricesNameProject};
 ghost use Rattle.pb_audit.specs.Readers.{audit_readings};
-ghost use Rattle.pb_audit.specs.Inside.Taking.{AnswersCertificate, FindsPrices, IfTaken, settled};
-ghost use Rattle.pb_audit.specs.Writing.{WritesReply};
+ghost use Rattle.pb_audit.specs.Inside.Certificates.{AnswersCertificate, FindsPrices};
+ghost use Rattle.pb_reply.specs.Inside.Taking.{IfTaken, settled};
+ghost use Rattle.pb_reply.specs.Writing.{WritesReply};
 ghost use Rattle.pb_certificate.specs.Claim as claims;
 ghost use Rattle.pb_election.specs.Instance.{IsSet, projects};
 ghost use Rattle.pb_election.specs.Outcome.{Fits};
@@ -15,19 +16,17 @@ ghost use Rattle.pb_explain.specs.PriceTable.{NameProjects, price_table};
 ghost use Rattle.pb_price.specs.First.{verdict_of};
 ghost use Rattle.pb_price.specs.Told.{first_told};
 
-use crate::answer::Reply;
 use crate::auditing::{Audit, audit_reply, run_audit};
-use crate::input::{InputFault, InputName, Stop, stop_at};
-use crate::loaded::{File, bytes_of};
 use crate::price_engine::verdict_reply;
-use crate::taking::violation_of;
 use crate::violation_engine::group_reply;
-use crate::{Fault, Status};
 use pb_certificate::{Violation, is_violation};
 use pb_cohesion::violation_findings;
 use pb_election::{Election, Outcome, Sink, Source};
 use pb_explain::{push_price_table, push_violation_table};
 use pb_price::{Findings, Mode, findings_of};
+use pb_reply::{
+    Fault, File, InputFault, InputName, Reply, Status, Stop, bytes_of, stop_at, violation_of,
+};
 use std::alloc::{AllocError, Global};
 
 /// The reply on an election, an outcome file where one is given, and a certificate of either kind, all in memory: the line of

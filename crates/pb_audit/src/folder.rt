@@ -4,9 +4,8 @@ ghost use Rattle.pb_audit.specs.Inside.Folders.{files_of};
 ghost use Rattle.pb_audit.specs.Reports.{ReportOf};
 
 use crate::folder_report::FolderReport;
-use crate::loaded::Loaded;
-use crate::report::Report;
 use pb_price::Mode;
+use pb_reply::{Loaded, Report};
 use std::alloc::{AllocError, Global};
 
 /// The files of one name: an election, and its certificates where they are there.

@@ -1,18 +1,15 @@
 //! The report on a folder, made of one entry after the other.
 ghost use Rattle.std.specs.Prelude.{◌≡◌, ◌∷◌, ◌++◌, [], List, IfOk, OnOk, string_bytes};
-ghost use Rattle.pb_audit.specs.Answers.{text_of};
+ghost use Rattle.pb_reply.specs.Replies.{text_of};
 ghost use Rattle.pb_audit.specs.Inside.Folders.{files_of, found_as};
 ghost use Rattle.pb_audit.specs.Reports.{Files, HasTaken, ReportOf, certificate_endings, certificate_lines, file_lines};
 ghost use Rattle.pb_audit.specs.Reports as spec;
 
-use crate::Status;
-use crate::answer::Reply;
 use crate::folder::Entry;
 use crate::found::{Found, found_of};
-use crate::lines::push_line;
-use crate::report::Report;
 use crate::total::{Ending, Total};
 use pb_price::Mode;
+use pb_reply::{Reply, Report, Status, push_line};
 use std::alloc::{AllocError, Global};
 use std::marker::Model;
 

@@ -2,21 +2,19 @@
 ghost use Rattle.std.specs.Prelude.{◌≡◌, IfOk, Ok, None, option_map};
 ghost use Rattle.pb_audit.specs.Answers.{AnswersAudit};
 ghost use Rattle.pb_audit.specs.Inside.Folders.{files_of, found_as};
-ghost use Rattle.pb_audit.specs.Inputs.{StatesElection};
-ghost use Rattle.pb_audit.specs.Inside.Loaded.{delivery_of};
+ghost use Rattle.pb_reply.specs.Inputs.{StatesElection};
+ghost use Rattle.pb_reply.specs.Inside.Loaded.{delivery_of};
 ghost use Rattle.pb_audit.specs.Reports.{Finds, FindsCertificate};
 ghost use Rattle.pb_records.specs.Loading.{Delivery};
 
-use crate::answer::{Reply, settled, stopped};
 use crate::auditing::{Audit, audit_for};
 use crate::folder::Entry;
-use crate::loaded::Loaded;
 use crate::price_engine::PriceAudit;
 use crate::read_engine::election_reply;
-use crate::taking::election_of;
 use crate::violation_engine::ViolationAudit;
 use pb_election::Election;
 use pb_price::Mode;
+use pb_reply::{Loaded, Reply, election_of, settled, stopped};
 use std::alloc::{AllocError, Global};
 
 /// The reply on an election, and on each of its certificates that is audited.

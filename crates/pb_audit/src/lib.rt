@@ -2,41 +2,30 @@
 //! for.
 #![tactic(auto)]
 
-mod answer;
 mod auditing;
 mod both_engine;
 mod explain_engine;
 mod folder;
 mod folder_report;
 mod found;
-mod input;
 pub mod laws;
-mod lines;
-mod loaded;
 mod margin_engine;
 mod margin_table;
 mod price_engine;
 mod read_engine;
-mod report;
-mod status;
-mod taking;
 mod tidy_engine;
 mod total;
-mod verdict_lines;
 mod violation_engine;
 
-pub use answer::{Answer, Reply};
 pub use both_engine::{both_reply, run_both};
 pub use explain_engine::{explained_reply, run_explain};
 pub use folder::{Entry, folder_text};
 pub use folder_report::FolderReport;
-pub use loaded::Loaded;
 pub use margin_engine::{margins_answer, run_margins};
 pub use pb_command::{Task, UsageFault, task_of};
+pub use pb_reply::{Answer, Fault, Loaded, Reply, Report, Status};
 pub use price_engine::{prices_reply, run_prices};
 pub use read_engine::{read_reply, run_read};
-pub use report::Report;
-pub use status::{Fault, Status};
 pub use tidy_engine::{run_tidy, tidy_answer};
 pub use violation_engine::{run_violation, violation_reply};
 

@@ -1,20 +1,20 @@
 //! The margins of a price certificate.
 ghost use Rattle.std.specs.Prelude.{◌≡◌, IfOk, IfSome, option_copied, option_map};
-ghost use Rattle.pb_audit.specs.Inside.Loaded.{lent};
+ghost use Rattle.pb_reply.specs.Inside.Loaded.{lent};
 ghost use Rattle.pb_audit.specs.Margins.{AnswersMarginFiles, AnswersMargins, ReadsMargins};
 ghost use Rattle.pb_audit.specs.Readers.{audit_readings};
-ghost use Rattle.pb_audit.specs.Inside.Taking.{IfTaken, TablesMargins, settled_answer};
-ghost use Rattle.pb_audit.specs.Writing.{Writes};
+ghost use Rattle.pb_reply.specs.Inside.Taking.{IfTaken, settled_answer};
+ghost use Rattle.pb_audit.specs.Inside.Certificates.{TablesMargins};
+ghost use Rattle.pb_reply.specs.Writing.{Writes};
 ghost use Rattle.pb_election.specs.Outcome.{Fits};
 
-use crate::answer::{Answer, settled_answer};
-use crate::input::{InputFault, InputName, Stop, stop_at};
-use crate::loaded::{File, Loaded, bytes_of, optional_file};
 use crate::margin_table::table_text;
-use crate::taking::{election_of, outcome_of, take_election, take_outcome};
-use crate::{Fault, Status};
 use pb_election::{Election, Outcome, Sink, Source};
 use pb_price::margins_of;
+use pb_reply::{
+    Answer, Fault, File, InputFault, InputName, Loaded, Status, Stop, bytes_of, election_of,
+    optional_file, outcome_of, settled_answer, stop_at, take_election, take_outcome,
+};
 use std::alloc::{AllocError, Global};
 
 /// The answer on an election, an outcome file where one is given, and a price certificate, all in memory: the table of the

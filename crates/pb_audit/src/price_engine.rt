@@ -2,25 +2,25 @@
 ghost use Rattle.std.specs.Prelude.{◌≡◌, IfOk, option_copied};
 ghost use Rattle.pb_audit.specs.Answers.{AnswersPriceFiles, price_reply};
 ghost use Rattle.pb_audit.specs.Answers as spec;
-ghost use Rattle.pb_audit.specs.Inputs.{StatesPrices};
-ghost use Rattle.pb_audit.specs.Inside.Loaded.{lent};
-ghost use Rattle.pb_audit.specs.Named.{PricesNameProject};
+ghost use Rattle.pb_reply.specs.Inputs.{StatesPrices};
+ghost use Rattle.pb_reply.specs.Inside.Loaded.{lent};
+ghost use Rattle.pb_reply.specs.Named.{PricesNameProject};
 ghost use Rattle.pb_audit.specs.Promises.{PricesPromise};
 ghost use Rattle.pb_audit.specs.Readers.{ReadsPrices, audit_readings};
-ghost use Rattle.pb_audit.specs.Inside.Taking.{IfTaken, JudgesPrices};
-ghost use Rattle.pb_audit.specs.Writing.{WritesReply};
-ghost use Rattle.pb_audit.specs.declared.input.InputName.TheVariants as name;
+ghost use Rattle.pb_reply.specs.Inside.Taking.{IfTaken};
+ghost use Rattle.pb_audit.specs.Inside.Certificates.{JudgesPrices};
+ghost use Rattle.pb_reply.specs.Writing.{WritesReply};
+ghost use Rattle.pb_reply.specs.declared.input.InputName.TheVariants as name;
 ghost use Rattle.pb_certificate.specs.Prices.{Prices};
 ghost use Rattle.pb_election.specs.Outcome.{Fits};
 
-use crate::answer::{Reply, one_line};
 use crate::auditing::{Audit, audit_reply, run_audit};
-use crate::input::{InputFault, InputName, Stop, stop_at};
-use crate::loaded::{File, bytes_of};
-use crate::verdict_lines::{price_line, price_status};
-use crate::{Fault, Status};
 use pb_election::{Election, Outcome, Sink, Source};
 use pb_price::{Mode, Verdict, check_rows};
+use pb_reply::{
+    Fault, File, InputFault, InputName, Reply, Status, Stop, bytes_of, one_line, price_line,
+    price_status, stop_at,
+};
 use std::alloc::{AllocError, Global};
 
 /// The reply on an election, an outcome file where one is given, and a price certificate, all in memory: the line of the

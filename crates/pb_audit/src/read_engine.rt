@@ -1,19 +1,18 @@
 //! Reading an election and telling what is in it.
 ghost use Rattle.std.specs.Prelude.{◌≡◌, IfOk, IfSome};
 ghost use Rattle.pb_audit.specs.Answers.{AnswersElection, AnswersElectionFile, read_reply};
-ghost use Rattle.pb_audit.specs.Lines as spec;
-ghost use Rattle.pb_audit.specs.Inside.Loaded.{lent};
-ghost use Rattle.pb_audit.specs.Readers.{ReadsElection, reading};
-ghost use Rattle.pb_audit.specs.Inside.Taking.{settled};
-ghost use Rattle.pb_audit.specs.Writing.{WritesReply};
+ghost use Rattle.pb_reply.specs.Lines as spec;
+ghost use Rattle.pb_reply.specs.Inside.Loaded.{lent};
+ghost use Rattle.pb_audit.specs.Readers.{ReadsElection};
+ghost use Rattle.pb_reply.specs.Readings.{reading};
+ghost use Rattle.pb_reply.specs.Inside.Taking.{settled};
+ghost use Rattle.pb_reply.specs.Writing.{WritesReply};
 
-use crate::answer::{Reply, settled, write_reply};
-use crate::input::Stop;
-use crate::lines::{push_notes, read_line};
-use crate::loaded::File;
-use crate::taking::{election_of, take_election};
-use crate::{Fault, Status};
 use pb_election::{Election, Outcome, Sink, Source};
+use pb_reply::{
+    Fault, File, Reply, Status, Stop, election_of, push_notes, read_line, settled, take_election,
+    write_reply,
+};
 use std::alloc::{AllocError, Global};
 
 /// The reply on an election in memory: the line on it with the notes, or why it is refused. More than 2^28 bytes are

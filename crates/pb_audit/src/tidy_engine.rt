@@ -1,18 +1,19 @@
 //! Writing a price certificate in its canonical form.
 ghost use Rattle.std.specs.Prelude.{IfOk, IfSome};
 ghost use Rattle.pb_audit.specs.Answers.{AnswersTidy, AnswersTidyFiles};
-ghost use Rattle.pb_audit.specs.Inside.Loaded.{lent};
-ghost use Rattle.pb_audit.specs.Readers.{ReadsTidy, reading};
-ghost use Rattle.pb_audit.specs.Inside.Taking.{IfTaken, TidiesPrices, settled_answer};
-ghost use Rattle.pb_audit.specs.Writing.{Writes};
+ghost use Rattle.pb_reply.specs.Inside.Loaded.{lent};
+ghost use Rattle.pb_audit.specs.Readers.{ReadsTidy};
+ghost use Rattle.pb_reply.specs.Readings.{reading};
+ghost use Rattle.pb_reply.specs.Inside.Taking.{IfTaken, settled_answer};
+ghost use Rattle.pb_audit.specs.Inside.Certificates.{TidiesPrices};
+ghost use Rattle.pb_reply.specs.Writing.{Writes};
 
-use crate::answer::{Answer, settled_answer};
-use crate::input::{InputFault, InputName, Stop, stop_at};
-use crate::loaded::{File, Loaded, bytes_of};
-use crate::taking::{election_of, take_election};
-use crate::{Fault, Status};
 use pb_certificate::canonical_text_of;
 use pb_election::{Election, Sink, Source};
+use pb_reply::{
+    Answer, Fault, File, InputFault, InputName, Loaded, Status, Stop, bytes_of, election_of,
+    settled_answer, stop_at, take_election,
+};
 use std::alloc::{AllocError, Global};
 
 /// The answer on an election and a price certificate for it, both in memory: the certificate's canonical text, or why a

@@ -1,10 +1,9 @@
 //! The total of a report.
 ghost use Rattle.std.specs.Prelude.{◌≡◌, ◌∷◌, ◌++◌, [], OnOk, count_by, string_bytes};
-ghost use Rattle.pb_audit.specs.Answers.{text_of};
+ghost use Rattle.pb_reply.specs.Replies.{text_of};
 ghost use Rattle.pb_audit.specs.Reports as spec;
 
-use crate::Status;
-use crate::lines::{push_line, push_number};
+use pb_reply::{Status, push_line, push_number};
 use std::alloc::AllocError;
 
 /// How the line on a file ends, and whether the file is a certificate.

@@ -2,25 +2,23 @@
 ghost use Rattle.std.specs.Prelude.{◌≡◌, IfOk, option_copied};
 ghost use Rattle.pb_audit.specs.Answers.{AnswersViolationFiles, violation_reply};
 ghost use Rattle.pb_audit.specs.Both.{GroupAndDemand};
-ghost use Rattle.pb_audit.specs.Inputs.{StatesViolation};
+ghost use Rattle.pb_reply.specs.Inputs.{StatesViolation};
 ghost use Rattle.pb_audit.specs.Promises.{ViolationPromises};
 ghost use Rattle.pb_audit.specs.Readers.{ReadsViolation, audit_readings};
-ghost use Rattle.pb_audit.specs.Writing.{WritesReply};
-ghost use Rattle.pb_audit.specs.declared.input.InputName.TheVariants as name;
+ghost use Rattle.pb_reply.specs.Writing.{WritesReply};
+ghost use Rattle.pb_reply.specs.declared.input.InputName.TheVariants as name;
 ghost use Rattle.pb_certificate.specs.Claim as claims;
 ghost use Rattle.pb_election.specs.Instance.{IsSet, projects};
 ghost use Rattle.pb_election.specs.Outcome as outcomes;
 
-use crate::answer::{Reply, one_line};
 use crate::auditing::{Audit, audit_reply, run_audit};
-use crate::input::{InputName, Stop};
-use crate::loaded::File;
-use crate::taking::violation_of;
-use crate::verdict_lines::{violation_line, violation_status};
-use crate::{Fault, Status};
 use pb_certificate::Violation;
 use pb_cohesion::check_violation;
 use pb_election::{Election, Outcome, Sink, Source};
+use pb_reply::{
+    Fault, File, InputName, Reply, Status, Stop, one_line, violation_line, violation_of,
+    violation_status,
+};
 use std::alloc::{AllocError, Global};
 
 /// The reply on an election, an outcome file where one is given, and a violation certificate, all in memory: the line of

@@ -2,7 +2,7 @@
 use Rattle.std.proofs.Common.{◌≡◌, ◌≢◌, List, ℕ, subst, sym}
 use Rattle.std.specs.Prelude.{IfErr, IfOk, Result, Ok, Err}
 use Rattle.std.specs.declared.alloc.AllocError.{AllocError}
-use Rattle.pb_audit.specs.Answers.{Answer}
+use Rattle.pb_reply.specs.Replies.{Answer}
 use Rattle.pb_c.specs.Reports.{IsReported, memory_code}
 
 -- an answer of a kind is reported as one of that kind

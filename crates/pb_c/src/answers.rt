@@ -4,7 +4,7 @@ ghost use Rattle.pb_audit.specs.Answers.{AnswersElectionFile, AnswersPriceFiles,
 ghost use Rattle.pb_audit.specs.Both.{AnswersBothFiles};
 ghost use Rattle.pb_audit.specs.Explained.{AnswersExplainedFiles};
 ghost use Rattle.pb_audit.specs.Margins.{AnswersMarginFiles};
-ghost use Rattle.pb_audit.specs.Readers.{TellsReply};
+ghost use Rattle.pb_reply.specs.Replies.{TellsReply};
 ghost use Rattle.pb_c.specs.Files.{given_file};
 
 use pb_audit::{

@@ -3,7 +3,8 @@
 use Rattle.std.specs.Prelude.{ℕ, ◌++◌, codes}
 use Rattle.pb_election.specs.Instance.{Instance, id_of}
 use Rattle.pb_price.specs.declared.Comparison.{Comparison}
-use Rattle.pb_explain.specs.Amounts.{Text, amount, balance}
+use Rattle.pb_records.specs.Records.{Text}
+use Rattle.pb_explain.specs.Amounts.{amount, balance}
 use Rattle.pb_explain.specs.Rows.{how_many, voter}
 
 -- Feasible

@@ -1,6 +1,6 @@
 -- The rows of a table of conditions or tests.
 use Rattle.std.specs.Prelude.{if◌then◌else◌, Bool, ℕ, ◌++◌, codes, decimal}
-use Rattle.pb_explain.specs.Amounts.{Text}
+use Rattle.pb_records.specs.Records.{Text}
 
 -- whether it holds
 abbrev pub answer : Bool → Text

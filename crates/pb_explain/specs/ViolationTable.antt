@@ -5,7 +5,8 @@ use Rattle.pb_certificate.specs.declared.measure.Measure.{Measure}
 use Rattle.pb_certificate.specs.declared.measure.Measure.TheVariants.{ByCount, ByCost}
 use Rattle.pb_cohesion.specs.declared.MissingApprovals.{MissingApprovals}
 use Rattle.pb_cohesion.specs.declared.ViolationFindings.{ViolationFindings}
-use Rattle.pb_explain.specs.Amounts.{Text, amount}
+use Rattle.pb_records.specs.Records.{Text}
+use Rattle.pb_explain.specs.Amounts.{amount}
 use Rattle.pb_explain.specs.Rows.{how_many, opening, voter}
 
 -- V1

@@ -1,7 +1,7 @@
 -- The entries of a folder, by what is delivered of their files.
 use Rattle.std.specs.Prelude.{string_bytes}
 use Rattle.std.specs.Option.{option_map}
-use Rattle.pb_audit.specs.Inside.Loaded.{delivery_of}
+use Rattle.pb_reply.specs.Inside.Loaded.{delivery_of}
 use Rattle.pb_audit.specs.Reports.{Files, Found}
 use Rattle.pb_audit.specs.declared.found.Found as code
 use Rattle.pb_audit.specs.declared.folder.Entry.{Entry}

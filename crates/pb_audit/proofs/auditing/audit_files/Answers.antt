@@ -1,6 +1,6 @@
 use Rattle.std.proofs.Common.{◌≡◌, rules}
 use Rattle.std.specs.Prelude.{Err, option_map}
-use Rattle.pb_audit.specs.Inside.Loaded.{lent}
+use Rattle.pb_reply.specs.Inside.Loaded.{lent}
 use Rattle.pb_audit.proofs.Audits.{stopped_at_election}
 use Rattle.pb_audit.proofs.auditing.audit_files.Goals as goal
 

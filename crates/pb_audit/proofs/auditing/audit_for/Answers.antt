@@ -1,6 +1,6 @@
 use Rattle.std.proofs.Common.{◌≡◌, rules}
 use Rattle.std.specs.Prelude.{Err, option_map}
-use Rattle.pb_audit.specs.Inside.Loaded.{lent}
+use Rattle.pb_reply.specs.Inside.Loaded.{lent}
 use Rattle.pb_audit.proofs.Audits.{certificate_settled, stopped_at_outcome}
 use Rattle.pb_audit.proofs.auditing.audit_for.Goals as goal
 

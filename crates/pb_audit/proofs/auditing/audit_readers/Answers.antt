@@ -2,7 +2,8 @@ use Rattle.std.proofs.Common.{◌≡◌, refl, rules, subst}
 use Rattle.std.specs.Prelude.{Err, IfSome}
 use Rattle.pb_records.specs.Loading.{Delivery}
 use Rattle.pb_audit.specs.Readers.{audit_readings}
-use Rattle.pb_audit.specs.Inside.Taking.{AnswersCertificate, settled}
+use Rattle.pb_audit.specs.Inside.Certificates.{AnswersCertificate}
+use Rattle.pb_reply.specs.Inside.Taking.{settled}
 use Rattle.pb_audit.proofs.Audits.{readers_settled, readers_stopped_at_election, readers_stopped_at_outcome}
 use Rattle.pb_audit.proofs.auditing.audit_readers.Goals as goal
 

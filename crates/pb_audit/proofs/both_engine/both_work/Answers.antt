@@ -1,6 +1,6 @@
 use Rattle.std.proofs.Common.{◌≡◌, rules}
 use Rattle.std.specs.Prelude.{Err, option_map}
-use Rattle.pb_audit.specs.Inside.Loaded.{lent}
+use Rattle.pb_reply.specs.Inside.Loaded.{lent}
 use Rattle.pb_audit.proofs.Boths.{both_settled, stopped_at_election, stopped_at_outcome, stopped_at_prices}
 use Rattle.pb_audit.proofs.both_engine.both_work.Goals as goal
 

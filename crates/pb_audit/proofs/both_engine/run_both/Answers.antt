@@ -1,8 +1,9 @@
 use Rattle.std.proofs.Common.{Option, subst}
 use Rattle.std.specs.Prelude.{IfSome}
-use Rattle.pb_audit.specs.Answers.{Reply}
+use Rattle.pb_reply.specs.Replies.{Reply}
 use Rattle.pb_audit.specs.Both.{ReadsBoth}
-use Rattle.pb_audit.specs.Readers.{audit_readings, reading}
+use Rattle.pb_audit.specs.Readers.{audit_readings}
+use Rattle.pb_reply.specs.Readings.{reading}
 use Rattle.pb_audit.proofs.Texts.{reply_told}
 use Rattle.pb_audit.proofs.both_engine.run_both.Goals as goal
 

@@ -2,10 +2,12 @@ use Rattle.std.proofs.Common.{◌≡◌, refl, rules, subst}
 use Rattle.std.specs.Prelude.{Err, IfSome}
 use Rattle.pb_records.specs.Loading.{Delivery}
 use Rattle.pb_audit.specs.Both.{beside}
-use Rattle.pb_audit.specs.Inputs.{StatesViolation}
-use Rattle.pb_audit.specs.Readers.{audit_readings, reading}
-use Rattle.pb_audit.specs.Inside.Taking.{AnswersCertificate, settled}
-use Rattle.pb_audit.specs.declared.input.InputName.TheVariants.{Violation}
+use Rattle.pb_reply.specs.Inputs.{StatesViolation}
+use Rattle.pb_audit.specs.Readers.{audit_readings}
+use Rattle.pb_reply.specs.Readings.{reading}
+use Rattle.pb_audit.specs.Inside.Certificates.{AnswersCertificate}
+use Rattle.pb_reply.specs.Inside.Taking.{settled}
+use Rattle.pb_reply.specs.declared.input.InputName.TheVariants.{Violation}
 use Rattle.pb_audit.proofs.Boths.{readers_settled, readers_stopped_at_election, readers_stopped_at_outcome, readers_stopped_at_prices}
 use Rattle.pb_audit.proofs.both_engine.take_work.Goals as goal
 

@@ -2,7 +2,7 @@ use Rattle.std.proofs.Common.{◌∙◌, subst, sym}
 use Rattle.std.specs.Prelude.{Ok}
 use Rattle.pb_explain.specs.PriceTable.{NameProjects}
 use Rattle.pb_price.specs.declared.Findings.{Findings}
-use Rattle.pb_audit.specs.Inside.Loaded.{lent}
+use Rattle.pb_reply.specs.Inside.Loaded.{lent}
 use Rattle.pb_audit.proofs.Explained.{denominator-low, findings_explain, findings_name_projects, told_names_project}
 use Rattle.pb_audit.proofs.explain_engine.prices_on.Goals as goal
 

@@ -1,5 +1,5 @@
 use Rattle.std.specs.Option.{option_map}
-use Rattle.pb_audit.specs.Inputs.{in_memory}
+use Rattle.pb_reply.specs.Inputs.{in_memory}
 use Rattle.pb_audit.proofs.OneAnswer.{both-one, margins-one, price-reply-one, read-one, tidy-one, violation-reply-one}
 use Rattle.pb_audit.proofs.OneExplained.{explained-one}
 use Rattle.pb_audit.proofs.laws.one_answer.Goals as goal

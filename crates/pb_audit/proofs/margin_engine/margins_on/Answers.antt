@@ -1,6 +1,6 @@
-use Rattle.pb_audit.specs.Inputs.{StatesPrices}
-use Rattle.pb_audit.specs.declared.input.InputName.TheVariants.{Certificate}
-use Rattle.pb_audit.specs.Inside.Loaded.{lent}
+use Rattle.pb_reply.specs.Inputs.{StatesPrices}
+use Rattle.pb_reply.specs.declared.input.InputName.TheVariants.{Certificate}
+use Rattle.pb_reply.specs.Inside.Loaded.{lent}
 use Rattle.std.specs.Prelude.{Ok}
 use Rattle.pb_audit.proofs.Margins.{as_many_rows, text_told}
 use Rattle.pb_audit.proofs.margin_engine.margins_on.Goals as goal

@@ -1,9 +1,9 @@
 use Rattle.std.proofs.Common.{◌≡◌, rules}
 use Rattle.std.specs.Prelude.{Err, option_map}
-use Rattle.pb_audit.specs.Inside.Loaded.{lent}
-use Rattle.pb_audit.specs.Inputs.{StatesPrices}
+use Rattle.pb_reply.specs.Inside.Loaded.{lent}
+use Rattle.pb_reply.specs.Inputs.{StatesPrices}
 use Rattle.pb_audit.specs.Margins.{AlwaysYes, margins_reply}
-use Rattle.pb_audit.specs.declared.input.InputName.TheVariants.{Certificate}
+use Rattle.pb_reply.specs.declared.input.InputName.TheVariants.{Certificate}
 use Rattle.pb_audit.proofs.Audits.{stopped_at_election, stopped_at_outcome}
 use Rattle.pb_audit.proofs.Margins.{margins_answered, stop_told}
 use Rattle.pb_audit.proofs.margin_engine.margins_work.Goals as goal

@@ -1,11 +1,12 @@
 use Rattle.std.proofs.Common.{◌≡◌, refl, rules, subst}
 use Rattle.std.specs.Prelude.{Err}
 use Rattle.pb_records.specs.Loading.{Delivery}
-use Rattle.pb_audit.specs.Inputs.{StatesPrices}
+use Rattle.pb_reply.specs.Inputs.{StatesPrices}
 use Rattle.pb_audit.specs.Margins.{AlwaysYes, margins_reply}
 use Rattle.pb_audit.specs.Readers.{audit_readings}
-use Rattle.pb_audit.specs.Inside.Taking.{IfTaken, TablesMargins}
-use Rattle.pb_audit.specs.declared.input.InputName.TheVariants.{Certificate}
+use Rattle.pb_reply.specs.Inside.Taking.{IfTaken}
+use Rattle.pb_audit.specs.Inside.Certificates.{TablesMargins}
+use Rattle.pb_reply.specs.declared.input.InputName.TheVariants.{Certificate}
 use Rattle.pb_audit.proofs.Audits.{readers_stopped_at_election, readers_stopped_at_outcome}
 use Rattle.pb_audit.proofs.Margins.{margins_read, stop_told}
 use Rattle.pb_audit.proofs.margin_engine.take_work.Goals as goal

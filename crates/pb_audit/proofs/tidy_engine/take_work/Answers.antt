@@ -1,8 +1,9 @@
 use Rattle.std.proofs.Common.{◌≡◌, refl, rules, subst}
 use Rattle.std.specs.Prelude.{Err}
 use Rattle.pb_records.specs.Loading.{Delivery}
-use Rattle.pb_audit.specs.Readers.{reading}
-use Rattle.pb_audit.specs.Inside.Taking.{IfTaken, TidiesPrices}
+use Rattle.pb_reply.specs.Readings.{reading}
+use Rattle.pb_reply.specs.Inside.Taking.{IfTaken}
+use Rattle.pb_audit.specs.Inside.Certificates.{TidiesPrices}
 use Rattle.pb_audit.proofs.Audits.{readers_tidy_answered, readers_tidy_stopped}
 use Rattle.pb_audit.proofs.tidy_engine.take_work.Goals as goal
 

@@ -1,6 +1,6 @@
 use Rattle.std.proofs.Common.{◌≡◌, rules}
 use Rattle.std.specs.Prelude.{Err}
-use Rattle.pb_audit.specs.Inside.Loaded.{lent}
+use Rattle.pb_reply.specs.Inside.Loaded.{lent}
 use Rattle.pb_audit.proofs.Audits.{tidy_stopped}
 use Rattle.pb_audit.proofs.tidy_engine.tidy_work.Goals as goal
 

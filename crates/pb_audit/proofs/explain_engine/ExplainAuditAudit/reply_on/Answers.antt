@@ -1,5 +1,5 @@
 use Rattle.std.proofs.Common.{◌∙◌, sym}
-use Rattle.pb_audit.specs.Inside.Loaded.{lent}
+use Rattle.pb_reply.specs.Inside.Loaded.{lent}
 use Rattle.pb_audit.proofs.Explained.{as_prices, as_violation}
 use Rattle.pb_audit.proofs.explain_engine.ExplainAuditAudit.reply_on.Goals as goal
 

@@ -1,0 +1,55 @@
+-- What the values stand for that the code makes of a certificate on the way to an answer. What a command answers is said
+-- without them, in `Answers` and `Readers`.
+use Rattle.std.specs.Prelude.{◌≡◌, Bool, List, Ok, Err}
+use Rattle.pb_election.specs.Instance.{Instance}
+use Rattle.pb_records.specs.Loading.{Delivery}
+use Rattle.pb_certificate.specs.Prices.{Prices}
+use Rattle.pb_price.specs.Findings.{findings}
+use Rattle.pb_price.specs.First.{First, verdict_of}
+use Rattle.pb_price.specs.declared.Findings.{Findings}
+use Rattle.pb_price.specs.declared.Mode.{Mode}
+use Rattle.pb_price.specs.declared.Verdict.{Verdict}
+use Rattle.pb_reply.specs.Inputs.{Stated, StatesPrices}
+use Rattle.pb_reply.specs.Replies.{Answer, Reply, answer_of, with_input}
+use Rattle.pb_reply.specs.declared.input.InputName.{InputName}
+use Rattle.pb_reply.specs.declared.input.InputName.TheVariants as name
+use Rattle.pb_reply.specs.declared.status.Status.{Status}
+use Rattle.pb_audit.specs.Answers.{tidy_answer}
+use Rattle.pb_audit.specs.Margins.{margins_reply}
+
+-- the reply on a certificate of a kind, for an election and an outcome that were accepted
+pub record AnswersCertificate {A : Type 0} (states : Instance → Delivery → Stated A → Type 0)
+    (reply : Instance → List Bool → A → Reply) (e : Instance) (w : List Bool) (certificate : Delivery)
+    (r : Reply) : Type 0 where
+  pub c : Stated A
+  pub given : states e certificate c
+  pub out : r ≡ with_input c (λ a. reply e w a)
+
+-- the status of each reply of a kind keeps what it promises
+abbrev pub Promised : {A : Type 0} → (Instance → List Bool → A → Reply) → (Status → Instance → List Bool → A → Type 0)
+    → Type 0
+Promised {A} reply promise = (e : Instance) (w : List Bool) (c : A) → promise (reply e w c).status e w c
+
+-- what the prices of a certificate come to: the first condition that fails, if any
+abbrev pub JudgesPrices : InputName → Mode → Instance → List Bool → Delivery → Stated Verdict → Type 0
+JudgesPrices input m e w certificate (Ok v) = (p : Prices)
+    × (StatesPrices input e certificate (Ok p) × (v ≡ verdict_of (First m e w p)))
+JudgesPrices input m e w certificate (Err r) = StatesPrices input e certificate (Err r)
+
+-- the canonical text of the prices of a certificate
+abbrev pub TidiesPrices : Instance → Delivery → Stated Answer → Type 0
+TidiesPrices e certificate (Ok answer) = (p : Prices)
+    × (StatesPrices name.Certificate e certificate (Ok p) × (answer ≡ tidy_answer (Ok e) (Ok p)))
+TidiesPrices e certificate (Err r) = StatesPrices name.Certificate e certificate (Err r)
+
+-- the table of margins by the prices of a certificate
+abbrev pub TablesMargins : Instance → List Bool → Delivery → Stated Answer → Type 0
+TablesMargins e w certificate (Ok answer) = (p : Prices)
+    × (StatesPrices name.Certificate e certificate (Ok p) × (answer ≡ answer_of (margins_reply e w p)))
+TablesMargins e w certificate (Err r) = StatesPrices name.Certificate e certificate (Err r)
+
+-- what each condition comes to by the prices of a certificate
+abbrev pub FindsPrices : Instance → List Bool → Delivery → Stated Findings → Type 0
+FindsPrices e w certificate (Ok f) = (p : Prices)
+    × (StatesPrices name.Certificate e certificate (Ok p) × (f ≡ findings e w p))
+FindsPrices e w certificate (Err r) = StatesPrices name.Certificate e certificate (Err r)

@@ -1,0 +1,55 @@
+-- What inputs state that were taken.
+use Rattle.std.proofs.Common.{◌≡◌, refl, subst, sym, Bool, Option, List, ℕ}
+use Rattle.std.specs.Prelude.{Result, Ok, Err, Some}
+use Rattle.pb_election.specs.Instance.{Instance, IsSet, projects}
+use Rattle.pb_records.specs.Loading.{Delivery}
+use Rattle.pb_records.specs.declared.loading.Source.{Ghosts as Source}
+use Rattle.pb_certificate.specs.Faults.{certificate_records}
+use Rattle.pb_certificate.specs.ViolationText.{IsViolationText}
+use Rattle.pb_certificate.specs.declared.measure.Measure.{Measure}
+use Rattle.pb_certificate.proofs.Unique.{group-text-sets}
+use Rattle.pb_reply.specs.Inputs.{StatesOutcome, refusal_of}
+use Rattle.pb_reply.specs.Readings.{file_reading, reading}
+use Rattle.pb_reply.specs.Inside.Taking.{AuditsOutcome, Gives, IfTaken, ReadsOutcome}
+use Rattle.pb_reply.specs.declared.input.Stop.{Stop}
+use Rattle.pb_reply.specs.declared.input.Stop.TheVariants as stop
+
+-- what is demanded is a set of projects
+pub demand_set : (bytes : List ℕ) (e : Instance) (m : Measure) (group demand : List ℕ)
+    → IsViolationText (certificate_records bytes) e m group demand → IsSet 1 (projects e) demand
+demand_set bytes e m group demand text = (group-text-sets (certificate_records bytes) e m group demand text).1
+
+-- the outcome that is audited, by the outcome file that was taken, or by the election's own
+pub file_audited : (e : Instance) (outcome : Option Delivery) (d : Delivery) (taken : Result (List Bool) Stop)
+    → outcome ≡ Some d → IfTaken taken (StatesOutcome e d) → IfTaken taken (AuditsOutcome e outcome)
+file_audited e outcome d taken is states =
+    subst (λ (o : Option Delivery). IfTaken taken (AuditsOutcome e o)) (sym is) (go taken states)
+  where
+    go : (r : Result (List Bool) Stop) → IfTaken r (StatesOutcome e d) → IfTaken r (AuditsOutcome e (Some d))
+    go (Ok marks) s = record { file = Some (Ok marks); given = s; is = refl }
+    go (Err (stop.Refused input why)) s = record { file = Some (Err (refusal_of input why)); given = s; is = refl }
+    go (Err stop.Memory) s = tt
+
+-- the same with a reader of the outcome file
+pub file_read : {R : Type 0} (source : Source R) (e : Instance) (old : Option R) (file new : R)
+    (taken : Result (List Bool) Stop) → old ≡ Some file
+    → IfTaken taken (Gives (StatesOutcome e) (reading source file new))
+    → IfTaken taken (ReadsOutcome e (file_reading source old (Some new)))
+file_read {R} source e old file new taken is from =
+    subst (λ (o : Option R). IfTaken taken (ReadsOutcome e (file_reading source o (Some new)))) (sym is) (go taken from)
+  where
+    go : (r : Result (List Bool) Stop) → IfTaken r (Gives (StatesOutcome e) (reading source file new))
+        → IfTaken r (ReadsOutcome e (file_reading source (Some file) (Some new)))
+    go (Ok marks) g =
+        record {
+          delivery = Some g.delivery;
+          delivered = g.delivered;
+          audits = record { file = Some (Ok marks); given = g.stating; is = refl };
+        }
+    go (Err (stop.Refused input why)) g =
+        record {
+          delivery = Some g.delivery;
+          delivered = g.delivered;
+          audits = record { file = Some (Err (refusal_of input why)); given = g.stating; is = refl };
+        }
+    go (Err stop.Memory) g = tt

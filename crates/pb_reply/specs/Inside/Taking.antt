@@ -1,0 +1,95 @@
+-- What the values stand for that the code takes and hands on between an input and its reply. What an input states is said
+-- without them, in `Inputs` and `Readings`.
+use Rattle.std.specs.Prelude.{◌≡◌, if◌then◌else◌, Bool, true, false, ℕ, List, Option, Some, None, Result, Ok, Err}
+use Rattle.std.specs.Option.{option_map}
+use Rattle.pb_election.specs.Instance.{Instance}
+use Rattle.pb_records.specs.Loading.{Delivery}
+use Rattle.pb_records.specs.Loading as delivery
+use Rattle.pb_election.specs.Outcome.{Funding}
+use Rattle.pb_election.specs.declared.refusal.ElectionFault.{ElectionFault}
+use Rattle.pb_election.specs.declared.refusal.ElectionFault.TheVariants as election_fault
+use Rattle.pb_certificate.specs.Claim.{Claim}
+use Rattle.pb_certificate.specs.declared.measure.Measure.{Measure}
+use Rattle.pb_certificate.specs.declared.refusal.CertFault.{CertFault}
+use Rattle.pb_certificate.specs.declared.refusal.CertFault.TheVariants as cert_fault
+use Rattle.pb_reply.specs.Replies.{Answer, Reply, answer_of, refused}
+use Rattle.pb_reply.specs.Inputs.{Stated, StatesFile, StatesOutcome, audited, refusal_of}
+use Rattle.pb_reply.specs.Readings.{Delivers, DeliversFile, FileReading, Reading}
+use Rattle.pb_reply.specs.declared.input.InputFault.{InputFault}
+use Rattle.pb_reply.specs.declared.input.InputFault.TheVariants as fault
+use Rattle.pb_reply.specs.declared.input.InputName.{InputName}
+use Rattle.pb_reply.specs.declared.input.Stop.{Stop}
+use Rattle.pb_reply.specs.declared.input.Stop.TheVariants as stop
+
+-- what an input that was taken states, memory aside
+abbrev pub IfTaken : {A : Type 0} → Result A Stop → (Stated A → Type 0) → Type 0
+IfTaken (Ok a) is_stated = is_stated (Ok a)
+IfTaken (Err (stop.Refused input why)) is_stated = is_stated (Err (refusal_of input why))
+IfTaken (Err stop.Memory) is_stated = Unit {0}
+
+-- an input of this name was not delivered whole, and the work on it stops so
+abbrev pub IsUnloaded : InputName → Delivery → Stop → Type 0
+IsUnloaded input (delivery.Bytes bytes) why = ⊥
+IsUnloaded input delivery.Read why = why ≡ stop.Refused input fault.Unread
+IsUnloaded input delivery.TooLong why = why ≡ stop.Refused input fault.TooLong
+
+-- whether a fault is want of memory, and not one of the input
+abbrev pub is_election_memory : ElectionFault → Bool
+is_election_memory election_fault.Memory = true
+is_election_memory _ = false
+
+abbrev pub is_certificate_memory : CertFault → Bool
+is_certificate_memory cert_fault.Memory = true
+is_certificate_memory _ = false
+
+abbrev pub wants_memory : InputFault → Bool
+wants_memory fault.Unread = false
+wants_memory fault.TooLong = false
+wants_memory (fault.Election r) = is_election_memory r.fault
+wants_memory (fault.Certificate r) = is_certificate_memory r.fault
+
+-- what the work on an input stops for
+abbrev pub stop_at : InputName → InputFault → Stop
+stop_at input why = if wants_memory why then stop.Memory else stop.Refused input why
+
+-- an outcome that was taken as its marks, and a claim as its measure, its group and its demand
+abbrev pub as_marks : Result Funding Stop → Result (List Bool) Stop
+as_marks (Ok w) = Ok w.marks
+as_marks (Err why) = Err why
+
+abbrev pub claimed : Result Claim Stop → Result (Measure × List ℕ × List ℕ) Stop
+claimed (Ok v) = Ok (v.measure, v.group, v.demand)
+claimed (Err why) = Err why
+
+-- the outcome that is audited, with what the outcome file states, where one is given
+pub record AuditsOutcome (e : Instance) (outcome : Option Delivery) (stated : Stated (List Bool)) : Type 0 where
+  pub file : Option (Stated (List Bool))
+  pub given : StatesFile (StatesOutcome e) outcome file
+  pub is : stated ≡ audited e file
+
+-- a reader delivered an input of a kind that states this
+pub record Gives {A : Type 0} (states : Delivery → Stated A → Type 0) (r : Reading) (stated : Stated A) : Type 0 where
+  pub delivery : Delivery
+  pub delivered : Delivers r delivery
+  pub stating : states delivery stated
+
+-- the outcome that is audited, with an outcome file that a reader delivered, where one is given
+pub record ReadsOutcome (e : Instance) (outcome : FileReading) (stated : Stated (List Bool)) : Type 0 where
+  pub delivery : Option Delivery
+  pub delivered : DeliversFile outcome.before outcome.after delivery
+  pub audits : AuditsOutcome e delivery stated
+
+-- the reply that some work came to: its own, or the line of the input that was refused; there is none where memory was
+-- wanted
+abbrev pub stopped : Stop → Option Reply
+stopped (stop.Refused input why) = Some (refused (refusal_of input why))
+stopped stop.Memory = None
+
+abbrev pub settled : Result Reply Stop → Option Reply
+settled (Ok own) = Some own
+settled (Err why) = stopped why
+
+-- the same of an answer
+abbrev pub settled_answer : Result Answer Stop → Option Answer
+settled_answer (Ok own) = Some own
+settled_answer (Err why) = option_map answer_of (stopped why)

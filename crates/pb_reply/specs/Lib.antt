@@ -1,0 +1,7 @@
+pub mod Lines
+pub mod Named
+pub mod Inputs
+pub mod Replies
+pub mod Readings
+pub mod Writing
+pub mod Inside

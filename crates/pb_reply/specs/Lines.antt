@@ -1,0 +1,104 @@
+-- The printed lines, without their ends.
+use Rattle.std.specs.Prelude.{◌==◌, if◌then◌else◌, Bool, ℕ, List, [], ◌∷◌, ◌++◌, count_by, Option, Some, None, codes, decimal}
+use Rattle.std.specs.Option.{option_map}
+use Rattle.pb_election.specs.Instance.{Instance, id_of, projects, voters}
+use Rattle.pb_cohesion.specs.declared.ViolationFailure.{ViolationFailure}
+use Rattle.pb_cohesion.specs.declared.ViolationFailure.TheVariants.{V1, V2, V3, V4}
+use Rattle.pb_cohesion.specs.declared.ViolationVerdict.{ViolationVerdict}
+use Rattle.pb_cohesion.specs.declared.ViolationVerdict.TheVariants as violation_verdict
+use Rattle.pb_price.specs.declared.Failure.{Failure}
+use Rattle.pb_price.specs.declared.Failure.TheVariants as failure
+use Rattle.pb_price.specs.declared.Verdict.{Verdict}
+use Rattle.pb_price.specs.declared.Verdict.TheVariants as verdict
+use Rattle.pb_records.specs.Records.{Text}
+
+-- how many projects are funded, where the election says which
+abbrev pub number_of_funded : Instance → Option ℕ
+number_of_funded e = option_map (count_by (λ mark. mark)) e.selected
+
+abbrev pub outcome_words : Option ℕ → Text
+outcome_words None = codes "no outcome"
+outcome_words (Some count) = decimal count ++ codes " funded"
+
+-- the line on an election that was read
+abbrev pub read_line : Instance → Text
+read_line e = codes "read " ++ decimal (voters e) ++ codes " voters " ++ decimal (projects e) ++ codes " projects "
+    ++ outcome_words (number_of_funded e)
+
+-- the notes on an election, in their order: a declared count is not the counted one, and some fields of the column
+-- `selected` are neither 0 nor 1
+abbrev pub count_words : Text → ℕ → ℕ → Text
+count_words key said counted = codes "note: " ++ key ++ codes " says " ++ decimal said ++ codes ", counted "
+    ++ decimal counted
+
+abbrev pub count_note : Text → Option ℕ → ℕ → List Text
+count_note key None counted = []
+count_note key (Some said) counted = if said == counted then [] else count_words key said counted ∷ []
+
+abbrev pub selected_words : ℕ → Text
+selected_words k = codes "note: selected is neither 0 nor 1 in " ++ decimal k ++ codes " projects"
+
+abbrev pub selected_note : ℕ → List Text
+selected_note k = if k == 0 then [] else selected_words k ∷ []
+
+abbrev pub notes : Instance → List Text
+notes e =
+    count_note (codes "num_projects") e.declared_projects (projects e)
+    ++ count_note (codes "num_votes") e.declared_votes (voters e)
+    ++ selected_note e.other_selected
+
+-- a condition or a test that fails: its name, and the voter and the project at which it does
+pub record Failed : Type 0 where
+  pub name : Text
+  pub voter : Option ℕ
+  pub project : Option ℕ
+
+abbrev pub voter_words : Option ℕ → Text
+voter_words None = []
+voter_words (Some i) = codes " voter " ++ decimal i
+
+abbrev pub project_words : Instance → Option ℕ → Text
+project_words e None = []
+project_words e (Some j) = codes " project " ++ id_of e j
+
+abbrev pub failed_line : Instance → Failed → Text
+failed_line e f = codes "failed " ++ f.name ++ voter_words f.voter ++ project_words e f.project
+
+-- the line of a verdict on prices, in the stable form or the plain one
+abbrev pub price_failed : Failure → Failed
+price_failed failure.Feasible = record { name = codes "Feasible"; voter = None; project = None }
+price_failed (failure.Exhaustive j) = record { name = codes "Exhaustive"; voter = None; project = Some j }
+price_failed failure.Cover = record { name = codes "Cover"; voter = None; project = None }
+price_failed (failure.C1 i j) = record { name = codes "C1"; voter = Some i; project = Some j }
+price_failed (failure.C2 i) = record { name = codes "C2"; voter = Some i; project = None }
+price_failed (failure.C3 j) = record { name = codes "C3"; voter = None; project = Some j }
+price_failed (failure.C4 j) = record { name = codes "C4"; voter = None; project = Some j }
+price_failed (failure.C5 j) = record { name = codes "C5"; voter = None; project = Some j }
+price_failed (failure.S5 j) = record { name = codes "S5"; voter = None; project = Some j }
+
+abbrev pub price_line : Bool → Instance → Verdict → Text
+price_line stable e verdict.Supported = if stable then codes "supported stable" else codes "supported priceable"
+price_line stable e (verdict.Failed f) = failed_line e (price_failed f)
+
+-- the line of a verdict on a violation
+abbrev pub violation_failed : ViolationFailure → Failed
+violation_failed V1 = record { name = codes "V1"; voter = None; project = None }
+violation_failed (V2 i j) = record { name = codes "V2"; voter = Some i; project = Some j }
+violation_failed V3 = record { name = codes "V3"; voter = None; project = None }
+violation_failed (V4 i) = record { name = codes "V4"; voter = Some i; project = None }
+
+abbrev pub violation_line : Instance → ViolationVerdict → Text
+violation_line e violation_verdict.Violation = codes "violation"
+violation_line e (violation_verdict.Failed f) = failed_line e (violation_failed f)
+
+-- why an input was refused: its name, the number and the name of the fault, and its record
+pub record Refusal : Type 0 where
+  pub input : Text
+  pub number : ℕ
+  pub name : Text
+  pub place : ℕ
+
+-- the line of a refusal
+abbrev pub refusal_line : Refusal → Text
+refusal_line r = codes "refused " ++ r.input ++ codes " " ++ decimal r.number ++ codes " " ++ r.name ++ codes " record "
+    ++ decimal r.place

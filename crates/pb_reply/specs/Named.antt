@@ -1,0 +1,19 @@
+-- The projects that verdicts name are those of the election.
+use Rattle.std.specs.Prelude.{IfSome}
+use Rattle.pb_election.specs.Instance.{Instance, IsProject}
+use Rattle.pb_cohesion.specs.declared.ViolationVerdict.{ViolationVerdict}
+use Rattle.pb_cohesion.specs.declared.ViolationVerdict.TheVariants as violation_verdict
+use Rattle.pb_price.specs.declared.Verdict.{Verdict}
+use Rattle.pb_price.specs.declared.Verdict.TheVariants as verdict
+use Rattle.pb_reply.specs.Lines.{Failed, price_failed, violation_failed}
+
+abbrev pub NamesProject : Instance → Failed → Type 0
+NamesProject e f = IfSome f.project (IsProject e)
+
+abbrev pub PricesNameProject : Instance → Verdict → Type 0
+PricesNameProject e verdict.Supported = Unit {0}
+PricesNameProject e (verdict.Failed f) = NamesProject e (price_failed f)
+
+abbrev pub ViolationNamesProject : Instance → ViolationVerdict → Type 0
+ViolationNamesProject e violation_verdict.Violation = Unit {0}
+ViolationNamesProject e (violation_verdict.Failed f) = NamesProject e (violation_failed f)

@@ -1,0 +1,127 @@
+//! Replies, the texts that are made of them, and how a text is written.
+ghost use Rattle.std.specs.Prelude.{◌≡◌, ◌∷◌, ◌++◌, [], IfOk, OnOk, Some, map, string_bytes};
+ghost use Rattle.pb_reply.specs.Replies.{answer_of, text_of};
+ghost use Rattle.pb_reply.specs.Inside.Taking as spec;
+ghost use Rattle.pb_reply.specs.Writing.{Writes};
+
+use crate::input::Stop;
+use crate::lines::{push_line, refusal_line};
+use crate::{Fault, Status};
+use pb_election::{Sink, put};
+use std::alloc::{AllocError, Global};
+use std::marker::Model;
+
+/// What was found: some lines, without their ends, and how it ends.
+#[derive(Drop)]
+pub struct Reply {
+    /// The lines, each without its end.
+    pub lines: Vec<String>,
+    /// How it ends.
+    pub status: Status,
+}
+
+impl Model for Reply {
+    ghost use Rattle.std.specs.Prelude.{map, string_bytes};
+    ghost use Rattle.pb_reply.specs.Replies.{Reply};
+
+    ghost Value = { Reply };
+
+    ghost view = { λ r. record { lines = map string_bytes r.lines.items; status = r.status } };
+}
+
+impl Reply {
+    /// The text of the reply: each line with its end, LF.
+    pub fn answer(&self, alloc: Global) -> Result<Answer, AllocError>
+        ensures { IfOk result (λ answer. answer ≡ answer_of self.now) }
+    {
+        let mut text = String::new(alloc);
+        push_lines(&mut text, &self.lines)?;
+        Ok(Answer {
+            text: text.into_bytes(),
+            status: self.status,
+        })
+    }
+}
+
+/// Adds lines to a text, each with its end.
+pub(crate) fn push_lines(text: &mut String, lines: &[String]) -> Result<(), AllocError>
+    ensures { OnOk result (string_bytes text.new ≡ string_bytes text.old ++ text_of (map string_bytes lines.now)) }
+{
+    for line in lines {
+        push_line(text, line)?;
+    }
+    Ok(())
+}
+
+/// A whole text, and how it ends.
+#[derive(Drop)]
+pub struct Answer {
+    /// The text.
+    pub text: Vec<u8>,
+    /// How it ends.
+    pub status: Status,
+}
+
+impl Model for Answer {
+    ghost use Rattle.pb_reply.specs.Replies.{Answer};
+
+    ghost Value = { Answer };
+
+    ghost view = { λ a. record { text = a.text.items; status = a.status } };
+}
+
+impl Answer {
+    /// Writes the text, the whole of which is there, and flushes.
+    pub fn write<W: Sink>(&self, out: &mut W) -> Result<Status, Fault>
+        ensures { Writes W.Sink (λ answer. answer ≡ self.now) result out.old out.new }
+    {
+        put(&self.text, out)?;
+        Ok(self.status)
+    }
+}
+
+/// Writes the text of a reply.
+pub fn write_reply<W: Sink>(alloc: Global, reply: &Reply, out: &mut W) -> Result<Status, Fault>
+    ensures { Writes W.Sink (λ answer. answer ≡ answer_of reply.now) result out.old out.new }
+{
+    reply.answer(alloc)?.write(out)
+}
+
+/// The reply that the work on some inputs came to: its own, or the line of the input that was refused.
+pub fn settled(alloc: Global, work: Result<Reply, Stop>) -> Result<Reply, AllocError>
+    ensures { IfOk result (λ reply. spec.settled work ≡ Some reply) }
+{
+    match work {
+        Ok(reply) => Ok(reply),
+        Err(stop) => stopped(alloc, &stop),
+    }
+}
+
+/// The answer that the work came to: its own, or the line of the input that was refused.
+pub fn settled_answer(alloc: Global, work: Result<Answer, Stop>) -> Result<Answer, AllocError>
+    ensures { IfOk result (λ answer. spec.settled_answer work ≡ Some answer) }
+{
+    match work {
+        Ok(answer) => Ok(answer),
+        Err(stop) => stopped(alloc, &stop)?.answer(alloc),
+    }
+}
+
+/// The line of the input that was refused.
+pub fn stopped(alloc: Global, stop: &Stop) -> Result<Reply, AllocError>
+    ensures { IfOk result (λ reply. spec.stopped stop.now ≡ Some reply) }
+{
+    let Stop::Refused { input, fault } = stop else {
+        return Err(AllocError {});
+    };
+    one_line(alloc, refusal_line(alloc, *input, fault)?, Status::Refused)
+}
+
+/// A reply of one line.
+pub fn one_line(alloc: Global, line: String, status: Status) -> Result<Reply, AllocError>
+    ensures { IfOk result (λ reply. reply ≡ record { lines = string_bytes line ∷ []; status = status }) }
+{
+    let mut lines = Vec::new(alloc);
+    lines.push(line)?;
+    Ok(Reply { lines, status })
+}

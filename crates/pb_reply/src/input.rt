@@ -1,0 +1,125 @@
+//! Inputs: their names, and why the work on them stops.
+ghost use Rattle.std.specs.Prelude.{◌≡◌};
+ghost use Rattle.pb_reply.specs.Inputs.{name_of, refusal_of};
+ghost use Rattle.pb_reply.specs.Inside.Taking.{wants_memory};
+ghost use Rattle.pb_reply.specs.Inside.Taking as spec;
+ghost use Rattle.pb_reply.specs.declared.input.Stop.TheVariants.{Memory};
+
+use pb_certificate::{CertFault, CertRefusal};
+use pb_election::{ElectionFault, Refusal};
+use std::alloc::AllocError;
+
+/// The inputs, by the names that refusals are printed with.
+#[derive(Clone, Copy)]
+pub enum InputName {
+    Election,
+    Outcome,
+    Certificate,
+    /// The price certificate, where a violation certificate stands beside it.
+    Prices,
+    /// The violation certificate, where a price certificate stands beside it.
+    Violation,
+}
+
+/// Why an input is refused.
+#[derive(Clone, Copy)]
+pub enum InputFault {
+    /// The reader failed.
+    Unread,
+    /// It has more than 2^28 bytes.
+    TooLong,
+    /// It is no election, or an election without an outcome of its own.
+    Election(Refusal),
+    /// It is no certificate, or no outcome file, for the election.
+    Certificate(CertRefusal),
+}
+
+/// Why the work on the inputs ended early.
+#[derive(Clone, Copy)]
+pub enum Stop {
+    /// This input is refused, for this fault.
+    Refused { input: InputName, fault: InputFault },
+    /// Memory was wanted.
+    Memory,
+}
+
+impl From<AllocError> for Stop {
+    ghost from_gives = { λ _ e. e ≡ Memory };
+
+    fn from(_error: AllocError) -> Stop {
+        Stop::Memory
+    }
+}
+
+impl InputName {
+    /// The name that refusals are printed with.
+    pub fn name(&self) -> &'static str
+        ensures { result.now ≡ name_of self.now }
+    {
+        match self {
+            InputName::Election => "election",
+            InputName::Outcome => "outcome",
+            InputName::Certificate => "certificate",
+            InputName::Prices => "prices",
+            InputName::Violation => "violation",
+        }
+    }
+}
+
+impl InputFault {
+    /// The number that the fault is printed with, whichever the input is.
+    pub fn number(&self) -> u32
+        ensures { result ≡ (refusal_of InputName.Election self.now).number }
+    {
+        match self {
+            InputFault::Unread => 18,
+            InputFault::TooLong => 19,
+            InputFault::Election(refusal) => refusal.number(),
+            InputFault::Certificate(refusal) => refusal.number(),
+        }
+    }
+
+    /// The name that the fault is printed with, whichever the input is.
+    pub fn name(&self) -> &'static str
+        ensures { result.now ≡ (refusal_of InputName.Election self.now).name }
+    {
+        match self {
+            InputFault::Unread => "Read",
+            InputFault::TooLong => "TooLong",
+            InputFault::Election(refusal) => refusal.name(),
+            InputFault::Certificate(refusal) => refusal.name(),
+        }
+    }
+
+    /// The record at which the fault stands, from 1, or 0 where it stands at none.
+    pub fn place(&self) -> u64
+        ensures { result ≡ (refusal_of InputName.Election self.now).place }
+    {
+        match self {
+            InputFault::Unread | InputFault::TooLong => 0,
+            InputFault::Election(refusal) => refusal.place,
+            InputFault::Certificate(refusal) => refusal.place,
+        }
+    }
+
+    /// Whether the fault is not one of the input: memory was wanted.
+    fn wants_memory(&self) -> bool
+        ensures { result ≡ wants_memory self.now }
+    {
+        match self {
+            InputFault::Unread | InputFault::TooLong => false,
+            InputFault::Election(refusal) => matches!(refusal.fault, ElectionFault::Memory),
+            InputFault::Certificate(refusal) => matches!(refusal.fault, CertFault::Memory),
+        }
+    }
+}
+
+/// Why the work stops at an input that gave no value.
+pub fn stop_at(input: InputName, fault: InputFault) -> Stop
+    ensures { result ≡ spec.stop_at input fault }
+{
+    if fault.wants_memory() {
+        return Stop::Memory;
+    }
+    Stop::Refused { input, fault }
+}

@@ -1,0 +1,20 @@
+//! Replies: what the inputs of a command state, or why one is refused; the lines on it; and how an answer is written.
+#![tactic(auto)]
+
+mod answer;
+mod input;
+mod lines;
+mod loaded;
+mod report;
+mod status;
+mod taking;
+mod verdict_lines;
+
+pub use answer::{Answer, Reply, one_line, settled, settled_answer, stopped, write_reply};
+pub use input::{InputFault, InputName, Stop, stop_at};
+pub use lines::{push_line, push_notes, push_number, read_line};
+pub use loaded::{File, Loaded, bytes_of, optional_file};
+pub use report::Report;
+pub use status::{Fault, Status};
+pub use taking::{election_of, outcome_of, take_election, take_outcome, violation_of};
+pub use verdict_lines::{price_line, price_status, violation_line, violation_status};

@@ -1,0 +1,158 @@
+//! The lines of verdicts.
+ghost use Rattle.std.specs.Prelude.{◌≡◌, ◌++◌, IfOk, IfSome, OnOk, string_bytes};
+ghost use Rattle.pb_reply.specs.Replies as replies;
+ghost use Rattle.pb_reply.specs.Lines as spec;
+ghost use Rattle.pb_reply.specs.Named.{NamesProject, PricesNameProject, ViolationNamesProject};
+ghost use Rattle.pb_election.specs.Instance.{IsProject};
+
+use crate::Status;
+use crate::lines::push_number;
+use pb_cohesion::{ViolationFailure, ViolationVerdict};
+use pb_election::Election;
+use pb_price::{Failure, Verdict};
+use std::alloc::{AllocError, Global};
+use std::marker::Model;
+
+/// A condition or a test that fails, with the voter and the project at which it does.
+#[derive(Drop)]
+struct FailedAt {
+    name: &'static str,
+    voter: Option<u32>,
+    project: Option<u32>,
+}
+
+impl Model for FailedAt {
+    ghost use Rattle.pb_reply.specs.Lines.{Failed};
+
+    ghost Value = { Failed };
+
+    ghost view = { λ f. record { name = f.name.now; voter = f.voter; project = f.project } };
+}
+
+fn failed_at(name: &'static str, voter: Option<u32>, project: Option<u32>) -> FailedAt
+    ensures { result ≡ record { name = name.entry.now; voter = voter; project = project } }
+{
+    FailedAt {
+        name,
+        voter,
+        project,
+    }
+}
+
+fn price_failed(failure: Failure) -> FailedAt
+    ensures { result ≡ spec.price_failed failure }
+{
+    match failure {
+        Failure::Feasible => failed_at("Feasible", None, None),
+        Failure::Exhaustive(j) => failed_at("Exhaustive", None, Some(j)),
+        Failure::Cover => failed_at("Cover", None, None),
+        Failure::C1(i, j) => failed_at("C1", Some(i), Some(j)),
+        Failure::C2(i) => failed_at("C2", Some(i), None),
+        Failure::C3(j) => failed_at("C3", None, Some(j)),
+        Failure::C4(j) => failed_at("C4", None, Some(j)),
+        Failure::C5(j) => failed_at("C5", None, Some(j)),
+        Failure::S5(j) => failed_at("S5", None, Some(j)),
+    }
+}
+
+fn violation_failed(failure: ViolationFailure) -> FailedAt
+    ensures { result ≡ spec.violation_failed failure }
+{
+    match failure {
+        ViolationFailure::V1 => failed_at("V1", None, None),
+        ViolationFailure::V2(i, j) => failed_at("V2", Some(i), Some(j)),
+        ViolationFailure::V3 => failed_at("V3", None, None),
+        ViolationFailure::V4(i) => failed_at("V4", Some(i), None),
+    }
+}
+
+/// The line of a verdict on prices, in the stable form or the plain one.
+pub fn price_line(
+    alloc: Global,
+    election: &Election,
+    verdict: Verdict,
+    stable: bool,
+) -> Result<String, AllocError>
+    requires { PricesNameProject election.now verdict }
+    ensures { IfOk result (λ line. string_bytes line ≡ spec.price_line stable election.now verdict) }
+{
+    match verdict {
+        Verdict::Supported if stable => String::from_str(alloc, "supported stable"),
+        Verdict::Supported => String::from_str(alloc, "supported priceable"),
+        Verdict::Failed(failure) => failed_line(alloc, election, &price_failed(failure)),
+    }
+}
+
+pub fn price_status(verdict: Verdict) -> Status
+    ensures { result ≡ replies.price_status verdict }
+{
+    match verdict {
+        Verdict::Supported => Status::Yes,
+        Verdict::Failed(_) => Status::No,
+    }
+}
+
+/// The line of a verdict on a violation certificate.
+pub fn violation_line(
+    alloc: Global,
+    election: &Election,
+    verdict: ViolationVerdict,
+) -> Result<String, AllocError>
+    requires { ViolationNamesProject election.now verdict }
+    ensures { IfOk result (λ line. string_bytes line ≡ spec.violation_line election.now verdict) }
+{
+    match verdict {
+        ViolationVerdict::Violation => String::from_str(alloc, "violation"),
+        ViolationVerdict::Failed(failure) => failed_line(
+            alloc,
+            election,
+            &violation_failed(failure),
+        ),
+    }
+}
+
+pub fn violation_status(verdict: ViolationVerdict) -> Status
+    ensures { result ≡ replies.violation_status verdict }
+{
+    match verdict {
+        ViolationVerdict::Violation => Status::Yes,
+        ViolationVerdict::Failed(_) => Status::No,
+    }
+}
+
+/// The line of a condition or a test that fails.
+fn failed_line(alloc: Global, election: &Election, failed: &FailedAt) -> Result<String, AllocError>
+    requires { NamesProject election.now failed.now }
+    ensures { IfOk result (λ line. string_bytes line ≡ spec.failed_line election.now failed.now) }
+{
+    let mut line = String::from_str(alloc, "failed ")?;
+    line.push_str(failed.name)?;
+    push_voter(&mut line, failed.voter)?;
+    push_project(&mut line, election, failed.project)?;
+    Ok(line)
+}
+
+fn push_voter(line: &mut String, voter: Option<u32>) -> Result<(), AllocError>
+    ensures { OnOk result (string_bytes line.new ≡ string_bytes line.old ++ spec.voter_words voter) }
+{
+    let Some(i) = voter else {
+        return Ok(());
+    };
+    line.push_str(" voter ")?;
+    push_number(line, u64::from(i))
+}
+
+fn push_project(
+    line: &mut String,
+    election: &Election,
+    project: Option<u32>,
+) -> Result<(), AllocError>
+    requires { IfSome project (IsProject election.now) }
+    ensures { OnOk result (string_bytes line.new ≡ string_bytes line.old ++ spec.project_words election.now project) }
+{
+    let Some(j) = project else {
+        return Ok(());
+    };
+    line.push_str(" project ")?;
+    line.push_str(election.id(j))
+}
