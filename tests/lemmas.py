@@ -1,77 +1,165 @@
 #!/usr/bin/env python3
-"""Finds lemmas and definitions of proofs/ and specs/ that nothing uses.
+"""Finds definitions and lemmas of proofs/ and specs/ that nothing uses, and imports that their file doesn't use.
 
     tests/lemmas.py
 
-It looks at declarations at the margin. A name counts as used where another declaration of its file has it, where a file
-of proofs/ or specs/ imports it or has it behind a dot, or where a source has it. So one that shares its name with one in
-use may be missed. The last line is 'N passed, M failed': one that nothing uses has failed.
+A name means what its file declares, or else what its file imports under it. So one of two lemmas that share a name is
+found. Used is what a source names in its clauses and tactics; what the prover finds by its name, the answers to goals
+and the invariants; what is there to be computed, in Examples.antt; and what these use in turn. The imports of a source
+that are looked at are those of `ghost use`.
+
+What it can't see: a variable counts as a use of what its file declares or imports under the same name. Fields,
+constructors and what a `where` declares may be unused, and so may one of two imports of the same name in a source. An
+import that is needed, though nothing names it, would be found.
+
+The last line is 'N passed, M failed': a definition or an import that nothing uses has failed.
 """
 import pathlib
 import re
 import sys
 
 ROOT = pathlib.Path(__file__).resolve().parent.parent
+FILES = ("crates/*/proofs/**/*.antt", "crates/*/specs/**/*.antt", "crates/*/src/**/*.rt")
+NAME = r"(?:\[\]|[^\s(){}\[\],;.]+)"
+PATH = re.compile(rf"\.?{NAME}(?:\.{NAME})*")
 # a declaration at the margin: its name, and the words before it
 DECLARED = re.compile(r"(?:(?:pub|abbrev|unfoldable|opaque|data|record|ruleset) )*([^\s(){}:=,;]+) (?=[:=({])")
-WORD = re.compile(r"[^\s(){}\[\],;.]+")
-KEYWORDS = {"use", "pub", "mod", "unfolding", "tactic", "where"}
-# what these declare is found by its name, or is there to be computed
-LEFT_OUT = {"Answers.antt", "Invariants.antt", "Examples.antt"}
+IMPORT = re.compile(r"(?m)^ *(pub |ghost )?use ([^\s{};]+?)(?:\.\{([^}]*)\})?(?: as ([^\s;]+))?;?$")
+TACTIC = re.compile(r"#!?\[tactic[^\]]*\]")
+CLAUSE = re.compile(r"\b(?:requires|ensures|ghost)\b[^{};]*\{")
+# a section, whose declarations stand two further in
+SECTION = re.compile(r"(?m)^(module _[^\n]*(?:\n    [^\n]*)*? where\n)((?:(?:  [^\n]*)?\n)+)")
+# where a name is bound or is a label, and so isn't used
+BOUND = re.compile(
+    rf"[({{]\s*(?:{NAME}\s+)+:\s|[{{;]\s*{NAME}\s+=\s|\b(?:let|pub) {NAME} [:=]\s|λ (?:{NAME} )*{NAME}\. "
+)
+TEXTS_AND_COMMENTS = {
+    ".antt": re.compile(r'(?m)"(?:\\.|[^"\\\n])*"|--.*$'),
+    ".rt": re.compile(r"""(?m)"(?:\\.|[^"\\])*"|'(?:\\.|[^'\\])'|//.*$"""),
+}
 
 
-def code_of(text):
-    """The text without its comments."""
-    return re.sub(r"(?m)--.*$", "", text)
+def words_of(text):
+    """The names and paths of a text, and the parts of its operators."""
+    words = {word for word in PATH.findall(BOUND.sub(" ( ", text)) if word[0] != "."}
+    return words.union(*(word.split("◌") for word in words)) - {""}
 
 
-def blocks_of(text):
-    """Each declaration at the margin by its name, with the words of it and of its equations; all else under no name."""
-    blocks, name = {}, None
-    for line in text.split("\n"):
-        if not line.strip() or line.startswith(("use ", "pub use ", "mod ", "pub mod ")):
-            continue
-        if not line.startswith(" "):
-            found = DECLARED.match(line)
-            first = WORD.match(line)
-            if found and found[1] not in KEYWORDS:
-                name = found[1]
-            elif first and first[0] in blocks:
-                name = first[0]
-            else:
-                name = ""
-        if name is not None:
-            blocks.setdefault(name, []).extend(WORD.findall(line))
-    return blocks
+def clauses_of(text):
+    """What a source says to the prover alone: its clauses, ghost items and tactics."""
+    parts = TACTIC.findall(text)
+    for found in CLAUSE.finditer(text):
+        depth, end = 1, found.end()
+        while depth and end < len(text):
+            depth += {"{": 1, "}": -1}.get(text[end], 0)
+            end += 1
+        parts.append(text[found.end() - 1 : end])
+    return "\n".join(parts)
+
+
+class File:
+    """What a file declares, each with its words, and what it imports."""
+
+    def __init__(self, path):
+        self.path = path.relative_to(ROOT)
+        text = TEXTS_AND_COMMENTS[path.suffix].sub(lambda m: '""' if m[0][0] == '"' else "", path.read_text())
+        crate = f"Rattle.{self.path.parts[1]}"
+        self.module = ".".join([crate, *self.path.with_suffix("").parts[2:]]).removesuffix(".Lib")
+        # what an imported name means; that of a module ends with a dot
+        self.imports = {}
+        # the text of each declaration, and under no name the rest
+        self.blocks = {"": ""}
+        # the type of each constructor
+        self.types = {}
+        for mark, module, items, other in IMPORT.findall(text):
+            if mark == "ghost " or path.suffix == ".antt":
+                self.read_import(module, items, other)
+                self.blocks[""] += items if mark == "pub " else ""
+        text = IMPORT.sub("", text)
+        if path.suffix == ".rt":
+            self.blocks[""] = clauses_of(text).replace("::", ".").replace("crate.", crate + ".")
+        else:
+            self.read_declarations(SECTION.sub(lambda m: m[1] + re.sub(r"(?m)^  ", "", m[2]), text))
+        self.words = {name: words_of(block) for name, block in self.blocks.items()}
+
+    def read_import(self, module, items, other):
+        for item in filter(None, (x.strip() for x in items.split(","))):
+            name, _, renamed = item.partition(" as ")
+            self.imports[renamed or name] = f"{module}.{name}"
+        if not items:
+            self.imports[(other or module.split(".")[-1]) + "."] = module
+
+    def read_declarations(self, text):
+        name, is_data = "", False
+        for line in text.split("\n"):
+            declared, first = DECLARED.match(line), line.split(" ")[0]
+            if first and first != "unfolding":
+                name = declared[1] if declared else first if first in self.blocks else ""
+                is_data = re.match("(pub )?data ", line)
+            elif is_data and re.match(rf"  {NAME} :", line):
+                self.types[line.split()[0]] = name
+            self.blocks[name] = self.blocks.get(name, "") + line + "\n"
+
+    def is_used_unnamed(self, name):
+        is_proof = self.path.parts[2] == "proofs" and self.path.name in ("Answers.antt", "Invariants.antt")
+        is_answer = is_proof and re.search(r":\s+goal\.", self.blocks[name])
+        return not name or is_answer or self.path.name == "Examples.antt"
+
+
+def meant_by(path, files):
+    """The file and the name in it that a path means, where it's one of ours."""
+    parts = path.split(".")
+    for n in range(len(parts) - 1, 0, -1):
+        file = files.get(".".join(parts[:n]))
+        if file:
+            name = file.types.get(parts[n], parts[n])
+            if name in file.blocks:
+                return {(file, name)}
+            return meant_by(file.imports[name], files) if name in file.imports else set()
+    return set()
+
+
+def uses_of(file, name, files):
+    """What a declaration uses, and the imports by which it does."""
+    words = file.words[name]
+    # operators, of which the parts stand there
+    known = [*file.blocks, *file.imports]
+    words = words.union(x for x in known if "◌" in x and words.issuperset(filter(None, x.split("◌"))))
+    uses, imports = set(), set()
+    for word in words:
+        head, _, rest = word.partition(".")
+        own = file.types.get(head, head)
+        if rest and head + "." in file.imports:
+            imports.add(head + ".")
+            uses |= meant_by(f"{file.imports[head + '.']}.{rest}", files)
+        elif head == "Rattle":
+            uses |= meant_by(word, files)
+        elif own in file.blocks:
+            uses.add((file, own))
+        elif head in file.imports:
+            imports.add(head)
+    return uses.union(*(meant_by(file.imports[x], files) for x in imports)), imports
 
 
 def main():
-    texts = {}
-    for pattern in ("crates/*/proofs/**/*.antt", "crates/*/specs/**/*.antt", "crates/*/src/**/*.rt"):
-        for path in ROOT.glob(pattern):
-            texts[path] = code_of(path.read_text())
-    imported, dotted = set(), set()
-    for path, text in texts.items():
-        for items in re.findall(r"use [^\n{]*\{([^}]*)\}", text):
-            imported.update(x.split(" as ")[0].strip() for x in items.split(","))
-        dotted.update(re.findall(r"\.([^\s(){}\[\],;.]+)", text))
-        if path.suffix == ".rt":
-            imported.update(re.findall(r"[^\s(){}\[\],;.:]+", text))
-    passed, unused = 0, []
-    for path, text in sorted(texts.items()):
-        if path.suffix == ".rt" or path.name in LEFT_OUT:
-            continue
-        blocks = blocks_of(text)
-        for name in filter(None, blocks):
-            elsewhere = any(name in words for other, words in blocks.items() if other != name)
-            if elsewhere or name in imported or name in dotted:
-                passed += 1
-            else:
-                unused.append(f"{path.relative_to(ROOT)}: nothing uses {name}")
-    for line in unused:
+    files = {file.module: file for pattern in FILES for file in map(File, sorted(ROOT.glob(pattern)))}
+    declared = [(file, name) for file in files.values() for name in file.blocks]
+    uses = {it: uses_of(*it, files) for it in declared}
+    waiting = [(file, name) for file, name in declared if file.is_used_unnamed(name)]
+    used = set(waiting)
+    while waiting:
+        more = uses[waiting.pop()][0] - used
+        used |= more
+        waiting += more
+    failed = [f"{file.path}: nothing uses {name}" for file, name in declared if (file, name) not in used]
+    for file in files.values():
+        idle = set(file.imports).difference(*(uses[file, name][1] for name in file.blocks))
+        failed += [f"{file.path}: it imports {x.removesuffix('.')}, and doesn't use it" for x in sorted(idle)]
+    for line in failed:
         print(line)
-    print(f"{passed} passed, {len(unused)} failed")
-    return 1 if unused else 0
+    tried = sum(1 for _, name in declared if name) + sum(len(file.imports) for file in files.values())
+    print(f"{tried - len(failed)} passed, {len(failed)} failed")
+    return 1 if failed else 0
 
 
 if __name__ == "__main__":

@@ -1,7 +1,6 @@
 -- What an input states is one thing.
 use Rattle.std.proofs.Common.{◌≡◌, ◌∙◌, ℕ, List, Option, Some, None, ap, inl, inr, refl, sym}
 use Rattle.std.specs.Prelude.{◌⊎◌, Ok, Err}
-use Rattle.pb_election.specs.Faults.{Refuses}
 use Rattle.pb_election.specs.Faults as elections
 use Rattle.pb_election.specs.Instance.{Instance}
 use Rattle.pb_election.specs.Text.{IsTextOf}

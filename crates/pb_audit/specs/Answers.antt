@@ -1,5 +1,5 @@
 -- What each command answers: lines or a text, and how it ends, from what its inputs state.
-use Rattle.std.specs.Prelude.{◌≡◌, Bool, ℕ, List, [], ◌∷◌, ◌++◌, IfOk, Option, Ok, Err}
+use Rattle.std.specs.Prelude.{◌≡◌, Bool, ℕ, List, [], ◌∷◌, IfOk, Option, Ok, Err}
 use Rattle.std.specs.Option.{option_map}
 use Rattle.pb_election.specs.Instance.{Instance}
 use Rattle.pb_records.specs.Loading.{Delivery}

@@ -1,5 +1,5 @@
 //! Auditing an election, an outcome and a certificate, whatever kind of certificate it is.
-ghost use Rattle.std.specs.Prelude.{◌≡◌, Bool, IfOk, IfSome, List, Ok, option_copied, option_map};
+ghost use Rattle.std.specs.Prelude.{Bool, IfOk, IfSome, List, Ok, option_copied, option_map};
 ghost use Rattle.pb_audit.specs.Answers.{AnswersAudit};
 ghost use Rattle.pb_reply.specs.Replies.{Reply};
 ghost use Rattle.pb_reply.specs.Inputs.{Stated, StatesElection, in_memory};

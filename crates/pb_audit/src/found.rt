@@ -1,5 +1,5 @@
 //! What is found of the files of one name.
-ghost use Rattle.std.specs.Prelude.{◌≡◌, IfOk, Ok, None, option_map};
+ghost use Rattle.std.specs.Prelude.{IfOk, Ok, None, option_map};
 ghost use Rattle.pb_audit.specs.Answers.{AnswersAudit};
 ghost use Rattle.pb_audit.specs.Inside.Folders.{files_of, found_as};
 ghost use Rattle.pb_reply.specs.Inputs.{StatesElection};

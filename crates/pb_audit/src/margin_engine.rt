@@ -1,5 +1,5 @@
 //! The margins of a price certificate.
-ghost use Rattle.std.specs.Prelude.{◌≡◌, IfOk, IfSome, option_copied, option_map};
+ghost use Rattle.std.specs.Prelude.{IfOk, IfSome, option_copied, option_map};
 ghost use Rattle.pb_reply.specs.Inside.Loaded.{lent};
 ghost use Rattle.pb_audit.specs.Margins.{AnswersMarginFiles, AnswersMargins, ReadsMargins};
 ghost use Rattle.pb_audit.specs.Readers.{audit_readings};

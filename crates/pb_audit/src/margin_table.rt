@@ -4,7 +4,7 @@ ghost use Rattle.std.specs.Fmt.{signed_decimal};
 ghost use Rattle.std.specs.List.{list_any};
 ghost use Rattle.pb_election.specs.Instance.{projects};
 ghost use Rattle.pb_election.specs.Rows.{is_control};
-ghost use Rattle.pb_election.specs.Text.{IsElection, IsId};
+ghost use Rattle.pb_election.specs.Text.{IsId};
 ghost use Rattle.pb_certificate.specs.Canon.{line, lines};
 ghost use Rattle.pb_certificate.specs.Prices.{Prices};
 ghost use Rattle.pb_certificate.specs.Inside.RecordWriter.{IsOpen, held};

@@ -3,7 +3,7 @@ use Rattle.std.proofs.Common.{◌≡◌, ◌≤◌, ◌<◌, ◌+◌, ◌-◌, �
 use Rattle.std.specs.Prelude.{◌==◌, map, nat_lt}
 use Rattle.std.specs.List.{list_any, range_with_len}
 use Rattle.std.specs.Vec.{with_item}
-use Rattle.std.proofs.lemmas.Bool.{eq-eqb, le-leb, le-ltb, lt-leb, lt-ltb, ne_eqb}
+use Rattle.std.proofs.lemmas.Bool.{eq-eqb, le-leb, le-ltb, lt-leb, ne_eqb}
 use Rattle.std.proofs.lemmas.List.FromFn.{get_or-map-range_with_len, length-map-range_with_len}
 use Rattle.std.proofs.Math.ListN.{replicate, set}
 use Rattle.pb_certificate.specs.PriceText.{Payment, same_pair}
@@ -56,11 +56,6 @@ any-stood t qs q x h d =
     let same : t.last_voter ≡ last_voter qs = h.last_voter_is in
     sym (stood qs q d.low_voter h.in_order (omega (arith, d.not_lower)))
     ∙ ap (λ (n : ℕ). n == q.voter) (sym (payer-at t qs q.project x h d.low_project d.high_project d.payer))
-
-pub lower : (t : PriorRows) (qs : List Payment) (q : Payment) → Remembers t qs → q.voter < t.last_voter
-    → payment_fault qs q ≡ Some fault.OutOfOrder
-lower t qs q h l = let same : t.last_voter ≡ last_voter qs = h.last_voter_is in
-    rw (lt-ltb q.voter (last_voter qs) (omega arith)) refl
 
 pub repeated : (t : PriorRows) (qs : List Payment) (q : Payment) (x : ℕ) → Remembers t qs → Tested t q x → x ≡ q.voter
     → payment_fault qs q ≡ Some fault.Repeated

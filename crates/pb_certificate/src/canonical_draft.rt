@@ -15,8 +15,8 @@ pub struct CanonicalDraft<'a> {
 }
 
 impl<'a> CanonicalDraft<'a> {
-    ghost use Rattle.std.specs.Prelude.{◌≡◌, [], IfOk, length};
-    ghost use Rattle.pb_election.specs.Instance.{Instance, projects, voters};
+    ghost use Rattle.std.specs.Prelude.{◌≡◌, [], IfOk};
+    ghost use Rattle.pb_election.specs.Instance.{Instance, projects};
     ghost use Rattle.pb_election.specs.Text.{IsElection};
     ghost use Rattle.pb_certificate.specs.Canon.{Canon};
     ghost use Rattle.pb_certificate.specs.Inside.CanonicalDrafts.{HasWritten};

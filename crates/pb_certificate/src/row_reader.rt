@@ -25,7 +25,7 @@ pub struct RowReader<'a> {
 }
 
 impl<'a> RowReader<'a> {
-    ghost use Rattle.std.specs.Prelude.{◌≡◌, [], ℕ};
+    ghost use Rattle.std.specs.Prelude.{◌≡◌, []};
     ghost use Rattle.pb_certificate.specs.Faults.{Refuses, certificate_records, no_memory, price_form};
     ghost use Rattle.pb_certificate.specs.Rows.{IsInHead, given};
     ghost use Rattle.pb_certificate.specs.Inside.RowReader.{Advances, IsReading, place_of};

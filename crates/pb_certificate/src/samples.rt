@@ -1,11 +1,11 @@
 //! What the definitions give on sample records.
 
-ghost use Rattle.std.specs.Prelude.{true, false, ◌≡◌, ◌∷◌, ◌++◌, [], List, ℕ, Some, None, codes, map};
+ghost use Rattle.std.specs.Prelude.{true, false, ◌≡◌, ◌∷◌, ◌++◌, [], Some, None, codes, map};
 ghost use Rattle.pb_election.specs.Instance.{all_voters};
 ghost use Rattle.pb_certificate.specs.Canon.{Canon, line, line_end};
 ghost use Rattle.pb_certificate.specs.Faults.{outcome_form, price_form, violation_form};
 ghost use Rattle.pb_records.specs.FirstFault.{IsFirstFault};
-ghost use Rattle.pb_certificate.specs.NamedRows.{Named, named_of};
+ghost use Rattle.pb_certificate.specs.NamedRows.{named_of};
 ghost use Rattle.pb_certificate.specs.NamedRows.Named.{Voter};
 ghost use Rattle.pb_certificate.specs.ViolationText.{IsViolationText};
 ghost use Rattle.pb_certificate.specs.OutcomeText.{IsOutcomeText};

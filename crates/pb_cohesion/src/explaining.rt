@@ -1,6 +1,6 @@
 //! What each test of a violation certificate comes to, also of those behind the first that fails.
 
-ghost use Rattle.std.specs.Prelude.{◌≡◌, ◌≤◌, ◌+◌, ◌*◌, if◌then◌else◌, Some, None, filter, is_some, length, max, not};
+ghost use Rattle.std.specs.Prelude.{◌≡◌, ◌≤◌, ◌+◌, if◌then◌else◌, Some, None, filter, is_some, length, max, not};
 ghost use Rattle.std.specs.Option.{option_or};
 ghost use Rattle.pb_election.specs.Instance.{IsVoter, approves, most_voters};
 ghost use Rattle.pb_election.specs.Outcome.{Fits, most_total};

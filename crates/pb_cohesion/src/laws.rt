@@ -1,16 +1,16 @@
 //! Laws on groups of voters, whatever the election, the outcome and the prices are.
 
-ghost use Rattle.std.specs.Prelude.{◌≡◌, ◌≢◌, ◌+◌, ◌*◌, ◌<◌, ◌≤◌, ◌⊎◌, ◌↔◌, ◌≤ℤ◌, ◌<ℤ◌, [], ℕ, pos, All, Any, Bool, Contains, List, filter, length, sum_by, None};
-ghost use Rattle.pb_election.specs.Instance.{Approves, Instance, all_projects, all_voters, supporters};
+ghost use Rattle.std.specs.Prelude.{◌≡◌, ◌≤◌, ◌⊎◌, ◌↔◌, ◌≤ℤ◌, [], ℕ, pos, Bool, Contains, List, filter, sum_by, None};
+ghost use Rattle.pb_election.specs.Instance.{Instance, all_projects, all_voters};
 ghost use Rattle.pb_election.specs.Outcome.{Fits, funds};
 ghost use Rattle.pb_election.specs.Text.{IsElection};
 ghost use Rattle.pb_certificate.specs.Prices.{Prices};
-ghost use Rattle.pb_cohesion.specs.Amounts.{beta, cost, left, paid, spent};
-ghost use Rattle.pb_cohesion.specs.Conditions.{C1, C2, C3, C4, C5, Cover, Exhaustive, S5, culprits_of_C1, culprits_of_C2, culprits_of_C3, culprits_of_C4, culprits_of_C5, culprits_of_Exhaustive, culprits_of_S5, most_of, sum_ℤ};
+ghost use Rattle.pb_cohesion.specs.Amounts.{paid, spent};
+ghost use Rattle.pb_cohesion.specs.Conditions.{C1, C2, C3, C4, C5, Cover, Exhaustive, S5, culprits_of_C1, culprits_of_C2, culprits_of_C3, culprits_of_C4, culprits_of_C5, culprits_of_Exhaustive, culprits_of_S5, most_of};
 ghost use Rattle.pb_cohesion.specs.EveryGroup.{BudgetsAreWithinReach, GroupsGetTheirShare, NoGroupHasMoreLeft, NoViolationByCounting, NothingBlocks, SupportersBlock, SupportersHaveMoreLeft};
 ghost use Rattle.pb_cohesion.specs.FirstV.{FirstV};
-ghost use Rattle.pb_cohesion.specs.Groups.{AreProjects, Blocks, IsGroup, IsGroupWithin, Offer, Violates, gets, reach};
-ghost use Rattle.pb_cohesion.specs.Outcome.{IsUnfunded, total};
+ghost use Rattle.pb_cohesion.specs.Groups.{Offer, Violates};
+ghost use Rattle.pb_cohesion.specs.Outcome.{total};
 ghost use Rattle.pb_cohesion.specs.ViolationFindings.{TellWhichTestsHold, violation_findings};
 
 /// The total of an outcome is what its funded projects cost, where the instance is an election or the outcome fits it.

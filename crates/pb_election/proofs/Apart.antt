@@ -44,9 +44,6 @@ value-at : (key : Key) (P : Field → Type 0) (xs : List Rec) (r : Rec) (zs : Li
 value-at key P xs r zs once s has = rw (stated_value-here key xs r zs once has) at s
 
 module _ (a b c : Part) (ha : IsPart Meta a) (hb : IsPart Projects b) (hc : IsPart Votes c) where
-  whole : List Rec
-  whole = part_records a ++ (part_records b ++ part_records c)
-
   count-a : (s : Section) (x : Part) → IsPart s x → count_by is_marker (part_records x) ≡ 1
   count-a s x h = count-behind s x.marker (behind x) h.marker h.others
 

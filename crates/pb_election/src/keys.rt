@@ -1,6 +1,5 @@
 //! The keys of META.
 ghost use Rattle.std.specs.Prelude.{◌≡◌};
-ghost use Rattle.std.specs.Str.{bytes_eq};
 ghost use Rattle.csv.specs.Records.{fields_of};
 ghost use Rattle.pb_election.specs.Names.{lower};
 ghost use Rattle.pb_election.specs.Inside.SoFar as so_far;

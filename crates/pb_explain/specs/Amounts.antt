@@ -1,5 +1,5 @@
 -- How amounts are written: exactly, and never rounded.
-use Rattle.std.specs.Prelude.{◌==◌, ◌&&◌, ◌/◌, ◌%◌, ◌^◌, if◌then◌else◌, ℕ, ℤ, pos, int_lt, List, [], ◌++◌, codes, decimal, unsigned_abs, zero, suc}
+use Rattle.std.specs.Prelude.{◌==◌, ◌&&◌, ◌/◌, ◌%◌, ◌^◌, if◌then◌else◌, ℕ, ℤ, pos, int_lt, [], ◌++◌, codes, decimal, unsigned_abs, zero, suc}
 use Rattle.std.specs.List.{range_with_len}
 use Rattle.pb_records.specs.Records.{Text}
 use Rattle.pb_cohesion.specs.Amounts.{largest_by}

@@ -1,5 +1,5 @@
 //! Amounts as texts. They are exact: what no decimal of six places states is told as a fraction.
-ghost use Rattle.std.specs.Prelude.{◌≡◌, ◌≤◌, ◌<◌, ◌*◌, ◌/◌, ◌%◌, ◌^◌, ◌++◌, OnOk, decimal, string_bytes};
+ghost use Rattle.std.specs.Prelude.{◌≡◌, ◌≤◌, ◌<◌, ◌^◌, ◌++◌, OnOk, string_bytes};
 ghost use Rattle.pb_explain.specs.Amounts as spec;
 
 use crate::rows::push_number;

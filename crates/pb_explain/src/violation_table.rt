@@ -1,5 +1,5 @@
 //! The table of the tests of a violation.
-ghost use Rattle.std.specs.Prelude.{◌≡◌, ◌≤◌, ◌*◌, ◌^◌, ◌++◌, IfOk, IfSome, OnOk, decimal, map, string_bytes};
+ghost use Rattle.std.specs.Prelude.{◌≡◌, ◌≤◌, ◌^◌, ◌++◌, IfOk, IfSome, OnOk, map, string_bytes};
 ghost use Rattle.pb_election.specs.Instance.{IsProject};
 ghost use Rattle.pb_election.specs.Outcome.{most_total};
 ghost use Rattle.pb_explain.specs.ViolationTable as spec;

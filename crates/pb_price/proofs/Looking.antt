@@ -166,9 +166,6 @@ small-unfunded n c cost remaining s f k r p m h = record {
   s5 = small-noted n _ (compared c cost s.offer) f.s5 (record { bound = k; amount = m.offer }) h.s5;
 }
 
-few : (n m : ℕ) (f : Finding) → n ≤ m → IsSmallFinding n f → IsSmallFinding m f
-few n m f l h = record { count = omega (arith, h.count); shown = h.shown }
-
 -- what is known of the next project
 pub paid-in-range : (s : ProjectSums) → AreInRange s → IsWithin (10 ^ 38) (pos s.paid)
 paid-in-range s h = let n = h.paid in (omega (arith, ints), omega (arith, ints))

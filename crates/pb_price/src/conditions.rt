@@ -1,7 +1,7 @@
 //! The conditions on a price system, read off the sums of its payments: the first that is false, with its first culprit.
 //! Each pass over the projects counts a step for each project that it looks at.
 
-ghost use Rattle.std.specs.Prelude.{◌≡◌, ◌≤◌, ◌+◌, ◌*◌, ◌^◌, ◌&&◌, not, nat_le, Bool, filter, length, slice_get};
+ghost use Rattle.std.specs.Prelude.{◌≡◌, ◌≤◌, ◌+◌, ◌*◌, ◌^◌, ◌&&◌, not, nat_le, filter, length, slice_get};
 ghost use Rattle.pb_election.specs.Instance.{IsProject, all_projects, cost_of, projects};
 ghost use Rattle.pb_election.specs.Outcome as outcomes;
 ghost use Rattle.pb_election.specs.Outcome.{has, most_total};

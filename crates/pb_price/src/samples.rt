@@ -1,6 +1,6 @@
 //! What the definitions give on sample elections and prices.
 
-ghost use Rattle.std.specs.Prelude.{◌≡◌, ◌∷◌, [], List, ℕ, Some, None, false, true};
+ghost use Rattle.std.specs.Prelude.{◌≡◌, ◌∷◌, [], Some, None, false, true};
 ghost use Rattle.pb_certificate.specs.Samples.{sample_election, sample_outcome, sample_prices, sample_prices_with, sample_with_costs, shared_election, shared_prices, split_election, split_outcome, split_prices};
 ghost use Rattle.pb_cohesion.specs.EveryGroup.{NoGroupHasMoreLeft, NothingBlocks, SupportersBlock};
 ghost use Rattle.pb_price.specs.First.{First};

@@ -1,12 +1,10 @@
 //! Where the payments of a tally are taken from: the rows of a certificate, or prices that were read.
 
-ghost use Rattle.std.specs.Prelude.{◌≡◌, ◌≤◌, ◌+◌, ◌⊎◌, [], IfErr, IfOk, length};
-ghost use Rattle.pb_money.specs.Grains.{payment_grains};
+ghost use Rattle.std.specs.Prelude.{◌≡◌, ◌+◌, ◌⊎◌, [], IfErr, IfOk};
 ghost use Rattle.pb_election.specs.Instance.{IsVoter, voters};
 ghost use Rattle.pb_records.specs.FirstFault.{IsFirstFault};
 ghost use Rattle.pb_certificate.specs.Faults.{Refuses, no_memory, price_form};
 ghost use Rattle.pb_certificate.specs.Prices as spec;
-ghost use Rattle.pb_certificate.specs.Prices.{payments_of};
 ghost use Rattle.pb_certificate.specs.Rows.{given};
 ghost use Rattle.pb_price.specs.Inside.Takings.{IsTallied, TakesCertificate, TakesUntil, taken_from};
 ghost use Rattle.pb_price.specs.Inside.Tallies.{Tallied};

@@ -1,9 +1,9 @@
 //! A tally of payments: the sums that the conditions on a price system are read off. Amounts are in grains: a grain is
 //! 1/(10^6 D) of the currency, where D is the denominator.
 
-ghost use Rattle.std.specs.Prelude.{◌≡◌, ◌<◌, ◌≤◌, ◌+◌, ◌-◌, ◌*◌, ◌^◌, ◌&&◌, not, nat_lt, if◌then◌else◌, ℕ, pos, ◌-ℤ◌, IfOk, length, slice_index_or};
+ghost use Rattle.std.specs.Prelude.{◌≡◌, ◌<◌, ◌≤◌, ◌+◌, ◌^◌, ◌&&◌, not, nat_lt, if◌then◌else◌, ℕ, pos, ◌-ℤ◌, IfOk, length, slice_index_or};
 ghost use Rattle.std.specs.Int.{int_max};
-ghost use Rattle.pb_election.specs.Instance.{IsSet, IsProject, IsVoter, voters};
+ghost use Rattle.pb_election.specs.Instance.{IsSet, voters};
 ghost use Rattle.pb_price.specs.Inside.Noted.{first_number};
 ghost use Rattle.pb_price.specs.Inside.Tallies.{AreChanged, AreSmall, CanTakeRow, IsWithin, Taken, Tallied, TakesRow, first_pair, marked_with, most_grains, with_supporter};
 
