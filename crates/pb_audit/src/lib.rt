@@ -39,6 +39,3 @@ pub use report::Report;
 pub use status::{Fault, Status};
 pub use tidy_engine::{run_tidy, tidy_answer};
 pub use violation_engine::{run_violation, violation_reply};
-
-#[cfg(test)]
-mod tests;
