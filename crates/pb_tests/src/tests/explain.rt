@@ -3,7 +3,15 @@ mod amounts;
 mod price_table;
 mod violation_table;
 
+use pb_price::Finding;
 use std::process::Abort;
+
+/// A condition that holds, of which no sums are shown.
+const NOTHING_SHOWN: Finding = Finding {
+    first: None,
+    count: 0,
+    shown: None,
+};
 
 /// The lines are these.
 fn expect(rt: &impl Abort, lines: &[String], want: &[&str]) {

@@ -1,4 +1,5 @@
 //! Amounts as texts.
+use super::NOTHING_SHOWN;
 use crate::tests::samples::ELECTION;
 use pb_election::Election;
 use pb_explain::push_price_table;
@@ -8,12 +9,6 @@ use std::test::Fail;
 const THIRDS: u64 = 3_000_000;
 
 const SIXTHS: u64 = 6_000_000;
-
-const NOTHING_SHOWN: Finding = Finding {
-    first: None,
-    count: 0,
-    shown: None,
-};
 
 /// Findings without any amount.
 const NO_AMOUNTS: Findings = Findings {

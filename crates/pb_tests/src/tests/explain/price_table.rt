@@ -2,7 +2,7 @@
 ghost use Rattle.std.specs.Prelude.{◌≡◌, ◌≤◌, ◌^◌, Some};
 ghost use Rattle.pb_explain.specs.PriceTable.{NameProjects};
 
-use super::expect;
+use super::{NOTHING_SHOWN, expect};
 use crate::tests::samples::ELECTION;
 use pb_election::Election;
 use pb_explain::push_price_table;
@@ -57,12 +57,6 @@ fn fails(count: u32, at: u32, bound: u128, amount: i128) -> Finding
         shown: Some(Comparison { at, bound, amount }),
     }
 }
-
-const NOTHING_SHOWN: Finding = Finding {
-    first: None,
-    count: 0,
-    shown: None,
-};
 
 /// The funded projects cost exactly the limit. What is left falls below 0, and no sum that is compared is above its
 /// bound.
