@@ -63,9 +63,11 @@ WAYS = [
     ("read", "one"), ("list", str(errno.EIO)), ("list", str(errno.ENOMEM)), ("look", str(errno.EACCES)),
     ("write", str(errno.ENOSPC)), ("write", str(errno.EINTR)), ("write", "none"), ("write", "one"),
 ]  # fmt: skip
-# The tests of the library's calls, by crate: what their names begin with, and one that would take hours.
-TESTS = [("pb_command", ""), ("pb_audit", ""), ("pbaudit", "tests::certificates::"), ("pbaudit", "tests::library::")]
-TOO_LARGE = "tests::certificates::empty_ballots_cost_a_step_each"
+# What the names of the tests in crates/pb_tests begin with whose allocations are made to fail.
+TESTS = (
+    "tests::certificate::canonical::", "tests::cohesion::", "tests::command::", "tests::election::", "tests::explain::",
+    "tests::price::telling::", "tests::price::verdicts::prices_support_the_outcome_of_a_file", "tests::replies::",
+)  # fmt: skip
 # How such a test ends where memory is wanted: by the call, or by the writer into memory that the test gives it.
 WANTS = (
     rb"error: (AllocError|AllocFailed \{ \.\. \}|Memory|Write|(Cert)?Refusal \{ fault: Memory, place: 0 \})\n",
@@ -263,23 +265,20 @@ def try_outputs(shim, program, counts):
 
 def try_library(shim, program, counts):
     """Makes each allocation fail in the tests of the library's calls."""
-    crates, made, wants, names = os.path.dirname(os.path.dirname(os.path.dirname(program))), 0, 0, 0
-    for crate, start in TESTS:
-        tests = os.path.join(crates, crate, "out", f"{crate}_tests")
-        if not os.path.exists(tests):
-            counts.count(False, f"{tests} isn't there: rt test or rt ci builds it")
-            continue
-        listed = shim.run(tests, ["--list"]).text.decode().splitlines()
-        for name in [line.removesuffix(": test") for line in listed if line.endswith(": test")]:
-            if not name.startswith(start) or name == TOO_LARGE:
-                continue
-            names += 1
-            for at, said, told in shim.fail_each(tests, [name], "memory", str(errno.ENOMEM)):
-                passes = said.status == 0 and said.text.endswith(b"test result: ok\n")
-                wanted = told.failed and said.status != 0 and any(re.match(want, said.errors) for want in WANTS)
-                made, wants = made + told.failed, wants + wanted
-                counts.count(passes or wanted, f"{crate} {name}: memory {at}, {told}", f"  said: {said}")
-    print(f"{made:6} times memory failed in {names} tests of the library's calls, {wants} of which ended with want of it")
+    crates, made, wants = os.path.dirname(os.path.dirname(os.path.dirname(program))), 0, 0
+    tests = os.path.join(crates, "pb_tests", "out", "pb_tests_tests")
+    if not os.path.exists(tests):
+        counts.count(False, f"{tests} isn't there: rt test or rt ci builds it")
+        return
+    listed = shim.run(tests, ["--list"]).text.decode().splitlines()
+    names = [line.removesuffix(": test") for line in listed if line.startswith(TESTS) and line.endswith(": test")]
+    for name in names:
+        for at, said, told in shim.fail_each(tests, [name], "memory", str(errno.ENOMEM)):
+            passes = said.status == 0 and said.text.endswith(b"test result: ok\n")
+            wanted = told.failed and said.status != 0 and any(re.match(want, said.errors) for want in WANTS)
+            made, wants = made + told.failed, wants + wanted
+            counts.count(passes or wanted, f"{name}: memory {at}, {told}", f"  said: {said}")
+    print(f"{made:6} times memory failed in {len(names)} tests of the library's calls, {wants} ended with want of it")
     if not wants:
         counts.count(False, "none was made: the library isn't loaded, or no test was found")
 

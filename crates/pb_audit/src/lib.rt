@@ -28,6 +28,3 @@ pub use price_engine::{prices_reply, run_prices};
 pub use read_engine::{read_reply, run_read};
 pub use tidy_engine::{run_tidy, tidy_answer};
 pub use violation_engine::{run_violation, violation_reply};
-
-#[cfg(test)]
-mod tests;

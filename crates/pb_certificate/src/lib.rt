@@ -24,8 +24,6 @@ mod refusal;
 mod row_reader;
 mod rows;
 mod samples;
-#[cfg(test)]
-mod tests;
 mod violation;
 mod violation_draft;
 

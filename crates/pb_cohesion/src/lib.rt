@@ -6,8 +6,6 @@ mod explaining;
 pub mod laws;
 mod samples;
 mod satisfactions;
-#[cfg(test)]
-mod tests;
 mod violations;
 mod worths;
 

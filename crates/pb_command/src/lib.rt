@@ -6,6 +6,3 @@ mod help;
 mod task;
 
 pub use task::{Task, UsageFault, task_of};
-
-#[cfg(test)]
-mod tests;

@@ -5,8 +5,6 @@ mod amounts;
 mod price_table;
 mod price_words;
 mod rows;
-#[cfg(test)]
-mod tests;
 mod violation_table;
 
 pub use price_table::push_price_table;

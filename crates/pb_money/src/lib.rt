@@ -13,6 +13,3 @@ mod whole;
 pub use grains::{cost_grains, payment_grains};
 pub use money::{Money, MoneyFault};
 pub use whole::{WholeFault, read_whole};
-
-#[cfg(test)]
-mod tests;

@@ -13,8 +13,6 @@ mod samples;
 mod takings;
 mod tally;
 mod telling;
-#[cfg(test)]
-mod tests;
 
 pub use checking::{check, check_rows};
 pub use explaining::findings_of;

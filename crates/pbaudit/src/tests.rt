@@ -1,11 +1,5 @@
-//! Tests of what no contract says: whole answers to whole files, readers and writers that fail, and exit statuses.
-mod both_answers;
-mod certificates;
-mod cuts;
+//! Whole runs of the program: its words, its files, folders, hints as they are printed, and exit statuses.
 mod ends;
-mod engines;
-mod explained_answers;
-mod failing;
 mod fakes;
 mod folders;
 mod hints;
@@ -14,16 +8,7 @@ mod hints_on_elections;
 mod hints_on_groups_and_outcomes;
 mod hints_on_other_files;
 mod hints_on_prices;
-mod in_turn;
-mod library;
-mod limits;
-mod margin_answers;
-mod price_answers;
-mod read_answers;
-mod records;
 mod room;
 mod runs;
 mod samples;
-mod tidy_answers;
-mod violation_answers;
 mod words;

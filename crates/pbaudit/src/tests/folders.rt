@@ -3,13 +3,14 @@ use super::fakes::{FakeTerminal, FakeWriter};
 use super::room::Room;
 use super::runs::{Ending, command, expect, expect_line, told};
 use super::samples::{
-    ELECTION, FAIR_VIOLATION, LONE_PRICES, PLAIN, PRICES, SPLIT_ELECTION, SPLIT_PRICES, with_pool,
+    ELECTION, FAIR_VIOLATION, PRICES, SPLIT_ELECTION, SPLIT_PRICES, UNFAIR_ELECTION, UNFAIR_PRICES,
 };
 use crate::folder::report;
 use crate::listing::{ListFault, Listing};
 use crate::progress::Progress;
 use crate::run;
 use pb_audit::Status;
+use pb_price::Mode;
 use std::alloc::{AllocError, Global};
 use std::io::ErrorKind;
 use std::os::unix::fs::symlink;
@@ -56,8 +57,8 @@ fn entries_are_told_in_order_and_a_refusal_decides_the_status(rt: HostRuntime) -
 fn mode_of_a_folder_is_that_of_the_words(rt: HostRuntime) -> Result<(), Fail> {
     let alloc = rt.alloc();
     let room = Room::new(&rt, "folder-mode")?;
-    room.write("a.pb", &with_pool(alloc, 2)?)?;
-    room.write("a.prices.csv", LONE_PRICES.as_bytes())?;
+    room.write("a.pb", UNFAIR_ELECTION.as_bytes())?;
+    room.write("a.prices.csv", UNFAIR_PRICES.as_bytes())?;
     room.write("b.pb", SPLIT_ELECTION.as_bytes())?;
     room.write("b.prices.csv", SPLIT_PRICES.as_bytes())?;
     for (switch, first, second, total, status) in [
@@ -70,7 +71,7 @@ fn mode_of_a_folder_is_that_of_the_words(rt: HostRuntime) -> Result<(), Fail> {
         ),
         (
             " --stable",
-            "failed S5 project c",
+            "failed S5 project x1",
             "failed Exhaustive project c",
             "0 yes 2 no",
             1,
@@ -84,7 +85,7 @@ fn mode_of_a_folder_is_that_of_the_words(rt: HostRuntime) -> Result<(), Fail> {
         ),
     ] {
         let text = format!(in alloc;
-            "a.pb: read 3 voters 3 projects 2 funded\na.prices.csv: {first}\n\
+            "a.pb: read 4 voters 3 projects 1 funded\na.prices.csv: {first}\n\
              b.pb: read 2 voters 2 projects 1 funded\nb.prices.csv: {second}\n\
              total 2 elections {total} 0 refused\n"
         )?;
@@ -216,7 +217,13 @@ fn reported(
 ) -> Result<(String, Status), Fail> {
     let mut err = FakeWriter::new(rt.alloc());
     let folder = room.path()?;
-    let report = report(rt, &folder, listing, PLAIN, &mut Progress::new(&mut err))?;
+    let report = report(
+        rt,
+        &folder,
+        listing,
+        Mode::PLAIN,
+        &mut Progress::new(&mut err),
+    )?;
     Ok((report.text, report.status))
 }
 

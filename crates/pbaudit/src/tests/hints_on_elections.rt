@@ -1,7 +1,8 @@
 //! Hints on elections: sections, keys, columns, ids and ballots.
 use super::hints::{Row, expect_hint, expect_on_elections};
 use super::room::Room;
-use super::samples::{too_many_projects, without_outcome};
+use super::samples::{ELECTION, with_lines};
+use std::alloc::{AllocError, Global};
 use std::test::Fail;
 
 const SECTIONS: [Row<'static>; 7] = [
@@ -187,10 +188,23 @@ fn hint_names_the_column_the_id_or_the_vote(rt: HostRuntime) -> Result<(), Fail>
 fn hint_asks_for_an_outcome_file(rt: HostRuntime) -> Result<(), Fail> {
     let room = Room::new(&rt, "hints-outcome-file")?;
     let missing = room.path_of("missing")?;
-    let bare = room.write("bare.pb", &without_outcome(rt.alloc())?)?;
+    let bytes = with_lines(rt.alloc(), ELECTION, 8, 1, b"project_id;cost;name\n")?;
+    let bare = room.write("bare.pb", &bytes)?;
     let line = "election 17 NoOutcome record 0";
     let hint = [": PROJECTS has no column selected, so an outcome file is wanted (--outcome FILE)"];
     expect_hint(&rt, &["prices", &bare, &missing], line, &bare, &hint)
+}
+
+/// An election of one project more than there may be, at record 20007.
+fn too_many_projects(alloc: Global) -> Result<String, AllocError> {
+    let mut text = String::from_str(
+        alloc,
+        "META\nkey;value\nbudget;1\nvote_type;approval\nPROJECTS\nproject_id;cost\n",
+    )?;
+    for project in 1..=20_001u32 {
+        writeln!(text, "p{project};0")?;
+    }
+    Ok(text)
 }
 
 #[test]

@@ -1,10 +1,9 @@
 //! Whole runs of the program, on real files.
-use super::fakes::{FakeWriter, WhenFull};
+use super::fakes::FakeWriter;
 use super::room::Room;
 use super::samples::{
-    ELECTION, EVEN_PRICES, LONE_PRICES, NO_VOTERS, POOL_OUTCOME, POOL_PRICES, PRICES,
-    SMALL_SHARE_ELECTION, SPLIT_ELECTION, SPLIT_PRICES, UNFAIR_ELECTION, UNTIDY_PRICES, VIOLATION,
-    with_pool,
+    ELECTION, POOL_OUTCOME, POOL_PRICES, PRICES, SPLIT_ELECTION, SPLIT_PRICES, UNFAIR_ELECTION,
+    UNFAIR_PRICES, UNTIDY_PRICES, VIOLATION,
 };
 use crate::run;
 use std::alloc::{AllocError, Global};
@@ -47,8 +46,8 @@ pub fn told(rt: &HostRuntime, words: &[&str]) -> Result<Ending, Fail> {
     })
 }
 
-/// A run by these words is to end with this status, with this on standard output, and with nothing on standard error but
-/// a hint where a file is refused that the words name.
+/// A run by these words is to end with this status, with this on standard output, and with nothing on standard error
+/// but a hint where a file is refused that the words name.
 pub fn expect(rt: &HostRuntime, words: &[&str], status: u8, text: &str) -> Result<(), Fail> {
     let told = told(rt, words)?;
     let is_hinted = text.starts_with("refused ") && !text.starts_with("refused folder");
@@ -90,8 +89,8 @@ fn reads_standard_input_where_no_words_are_given(rt: HostRuntime) -> Result<(), 
 #[test]
 fn reads_the_file_and_not_standard_input(rt: HostRuntime) -> Result<(), Fail> {
     let room = Room::new(&rt, "read")?;
-    room.write("e.pb", NO_VOTERS.as_bytes())?;
-    let runs = [("read e.pb", 0, "read 0 voters 1 projects 1 funded\n")];
+    room.write("e.pb", UNFAIR_ELECTION.as_bytes())?;
+    let runs = [("read e.pb", 0, "read 4 voters 3 projects 1 funded\n")];
     expect_each(&rt, &room, &runs)
 }
 
@@ -110,16 +109,16 @@ fn takes_the_files_of_prices_in_their_places(rt: HostRuntime) -> Result<(), Fail
 #[test]
 fn mode_of_prices_is_that_of_the_words(rt: HostRuntime) -> Result<(), Fail> {
     let room = Room::new(&rt, "mode")?;
-    room.write("cheap.pb", &with_pool(rt.alloc(), 2)?)?;
-    room.write("lone.csv", LONE_PRICES.as_bytes())?;
+    room.write("unfair.pb", UNFAIR_ELECTION.as_bytes())?;
+    room.write("even.csv", UNFAIR_PRICES.as_bytes())?;
     room.write("split.pb", SPLIT_ELECTION.as_bytes())?;
     room.write("half.csv", SPLIT_PRICES.as_bytes())?;
     let runs = [
-        ("prices cheap.pb lone.csv", 0, "supported priceable\n"),
+        ("prices unfair.pb even.csv", 0, "supported priceable\n"),
         (
-            "prices cheap.pb lone.csv --stable",
+            "prices unfair.pb even.csv --stable",
             1,
-            "failed S5 project c\n",
+            "failed S5 project x1\n",
         ),
         (
             "prices split.pb half.csv",
@@ -185,8 +184,8 @@ fn outcome_of_a_violation_is_that_of_the_words(rt: HostRuntime) -> Result<(), Fa
 #[test]
 fn takes_the_files_of_both_in_their_places(rt: HostRuntime) -> Result<(), Fail> {
     let room = Room::new(&rt, "both")?;
-    room.write("e.pb", SMALL_SHARE_ELECTION.as_bytes())?;
-    room.write("p.csv", EVEN_PRICES.as_bytes())?;
+    room.write("e.pb", UNFAIR_ELECTION.as_bytes())?;
+    room.write("p.csv", UNFAIR_PRICES.as_bytes())?;
     room.write("v.csv", VIOLATION.as_bytes())?;
     let runs = [
         (
@@ -212,8 +211,8 @@ fn takes_the_files_of_both_in_their_places(rt: HostRuntime) -> Result<(), Fail> 
 #[test]
 fn mode_and_outcome_of_both_are_those_of_the_words(rt: HostRuntime) -> Result<(), Fail> {
     let room = Room::new(&rt, "both-mode")?;
-    room.write("e.pb", SMALL_SHARE_ELECTION.as_bytes())?;
-    room.write("p.csv", EVEN_PRICES.as_bytes())?;
+    room.write("e.pb", UNFAIR_ELECTION.as_bytes())?;
+    room.write("p.csv", UNFAIR_PRICES.as_bytes())?;
     room.write("v.csv", VIOLATION.as_bytes())?;
     room.write("o.csv", b"pb-outcome,1\nproject,x1\n")?;
     let runs = [
@@ -298,9 +297,6 @@ fn expect_write_fault(rt: &HostRuntime, words: &[&str], written: &str) -> Result
     let mut out = FakeWriter {
         written: Vec::new(alloc),
         room: 5,
-        most: 5,
-        when_full: WhenFull::Fails,
-        flush_fails: false,
     };
     let mut err = FakeWriter::new(alloc);
     let mut input = ELECTION.as_bytes();

@@ -1,0 +1,13 @@
+//! What is printed on what readers give.
+mod both;
+mod cuts;
+mod elections;
+mod engines;
+mod explained;
+mod failing;
+mod in_turn;
+mod limits;
+mod margins;
+mod prices;
+mod tidy;
+mod violations;

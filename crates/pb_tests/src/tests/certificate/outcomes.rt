@@ -1,0 +1,43 @@
+//! Outcome files for three voters and the projects a, b and c.
+use crate::tests::samples::ELECTION;
+use pb_certificate::read_outcome;
+use pb_election::Election;
+use std::test::Fail;
+
+#[test]
+fn outcome_is_read_in_any_order_with_its_cost(rt: HostRuntime) -> Result<(), Fail> {
+    let election = Election::read(rt.alloc(), ELECTION.as_bytes())?;
+    // As it should be, and with blanks, an empty line and an empty field at the end.
+    for text in [
+        "pb-outcome,1\nproject,b\nproject,a\n",
+        " pb-outcome,1 \n\n,\nproject,b,\nproject, a\n",
+    ] {
+        let outcome = read_outcome(rt.alloc(), text.as_bytes(), &election)?;
+        assert!(rt; outcome.fits(&election));
+        assert_eq!(rt; election.projects(), 3);
+        assert_eq!(rt;
+            [outcome.has(1), outcome.has(2), outcome.has(3)],
+            [true, true, false]
+        );
+        assert_eq!(rt; outcome.total(), 10_000_000);
+    }
+    Ok(())
+}
+
+#[test]
+fn first_fault_of_an_outcome_file_is_told_with_its_record(rt: HostRuntime) -> Result<(), Fail> {
+    let election = Election::read(rt.alloc(), ELECTION.as_bytes())?;
+    let samples = [
+        ("", 21, 1),
+        ("pb-outcome,2\n", 21, 1),
+        ("pb-outcome,1\nvoter,1\n", 22, 2),
+        ("pb-outcome,1\nproject,d\n", 25, 2),
+        ("pb-outcome,1\nproject,a\nproject,a\n", 27, 3),
+    ];
+    for (text, number, place) in samples {
+        let found = read_outcome(rt.alloc(), text.as_bytes(), &election);
+        let refusal = found.err().map(|refusal| (refusal.number(), refusal.place));
+        assert_eq!(rt; refusal, Some((number, place)), "at {text}");
+    }
+    Ok(())
+}

@@ -1,0 +1,3 @@
+//! Verdicts on violations, and what each test comes to.
+mod findings;
+mod measures;

@@ -1,0 +1,4 @@
+//! What is replied on files in memory.
+mod explained;
+mod files;
+mod folders;
