@@ -62,8 +62,8 @@ pub record AnswersTidy (election certificate : Delivery) (answer : Answer) : Typ
   pub certificate_states : IfOk e (λ instance. StatesPrices name.Certificate instance certificate p)
   pub out : answer ≡ tidy_answer e p
 
--- What an election, an outcome file where one is given, and a certificate of a kind state. Each counts where those before
--- it are accepted.
+-- What an election, an outcome file where one is given, and a certificate of a kind state. Each counts where those
+-- before it are accepted.
 pub record FilesState {A : Type 0} (states : Instance → Delivery → Stated A → Type 0) (election : Delivery)
     (outcome : Option Delivery) (certificate : Delivery)
     (e : Stated Instance) (o : Option (Stated (List Bool))) (c : Stated A) : Type 0 where

@@ -48,9 +48,9 @@ abbrev pub both_reply : Mode → Stated Instance → Option (Stated (List Bool))
 both_reply m election outcome prices violation =
     audit_reply (λ e w p. with_input violation (λ claim. both_on m e w p claim)) election outcome prices
 
--- The status is yes exactly where the prices support the outcome and the group and its demand are a violation. Each line
--- promises what it promises alone. What is more, where the stable form and Cover are asked for, prices that support the
--- outcome never stand beside a violation by counting.
+-- The status is yes exactly where the prices support the outcome and the group and its demand are a violation. Each
+-- line promises what it promises alone. What is more, where the stable form and Cover are asked for, prices that
+-- support the outcome never stand beside a violation by counting.
 pub record BothPromise (m : Mode) (status : Status) (e : Instance) (w : List Bool) (p : Prices)
     (claim : GroupAndDemand) : Type 0 where
   pub exactly : (status ≡ Yes) ↔
@@ -84,8 +84,8 @@ abbrev pub AfterPrices : {A : Type 0} → Stated Instance → Option (Stated (Li
 AfterPrices election outcome prices taken untouched =
     InTurn election (λ e. InTurn (audited e outcome) (λ w. InTurn prices (λ p. taken) untouched) untouched) untouched
 
--- The reply on what readers delivered, the prices as the certificate of an audit, with one more reader for the violation
--- certificate.
+-- The reply on what readers delivered, the prices as the certificate of an audit, with one more reader for the
+-- violation certificate.
 pub record ReadsBoth (m : Mode) (inputs : AuditReadings) (violation : Reading) (r : Reply) : Type 0 where
   pub of_election : Delivery
   pub of_outcome : Option Delivery

@@ -56,8 +56,8 @@ margins_reply e w p = record { lines = map record_line (table_of e w p); status 
 abbrev pub AlwaysYes : Status → Instance → List Bool → Prices → Type 0
 AlwaysYes status e w p = status ≡ Yes
 
--- The answer on an election, an outcome file where one is given, and a price certificate: the text of the table, or of the
--- line of the input that is refused.
+-- The answer on an election, an outcome file where one is given, and a price certificate: the text of the table, or of
+-- the line of the input that is refused.
 abbrev pub AnswersMargins : Delivery → Option Delivery → Delivery → Answer → Type 0
 AnswersMargins election outcome certificate answer =
     TellsReply (AnswersAudit (StatesPrices name.Certificate) margins_reply AlwaysYes election outcome certificate)

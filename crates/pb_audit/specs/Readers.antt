@@ -12,7 +12,8 @@ use Rattle.pb_audit.specs.Promises.{PricesPromise, ViolationPromises}
 use Rattle.pb_reply.specs.declared.input.InputName.TheVariants as name
 use Rattle.pb_reply.specs.declared.status.Status.{Status}
 
--- the readers of an audit, before and after: of the election, of the outcome file where one is given, and of the certificate
+-- the readers of an audit, before and after: of the election, of the outcome file where one is given, and of the
+-- certificate
 pub record AuditReadings : Type 0 where
   pub election : Reading
   pub outcome : FileReading

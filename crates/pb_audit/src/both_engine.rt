@@ -22,10 +22,11 @@ use pb_reply::{
 };
 use std::alloc::{AllocError, Global};
 
-/// The reply on an election, an outcome file where one is given, a price certificate and a violation certificate, all in
-/// memory: the line of the verdict on the prices and then that of the verdict on the group, or why a file is refused.
-/// The status is yes where both are a yes. Without an outcome file the outcome is the election's own. The first file that is
-/// refused decides, in this order; more than 2^28 bytes are refused as too long. The error is want of memory.
+/// The reply on an election, an outcome file where one is given, a price certificate and a violation certificate, all
+/// in memory: the line of the verdict on the prices and then that of the verdict on the group, or why a file is
+/// refused. The status is yes where both are a yes. Without an outcome file the outcome is the election's own. The
+/// first file that is refused decides, in this order; more than 2^28 bytes are refused as too long. The error is want
+/// of memory.
 pub fn both_reply(
     alloc: Global,
     election: &[u8],
@@ -34,9 +35,9 @@ pub fn both_reply(
     violation: &[u8],
     mode: Mode,
 ) -> Result<Reply, AllocError>
-    // The reply is the one on these bytes. Where no file is refused, its status is yes exactly where the prices support the
-    // outcome and the group and its demand are a violation. In the stable form with Cover, prices that support the outcome
-    // never stand beside a violation by counting.
+    // The reply is the one on these bytes. Where no file is refused, its status is yes exactly where the prices support
+    // the outcome and the group and its demand are a violation. In the stable form with Cover, prices that support the
+    // outcome never stand beside a violation by counting.
     ensures { IfOk result (AnswersBothFiles mode election.now (option_copied outcome.entry) prices.now violation.now) }
 {
     let work = both_work(
@@ -50,10 +51,10 @@ pub fn both_reply(
     settled(alloc, work)
 }
 
-/// Reads an election, an outcome file where one is given, a price certificate and a violation certificate, of at most 2^28
-/// bytes each, and writes the line of the verdict on the prices and then that of the verdict on the group, or why an input
-/// is refused. Without an outcome file the outcome is the election's own. An input after one that is refused is not
-/// touched. The whole text is made first and then written.
+/// Reads an election, an outcome file where one is given, a price certificate and a violation certificate, of at most
+/// 2^28 bytes each, and writes the line of the verdict on the prices and then that of the verdict on the group, or why
+/// an input is refused. Without an outcome file the outcome is the election's own. An input after one that is refused
+/// is not touched. The whole text is made first and then written.
 pub fn run_both<E: Source, O: Source, P: Source, V: Source, W: Sink>(
     alloc: Global,
     election: &mut E,
@@ -63,8 +64,8 @@ pub fn run_both<E: Source, O: Source, P: Source, V: Source, W: Sink>(
     mode: Mode,
     out: &mut W,
 ) -> Result<Status, Fault>
-    // The text of the reply on what the readers delivered is written, or a front of it where the writer failed. The reply is
-    // that of `both_reply`, with what its status promises.
+    // The text of the reply on what the readers delivered is written, or a front of it where the writer failed. The
+    // reply is that of `both_reply`, with what its status promises.
     ensures { WritesReply W.Sink (ReadsBoth mode (audit_readings E.Source election.old election.new O.Source outcome.old outcome.new P.Source prices.old prices.new) (reading V.Source violation.old violation.new)) result out.old out.new }
 {
     let work = take_work(alloc, election, outcome, prices, violation, mode);

@@ -29,12 +29,12 @@ use pb_reply::{
 };
 use std::alloc::{AllocError, Global};
 
-/// The reply on an election, an outcome file where one is given, and a certificate of either kind, all in memory: the line of
-/// the verdict, as `prices_reply` or `violation_reply` gives it, an empty line, and a line for each condition or test with the
-/// figures that it compares; or why a file is refused. Where the first record of the certificate that is not blank is the head
-/// of a violation certificate, it is taken as one, and then the mode counts for nothing; any other is taken as prices.
-/// Without an outcome file the outcome is the election's own. The first file that is refused decides, in this order; more than
-/// 2^28 bytes are refused as too long. The error is want of memory.
+/// The reply on an election, an outcome file where one is given, and a certificate of either kind, all in memory: the
+/// line of the verdict, as `prices_reply` or `violation_reply` gives it, an empty line, and a line for each condition
+/// or test with the figures that it compares; or why a file is refused. Where the first record of the certificate that
+/// is not blank is the head of a violation certificate, it is taken as one, and then the mode counts for nothing; any
+/// other is taken as prices. Without an outcome file the outcome is the election's own. The first file that is refused
+/// decides, in this order; more than 2^28 bytes are refused as too long. The error is want of memory.
 pub fn explained_reply(
     alloc: Global,
     election: &[u8],
@@ -49,10 +49,10 @@ pub fn explained_reply(
     audit_reply(alloc, &audit, election, outcome, certificate)
 }
 
-/// Reads an election, an outcome file where one is given, and a certificate of either kind, of at most 2^28 bytes each, and
-/// writes the verdict and what each condition or test comes to, as `explained_reply` gives them, or why an input is refused.
-/// Without an outcome file the outcome is the election's own. An input after one that is refused is not touched. The whole
-/// text is made first and then written.
+/// Reads an election, an outcome file where one is given, and a certificate of either kind, of at most 2^28 bytes each,
+/// and writes the verdict and what each condition or test comes to, as `explained_reply` gives them, or why an input is
+/// refused. Without an outcome file the outcome is the election's own. An input after one that is refused is not
+/// touched. The whole text is made first and then written.
 pub fn run_explain<E: Source, O: Source, C: Source, W: Sink>(
     alloc: Global,
     election: &mut E,
@@ -61,8 +61,8 @@ pub fn run_explain<E: Source, O: Source, C: Source, W: Sink>(
     mode: Mode,
     out: &mut W,
 ) -> Result<Status, Fault>
-    // The text of the reply on what the readers delivered is written, or a front of it where the writer failed. The reply is
-    // that of `explained_reply`, with what its status promises.
+    // The text of the reply on what the readers delivered is written, or a front of it where the writer failed. The
+    // reply is that of `explained_reply`, with what its status promises.
     ensures { WritesReply W.Sink (ReadsExplained mode (audit_readings E.Source election.old election.new O.Source outcome.old outcome.new C.Source certificate.old certificate.new)) result out.old out.new }
 {
     let audit = ExplainAudit { mode };

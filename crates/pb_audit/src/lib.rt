@@ -1,5 +1,5 @@
-//! The auditor: what each command answers, over files in memory and over readers, the report on a folder, and what words ask
-//! for.
+//! The auditor: what each command answers, over files in memory and over readers, the report on a folder, and what
+//! words ask for.
 #![tactic(auto)]
 
 mod auditing;

@@ -17,11 +17,11 @@ use pb_reply::{
 };
 use std::alloc::{AllocError, Global};
 
-/// The answer on an election, an outcome file where one is given, and a price certificate, all in memory: the table of the
-/// figures of each project, as comma-separated values, or why a file is refused. Amounts are in grains, of which one unit
-/// of the currency has 10^6 D, where D is the denominator of the certificate. The status of a table is yes, whatever the prices
-/// support. Without an outcome file the outcome is the election's own. The first file that is refused decides, in this
-/// order; more than 2^28 bytes are refused as too long. The error is want of memory.
+/// The answer on an election, an outcome file where one is given, and a price certificate, all in memory: the table of
+/// the figures of each project, as comma-separated values, or why a file is refused. Amounts are in grains, of which
+/// one unit of the currency has 10^6 D, where D is the denominator of the certificate. The status of a table is yes,
+/// whatever the prices support. Without an outcome file the outcome is the election's own. The first file that is
+/// refused decides, in this order; more than 2^28 bytes are refused as too long. The error is want of memory.
 pub fn margins_answer(
     alloc: Global,
     election: &[u8],
@@ -40,10 +40,10 @@ pub fn margins_answer(
     settled_answer(alloc, work)
 }
 
-/// Reads an election, an outcome file where one is given, and a price certificate, of at most 2^28 bytes each, and writes the
-/// table of the figures of each project, as `margins_answer` gives it, or why an input is refused. Without an outcome file
-/// the outcome is the election's own. An input after one that is refused is not touched. The whole text is made first and
-/// then written.
+/// Reads an election, an outcome file where one is given, and a price certificate, of at most 2^28 bytes each, and
+/// writes the table of the figures of each project, as `margins_answer` gives it, or why an input is refused. Without
+/// an outcome file the outcome is the election's own. An input after one that is refused is not touched. The whole text
+/// is made first and then written.
 pub fn run_margins<E: Source, O: Source, C: Source, W: Sink>(
     alloc: Global,
     election: &mut E,

@@ -23,9 +23,10 @@ use pb_reply::{
 };
 use std::alloc::{AllocError, Global};
 
-/// The reply on an election, an outcome file where one is given, and a price certificate, all in memory: the line of the
-/// verdict on the prices, or why a file is refused. Without an outcome file the outcome is the election's own. The first
-/// file that is refused decides, in this order; more than 2^28 bytes are refused as too long. The error is want of memory.
+/// The reply on an election, an outcome file where one is given, and a price certificate, all in memory: the line of
+/// the verdict on the prices, or why a file is refused. Without an outcome file the outcome is the election's own. The
+/// first file that is refused decides, in this order; more than 2^28 bytes are refused as too long. The error is want
+/// of memory.
 pub fn prices_reply(
     alloc: Global,
     election: &[u8],
@@ -33,8 +34,8 @@ pub fn prices_reply(
     certificate: &[u8],
     mode: Mode,
 ) -> Result<Reply, AllocError>
-    // The reply is the one on these bytes. Where no file is refused, its status is yes exactly where the prices support the
-    // outcome; a yes speaks of every group, and a no by C5 or S5 of the supporters of the project that it names.
+    // The reply is the one on these bytes. Where no file is refused, its status is yes exactly where the prices support
+    // the outcome; a yes speaks of every group, and a no by C5 or S5 of the supporters of the project that it names.
     ensures { IfOk result (AnswersPriceFiles mode election.now (option_copied outcome.entry) certificate.now) }
 {
     let audit = PriceAudit { mode };
@@ -52,8 +53,8 @@ pub fn run_prices<E: Source, O: Source, C: Source, W: Sink>(
     mode: Mode,
     out: &mut W,
 ) -> Result<Status, Fault>
-    // The text of the reply on what the readers delivered is written, or a front of it where the writer failed. The reply is
-    // that of `prices_reply`, with what its status promises.
+    // The text of the reply on what the readers delivered is written, or a front of it where the writer failed. The
+    // reply is that of `prices_reply`, with what its status promises.
     ensures { WritesReply W.Sink (ReadsPrices mode (audit_readings E.Source election.old election.new O.Source outcome.old outcome.new C.Source certificate.old certificate.new)) result out.old out.new }
 {
     let audit = PriceAudit { mode };

@@ -21,18 +21,18 @@ use pb_reply::{
 };
 use std::alloc::{AllocError, Global};
 
-/// The reply on an election, an outcome file where one is given, and a violation certificate, all in memory: the line of
-/// the verdict on the group, by the measure that the certificate states, or why a file is refused. Without an outcome file
-/// the outcome is the election's own. The first file that is refused decides, in this order; more than 2^28 bytes are
-/// refused as too long. The error is want of memory.
+/// The reply on an election, an outcome file where one is given, and a violation certificate, all in memory: the line
+/// of the verdict on the group, by the measure that the certificate states, or why a file is refused. Without an
+/// outcome file the outcome is the election's own. The first file that is refused decides, in this order; more than
+/// 2^28 bytes are refused as too long. The error is want of memory.
 pub fn violation_reply(
     alloc: Global,
     election: &[u8],
     outcome: Option<&[u8]>,
     certificate: &[u8],
 ) -> Result<Reply, AllocError>
-    // The reply is the one on these bytes. Where no file is refused, its status is yes exactly where the group and its demand
-    // are a violation by the measure that the certificate states.
+    // The reply is the one on these bytes. Where no file is refused, its status is yes exactly where the group and its
+    // demand are a violation by the measure that the certificate states.
     ensures { IfOk result (AnswersViolationFiles election.now (option_copied outcome.entry) certificate.now) }
 {
     audit_reply(alloc, &ViolationAudit, election, outcome, certificate)
@@ -40,8 +40,8 @@ pub fn violation_reply(
 
 /// Reads an election, an outcome file where one is given, and a violation certificate, of at most 2^28 bytes each, and
 /// writes the line of the verdict on the group, by the measure that the certificate states, or why an input is refused.
-/// Without an outcome file the outcome is the election's own. An input after one that is refused is not touched. The whole
-/// text is made first and then written.
+/// Without an outcome file the outcome is the election's own. An input after one that is refused is not touched. The
+/// whole text is made first and then written.
 pub fn run_violation<E: Source, O: Source, C: Source, W: Sink>(
     alloc: Global,
     election: &mut E,
@@ -49,8 +49,8 @@ pub fn run_violation<E: Source, O: Source, C: Source, W: Sink>(
     certificate: &mut C,
     out: &mut W,
 ) -> Result<Status, Fault>
-    // The text of the reply on what the readers delivered is written, or a front of it where the writer failed. The reply is
-    // that of `violation_reply`, with what its status promises.
+    // The text of the reply on what the readers delivered is written, or a front of it where the writer failed. The
+    // reply is that of `violation_reply`, with what its status promises.
     ensures { WritesReply W.Sink (ReadsViolation (audit_readings E.Source election.old election.new O.Source outcome.old outcome.new C.Source certificate.old certificate.new)) result out.old out.new }
 {
     run_audit(alloc, &ViolationAudit, election, outcome, certificate, out)

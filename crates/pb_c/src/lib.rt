@@ -99,9 +99,9 @@ pub extern "C" fn pbaudit_violation(
     report(&answer, out, needed)
 }
 
-/// Audits prices and a group with its demand for one outcome: 0 where the prices support it and the group and its demand are
-/// a violation, 1 where one of the two isn't so, 2 where a file is refused, and 4 where memory ran out. The outcome is as for
-/// `pbaudit_prices`, and the text and its length are given as by `pbaudit_read`.
+/// Audits prices and a group with its demand for one outcome: 0 where the prices support it and the group and its
+/// demand are a violation, 1 where one of the two isn't so, 2 where a file is refused, and 4 where memory ran out. The
+/// outcome is as for `pbaudit_prices`, and the text and its length are given as by `pbaudit_read`.
 #[unsafe(no_mangle)]
 pub extern "C" fn pbaudit_both(
     alloc: Global,
@@ -116,8 +116,8 @@ pub extern "C" fn pbaudit_both(
     out: &mut [u8],
     needed: &mut usize,
 ) -> u8
-    // The number, the text and its length are those of the reply on these bytes. Where no file is refused, the number is 0
-    // exactly where the prices support the outcome and the group and its demand are a violation.
+    // The number, the text and its length are those of the reply on these bytes. Where no file is refused, the number
+    // is 0 exactly where the prices support the outcome and the group and its demand are a violation.
     ensures reported { result ≢ memory_code → IsReported (TellsReply (AnswersBothFiles (given_mode stable exhaustive cover) election.now (given_file has_outcome outcome.now) prices.now violation.now)) result out.old out.new needed.new }
 
     // Where memory ran out, nothing was written.
@@ -141,12 +141,12 @@ pub extern "C" fn pbaudit_both(
     report(&answer, out, needed)
 }
 
-/// Explains the verdict on a certificate of either kind: its line, an empty line, and a line for each condition on prices
-/// or each test of a violation, with the figures that it compares. 0 where the prices support the outcome, or the group
-/// and its demand are a violation, 1 where they don't or aren't, 2 where a file is refused, and 4 where memory ran out. A
-/// certificate whose first record is the head of a violation certificate is taken as one, and then `stable`,
-/// `exhaustive` and `cover` count for nothing; any other is taken as prices. The outcome is as for `pbaudit_prices`, and
-/// the text and its length are given as by `pbaudit_read`.
+/// Explains the verdict on a certificate of either kind: its line, an empty line, and a line for each condition on
+/// prices or each test of a violation, with the figures that it compares. 0 where the prices support the outcome, or
+/// the group and its demand are a violation, 1 where they don't or aren't, 2 where a file is refused, and 4 where
+/// memory ran out. A certificate whose first record is the head of a violation certificate is taken as one, and then
+/// `stable`, `exhaustive` and `cover` count for nothing; any other is taken as prices. The outcome is as for
+/// `pbaudit_prices`, and the text and its length are given as by `pbaudit_read`.
 #[unsafe(no_mangle)]
 pub extern "C" fn pbaudit_explain(
     alloc: Global,
@@ -177,9 +177,9 @@ pub extern "C" fn pbaudit_explain(
     report(&answer, out, needed)
 }
 
-/// Gives the figures of each project by a price certificate, as comma-separated values: 0 where they are given, 2 where a file
-/// is refused, and 4 where memory ran out. The outcome is as for `pbaudit_prices`, and the text and its length are given as
-/// by `pbaudit_read`.
+/// Gives the figures of each project by a price certificate, as comma-separated values: 0 where they are given, 2 where
+/// a file is refused, and 4 where memory ran out. The outcome is as for `pbaudit_prices`, and the text and its length
+/// are given as by `pbaudit_read`.
 #[unsafe(no_mangle)]
 pub extern "C" fn pbaudit_margins(
     alloc: Global,

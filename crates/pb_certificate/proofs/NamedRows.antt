@@ -157,7 +157,8 @@ not-named : (x : Named) (ms : List Named) → AllByRecursion (λ m. same_named m
 not-named x [] h = refl
 not-named x (m ∷ ms) h = or-false (same_named x m) (was_named ms x) (turn x m ∙ h.0) (not-named x ms h.1)
 
--- Behind any head records, no fault stands among rows that name each thing once: where each such row is clear, and the end.
+-- Behind any head records, no fault stands among rows that name each thing once: where each such row is clear, and the
+-- end.
 pub rows-clear : (e : Instance) (stands : List Rec → Option Rec → CertFault → Bool) (heads : List Rec)
     (IsNamed : Named → Type 0)
     → ((done : List Rec) (r : Rec) (x : Named) → is_text r ≡ true → Row e r x → IsNamed x

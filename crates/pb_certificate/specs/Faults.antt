@@ -19,7 +19,8 @@ use Rattle.pb_certificate.specs.declared.refusal.CertFault.TheVariants as fault
 use Rattle.pb_certificate.specs.declared.refusal.CertRefusal.{CertRefusal}
 use Rattle.pb_certificate.specs.Prices.{most_denominator, most_numerator, most_rows}
 
--- A fault stands at a place by the records before it that are not blank, and by the record here, which is none at the end.
+-- A fault stands at a place by the records before it that are not blank, and by the record here, which is none at the
+-- end.
 
 -- the record here is there, and passes a test
 abbrev pub at_record : Option Rec → (Rec → Bool) → Bool
@@ -115,7 +116,8 @@ price_fault_stands e before here fault.TooMany =
     at_price_row before here (λ r. nat_le most_rows (length (price_rows before)))
 price_fault_stands e before here fault.Memory = false
 
--- Violation certificates and outcome files. Their first head record, and the two fields of a row, its kind and what it names:
+-- Violation certificates and outcome files. Their first head record, and the two fields of a row, its kind and what it
+-- names:
 
 abbrev pub at_format : List Rec → Option Rec → (Rec → Bool) → Bool
 at_format = at_head 0

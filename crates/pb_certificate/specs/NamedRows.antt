@@ -22,7 +22,8 @@ same_named (Voter i) (Project k) = false
 same_named (Project j) (Voter k) = false
 same_named (Project j) (Project k) = j == k
 
--- what two fields name: the word `voter` and a voter's number, or the word `project` and an id. Other fields name nothing
+-- what two fields name: the word `voter` and a voter's number, or the word `project` and an id. Other fields name
+-- nothing
 abbrev pub named_by : Instance → List Field → Option Named
 named_by e [] = None
 named_by e (kind ∷ []) = None

@@ -1,4 +1,5 @@
--- The rows of a price certificate, one after another: the fault that a row has by itself, and after the payments before it.
+-- The rows of a price certificate, one after another: the fault that a row has by itself, and after the payments before
+-- it.
 use Rattle.std.specs.Prelude.{◌||◌, not, ◌==◌, nat_le, nat_lt, if◌then◌else◌, ℕ, List, [], ◌∷◌, length, map, Option, Some, None, is_none}
 use Rattle.std.specs.List.{list_any}
 use Rattle.pb_election.specs.Instance.{Instance}

@@ -25,7 +25,8 @@ payment_from (Some i) (Some j) None = None
 payment_from (Some i) None x = None
 payment_from None c x = None
 
--- the payment that three fields state: a voter's number, a project's id and a numerator. More or fewer fields state none
+-- the payment that three fields state: a voter's number, a project's id and a numerator. More or fewer fields state
+-- none
 abbrev pub payment_by : Instance → List Field → Option Payment
 payment_by e [] = None
 payment_by e (v ∷ []) = None

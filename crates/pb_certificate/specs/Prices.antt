@@ -24,8 +24,8 @@ numerator_in (q ∷ qs) j = if q.0 == j then q.1 else numerator_in qs j
 abbrev pub payment : Prices → ℕ → ℕ → ℕ
 payment p i j = numerator_in (payments_of p i) j
 
--- the limits of price certificates: the greatest denominator, the greatest numerator of a budget or a payment, and how many
--- rows of payments there are at most, and so how many payments that are not 0
+-- the limits of price certificates: the greatest denominator, the greatest numerator of a budget or a payment, and how
+-- many rows of payments there are at most, and so how many payments that are not 0
 abbrev pub most_denominator : ℕ
 most_denominator = 10 ^ 9
 

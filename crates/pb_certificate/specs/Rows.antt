@@ -11,8 +11,8 @@ use Rattle.pb_certificate.specs.Faults.{no_memory, price_form}
 use Rattle.pb_certificate.specs.declared.price_row.PriceRow.{PriceRow}
 use Rattle.pb_certificate.specs.declared.refusal.CertRefusal.{CertRefusal}
 
--- A place between the records of a price certificate: the election, all records of the file, the numbers of its head, and
--- how many records lie behind.
+-- A place between the records of a price certificate: the election, all records of the file, the numbers of its head,
+-- and how many records lie behind.
 pub record Rows : Type 0 where
   pub election : Instance
   pub records : List Rec

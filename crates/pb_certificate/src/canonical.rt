@@ -71,8 +71,8 @@ pub fn canonical_text_of(
 }
 
 impl Prices {
-    /// The canonical text of a price certificate with these prices, as `write` writes it. The prices are to be for as many
-    /// voters and projects as the election has. The refusal is want of memory.
+    /// The canonical text of a price certificate with these prices, as `write` writes it. The prices are to be for as
+    /// many voters and projects as the election has. The refusal is want of memory.
     pub fn canonical_text(&self, alloc: Global, election: &Election) -> Result<Vec<u8>, AllocError>
         requires { Fits self.now election.now }
         ensures { IfOk result (λ text. text.items ≡ Canon election.now self.now) }
@@ -83,10 +83,10 @@ impl Prices {
         record_writer::close(writer)
     }
 
-    /// Writes the canonical text of a price certificate with these prices, and flushes: the four head records, and then a
-    /// row for each payment that is not 0, by rising voter and then rising project. The prices are to be for as many voters
-    /// and projects as the election has. `Write` comes only where the writer failed. `Memory` comes only where a growth was
-    /// refused, which is tested and not proved.
+    /// Writes the canonical text of a price certificate with these prices, and flushes: the four head records, and then
+    /// a row for each payment that is not 0, by rising voter and then rising project. The prices are to be for as many
+    /// voters and projects as the election has. `Write` comes only where the writer failed. `Memory` comes only where a
+    /// growth was refused, which is tested and not proved.
     pub fn write<W: Sink>(
         &self,
         alloc: Global,

@@ -70,8 +70,8 @@ pub fn head_number(
     whole_within(least, most, cell(row, 1)).ok_or(CertFault::BadNumber)
 }
 
-/// The voter that a field names by its number, or none where no voter has that number, however large. A field that is not
-/// in digits is `BadNumber`.
+/// The voter that a field names by its number, or none where no voter has that number, however large. A field that is
+/// not in digits is `BadNumber`.
 pub fn voter_in(field: &str, election: &Election) -> Result<Option<u32>, CertFault>
     ensures { result ≡ (if is_some (spec.whole_in field.now) then Ok (spec.voter_in election.now field.now) else Err CertFault.BadNumber) }
 {

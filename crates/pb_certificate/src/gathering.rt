@@ -88,8 +88,8 @@ fn add_all<L: Ledger>(mut rows: Rows, ledger: &mut L, turn: &mut Turn) -> Result
     }
 }
 
-/// Hands the payments of all rows, for so many voters, to a ledger that has none yet, or tells the first fault. After an
-/// error it is left open what the ledger has.
+/// Hands the payments of all rows, for so many voters, to a ledger that has none yet, or tells the first fault. After
+/// an error it is left open what the ledger has.
 pub fn gather<L: Ledger>(
     alloc: Global,
     rows: Rows,

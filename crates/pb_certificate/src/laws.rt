@@ -29,8 +29,8 @@ pub fn one_answer_on_prices()
     ensures first { (recs : List Rec) (e : Instance) (k j : ℕ) (f g : CertFault) → IsFirstFault (price_form e) recs k f → IsFirstFault (price_form e) recs j g → (k ≡ j) × (f ≡ g) }
 {}
 
-/// Records are either the text of one measure, one group and one demand, or refused at one place for one fault, and never
-/// both.
+/// Records are either the text of one measure, one group and one demand, or refused at one place for one fault, and
+/// never both.
 pub fn one_answer_on_violations()
     ensures answered { (recs : List Rec) (e : Instance) → ((m : Measure) × (s : List ℕ) × (t : List ℕ) × IsViolationText recs e m s t) ⊎ ((place : ℕ) × (f : CertFault) × IsFirstFault (violation_form e) recs place f) }
     ensures apart { (recs : List Rec) (e : Instance) (m : Measure) (s t : List ℕ) (place : ℕ) (f : CertFault) → IsViolationText recs e m s t → IsFirstFault (violation_form e) recs place f → ⊥ }

@@ -12,9 +12,9 @@ use pb_records::Runs;
 use std::alloc::Global;
 use std::marker::Model;
 
-/// A price system, after Peters, Pierczyński and Skowron (2021): a budget that is the same for all voters, and what each
-/// voter pays for each project. An amount is a numerator, at most 10^21, over one denominator, from 1 to 10^9. At most
-/// 10,000,000 payments are not 0. The form of price certificates is this project's own.
+/// A price system, after Peters, Pierczyński and Skowron (2021): a budget that is the same for all voters, and what
+/// each voter pays for each project. An amount is a numerator, at most 10^21, over one denominator, from 1 to 10^9. At
+/// most 10,000,000 payments are not 0. The form of price certificates is this project's own.
 #[derive(Drop)]
 pub struct Prices {
     projects: u32,
@@ -49,9 +49,9 @@ impl Prices {
     /// record, and of those there the one with the lowest number. Want of memory comes only where a growth was refused,
     /// which is tested and not proved.
     ///
-    /// The head records are `pb-prices,1`, `denominator,D`, `voter_budget,N` and `voter,project,payment`. A row has a voter's
-    /// number, a project's id and a numerator, and there are at most 10,000,000 rows. The voters do not fall from row to row,
-    /// and no pair of voter and project stands twice. A pair that does not stand has the payment 0.
+    /// The head records are `pb-prices,1`, `denominator,D`, `voter_budget,N` and `voter,project,payment`. A row has a
+    /// voter's number, a project's id and a numerator, and there are at most 10,000,000 rows. The voters do not fall
+    /// from row to row, and no pair of voter and project stands twice. A pair that does not stand has the payment 0.
     pub fn read(alloc: Global, bytes: &[u8], election: &Election) -> Result<Prices, CertRefusal>
         ensures found { IfOk result (λ p. IsPriceText (certificate_records bytes.now) election.now p) }
         ensures sound { IfOk result (λ p. ArePrices election.now p) }

@@ -15,8 +15,8 @@ use std::alloc::{AllocError, Global};
 /// The most rows that a price certificate can have.
 const MOST_ROWS: u32 = 10_000_000;
 
-/// What is remembered of the rows so far to tell whether one more may follow them. Voters and projects count from 1, and a
-/// voter is 0 where no row has named one.
+/// What is remembered of the rows so far to tell whether one more may follow them. Voters and projects count from 1,
+/// and a voter is 0 where no row has named one.
 #[derive(Drop)]
 pub struct PriorRows {
     rows: u32,
@@ -39,8 +39,8 @@ impl PriorRows {
         })
     }
 
-    // Remembers one more row, or tells why it may not follow those so far. Since voters do not fall, the pair of a voter and
-    // a project stood before exactly where this voter was the last to name the project.
+    // Remembers one more row, or tells why it may not follow those so far. Since voters do not fall, the pair of a
+    // voter and a project stood before exactly where this voter was the last to name the project.
     fn admit(&mut self, row: &PriceRow) -> Result<(), CertFault>
         requires voter { 1 ≤ (row.now).voter }
         requires low_project { 1 ≤ (row.now).project }

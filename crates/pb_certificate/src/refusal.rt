@@ -12,8 +12,8 @@ pub enum CertFault {
     /// A head record that is not as the form asks, or the end before the last of them. A number out of its range is
     /// `BadNumber`.
     BadHead,
-    /// A row has another number of fields than three in a price certificate and two in the other files, where empty ones at
-    /// its end do not count, or begins with a word that is no kind of row in this file.
+    /// A row has another number of fields than three in a price certificate and two in the other files, where empty
+    /// ones at its end do not count, or begins with a word that is no kind of row in this file.
     BadRow,
     /// The denominator is not a whole number from 1 to 10^9, the voter budget or a payment none up to 10^21, or a voter
     /// is not written in digits. It does not come from outcome files.
@@ -24,8 +24,8 @@ pub enum CertFault {
     UnknownProject,
     /// A row of a price certificate has a lower voter than the row before it.
     OutOfOrder,
-    /// A row of a price certificate is on a voter and a project that stood together in an earlier row, with the payment 0
-    /// too; a row of the other files names a voter or a project that an earlier row named.
+    /// A row of a price certificate is on a voter and a project that stood together in an earlier row, with the payment
+    /// 0 too; a row of the other files names a voter or a project that an earlier row named.
     Repeated,
     /// A price certificate has more than 10,000,000 rows: this is the next one.
     TooMany,
@@ -38,8 +38,8 @@ pub enum CertFault {
 pub struct CertRefusal {
     /// Why it is refused.
     pub fault: CertFault,
-    /// The record at which the fault stands. Records are numbered from 1, blank ones included, and the end of the file is
-    /// one more than their number. 0 for `Memory`.
+    /// The record at which the fault stands. Records are numbered from 1, blank ones included, and the end of the file
+    /// is one more than their number. 0 for `Memory`.
     pub place: u64,
 }
 

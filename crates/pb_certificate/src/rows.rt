@@ -11,8 +11,8 @@ use pb_election::Election;
 use std::alloc::Global;
 use std::marker::Model;
 
-/// A reader of the rows of a price certificate, which goes over the bytes once and keeps no payments. It stands at a place
-/// between two records, and no fault stands before it.
+/// A reader of the rows of a price certificate, which goes over the bytes once and keeps no payments. It stands at a
+/// place between two records, and no fault stands before it.
 #[derive(Drop)]
 pub struct Rows<'a> {
     reader: Box<RowReader<'a>>,
@@ -30,10 +30,10 @@ impl<'a> Model for Rows<'a> {
 }
 
 impl<'a> Rows<'a> {
-    /// Stands before the first row of a price certificate for an election, behind the four head records. Refuses the file
-    /// where its first fault stands at one of them, or at the end before the fourth; a fault of a row comes from `next`.
-    /// `Memory` comes only where a growth was refused, which is tested and not proved. What the head records and the rows
-    /// are is said at `Prices::read`.
+    /// Stands before the first row of a price certificate for an election, behind the four head records. Refuses the
+    /// file where its first fault stands at one of them, or at the end before the fourth; a fault of a row comes from
+    /// `next`. `Memory` comes only where a growth was refused, which is tested and not proved. What the head records
+    /// and the rows are is said at `Prices::read`.
     pub fn open(
         alloc: Global,
         bytes: &'a [u8],
@@ -71,9 +71,10 @@ impl<'a> Rows<'a> {
         self.reader.budget
     }
 
-    /// The next row, payment 0 too, with the reader behind it, or none where no row is left; asked again, it is none again.
-    /// Else the fault of the next record, of several the one with the lowest number: a refusal consumes the reader, which
-    /// then hands out nothing more. `Memory` comes only where a growth was refused, which is tested and not proved.
+    /// The next row, payment 0 too, with the reader behind it, or none where no row is left; asked again, it is none
+    /// again. Else the fault of the next record, of several the one with the lowest number: a refusal consumes the
+    /// reader, which then hands out nothing more. `Memory` comes only where a growth was refused, which is tested and
+    /// not proved.
     pub fn next(self) -> Result<(Rows<'a>, Option<PriceRow>), CertRefusal>
         ensures row { IfOk result (λ x. IfSome x.1 (λ q. GivesRow self.entry x.0 q)) }
         ensures none { IfOk result (λ x. x.1 ≡ None → GivesNone self.entry x.0) }

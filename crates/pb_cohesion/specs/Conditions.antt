@@ -1,6 +1,6 @@
 -- When a price system supports an outcome: each condition, and its culprits in order. C1 to C5 are after Peters,
--- Pierczyński and Skowron (2021), and S5 is after the stable form that Peters, Pierczyński, Shah and Skowron (2021) give for
--- committees. The form of S5 for projects with costs, Feasible, Exhaustive and Cover are this project's own.
+-- Pierczyński and Skowron (2021), and S5 is after the stable form that Peters, Pierczyński, Shah and Skowron (2021)
+-- give for committees. The form of S5 for projects with costs, Feasible, Exhaustive and Cover are this project's own.
 use Rattle.std.specs.Prelude.{◌≡◌, ◌<◌, ◌≤◌, ◌+◌, ◌*◌, ◌==◌, ◌&&◌, not, nat_lt, nat_le, int_lt, ℕ, ℤ, pos, ◌+ℤ◌, ◌≤ℤ◌, Bool, IsFalse, IsTrue, List, [], ◌∷◌, map, filter, flat_map}
 use Rattle.std.specs.Int.{int_max}
 use Rattle.pb_election.specs.Instance.{Approves, Instance, IsProject, IsVoter, all_projects, all_voters, approves, cost_of, supporters, voters}
@@ -9,16 +9,16 @@ use Rattle.pb_cohesion.specs.Amounts.{beta, budget_limit, cost, left, paid, spen
 use Rattle.pb_cohesion.specs.Outcome.{IsFunded, IsUnfunded, funded, total, unfunded}
 
 -- Throughout, e is an election, w an outcome as the marks of its funded projects, p a price system, i a voter and c a
--- project. Amounts are in grains, but those of Feasible and Exhaustive in millionths, and C1 asks only whether a numerator is
--- above 0.
+-- project. Amounts are in grains, but those of Feasible and Exhaustive in millionths, and C1 asks only whether a
+-- numerator is above 0.
 
 -- a sum of integers, some of which may be negative
 abbrev pub sum_ℤ : (ℕ → ℤ) → List ℕ → ℤ
 sum_ℤ f [] = pos 0
 sum_ℤ f (x ∷ xs) = f x +ℤ sum_ℤ f xs
 
--- the larger of what a voter has left and its largest payment; a voter can offer no more, and, where nothing is paid for
--- unfunded projects, as much
+-- the larger of what a voter has left and its largest payment; a voter can offer no more, and, where nothing is paid
+-- for unfunded projects, as much
 abbrev pub most_of : Instance → Prices → ℕ → ℤ
 most_of e p i = int_max (pos (top e p i)) (left e p i)
 

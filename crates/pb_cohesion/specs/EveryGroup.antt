@@ -31,8 +31,8 @@ abbrev pub BudgetsAreWithinReach : Instance → List Bool → Prices → Type 0
 BudgetsAreWithinReach e w p = (s : List ℕ) (c : ℕ) → IsUnfunded e w c → IsGroupWithin e s c
     → length s * beta p ≤ cost e p c + sum_by (cost e p) (reach e w s)
 
--- each group gets its share: where its budgets come to more than some projects cost that all members approve, some member
--- approves at least as many funded projects
+-- each group gets its share: where its budgets come to more than some projects cost that all members approve, some
+-- member approves at least as many funded projects
 abbrev pub GroupsGetTheirShare : Instance → List Bool → Prices → Type 0
 GroupsGetTheirShare e w p = (s t : List ℕ) → IsGroup e s → AreProjects e t → All (λ i. All (λ j. Approves e i j) t) s
     → sum_by (cost e p) t < length s * beta p → Any (λ i. length t ≤ length (gets e w i)) s

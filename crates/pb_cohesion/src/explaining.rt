@@ -16,8 +16,8 @@ use crate::{MissingApprovals, Satisfaction, SatisfiedMembers, ViolationFindings}
 use pb_certificate::Violation;
 use pb_election::{Election, MOST_VOTERS, Outcome};
 
-/// What each test of a violation comes to for the group and the demand of a certificate. The outcome and the certificate
-/// are to fit the election. Takes no memory.
+/// What each test of a violation comes to for the group and the demand of a certificate. The outcome and the
+/// certificate are to fit the election. Takes no memory.
 pub fn violation_findings<S: Satisfaction>(
     election: &Election,
     outcome: &Outcome,
@@ -78,8 +78,8 @@ fn count_missing(election: &Election, i: u32, demand: &[u32]) -> u64
     (demand.len() - approved) as u64
 }
 
-// The members that get at least so much as is demanded, and what the first of them gets, or where there is none the most
-// that one of the group gets.
+// The members that get at least so much as is demanded, and what the first of them gets, or where there is none the
+// most that one of the group gets.
 fn satisfied_members<S: Satisfaction>(
     election: &Election,
     outcome: &Outcome,

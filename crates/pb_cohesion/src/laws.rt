@@ -50,21 +50,21 @@ pub fn stable_where_nothing_blocks()
     ensures at_culprit { (e : Instance) (w : List Bool) (p : Prices) (c : ℕ) → C4 e w p → Contains (culprits_of_S5 e w p) c → SupportersBlock e w p c }
 {}
 
-/// Under C1, C3 and C4, and either C2 and C5 or S5, the budgets of a group of supporters of an unfunded project come to at
-/// most its cost and that of the group's reach.
+/// Under C1, C3 and C4, and either C2 and C5 or S5, the budgets of a group of supporters of an unfunded project come to
+/// at most its cost and that of the group's reach.
 pub fn budgets_within_reach()
     ensures { (e : Instance) (w : List Bool) (p : Prices) → C1 e p → C3 e w p → C4 e w p → ((C2 e p × C5 e w p) ⊎ S5 e w p) → BudgetsAreWithinReach e w p }
 {}
 
-/// Stable prices are fair: under C1, C3, C4 and S5, where the budgets of a group come to more than what a set of projects
-/// costs, and all members approve the set, some member approves at least as many funded projects. Members may spend more
-/// than the budget.
+/// Stable prices are fair: under C1, C3, C4 and S5, where the budgets of a group come to more than what a set of
+/// projects costs, and all members approve the set, some member approves at least as many funded projects. Members may
+/// spend more than the budget.
 pub fn stable_prices_are_fair()
     ensures { (e : Instance) (w : List Bool) (p : Prices) → C1 e p → C3 e w p → C4 e w p → S5 e w p → GroupsGetTheirShare e w p }
 {}
 
-/// Stable prices exclude violations: under C1, C3, C4, S5 and Cover, no group and no demand are a violation by counting. Of
-/// violations by cost nothing is said.
+/// Stable prices exclude violations: under C1, C3, C4, S5 and Cover, no group and no demand are a violation by
+/// counting. Of violations by cost nothing is said.
 pub fn stable_prices_exclude_violations()
     ensures { (e : Instance) (w : List Bool) (p : Prices) → C1 e p → C3 e w p → C4 e w p → S5 e w p → Cover e p → NoViolationByCounting e w }
 {}
@@ -85,8 +85,8 @@ pub fn violation_where_no_test_fails()
     ensures { (worth : ℕ → ℕ) (e : Instance) (w : List Bool) (s t : List ℕ) → (FirstV worth e w s t ≡ None) ↔ Violates worth e w s t }
 {}
 
-/// The findings on a group and its demand tell which tests hold: V1 where there are members, V2 and V4 where there is no
-/// culprit, and V3 where the group's share of the limit covers what the demanded projects cost.
+/// The findings on a group and its demand tell which tests hold: V1 where there are members, V2 and V4 where there is
+/// no culprit, and V3 where the group's share of the limit covers what the demanded projects cost.
 pub fn violation_findings_tell_what_holds()
     ensures { (worth : ℕ → ℕ) (e : Instance) (w : List Bool) (s t : List ℕ) → TellWhichTestsHold worth e w s t (violation_findings worth e w s t) }
 {}

@@ -36,8 +36,9 @@ pub enum ViolationFailure {
     V4(u32),
 }
 
-/// What each test of a violation certificate comes to, also of those behind the first that fails. What projects are worth is
-/// counted by the measure that was asked for, as 1 each, as what they cost in millionths of the currency, or otherwise.
+/// What each test of a violation certificate comes to, also of those behind the first that fails. What projects are
+/// worth is counted by the measure that was asked for, as 1 each, as what they cost in millionths of the currency, or
+/// otherwise.
 #[derive(Clone, Copy, Debug, PartialEq, Eq)]
 pub struct ViolationFindings {
     /// How many voters the group has, at most 1,000,000. V1 holds where this is not 0.
@@ -51,8 +52,8 @@ pub struct ViolationFindings {
     pub demanded: u128,
     /// V4: the members that get at least so much.
     pub satisfied: SatisfiedMembers,
-    /// What the first such member gets: what the funded projects that it approves are worth together, at most 2 * 10^22.
-    /// Where there is none, the most that a member gets, and 0 where the group is empty.
+    /// What the first such member gets: what the funded projects that it approves are worth together, at most 2 *
+    /// 10^22. Where there is none, the most that a member gets, and 0 where the group is empty.
     pub gets: u128,
 }
 

@@ -59,7 +59,8 @@ pub enum Task {
         /// Which conditions are asked for.
         mode: Mode,
     },
-    /// Check a certificate of either kind and write what each condition or test comes to, with the outcome as for prices.
+    /// Check a certificate of either kind and write what each condition or test comes to, with the outcome as for
+    /// prices.
     Explain {
         /// The election.
         election: String,

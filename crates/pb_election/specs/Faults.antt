@@ -120,8 +120,8 @@ is_unexpected (Inside Votes) r = is_marker r
 abbrev pub is_no_money : Field → Bool
 is_no_money text = not (is_ok (money_of text))
 
--- a header without a needed column, and one in which a read column stands twice (a marker in its place is NoHeader, which
--- comes before)
+-- a header without a needed column, and one in which a read column stands twice (a marker in its place is NoHeader,
+-- which comes before)
 abbrev pub misses_column : Role → Rec → Bool
 misses_column First r = false
 misses_column (Header s) r = list_any (λ name. occurrences name r == 0) (needed_columns s)

@@ -15,9 +15,9 @@ use pb_records::{FaultAt, Runs, Stop, take_all};
 use std::alloc::Global;
 use std::marker::Model;
 
-/// An election in which each voter approves some of the projects, as a file in Pabulib's format states it. It has at most
-/// 20,000 projects, 1,000,000 voters and 20,000,000 approvals, and each amount is at most 10^18 millionths of the currency.
-/// Projects and voters are numbered from 1, in the order of their rows.
+/// An election in which each voter approves some of the projects, as a file in Pabulib's format states it. It has at
+/// most 20,000 projects, 1,000,000 voters and 20,000,000 approvals, and each amount is at most 10^18 millionths of the
+/// currency. Projects and voters are numbered from 1, in the order of their rows.
 #[derive(Drop)]
 pub struct Election {
     pub(crate) limit: Money,
@@ -116,8 +116,8 @@ impl Election {
         Some(place as u32)
     }
 
-    /// The ballot of voter i: the numbers, from 1 and rising, of the projects that the voter approves. Voters are numbered
-    /// from 1.
+    /// The ballot of voter i: the numbers, from 1 and rising, of the projects that the voter approves. Voters are
+    /// numbered from 1.
     pub fn ballot(&self, i: u32) -> &[u32]
         requires { IsVoter self.now i }
         ensures value { result.now ≡ spec.ballot_of self.now i }
@@ -135,24 +135,24 @@ impl Election {
         self.ballot(i).binary_search(&j).is_ok()
     }
 
-    /// How many projects the file's `num_projects` says that there are, where that is a whole number up to 10^18. It need
-    /// not be how many there are.
+    /// How many projects the file's `num_projects` says that there are, where that is a whole number up to 10^18. It
+    /// need not be how many there are.
     pub fn declared_projects(&self) -> Option<u64>
         ensures { result ≡ (self.now).declared_projects }
     {
         self.declared_projects
     }
 
-    /// How many voters the file's `num_votes` says that there are, where that is a whole number up to 10^18. It need not be
-    /// how many there are.
+    /// How many voters the file's `num_votes` says that there are, where that is a whole number up to 10^18. It need
+    /// not be how many there are.
     pub fn declared_votes(&self) -> Option<u64>
         ensures { result ≡ (self.now).declared_votes }
     {
         self.declared_votes
     }
 
-    /// Of how many projects the column `selected` says neither `1`, funded, nor `0`, not funded; 0 where there is no such
-    /// column. They count as not funded.
+    /// Of how many projects the column `selected` says neither `1`, funded, nor `0`, not funded; 0 where there is no
+    /// such column. They count as not funded.
     pub fn other_selected(&self) -> u32
         ensures { result ≡ (self.now).other_selected }
     {

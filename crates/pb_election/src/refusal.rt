@@ -11,8 +11,8 @@ pub enum ElectionFault {
     NotUtf8,
     /// The first record that is not blank does not mark META; or all records are blank, and the fault is at the end.
     NoMeta,
-    /// The record behind a section's marker is another marker in place of the header; or there is none, and the fault is
-    /// at the end.
+    /// The record behind a section's marker is another marker in place of the header; or there is none, and the fault
+    /// is at the end.
     NoHeader,
     /// The file ends before PROJECTS or before VOTES is marked. At the end.
     MissingSection,
@@ -50,8 +50,8 @@ pub enum ElectionFault {
 pub struct Refusal {
     /// Why. Of several faults at one place this is the first in the order of `ElectionFault`.
     pub fault: ElectionFault,
-    /// The record at which the fault stands. Records are numbered from 1, blank ones included, and the end of the file is
-    /// one more than their number. 0 for `Memory` and `NoOutcome`.
+    /// The record at which the fault stands. Records are numbered from 1, blank ones included, and the end of the file
+    /// is one more than their number. 0 for `Memory` and `NoOutcome`.
     pub place: u64,
 }
 

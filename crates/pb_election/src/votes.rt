@@ -31,8 +31,8 @@ fn cut_first(text: &str) -> (&str, Option<&str>)
     }
 }
 
-// Puts the positions of the ids that a vote names into a list, in the vote's order and in place of what it held, and tells
-// whether each of them is kept.
+// Puts the positions of the ids that a vote names into a list, in the vote's order and in place of what it held, and
+// tells whether each of them is kept.
 fn find_positions(
     ids: &IndexSet<String>,
     vote: &str,
@@ -58,8 +58,8 @@ fn find_positions(
     Ok(true)
 }
 
-/// Puts the ballot that a vote states into a list in place of what it held, as the positions of its projects from 1, rising.
-/// Tells whether each text that the vote names is the id of a project; where not, the list is left open.
+/// Puts the ballot that a vote states into a list in place of what it held, as the positions of its projects from 1,
+/// rising. Tells whether each text that the vote names is the id of a project; where not, the list is left open.
 pub(crate) fn ballot_in(
     ids: &IndexSet<String>,
     vote: &str,

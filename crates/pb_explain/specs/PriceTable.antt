@@ -13,8 +13,8 @@ use Rattle.pb_explain.specs.Rows.{opening, opening_if}
 abbrev pub holds : Finding → Bool
 holds f = f.count == 0
 
--- what is said of a condition: a text of its own where nothing was compared, and else of the sums that are shown, in one
--- way where it holds and in another where it fails
+-- what is said of a condition: a text of its own where nothing was compared, and else of the sums that are shown, in
+-- one way where it holds and in another where it fails
 abbrev pub told : Text → (Comparison → Text) → (Comparison → Text) → Bool → Option Comparison → Text
 told nothing where_holds where_fails it_holds None = nothing
 told nothing where_holds where_fails it_holds (Some m) = if it_holds then where_holds m else where_fails m

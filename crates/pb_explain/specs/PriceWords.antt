@@ -1,5 +1,5 @@
--- What is said of each condition on prices. Throughout, unit is how many grains one unit of the currency has, count how many
--- culprits there are, and m the sums that are compared at one place.
+-- What is said of each condition on prices. Throughout, unit is how many grains one unit of the currency has, count how
+-- many culprits there are, and m the sums that are compared at one place.
 use Rattle.std.specs.Prelude.{ℕ, ◌++◌, codes}
 use Rattle.pb_election.specs.Instance.{Instance, id_of}
 use Rattle.pb_price.specs.declared.Comparison.{Comparison}
@@ -59,8 +59,8 @@ unfunded_paid e unit count m =
     balance unit m.amount ++ codes " is paid for project " ++ id_of e m.at ++ codes ", which isn't funded"
     ++ how_many (codes "unfunded projects that are paid for") count
 
--- C5 and S5: what an unfunded project costs, and the leftovers or the offers of its supporters, at the project that comes
--- closest, and where they are more than it costs
+-- C5 and S5: what an unfunded project costs, and the leftovers or the offers of its supporters, at the project that
+-- comes closest, and where they are more than it costs
 unfoldable pub cost_and_sum : ℕ → Text → Comparison → Text
 cost_and_sum unit sums_of m =
     codes " costs " ++ amount unit m.bound ++ codes ", and its supporters' " ++ sums_of ++ codes " come to "

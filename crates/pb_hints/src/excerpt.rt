@@ -14,8 +14,8 @@ pub(crate) fn quoted(alloc: Global, words: &str, bytes: &[u8]) -> Result<String,
     Ok(text)
 }
 
-/// Adds an excerpt between quotes: at most 60 characters, and dots where there are more. Control characters are shown by
-/// their numbers, and so are bytes that aren't UTF-8.
+/// Adds an excerpt between quotes: at most 60 characters, and dots where there are more. Control characters are shown
+/// by their numbers, and so are bytes that aren't UTF-8.
 pub(crate) fn push_quoted(text: &mut String, bytes: &[u8]) -> Result<(), AllocError> {
     text.push('\'')?;
     push_excerpt(text, bytes)?;
@@ -68,8 +68,8 @@ fn push_number(text: &mut String, letter: char) -> Result<(), AllocError> {
     write!(text, "\\u{{{number:x}}}")
 }
 
-/// Whether a letter isn't seen as itself: a control character, a space that looks like another, a mark without width, or one
-/// that turns the direction in which a line is shown.
+/// Whether a letter isn't seen as itself: a control character, a space that looks like another, a mark without width,
+/// or one that turns the direction in which a line is shown.
 fn is_unseen(letter: char) -> bool {
     letter.is_control()
         || matches!(

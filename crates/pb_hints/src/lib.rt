@@ -1,5 +1,5 @@
-//! Hints: what a person is told of a refusal beside its line. No contract says what a hint says. Proved is that making one is
-//! safe and ends, and that a number is taken for the fault that has it; the words are tested.
+//! Hints: what a person is told of a refusal beside its line. No contract says what a hint says. Proved is that making
+//! one is safe and ends, and that a number is taken for the fault that has it; the words are tested.
 #![tactic(auto)]
 
 mod causes;

@@ -24,8 +24,8 @@ enum Stand {
     Behind(usize, bool),
 }
 
-/// The first field in quotes of a record that goes over the end of a line, or holds the rest of the text. The record begins
-/// at `start`, and its fields are divided by the delimiter.
+/// The first field in quotes of a record that goes over the end of a line, or holds the rest of the text. The record
+/// begins at `start`, and its fields are divided by the delimiter.
 pub(crate) fn long_quote(text: &[u8], start: usize, delimiter: u8) -> Option<Quote> {
     let mut stand = Stand::Field;
     for (place, byte) in text.iter().enumerate().skip(start) {

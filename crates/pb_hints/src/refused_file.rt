@@ -53,9 +53,9 @@ impl Kind {
     }
 }
 
-/// What a person is told of a refusal: one or two lines, each with its end. The first begins with the name of the file and,
-/// where its bytes are there, the line at which the refused record begins. The second, if there is one, names a cause that
-/// stands elsewhere or that is often met. The error is want of memory.
+/// What a person is told of a refusal: one or two lines, each with its end. The first begins with the name of the file
+/// and, where its bytes are there, the line at which the refused record begins. The second, if there is one, names a
+/// cause that stands elsewhere or that is often met. The error is want of memory.
 pub fn hint(
     alloc: Global,
     refusal: &Refusal<'_>,

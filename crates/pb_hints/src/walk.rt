@@ -41,9 +41,9 @@ impl<'a> Walk<'a> {
         })
     }
 
-    /// Goes behind the record at a place, and tells what was met there: that record, or the end of the file, which has the
-    /// place after the last record. What stands before it, blank records aside, goes to `before`. None where the file has
-    /// no such place, or a blank record stands there.
+    /// Goes behind the record at a place, and tells what was met there: that record, or the end of the file, which has
+    /// the place after the last record. What stands before it, blank records aside, goes to `before`. None where the
+    /// file has no such place, or a blank record stands there.
     pub fn go_to<B: Before>(
         &mut self,
         place: u64,

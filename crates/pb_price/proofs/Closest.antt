@@ -1,4 +1,5 @@
--- The finding by a loop is that of the definition: the closest of the candidates is the first at which the excess is greatest.
+-- The finding by a loop is that of the definition: the closest of the candidates is the first at which the excess is
+-- greatest.
 use Rattle.std.proofs.Common.{◌≡◌, ℕ, zero, suc, ◌+◌, ◌-◌, ◌<◌, ◌≤◌, Bool, true, false, cond, List, ◌∷◌, refl, sym, ◌∙◌, ap, inl, inr, arith}
 use Rattle.std.specs.Prelude.{ℤ, ◌≤ℤ◌, ◌&&◌, Option, Some, None, filter, int_le, option_map, slice_get}
 use Rattle.std.specs.List.{list_all, range_with_len}

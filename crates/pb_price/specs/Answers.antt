@@ -31,8 +31,8 @@ pub record IsVerdictOn (m : Mode) (e : Instance) (w : List Bool) (p : Prices) (v
 abbrev pub row_count : List ℕ → ℕ
 row_count bytes = length (drop 4 (nonblank (certificate_records bytes)))
 
--- at least a step for each row and each voter; at most one for each row, two for each approval, one for each voter, and four
--- for each project
+-- at least a step for each row and each voter; at most one for each row, two for each approval, one for each voter, and
+-- four for each project
 pub record AreStepsOf (e : Instance) (rows steps : ℕ) : Type 0 where
   pub fewest : rows + voters e ≤ steps
   pub most : steps ≤ rows + 2 * approvals e.ballots + voters e + 4 * projects e

@@ -25,8 +25,8 @@ excess m = m.amount -ℤ pos m.bound
 abbrev pub closest : List ℕ → (ℕ → ℤ) → Option ℕ
 closest xs f = slice_get (filter (λ x. list_all (λ y. int_le (f y) (f x)) xs) xs) 0
 
--- the first culprit, how many there are, and the sums at the first one, or where there is none those at the candidate that
--- comes closest, if there is a candidate
+-- the first culprit, how many there are, and the sums at the first one, or where there is none those at the candidate
+-- that comes closest, if there is a candidate
 abbrev pub finding : List ℕ → List ℕ → (ℕ → ℕ) → (ℕ → ℤ) → Finding
 finding culprits candidates bound amount = record {
   first = slice_get culprits 0;

@@ -15,8 +15,9 @@ IsInRange x = (neg_ℤ (pos (10 ^ 34)) ≤ℤ x) × (x ≤ℤ pos (10 ^ 34))
 abbrev pub IsInRangeℕ : ℕ → Type 0
 IsInRangeℕ n = IsInRange (pos n)
 
--- Each amount that the conditions name is in the range, and so is each sum of such amounts over any group of voters or any
--- set of projects: over all of them, over the supporters of a project, over the funded projects, and over any part of those.
+-- Each amount that the conditions name is in the range, and so is each sum of such amounts over any group of voters or
+-- any set of projects: over all of them, over the supporters of a project, over the funded projects, and over any part
+-- of those.
 pub record AllSumsFit (e : Instance) (w : List Bool) (p : Prices) : Type 0 where
   -- Feasible and Exhaustive, which are in millionths: what the outcome costs, and with one project more
   pub outcome : IsInRangeℕ (total e w)

@@ -9,8 +9,8 @@ use Rattle.pb_price.specs.declared.Failure.TheVariants as failure
 use Rattle.pb_price.specs.declared.Findings.{Findings}
 use Rattle.pb_price.specs.declared.Mode.{Mode}
 
--- Feasible holds where the total is at most the limit, Cover where the budgets are more than the limit, and each other condition
--- where it has no culprit
+-- Feasible holds where the total is at most the limit, Cover where the budgets are more than the limit, and each other
+-- condition where it has no culprit
 pub record TellWhatHolds (e : Instance) (w : List Bool) (p : Prices) (f : Findings) : Type 0 where
   pub feasible : (f.total ≤ f.limit) ↔ Feasible e w
   pub exhaustive : (f.exhaustive.count ≡ 0) ↔ Exhaustive e w

@@ -60,9 +60,10 @@ pub fn check(
     Ok(checked.verdict)
 }
 
-/// Whether the prices that the bytes of a price certificate state support the outcome, as `check` answers for them, in one
-/// pass over the certificate that keeps no table of its payments. The outcome is to fit the election. A refusal is that of
-/// `Prices::read`, and comes before any verdict: the last row is refused though a condition failed at the first.
+/// Whether the prices that the bytes of a price certificate state support the outcome, as `check` answers for them, in
+/// one pass over the certificate that keeps no table of its payments. The outcome is to fit the election. A refusal is
+/// that of `Prices::read`, and comes before any verdict: the last row is refused though a condition failed at the
+/// first.
 pub fn check_rows(
     alloc: Global,
     election: &Election,
@@ -75,7 +76,8 @@ pub fn check_rows(
     // The bytes state prices, and the verdict is the one on them.
     ensures found { IfOk result (λ a. (p : spec.Prices) × IsPriceText (certificate_records bytes.now) election.now p × IsVerdictOn mode election.now (outcome.now).marks p a.verdict) }
 
-    // The steps are at least one for each row and each voter, and at most so many for rows, approvals, voters and projects.
+    // The steps are at least one for each row and each voter, and at most so many for rows, approvals, voters and
+    // projects.
     ensures steps { IfOk result (λ a. AreStepsOf election.now (row_count bytes.now) a.steps) }
 
     // A refusal is the first fault, or want of memory.

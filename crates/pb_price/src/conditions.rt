@@ -1,5 +1,5 @@
-//! The conditions on a price system, read off the sums of its payments: the first that is false, with its first culprit.
-//! Each pass over the projects counts a step for each project that it looks at.
+//! The conditions on a price system, read off the sums of its payments: the first that is false, with its first
+//! culprit. Each pass over the projects counts a step for each project that it looks at.
 
 ghost use Rattle.std.specs.Prelude.{◌≡◌, ◌≤◌, ◌+◌, ◌*◌, ◌^◌, ◌&&◌, not, nat_le, filter, length, slice_get};
 ghost use Rattle.pb_election.specs.Instance.{IsProject, all_projects, cost_of, projects};
@@ -128,7 +128,8 @@ fn is_affordable(election: &Election, outcome: &Outcome, cost_of_funded: u128, j
             <= u128::from(election.limit().millionths())
 }
 
-// Whether the budgets of all voters, of so many grains each, are together more than the limit, where the mode asks for that.
+// Whether the budgets of all voters, of so many grains each, are together more than the limit, where the mode asks for
+// that.
 fn failure_of_budgets(
     election: &Election,
     mode: Mode,
@@ -173,7 +174,8 @@ fn failure_of_payments(
     first_paid_wrongly(election, outcome, denominator, &tally.projects, steps)
 }
 
-// The first funded project that is not paid for exactly, and where there is none the first unfunded one that is paid for.
+// The first funded project that is not paid for exactly, and where there is none the first unfunded one that is paid
+// for.
 fn first_paid_wrongly(
     election: &Election,
     outcome: &Outcome,
@@ -258,7 +260,8 @@ fn failure_of_supporters(
     Some(Failure::C5(j))
 }
 
-// The first unfunded project whose supporters have together more left, or in the stable form can offer more, than it costs.
+// The first unfunded project whose supporters have together more left, or in the stable form can offer more, than it
+// costs.
 fn first_with_more(
     election: &Election,
     outcome: &Outcome,
@@ -285,7 +288,8 @@ fn first_with_more(
     None
 }
 
-// Whether project `j` is unfunded and its supporters have more left, or in the stable form can offer more, than it costs.
+// Whether project `j` is unfunded and its supporters have more left, or in the stable form can offer more, than it
+// costs.
 fn is_with_more(
     election: &Election,
     outcome: &Outcome,

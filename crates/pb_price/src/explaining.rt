@@ -1,5 +1,5 @@
-//! What each condition on a price system comes to, read off the sums of its payments, in one pass over the projects behind the
-//! one that adds up what the funded ones cost.
+//! What each condition on a price system comes to, read off the sums of its payments, in one pass over the projects
+//! behind the one that adds up what the funded ones cost.
 
 ghost use Rattle.std.specs.Prelude.{◌≡◌, ◌≤◌, ◌^◌, ◌⊎◌, ℕ, IfErr, IfOk, MatchResult, length};
 ghost use Rattle.pb_election.specs.Instance.{IsProject, most_voters, projects};
@@ -22,8 +22,9 @@ use pb_election::{Election, Outcome};
 use pb_money::cost_grains;
 use std::alloc::Global;
 
-/// What each condition comes to by the prices that the bytes of a price certificate state, in one pass over the certificate
-/// that keeps no table of its payments. The outcome is to fit the election. A refusal is that of `Prices::read`.
+/// What each condition comes to by the prices that the bytes of a price certificate state, in one pass over the
+/// certificate that keeps no table of its payments. The outcome is to fit the election. A refusal is that of
+/// `Prices::read`.
 pub fn findings_of(
     alloc: Global,
     election: &Election,

@@ -1,6 +1,6 @@
-//! The figures of each project by a price certificate, as a table shows them: what it costs, what is paid for it, and what its
-//! supporters have left and can offer. Amounts are in grains: a grain is 1/(10^6 D) of the currency, where D is the
-//! denominator.
+//! The figures of each project by a price certificate, as a table shows them: what it costs, what is paid for it, and
+//! what its supporters have left and can offer. Amounts are in grains: a grain is 1/(10^6 D) of the currency, where D
+//! is the denominator.
 
 ghost use Rattle.std.specs.Prelude.{◌≡◌, ◌≤◌, ◌⊎◌, IfErr, IfOk, MatchResult, length, map};
 ghost use Rattle.pb_election.specs.Instance.{all_projects, projects};
@@ -20,8 +20,9 @@ use pb_election::{Election, Outcome};
 use pb_money::cost_grains;
 use std::alloc::{AllocError, Global};
 
-/// The figures of each project by the prices that the bytes of a price certificate state, in one pass over the certificate
-/// that keeps no table of its payments. The outcome is to fit the election. A refusal is that of `Prices::read`.
+/// The figures of each project by the prices that the bytes of a price certificate state, in one pass over the
+/// certificate that keeps no table of its payments. The outcome is to fit the election. A refusal is that of
+/// `Prices::read`.
 pub fn margins_of(
     alloc: Global,
     election: &Election,

@@ -16,21 +16,21 @@ pub fn supported_where_no_condition_fails()
     ensures { (m : Mode) (e : Instance) (w : List Bool) (p : Prices) → (First m e w p ≡ None) ↔ Supports m.stable m.exhaustive m.cover e w p }
 {}
 
-/// Within the limits on elections and certificates each sum that the conditions compare, and each sum over a part of the
-/// voters or projects, lies from -10^34 to 10^34 grains, and so fits 128 bits. What voters without a budget have left can
-/// reach the lower end.
+/// Within the limits on elections and certificates each sum that the conditions compare, and each sum over a part of
+/// the voters or projects, lies from -10^34 to 10^34 grains, and so fits 128 bits. What voters without a budget have
+/// left can reach the lower end.
 pub fn sums_fit()
     ensures { (e : Instance) (w : List Bool) (p : Prices) → IsElection e → ArePrices e p → AllSumsFit e w p }
 {}
 
-/// The findings on prices tell which conditions hold: Feasible where the total is at most the limit, Cover where the budgets
-/// are more than the limit, and each other condition where it has no culprit.
+/// The findings on prices tell which conditions hold: Feasible where the total is at most the limit, Cover where the
+/// budgets are more than the limit, and each other condition where it has no culprit.
 pub fn findings_tell_what_holds()
     ensures { (e : Instance) (w : List Bool) (p : Prices) → 1 ≤ p.denominator → TellWhatHolds e w p (findings e w p) }
 {}
 
-/// The first condition that the findings tell to be false is the first failure. So `Findings::verdict` is the verdict on the
-/// prices.
+/// The first condition that the findings tell to be false is the first failure. So `Findings::verdict` is the verdict
+/// on the prices.
 pub fn findings_tell_the_first_failure()
     ensures { (m : Mode) (e : Instance) (w : List Bool) (p : Prices) → 1 ≤ p.denominator → first_told m (findings e w p) ≡ First m e w p }
 {}

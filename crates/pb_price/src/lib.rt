@@ -1,6 +1,6 @@
 //! The verdict on a price system: whether it supports an outcome, and by what margins. The conditions are after Peters,
-//! Pierczyński and Skowron (2021), and S5 after Peters, Pierczyński, Shah and Skowron (2021), each in this project's form for
-//! projects with costs.
+//! Pierczyński and Skowron (2021), and S5 after Peters, Pierczyński, Shah and Skowron (2021), each in this project's
+//! form for projects with costs.
 #![tactic(auto)]
 
 mod checking;
@@ -83,13 +83,13 @@ pub enum Failure {
 pub struct Checked {
     /// The verdict on the prices that the certificate states.
     pub verdict: Verdict,
-    /// The steps that it took: one for each payment row taken, each entry of a ballot looked at, each voter closed, and each
-    /// project looked at in a pass over the projects.
+    /// The steps that it took: one for each payment row taken, each entry of a ballot looked at, each voter closed, and
+    /// each project looked at in a pass over the projects.
     pub steps: u64,
 }
 
-/// The figures of each project by a price certificate. A grain is 1/(10^6 D) of the currency, where D is the denominator of
-/// the certificate.
+/// The figures of each project by a price certificate. A grain is 1/(10^6 D) of the currency, where D is the
+/// denominator of the certificate.
 #[derive(Debug, Drop)]
 pub struct Margins {
     /// How many grains one unit of the currency has: 10^6 D, from 10^6 to 10^15.
@@ -98,8 +98,8 @@ pub struct Margins {
     pub projects: Vec<ProjectMargins>,
 }
 
-/// The figures of a project, with all amounts in grains. How far the cost is from what is paid is the margin of C3 at a funded
-/// project, and from what is left or can be offered that of C5 or S5 at an unfunded one.
+/// The figures of a project, with all amounts in grains. How far the cost is from what is paid is the margin of C3 at a
+/// funded project, and from what is left or can be offered that of C5 or S5 at an unfunded one.
 #[derive(Clone, Copy, Debug, PartialEq, Eq)]
 pub struct ProjectMargins {
     /// Whether it is funded.
@@ -112,13 +112,13 @@ pub struct ProjectMargins {
     pub paid: u128,
     /// What its supporters have left together, from -10^34 to 10^33: negative where they pay more than their budgets.
     pub left: i128,
-    /// What its supporters can offer together in the stable form, each the larger of its largest payment and what it has left.
-    /// From 0 to 10^33.
+    /// What its supporters can offer together in the stable form, each the larger of its largest payment and what it
+    /// has left. From 0 to 10^33.
     pub offer: i128,
 }
 
-/// What each condition on a price system comes to by a price certificate, also those behind the first that is false. Amounts
-/// are in grains: a grain is 1/(10^6 D) of the currency, where D is the denominator of the certificate.
+/// What each condition on a price system comes to by a price certificate, also those behind the first that is false.
+/// Amounts are in grains: a grain is 1/(10^6 D) of the currency, where D is the denominator of the certificate.
 #[derive(Clone, Copy, Debug, PartialEq, Eq)]
 pub struct Findings {
     /// How many grains one unit of the currency has: 10^6 D, from 10^6 to 10^15.
@@ -150,24 +150,24 @@ pub struct Findings {
 /// Where C1 is false.
 #[derive(Clone, Copy, Debug, PartialEq, Eq)]
 pub struct PaymentFinding {
-    /// The first culprit: the lowest voter that pays for a project that it does not approve, and the lowest such project.
-    /// `None` where C1 holds.
+    /// The first culprit: the lowest voter that pays for a project that it does not approve, and the lowest such
+    /// project. `None` where C1 holds.
     pub first: Option<(u32, u32)>,
     /// How many such payments there are, and 0 where C1 holds.
     pub count: u64,
 }
 
-/// Where another condition is false, and the sums that it compares at one place: at a voter for C2, and at a project for the
-/// others.
+/// Where another condition is false, and the sums that it compares at one place: at a voter for C2, and at a project
+/// for the others.
 #[derive(Clone, Copy, Debug, PartialEq, Eq)]
 pub struct Finding {
     /// The first culprit: the lowest number of a place at which the condition is false. `None` where it holds.
     pub first: Option<u32>,
     /// How many culprits there are, and 0 where the condition holds.
     pub count: u32,
-    /// The sums at the first culprit. Where there is none, they are those at the place where the amount comes closest to the
-    /// bound, the lowest of several: at a voter for C2, and at an unfunded project for the others. `None` where there is no
-    /// such place, and where C3 or C4 holds.
+    /// The sums at the first culprit. Where there is none, they are those at the place where the amount comes closest
+    /// to the bound, the lowest of several: at a voter for C2, and at an unfunded project for the others. `None` where
+    /// there is no such place, and where C3 or C4 holds.
     pub shown: Option<Comparison>,
 }
 

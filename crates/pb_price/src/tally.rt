@@ -29,8 +29,9 @@ pub(crate) struct ProjectSums {
     pub last_approver: u32,
 }
 
-/// The sums of the payments that were taken, which come by voter. The voters up to one are closed: they are counted among the
-/// supporters of the projects that they approve, with what they have left and can offer. The next one is at hand.
+/// The sums of the payments that were taken, which come by voter. The voters up to one are closed: they are counted
+/// among the supporters of the projects that they approve, with what they have left and can offer. The next one is at
+/// hand.
 #[derive(Drop)]
 pub(crate) struct Tally {
     /// The budget of each voter.
@@ -216,7 +217,8 @@ fn unapproved_with(known: PaymentFinding, approved: bool, row: PriceRow) -> Paym
     }
 }
 
-// The first of a voter with a project that is known, if there is one, and another voter with a project that is not lower.
+// The first of a voter with a project that is known, if there is one, and another voter with a project that is not
+// lower.
 fn first_of(known: Option<(u32, u32)>, voter: u32, project: u32) -> Option<(u32, u32)>
     ensures { result ≡ first_pair known voter project }
 {

@@ -8,9 +8,9 @@ use crate::checking::verdict_by;
 use crate::{Failure, Findings, Mode, Verdict};
 
 impl Findings {
-    /// The verdict that the findings tell: that the prices support the outcome, where each condition of the mode holds by
-    /// them, or else the first that doesn't, with its first culprit. It is the verdict on the prices that they were found
-    /// for, in any mode.
+    /// The verdict that the findings tell: that the prices support the outcome, where each condition of the mode holds
+    /// by them, or else the first that doesn't, with its first culprit. It is the verdict on the prices that they were
+    /// found for, in any mode.
     pub fn verdict(&self, mode: Mode) -> Verdict
         ensures { result ≡ verdict_of (first_told mode self.now) }
     {

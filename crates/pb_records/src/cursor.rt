@@ -10,8 +10,8 @@ use csv::StringRecord;
 use std::alloc::{AllocError, Global};
 use std::marker::Model;
 
-/// A place between the records of a file. Whoever goes over a file pulls its records from here, one at a time. A cursor is
-/// about 16 KiB large: what holds one and is moved keeps it in a `Box`.
+/// A place between the records of a file. Whoever goes over a file pulls its records from here, one at a time. A cursor
+/// is about 16 KiB large: what holds one and is moved keeps it in a `Box`.
 #[derive(Drop)]
 pub struct Cursor<'a> {
     records: Records<'a>,
@@ -44,8 +44,8 @@ impl<'a> Cursor<'a> {
         }
     }
 
-    /// Goes behind the next record that is not blank, which `row` then lends. Behind a record that is not UTF-8, and after
-    /// an error, which is want of memory, no record is left: what comes then is the end.
+    /// Goes behind the next record that is not blank, which `row` then lends. Behind a record that is not UTF-8, and
+    /// after an error, which is want of memory, no record is left: what comes then is the end.
     pub fn advance(&mut self) -> Result<Next, AllocError>
         ensures next { IfOk result (λ next. Meets next self.old self.new) }
         ensures failed { OnErr result (self.new.left ≡ []) }
@@ -73,8 +73,8 @@ impl<'a> Cursor<'a> {
         &self.row
     }
 
-    /// How many records lie behind, blank ones too: the place of the record that was met last, from 1. The end of the file
-    /// has the next place.
+    /// How many records lie behind, blank ones too: the place of the record that was met last, from 1. The end of the
+    /// file has the next place.
     pub fn place(&self) -> u64
         ensures value { result ≡ self.now.place }
         ensures few { result ≤ 2 ^ 63 }

@@ -20,8 +20,8 @@ pub enum Stop<F> {
     Memory,
 }
 
-/// A fault and the place where it stands. The records have the places from 1 on, blank ones too, and the end of the file
-/// has the next.
+/// A fault and the place where it stands. The records have the places from 1 on, blank ones too, and the end of the
+/// file has the next.
 #[derive(Clone, Copy, Debug, PartialEq, Eq)]
 pub struct FaultAt<F> {
     /// The fault; of several at this place, the one with the lowest number.
@@ -30,8 +30,8 @@ pub struct FaultAt<F> {
     pub place: u64,
 }
 
-/// What is built from the records of one kind of file, one record at a time. Blank records do not reach it. `A` is what the
-/// file is read against: the election for a certificate's, nothing for an election's.
+/// What is built from the records of one kind of file, one record at a time. Blank records do not reach it. `A` is what
+/// the file is read against: the election for a certificate's, nothing for an election's.
 pub trait Draft<A> {
     /// Why a file of this kind is refused.
     type Fault;

@@ -180,8 +180,8 @@ impl<W: Write> Sink for Output<W> {
 // How many bytes are asked for at a time.
 const CHUNK: usize = 65536;
 
-// How much room there is at first. The C library's allocator gives so much room pages of its own, which cost nothing until
-// they are written, and gives them back to the system when the bytes are let go. With less it would keep them.
+// How much room there is at first. The C library's allocator gives so much room pages of its own, which cost nothing
+// until they are written, and gives them back to the system when the bytes are let go. With less it would keep them.
 const ROOM: usize = 33 * 1024 * 1024;
 
 /// All bytes up to the end, if they are at most `most`, by at most `most + 1` reads. `Read` comes at the first error of

@@ -63,8 +63,9 @@ most_bytes = 2 ^ 28
 abbrev pub in_memory : List ℕ → Delivery
 in_memory bytes = if nat_lt most_bytes (length bytes) then delivery.TooLong else delivery.Bytes bytes
 
--- What an input states, by what was delivered of it, where a kind of input says which values are stated by bytes and why
--- bytes are refused. The delivery `Read` says that the reader failed, and `TooLong` that it had more bytes than are allowed.
+-- What an input states, by what was delivered of it, where a kind of input says which values are stated by bytes and
+-- why bytes are refused. The delivery `Read` says that the reader failed, and `TooLong` that it had more bytes than are
+-- allowed.
 abbrev pub States : {A : Type 0} → InputName → (List ℕ → A → Type 0) → (List ℕ → Refusal → Type 0) → Delivery → Stated A
     → Type 0
 States input is_text is_refused (delivery.Bytes bytes) (Ok a) = is_text bytes a

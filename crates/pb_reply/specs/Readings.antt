@@ -1,5 +1,5 @@
--- What the readers of the inputs delivered. Here `Source R` is what the trait says of readers of a type R: the bytes that are
--- left, and the counts.
+-- What the readers of the inputs delivered. Here `Source R` is what the trait says of readers of a type R: the bytes
+-- that are left, and the counts.
 use Rattle.std.specs.Prelude.{◌≡◌, ℕ, List, Option, Some, None}
 use Rattle.std.specs.Option.{option_map}
 use Rattle.pb_records.specs.Loading.{Delivered, Delivery, ReadCounts}

@@ -1,5 +1,5 @@
--- How a call that writes ends. Here `Sink W` is what the trait says of writers of a type W: the bytes that they hold, and the
--- counts.
+-- How a call that writes ends. Here `Sink W` is what the trait says of writers of a type W: the bytes that they hold,
+-- and the counts.
 use Rattle.std.specs.Prelude.{◌≡◌, ℕ, List, Option, Result, IfOk, IsErrOf}
 use Rattle.std.specs.Io.KnownBytes.{Appends}
 use Rattle.pb_records.specs.Loading.{AppendsFront, IsFlushed, Rises, WriteCounts}
@@ -14,8 +14,8 @@ pub record Writer : Type 0 where
   pub holds : Option (List ℕ)
   pub counts : WriteCounts
 
--- one of these answers was written, whole and with nothing else, and has this status; nothing failed, and the writer was
--- flushed after the last write
+-- one of these answers was written, whole and with nothing else, and has this status; nothing failed, and the writer
+-- was flushed after the last write
 pub record IsWritten (is_answer : Answer → Type 0) (status : Status) (old new : Writer) : Type 0 where
   pub answer : Answer
   pub of_inputs : is_answer answer
@@ -34,8 +34,8 @@ pub record IsCutShort (is_answer : Answer → Type 0) (old new : Writer) : Type 
 abbrev pub writer : {W : Type 0} → Sink W → W → Writer
 writer sink w = record { holds = sink.holds w; counts = sink.counts w }
 
--- How a call ends that writes one of these answers: it is written, or it is cut short, or memory was wanted and the writer
--- is as it was.
+-- How a call ends that writes one of these answers: it is written, or it is cut short, or memory was wanted and the
+-- writer is as it was.
 pub record Writes {W : Type 0} (sink : Sink W) (is_answer : Answer → Type 0) (result : Result Status Fault)
     (old new : W) : Type 0 where
   pub written : IfOk result (λ status. IsWritten is_answer status (writer sink old) (writer sink new))

@@ -33,7 +33,8 @@ pub enum File<'a> {
 }
 
 impl Loaded {
-    /// What a reader delivers of a file: its bytes, at most 2^28, or that it failed or has more. The error is want of memory.
+    /// What a reader delivers of a file: its bytes, at most 2^28, or that it failed or has more. The error is want of
+    /// memory.
     pub fn load<R: Source>(alloc: Global, source: &mut R) -> Result<Loaded, AllocError>
         ensures { IfOk result (λ loaded. Delivered (R.left source.old) (R.counts source.old) (R.counts source.new) most_bytes (delivery_of loaded)) }
     {

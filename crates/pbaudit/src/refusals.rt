@@ -9,8 +9,8 @@ use std::io::Write;
 use std::{fs, io};
 
 /// Tells on `err` why an input of a task was refused, whose line, without its end, is this. Where the input couldn't be
-/// read, the operating system's number for that is `failure`. What `err` does not take is lost, and nothing is told where
-/// memory is wanted, where there is no such line, or of a folder, whose lines name their files.
+/// read, the operating system's number for that is `failure`. What `err` does not take is lost, and nothing is told
+/// where memory is wanted, where there is no such line, or of a folder, whose lines name their files.
 pub fn tell_hint<E: Write>(
     rt: &HostRuntime,
     task: &Task,
@@ -79,7 +79,8 @@ fn explains_violation(
     }
 }
 
-/// What an input of a task is to be, as far as the task tells, by its name in refusals, and its path; none for standard input.
+/// What an input of a task is to be, as far as the task tells, by its name in refusals, and its path; none for standard
+/// input.
 fn input_of<'a>(task: &'a Task, input: &str) -> Option<(Kind, Option<&'a str>)> {
     let (kind, path) = match (task, input) {
         (Task::Read(None), "election") => return Some((Kind::Election, None)),
@@ -107,7 +108,8 @@ fn input_of<'a>(task: &'a Task, input: &str) -> Option<(Kind, Option<&'a str>)> 
     Some((kind, Some(path.as_str())))
 }
 
-/// The bytes of a file that can be read again: a regular one of at most 2^28 bytes. A pipe can't, and could wait for ever.
+/// The bytes of a file that can be read again: a regular one of at most 2^28 bytes. A pipe can't, and could wait for
+/// ever.
 fn bytes_at(rt: &HostRuntime, path: &str) -> Result<Option<Vec<u8>>, AllocError> {
     match fs::metadata(rt, path) {
         Ok(metadata) if metadata.is_file() => {}

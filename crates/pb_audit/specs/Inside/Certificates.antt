@@ -1,5 +1,5 @@
--- What the values stand for that the code makes of a certificate on the way to an answer. What a command answers is said
--- without them, in `Answers` and `Readers`.
+-- What the values stand for that the code makes of a certificate on the way to an answer. What a command answers is
+-- said without them, in `Answers` and `Readers`.
 use Rattle.std.specs.Prelude.{◌≡◌, Bool, List, Ok, Err}
 use Rattle.pb_election.specs.Instance.{Instance}
 use Rattle.pb_records.specs.Loading.{Delivery}

@@ -1,5 +1,5 @@
--- What is remembered of the rows of a price certificate while their payments are gathered by voter. No claim on a file rests
--- on this.
+-- What is remembered of the rows of a price certificate while their payments are gathered by voter. No claim on a file
+-- rests on this.
 use Rattle.std.specs.Prelude.{◌≡◌, ◌≤◌, ◌<◌, ◌+◌, ◌==◌, ◌&&◌, nat_lt, if◌then◌else◌, false, ℕ, List, filter_map, length, map, Some, None, sum_by}
 use Rattle.std.specs.List.{AllByRecursion, IsDistinct, list_any, range_with_len}
 use Rattle.pb_election.specs.Instance.{Instance, projects, voters}
@@ -33,7 +33,8 @@ prices_up_to s qs n =
 
 -- Here `has` says of an election and of prices that a ledger has these so far.
 
--- of the payments that some rows state, the ledger has those of the voters that are done, and the turn those of the next
+-- of the payments that some rows state, the ledger has those of the voters that are done, and the turn those of the
+-- next
 pub record Holds (has : Instance → Prices → Type 0) (s : Rows) (qs : List Payment) (t : Turn) : Type 0 where
   pub has_done : has s.election (prices_up_to s qs t.done)
   pub at_hand : t.payments.items ≡ payments_made qs (t.done + 1)

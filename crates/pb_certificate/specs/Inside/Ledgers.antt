@@ -1,5 +1,5 @@
--- For the reader's own parts: what takes the payments of a price certificate, one voter after the other. No claim on a file
--- rests on this.
+-- For the reader's own parts: what takes the payments of a price certificate, one voter after the other. No claim on a
+-- file rests on this.
 use Rattle.std.specs.Prelude.{◌≡◌, ◌≤◌, ◌+◌, ◌++◌, ℕ, List, [], ◌∷◌, length, sum_by}
 use Rattle.pb_election.specs.Instance.{Instance}
 use Rattle.pb_certificate.specs.Prices.{IsPaymentMap, Prices, most_rows}

@@ -1,4 +1,5 @@
--- What the reader's own draft of an outcome file stands for, as far as it has been read. No claim on a file rests on this.
+-- What the reader's own draft of an outcome file stands for, as far as it has been read. No claim on a file rests on
+-- this.
 use Rattle.std.specs.Prelude.{◌≡◌, ◌==◌, ◌&&◌, if◌then◌else◌, Bool, IsTrue, true, false, List, [], ◌∷◌, length, Result, Err, codes}
 use Rattle.std.specs.List.{AllByRecursion}
 use Rattle.pb_election.specs.Instance.{Instance}

@@ -1,4 +1,5 @@
--- What the reader's own draft of a violation certificate stands for, as far as it has been read. No claim on a file rests on this.
+-- What the reader's own draft of a violation certificate stands for, as far as it has been read. No claim on a file
+-- rests on this.
 use Rattle.std.specs.Prelude.{◌≡◌, ◌==◌, if◌then◌else◌, ⊤, Bool, IsTrue, List, [], ◌∷◌, ◌++◌, length, Result, Ok, Err, codes}
 use Rattle.std.specs.List.{AllByRecursion}
 use Rattle.pb_election.specs.Instance.{Instance}

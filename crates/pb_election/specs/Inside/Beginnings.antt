@@ -1,5 +1,5 @@
--- For the reader's own parts: the ways in which the text of an election can begin, and what has been read of each. What a
--- file states is said in Text and Faults, without this module.
+-- For the reader's own parts: the ways in which the text of an election can begin, and what has been read of each. What
+-- a file states is said in Text and Faults, without this module.
 use Rattle.std.specs.Prelude.{◌≡◌, ◌++◌, IfSome, IsTrue, List, [], ◌∷◌, Some}
 use Rattle.std.specs.List.{AllByRecursion}
 use Rattle.pb_money.specs.Money.{IsMoney}

@@ -1,5 +1,5 @@
--- For the reader's own parts: the ids of projects, as a set of strings keeps them, and where they stand. What a file states
--- is said in Text and Faults, without this module.
+-- For the reader's own parts: the ids of projects, as a set of strings keeps them, and where they stand. What a file
+-- states is said in Text and Faults, without this module.
 use Rattle.std.specs.Prelude.{ℕ, List, Option, map, string_bytes}
 use Rattle.std.specs.Global.{Global}
 use Rattle.std.specs.List.{position_from}

@@ -1,5 +1,5 @@
--- For the reader's own parts: what one more project adds to those that were read. What a file states is said in Text and
--- Faults, without this module.
+-- For the reader's own parts: what one more project adds to those that were read. What a file states is said in Text
+-- and Faults, without this module.
 use Rattle.std.specs.Prelude.{◌≡◌, ◌+◌, ◌++◌, ◌&&◌, if◌then◌else◌, is_some, ℕ, [], ◌∷◌}
 use Rattle.std.specs.Option.{option_map}
 use Rattle.pb_records.specs.Records.{Field}

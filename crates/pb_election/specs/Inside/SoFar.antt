@@ -1,5 +1,5 @@
--- For the reader's own parts: what has been read of an election so far, and what one more record adds to it. What a file
--- states is said in Text and Faults, without this module.
+-- For the reader's own parts: what has been read of an election so far, and what one more record adds to it. What a
+-- file states is said in Text and Faults, without this module.
 use Rattle.std.specs.Prelude.{◌≡◌, ◌+◌, ◌++◌, ⊤, if◌then◌else◌, Bool, true, ℕ, List, [], ◌∷◌, Option, Some, None, Result, Ok, Err}
 use Rattle.std.specs.List.{list_any}
 use Rattle.std.specs.Option.{option_map}

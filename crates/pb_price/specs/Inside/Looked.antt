@@ -1,4 +1,5 @@
--- What the code's own findings are while the projects are looked at one by one. No claim on a certificate rests on this.
+-- What the code's own findings are while the projects are looked at one by one. No claim on a certificate rests on
+-- this.
 use Rattle.std.specs.Prelude.{◌≤◌, ◌^◌, ◌==◌, ◌&&◌, not, if◌then◌else◌, ℕ, ℤ, pos, int_le, int_lt, Bool, false, true, List, IfSome}
 use Rattle.pb_money.specs.Grains.{cost_grains}
 use Rattle.pb_election.specs.Instance.{Instance, cost_of}

@@ -38,8 +38,8 @@ pub record IsFirstGreatest (candidate : ℕ → Type 0) (f : ℕ → ℤ) (x : �
   pub greatest : (y : ℕ) → candidate y → f y ≤ℤ f x
   pub lowest : (y : ℕ) → candidate y → f y ≡ f x → x ≤ y
 
--- what is shown: the sums at the first culprit, and where there is none at the first candidate that comes closest, if there is a
--- candidate
+-- what is shown: the sums at the first culprit, and where there is none at the first candidate that comes closest, if
+-- there is a candidate
 abbrev pub IsShown : Option ℕ → (ℕ → Type 0) → (ℕ → ℕ) → (ℕ → ℤ) → Option Comparison → Type 0
 IsShown (Some x) candidate bound amount shown = shown ≡ Some (comparison bound amount x)
 IsShown None candidate bound amount None = (x : ℕ) → candidate x → ⊥

@@ -1,5 +1,5 @@
--- What the code's own tally is while the rows of a certificate or the payments of prices are taken. No claim on a certificate
--- rests on this.
+-- What the code's own tally is while the rows of a certificate or the payments of prices are taken. No claim on a
+-- certificate rests on this.
 use Rattle.std.specs.Prelude.{◌≡◌, ◌<◌, ◌≤◌, ◌+◌, ◌-◌, ◌*◌, ◌^◌, ◌==◌, ◌&&◌, if◌then◌else◌, nat_lt, [], ℕ, List, length, drop, take}
 use Rattle.pb_election.specs.Instance.{Instance, IsProject, most_projects, projects}
 use Rattle.pb_records.specs.Cells.{nonblank}

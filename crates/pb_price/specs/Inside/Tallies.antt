@@ -1,4 +1,5 @@
--- What the code's own sums of payments stand for, as far as the payments were taken. No claim on a certificate rests on this.
+-- What the code's own sums of payments stand for, as far as the payments were taken. No claim on a certificate rests on
+-- this.
 use Rattle.std.specs.Prelude.{◌≡◌, ◌<◌, ◌≤◌, ◌+◌, ◌-◌, ◌*◌, ◌^◌, ◌==◌, ◌&&◌, ◌||◌, ◌++◌, not, nat_lt, if◌then◌else◌, ℕ, ℤ, pos, neg_ℤ, ◌+ℤ◌, ◌-ℤ◌, ◌≤ℤ◌, int_lt, Bool, false, true, List, length, take, filter, map, sum_by, slice_index_or, Option, Some, None}
 use Rattle.std.specs.Int.{int_max}
 use Rattle.std.specs.List.{list_any, range_with_len}
@@ -18,8 +19,9 @@ use Rattle.pb_price.specs.declared.ProjectMargins.{ProjectMargins}
 use Rattle.pb_price.specs.declared.tally.ProjectSums.{ProjectSums}
 use Rattle.pb_price.specs.declared.tally.Tally.{Tally}
 
--- Throughout, f says what a voter pays for a project, as a numerator, by the payments that were taken. So `paid_by`, `spent_by`,
--- `top_by`, `left_by` and `most_by` are `paid`, `spent`, `top`, `left` and `most_of` of a price system, as far as it is known.
+-- Throughout, f says what a voter pays for a project, as a numerator, by the payments that were taken. So `paid_by`,
+-- `spent_by`, `top_by`, `left_by` and `most_by` are `paid`, `spent`, `top`, `left` and `most_of` of a price system, as
+-- far as it is known.
 
 abbrev pub paid_by : Instance → (ℕ → ℕ → ℕ) → ℕ → ℕ
 paid_by e f c = sum_by (λ i. payment_grains (f i c)) (all_voters e)
@@ -65,8 +67,8 @@ pub record Taken : Type 0 where
   pub pays : ℕ → ℕ → ℕ
   pub rows : ℕ
 
--- the sums of the projects: what is paid by all voters, what those supporters have left and can offer that are closed, and how
--- many these are, and the last voter seen to approve the project
+-- the sums of the projects: what is paid by all voters, what those supporters have left and can offer that are closed,
+-- and how many these are, and the last voter seen to approve the project
 pub record AreSumsOf (e : Instance) (a : Taken) (closed opened : ℕ) (sums : List ProjectSums) : Type 0 where
   pub as_many : length sums ≡ projects e
   pub paid : (k : ℕ) (d : ProjectSums) → k < projects e → (slice_index_or sums k d).paid ≡ paid_by e a.pays (k + 1)
@@ -84,8 +86,8 @@ pub record AreSumsOf (e : Instance) (a : Taken) (closed opened : ℕ) (sums : Li
 abbrev pub most_grains : ℕ
 most_grains = 10 ^ 27
 
--- what holds of what was taken, where so many voters are closed: the payments of those and of the next one, for projects of the
--- election
+-- what holds of what was taken, where so many voters are closed: the payments of those and of the next one, for
+-- projects of the election
 pub record AreTaken (e : Instance) (a : Taken) (closed opened : ℕ) : Type 0 where
   pub within : closed ≤ voters e
   pub small_budget : a.budget ≤ most_grains
@@ -94,8 +96,8 @@ pub record AreTaken (e : Instance) (a : Taken) (closed opened : ℕ) : Type 0 wh
   pub seen : opened ≤ closed + 1
   pub not_unseen : (c : ℕ) → opened ≤ closed → a.pays (closed + 1) c ≡ 0
 
--- the steps: one for each row, and one for each closed voter; at least none and at most two for each approval of a closed
--- voter, and one for each of the voter at hand once it is opened
+-- the steps: one for each row, and one for each closed voter; at least none and at most two for each approval of a
+-- closed voter, and one for each of the voter at hand once it is opened
 pub record AreSteps (e : Instance) (rows closed opened steps : ℕ) : Type 0 where
   pub low : rows + closed ≤ steps
   pub high : steps ≤ rows + 2 * approvals (take closed e.ballots) + closed + length (ballot_of e (closed + 1))
@@ -162,8 +164,8 @@ pub record AreSmall (s : ProjectSums) : Type 0 where
   pub offer : IsWithin (10 ^ 38) s.offer
   pub supporters : s.supporters ≤ most_voters
 
--- the sums are those of a price system: of each project what is paid for it, what its supporters have left and can offer, and how
--- many these are
+-- the sums are those of a price system: of each project what is paid for it, what its supporters have left and can
+-- offer, and how many these are
 pub record AreSums (e : Instance) (p : Prices) (sums : List ProjectSums) : Type 0 where
   pub as_many : length sums ≡ projects e
   pub paid : (k : ℕ) (d : ProjectSums) → k < projects e → (slice_index_or sums k d).paid ≡ paid e p (k + 1)

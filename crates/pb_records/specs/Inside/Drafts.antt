@@ -1,5 +1,5 @@
--- For the readers' own parts: what is built from the records of a file, one record at a time. What a file states, and why
--- it is refused, is said without this module.
+-- For the readers' own parts: what is built from the records of a file, one record at a time. What a file states, and
+-- why it is refused, is said without this module.
 use Rattle.std.specs.Prelude.{◌≡◌, ◌++◌, ⊤, false, List, [], ◌∷◌, Option, Some, None}
 use Rattle.pb_records.specs.Records.{Rec}
 use Rattle.pb_records.specs.Cells.{is_text}

@@ -1,5 +1,5 @@
--- For the reader's own parts: a reader of a file's records, and what it has yet to give. What the records of a file are is
--- said in Records, without this module.
+-- For the reader's own parts: a reader of a file's records, and what it has yet to give. What the records of a file are
+-- is said in Records, without this module.
 use Rattle.std.specs.Prelude.{◌≡◌, ◌+◌, Bool, true, false, ℕ, List, [], ◌∷◌, length, Option, Some, None, IsSome}
 use Rattle.std.proofs.Common.{Bor}
 use Rattle.csv.specs.Machine.{ends_at_end}

@@ -1,5 +1,5 @@
--- What the values stand for that the code takes and hands on between an input and its reply. What an input states is said
--- without them, in `Inputs` and `Readings`.
+-- What the values stand for that the code takes and hands on between an input and its reply. What an input states is
+-- said without them, in `Inputs` and `Readings`.
 use Rattle.std.specs.Prelude.{◌≡◌, if◌then◌else◌, Bool, true, false, ℕ, List, Option, Some, None, Result, Ok, Err}
 use Rattle.std.specs.Option.{option_map}
 use Rattle.pb_election.specs.Instance.{Instance}

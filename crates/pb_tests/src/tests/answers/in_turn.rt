@@ -276,7 +276,8 @@ fn expect_front(
     Err(Fail::new(format_args!("{}{piece} {at}", call.text())))
 }
 
-/// A write that takes no byte, or is interrupted, ends the run with what was written before, and nothing is tried again.
+/// A write that takes no byte, or is interrupted, ends the run with what was written before, and nothing is tried
+/// again.
 #[test]
 fn each_write_fails_in_turn(rt: HostRuntime) -> Result<(), Fail> {
     for call in WRITTEN {
