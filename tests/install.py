@@ -229,8 +229,16 @@ def try_man(score, prefix, helps):
         score.same((0, ""), (done.returncode, done.stdout + done.stderr), "mandoc -T lint")
 
 
+def has_example(name, text):
+    """Whether the help of a command shows how it is called."""
+    return re.search(rf"^Examples?:\n(?:  .*\n)*?  pbaudit {name}\b", text, re.MULTILINE)
+
+
 def try_pages(score, prefix, helps, folder):
     score.check(len(helps.names) > 1 and helps.sets[""] and helps.valued, f"the help wasn't understood: {helps.options}")
+    for name in helps.names:
+        # The command `help` has clap's own help.
+        score.check(name == "help" or has_example(name, helps.texts[name]), f"the help of {name} has no example of it")
     score.same(helps.sets, man_options((prefix / MAN).read_text()), "the options of the man page")
     score.same(helps.sets, zsh_options((prefix / ZSH).read_text()), "the options of zsh's completion")
     score.same(helps.sets, fish_options((prefix / FISH).read_text()), "the options of fish's completion")

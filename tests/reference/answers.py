@@ -222,7 +222,7 @@ def answer_or_refusal(work, paths, mode, outcome):
         return refusal.line, REFUSED
 
 
-def answer(words, versions=(1,)):
+def answer(words, versions=(1, 2)):
     """The text and the status for the words of a command line that is understood."""
     command, paths, mode, outcome = (words[0] if words else "read"), [], set(), None
     words = iter(words[1:])
