@@ -46,7 +46,7 @@ pub(crate) fn wanted_record(kind: Kind, records: u64) -> &'static str {
         (Kind::Prices, _) => "voter,project,payment",
         (Kind::Violation, 0) => "pb-violation,1 or pb-violation,2",
         (Kind::Violation, _) => "satisfaction,count or satisfaction,cost",
-        _ => "pb-outcome,1",
+        (Kind::Outcome | Kind::Election, _) => "pb-outcome,1",
     }
 }
 
@@ -55,6 +55,6 @@ pub(crate) fn wanted_row(kind: Kind) -> &'static str {
     match kind {
         Kind::Prices => "a row is VOTER,ID,NUMERATOR",
         Kind::Violation => "a row is project,ID or voter,NUMBER",
-        _ => "a row is project,ID",
+        Kind::Outcome | Kind::Election => "a row is project,ID",
     }
 }
