@@ -8,6 +8,7 @@ mod command;
 mod election;
 mod explain;
 mod fakes;
+mod lines;
 mod money;
 mod price;
 mod records;

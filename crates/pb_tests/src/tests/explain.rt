@@ -4,7 +4,6 @@ mod price_table;
 mod violation_table;
 
 use pb_price::Finding;
-use std::process::Abort;
 
 /// A condition that holds, of which no sums are shown.
 const NOTHING_SHOWN: Finding = Finding {
@@ -12,11 +11,3 @@ const NOTHING_SHOWN: Finding = Finding {
     count: 0,
     shown: None,
 };
-
-/// The lines are these.
-fn expect(rt: &impl Abort, lines: &[String], want: &[&str]) {
-    assert!(rt; lines.len() == want.len());
-    for (line, want) in lines.iter().zip(want) {
-        assert!(rt; line.as_str() == *want, "{line}");
-    }
-}

@@ -2,7 +2,36 @@
 use crate::tests::samples::UNFAIR_ELECTION;
 use pb_certificate::{Measure, Violation};
 use pb_election::Election;
+use std::alloc::Global;
+use std::process::Abort;
 use std::test::Fail;
+
+/// A violation is to be that of voters 1 and 2, who demand projects 1 and 2, by this measure.
+fn expect_violation(rt: &impl Abort, election: &Election, violation: &Violation, measure: Measure) {
+    assert!(rt; violation.fits(election));
+    assert_eq!(rt; violation.satisfaction(), measure);
+    assert_eq!(rt; violation.group(), [1, 2].as_slice());
+    assert_eq!(rt; violation.demand(), [1, 2].as_slice());
+}
+
+/// A text is to be refused by this number at this record.
+fn expect_refusal(
+    rt: &impl Abort,
+    alloc: Global,
+    election: &Election,
+    text: &str,
+    number: u32,
+    place: u64,
+) {
+    match Violation::read(alloc, text.as_bytes(), election) {
+        Ok(_) => assert!(rt; false, "a refusal is missing: {text}"),
+        Err(refusal) => assert_eq!(rt;
+            (refusal.number(), refusal.place),
+            (number, place),
+            "at {text}"
+        ),
+    }
+}
 
 #[test]
 fn violation_is_read_in_any_order_with_its_measure(rt: HostRuntime) -> Result<(), Fail> {
@@ -28,10 +57,7 @@ fn violation_is_read_in_any_order_with_its_measure(rt: HostRuntime) -> Result<()
     ];
     for (text, measure) in samples {
         let violation = Violation::read(rt.alloc(), text.as_bytes(), &election)?;
-        assert!(rt; violation.fits(&election));
-        assert_eq!(rt; violation.satisfaction(), measure, "at {text}");
-        assert_eq!(rt; violation.group(), [1, 2].as_slice());
-        assert_eq!(rt; violation.demand(), [1, 2].as_slice());
+        expect_violation(&rt, &election, &violation, measure);
     }
     Ok(())
 }
@@ -60,9 +86,7 @@ fn first_fault_of_a_violation_is_told_with_its_record(rt: HostRuntime) -> Result
         ),
     ];
     for (text, number, place) in samples {
-        let found = Violation::read(rt.alloc(), text.as_bytes(), &election);
-        let refusal = found.err().map(|refusal| (refusal.number(), refusal.place));
-        assert_eq!(rt; refusal, Some((number, place)), "at {text}");
+        expect_refusal(&rt, rt.alloc(), &election, text, number, place);
     }
     Ok(())
 }
@@ -101,9 +125,7 @@ fn measure_is_wanted_in_version_2_alone(rt: HostRuntime) -> Result<(), Fail> {
         ("pb-violation,1\nvoter,1\nsatisfaction,cost\n", 22, 3),
     ];
     for (text, number, place) in samples {
-        let found = Violation::read(rt.alloc(), text.as_bytes(), &election);
-        let refusal = found.err().map(|refusal| (refusal.number(), refusal.place));
-        assert_eq!(rt; refusal, Some((number, place)), "at {text}");
+        expect_refusal(&rt, rt.alloc(), &election, text, number, place);
     }
     Ok(())
 }

@@ -3,9 +3,25 @@ use crate::tests::samples::{DEAR_ELECTION, SMALL_SHARE_ELECTION, UNFAIR_ELECTION
 use pb_certificate::{Measure, Violation};
 use pb_cohesion::{Cost, Count, Satisfaction, ViolationFailure, ViolationVerdict, check_violation};
 use pb_election::{Election, Outcome};
+use std::alloc::Global;
 use std::test::Fail;
 
 const FAILED_V4: ViolationVerdict = ViolationVerdict::Failed(ViolationFailure::V4(1));
+
+/// The verdicts on a certificate: by the measure that it states, by counting, and by cost.
+fn verdicts(
+    alloc: Global,
+    election: &str,
+    certificate: &str,
+) -> Result<[ViolationVerdict; 3], Fail> {
+    let election = Election::read(alloc, election.as_bytes())?;
+    let outcome = Outcome::selected(alloc, &election)?;
+    let violation = Violation::read(alloc, certificate.as_bytes(), &election)?;
+    let stated = check_violation(&election, &outcome, &violation, &violation.satisfaction());
+    let counted = check_violation(&election, &outcome, &violation, &Count);
+    let by_cost = check_violation(&election, &outcome, &violation, &Cost);
+    Ok([stated, counted, by_cost])
+}
 
 #[test]
 fn stated_measure_decides(rt: HostRuntime) -> Result<(), Fail> {
@@ -33,11 +49,8 @@ fn stated_measure_decides(rt: HostRuntime) -> Result<(), Fail> {
         ),
     ];
     for (election, certificate, verdict) in samples {
-        let election = Election::read(rt.alloc(), election.as_bytes())?;
-        let outcome = Outcome::selected(rt.alloc(), &election)?;
-        let violation = Violation::read(rt.alloc(), certificate.as_bytes(), &election)?;
-        let found = check_violation(&election, &outcome, &violation, &violation.satisfaction());
-        assert_eq!(rt; found, verdict, "at {certificate}");
+        let [stated, _, _] = verdicts(rt.alloc(), election, certificate)?;
+        assert_eq!(rt; stated, verdict, "at {certificate}");
     }
     Ok(())
 }
@@ -54,13 +67,8 @@ fn caller_may_check_by_another_measure(rt: HostRuntime) -> Result<(), Fail> {
         ),
         (DEAR_ELECTION, dear, FAILED_V4, ViolationVerdict::Violation),
     ] {
-        let election = Election::read(rt.alloc(), election.as_bytes())?;
-        let outcome = Outcome::selected(rt.alloc(), &election)?;
-        let violation = Violation::read(rt.alloc(), certificate.as_bytes(), &election)?;
-        let found = check_violation(&election, &outcome, &violation, &Count);
-        assert_eq!(rt; found, counted, "at {certificate}");
-        let found = check_violation(&election, &outcome, &violation, &Cost);
-        assert_eq!(rt; found, by_cost, "at {certificate}");
+        let [_, found, other] = verdicts(rt.alloc(), election, certificate)?;
+        assert_eq!(rt; (found, other), (counted, by_cost), "at {certificate}");
     }
     Ok(())
 }

@@ -2,7 +2,8 @@
 ghost use Rattle.std.specs.Prelude.{◌≡◌, ◌≤◌, ◌^◌, Some};
 ghost use Rattle.pb_explain.specs.PriceTable.{NameProjects};
 
-use super::{NOTHING_SHOWN, expect};
+use super::NOTHING_SHOWN;
+use crate::tests::lines::expect_lines;
 use crate::tests::samples::ELECTION;
 use pb_election::Election;
 use pb_explain::push_price_table;
@@ -32,7 +33,7 @@ fn tells(
 {
     let mut lines = Vec::new(alloc);
     push_price_table(alloc, &mut lines, election, findings, mode)?;
-    expect(rt, &lines, want);
+    expect_lines(rt, &lines, want);
     Ok(())
 }
 

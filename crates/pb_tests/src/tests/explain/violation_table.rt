@@ -2,7 +2,7 @@
 ghost use Rattle.std.specs.Prelude.{◌≤◌, ◌*◌, ◌^◌, IfSome};
 ghost use Rattle.pb_election.specs.Instance.{IsProject};
 
-use super::expect;
+use crate::tests::lines::expect_lines;
 use crate::tests::samples::ELECTION;
 use pb_certificate::Measure;
 use pb_cohesion::{MissingApprovals, SatisfiedMembers, ViolationFindings};
@@ -26,7 +26,7 @@ fn tells(
 {
     let mut lines = Vec::new(alloc);
     push_violation_table(alloc, &mut lines, election, measure, findings)?;
-    expect(rt, &lines, want);
+    expect_lines(rt, &lines, want);
     Ok(())
 }
 

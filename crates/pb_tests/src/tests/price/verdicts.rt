@@ -5,7 +5,7 @@ use crate::tests::samples::{
     ELECTION, LONE_PRICES, NO_MONEY, NOT_EXHAUSTIVE, OUTCOME, PLAIN, PRICES, STABLE, certificate,
     with_pool, without_outcome,
 };
-use pb_certificate::{Prices, read_outcome};
+use pb_certificate::{CertRefusal, Prices, read_outcome};
 use pb_election::{Election, Outcome};
 use pb_money::{cost_grains, payment_grains};
 use pb_price::{Checked, Failure, Mode, Verdict, check, check_rows};
@@ -29,6 +29,42 @@ fn both(
     Ok((verdict, checked))
 }
 
+/// Voter 3 alone is to approve the unfunded pool, and to pay this for the library, which is funded; and only by such an
+/// offer is there more than the pool costs.
+fn expect_offer(
+    rt: &impl Abort,
+    election: &Election,
+    outcome: &Outcome,
+    prices: &Prices,
+    offer: u128,
+) {
+    assert!(rt; outcome.fits(election) && prices.fits(election));
+    assert!(rt; election.voters() == 3 && election.projects() == 3);
+    let (library, pool) = (2, 3);
+    assert!(rt; !election.approves(1, pool) && !election.approves(2, pool));
+    assert!(rt; election.approves(3, pool));
+    assert!(rt; outcome.has(library) && !outcome.has(pool));
+    assert_eq!(rt; payment_grains(prices.payment(3, library)), offer);
+    let cost = cost_grains(election.cost(pool), prices.denominator());
+    assert!(rt; 0 <= cost && cost < offer);
+}
+
+/// Prices are to have this verdict.
+fn expect_verdict(
+    rt: &impl Abort,
+    alloc: Global,
+    election: &Election,
+    outcome: &Outcome,
+    prices: &Prices,
+    mode: Mode,
+    want: Verdict,
+) -> Result<(), Fail> {
+    assert!(rt; outcome.fits(election) && prices.fits(election));
+    let verdict = check(alloc, election, outcome, prices, mode)?;
+    assert_eq!(rt; verdict, want);
+    Ok(())
+}
+
 /// The pool has one supporter, voter 3, and so two groups of supporters. The empty one offers nothing. Voter 3 offers
 /// what it pays for the library, which is more than the pool costs. So the stable form fails there, and the plain one
 /// does not.
@@ -37,27 +73,11 @@ fn one_group_blocks_for_the_pool(rt: HostRuntime) -> Result<(), Fail> {
     let election = Election::read(rt.alloc(), &with_pool(rt.alloc(), 2)?)?;
     let outcome = Outcome::selected(rt.alloc(), &election)?;
     let prices = Prices::read(rt.alloc(), LONE_PRICES.as_bytes(), &election)?;
-    assert!(rt; election.voters() == 3 && election.projects() == 3);
-    assert!(rt; outcome.fits(&election) && prices.fits(&election));
-    let (library, pool) = (2, 3);
-    for i in 1..=3 {
-        assert_eq!(rt; election.approves(i, pool), i == 3);
+    expect_offer(&rt, &election, &outcome, &prices, 4_000_000);
+    let blocked = Verdict::Failed(Failure::S5(3));
+    for (mode, want) in [(STABLE, blocked), (PLAIN, Verdict::Supported)] {
+        expect_verdict(&rt, rt.alloc(), &election, &outcome, &prices, mode, want)?;
     }
-    assert!(rt; outcome.has(library) && !outcome.has(pool));
-    let offer = payment_grains(prices.payment(3, library));
-    assert_eq!(rt; offer, 4_000_000);
-    let cost = cost_grains(election.cost(pool), prices.denominator());
-    for (offered, blocks) in [(0, false), (offer, true)] {
-        assert_eq!(rt; cost < offered, blocks);
-    }
-    assert_eq!(rt;
-        check(rt.alloc(), &election, &outcome, &prices, STABLE)?,
-        Verdict::Failed(Failure::S5(pool))
-    );
-    assert_eq!(rt;
-        check(rt.alloc(), &election, &outcome, &prices, PLAIN)?,
-        Verdict::Supported
-    );
     Ok(())
 }
 
@@ -79,22 +99,23 @@ fn prices_support_the_outcome_of_a_file(rt: HostRuntime) -> Result<(), Fail> {
     let election = Election::read(rt.alloc(), without_outcome(rt.alloc())?.as_bytes())?;
     let outcome = read_outcome(rt.alloc(), OUTCOME.as_bytes(), &election)?;
     let prices = Prices::read(rt.alloc(), PRICES.as_bytes(), &election)?;
-    assert!(rt; outcome.fits(&election) && prices.fits(&election));
-    let verdict = check(rt.alloc(), &election, &outcome, &prices, PLAIN)?;
-    assert_eq!(rt; verdict, Verdict::Supported);
-    Ok(())
+    let want = Verdict::Supported;
+    expect_verdict(&rt, rt.alloc(), &election, &outcome, &prices, PLAIN, want)
+}
+
+/// What a certificate for the sample election is refused for.
+fn refusal_of(alloc: Global, certificate: &str) -> Result<Option<CertRefusal>, Fail> {
+    let election = Election::read(alloc, ELECTION.as_bytes())?;
+    let outcome = Outcome::selected(alloc, &election)?;
+    Ok(check_rows(alloc, &election, &outcome, certificate.as_bytes(), PLAIN).err())
 }
 
 /// The first row pays for a project that is not approved, and yet the last row, which stands twice, decides.
 #[test]
 fn a_bad_last_row_is_refused_before_any_verdict(rt: HostRuntime) -> Result<(), Fail> {
-    let election = Election::read(rt.alloc(), ELECTION.as_bytes())?;
-    let outcome = Outcome::selected(rt.alloc(), &election)?;
-    let unapproved = certificate(rt.alloc(), "1", "4", "1,c,2\n1,b,2\n2,a,4\n3,b,2\n3,b,2\n")?;
-    for prices in [REPEATED, unapproved.as_str()] {
-        let answer = check_rows(rt.alloc(), &election, &outcome, prices.as_bytes(), PLAIN);
-        assert_eq!(rt; answer.err(), Some(LAST_ROW));
-    }
+    assert_eq!(rt; refusal_of(rt.alloc(), REPEATED)?, Some(LAST_ROW));
+    let unapproved = REPEATED.replace(rt.alloc(), "1,a,2", "1,c,2")?;
+    assert_eq!(rt; refusal_of(rt.alloc(), &unapproved)?, Some(LAST_ROW));
     Ok(())
 }
 

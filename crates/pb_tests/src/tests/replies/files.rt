@@ -1,4 +1,5 @@
 //! The replies on files in memory.
+use crate::tests::lines::expect_lines;
 use crate::tests::samples::{
     ELECTION, FAIR_VIOLATION, MARGINS, OUTCOME, PLAIN, POOL_OUTCOME, POOL_PRICES, PRICES, STABLE,
     STABLE_AND_COVERED, UNTIDY_PRICES, without_outcome,
@@ -12,10 +13,7 @@ use std::test::Fail;
 
 /// A reply has these lines and this status.
 pub fn expect(rt: &impl Abort, reply: &Reply, lines: &[&str], status: Status) {
-    assert!(rt; reply.lines.len() == lines.len());
-    for (line, want) in reply.lines.iter().zip(lines) {
-        assert!(rt; line.as_str() == *want, "{line}");
-    }
+    expect_lines(rt, &reply.lines, lines);
     assert!(rt; reply.status == status);
 }
 
