@@ -46,7 +46,7 @@ fn expect_offer(
     assert!(rt; outcome.has(library) && !outcome.has(pool));
     assert_eq!(rt; payment_grains(prices.payment(3, library)), offer);
     let cost = cost_grains(election.cost(pool), prices.denominator());
-    assert!(rt; 0 <= cost && cost < offer);
+    assert!(rt; cost < offer);
 }
 
 /// Prices are to have this verdict.
