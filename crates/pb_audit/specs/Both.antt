@@ -6,9 +6,9 @@ use Rattle.pb_records.specs.Loading.{Delivery}
 use Rattle.pb_certificate.specs.Prices.{Prices}
 use Rattle.pb_certificate.specs.declared.measure.Measure.{Measure}
 use Rattle.pb_certificate.specs.declared.measure.Measure.TheVariants.{ByCount}
-use Rattle.pb_cohesion.specs.Conditions.{Supports}
 use Rattle.pb_cohesion.specs.Groups.{Violates}
 use Rattle.pb_cohesion.specs.Satisfactions.{worth_by}
+use Rattle.pb_price.specs.Supports.{Supports}
 use Rattle.pb_price.specs.declared.Mode.{Mode}
 use Rattle.pb_price.specs.declared.Verdict.{Verdict}
 use Rattle.pb_audit.specs.Answers.{FilesState, OfAccepted, audit_reply, price_reply, verdict_reply, violation_reply}
@@ -54,11 +54,11 @@ both_reply m election outcome prices violation =
 pub record BothPromise (m : Mode) (status : Status) (e : Instance) (w : List Bool) (p : Prices)
     (claim : GroupAndDemand) : Type 0 where
   pub exactly : (status ≡ Yes) ↔
-      (Supports m.stable m.exhaustive m.cover e w p × Violates (worth_by claim.0 e) e w claim.1 claim.2)
+      (Supports m e w p × Violates (worth_by claim.0 e) e w claim.1 claim.2)
   pub prices : PricesPromise m (price_reply m e w p).status e w p
   pub violation : ViolationPromises (violation_reply e w claim).status e w claim
   pub never_both : IsTrue m.stable → IsTrue m.cover → claim.0 ≡ ByCount
-      → Supports m.stable m.exhaustive m.cover e w p → Violates (worth_by claim.0 e) e w claim.1 claim.2 → ⊥
+      → Supports m e w p → Violates (worth_by claim.0 e) e w claim.1 claim.2 → ⊥
 
 -- The reply on them. The violation certificate counts where the prices are accepted.
 pub record AnswersBoth (m : Mode) (election : Delivery) (outcome : Option Delivery) (prices violation : Delivery)

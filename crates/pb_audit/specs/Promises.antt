@@ -3,11 +3,11 @@ use Rattle.std.specs.Prelude.{◌≡◌, ◌↔◌, ℕ, IsFalse, IsTrue, Bool, 
 use Rattle.pb_election.specs.Instance.{Instance}
 use Rattle.pb_certificate.specs.Prices.{Prices}
 use Rattle.pb_certificate.specs.declared.measure.Measure.{Measure}
-use Rattle.pb_cohesion.specs.Conditions.{Supports}
 use Rattle.pb_cohesion.specs.EveryGroup.{BudgetsAreWithinReach, GroupsGetTheirShare, NoGroupHasMoreLeft, NoViolationByCounting, NothingBlocks, SupportersBlock, SupportersHaveMoreLeft}
 use Rattle.pb_cohesion.specs.Groups.{Violates}
 use Rattle.pb_cohesion.specs.Satisfactions.{worth_by}
 use Rattle.pb_price.specs.First.{First}
+use Rattle.pb_price.specs.Supports.{Supports}
 use Rattle.pb_price.specs.declared.Failure.TheVariants as failure
 use Rattle.pb_price.specs.declared.Mode.{Mode}
 use Rattle.pb_reply.specs.declared.status.Status.{Status}
@@ -16,7 +16,7 @@ use Rattle.pb_reply.specs.declared.status.Status.TheVariants.{Yes}
 -- The status is yes exactly where the prices support the outcome. What is more, a yes speaks of every group of
 -- supporters, and a no by the last condition of the supporters of the project that it names.
 pub record PricesPromise (m : Mode) (status : Status) (e : Instance) (w : List Bool) (p : Prices) : Type 0 where
-  pub exactly : (status ≡ Yes) ↔ Supports m.stable m.exhaustive m.cover e w p
+  pub exactly : (status ≡ Yes) ↔ Supports m e w p
   pub plain_yes : status ≡ Yes → IsFalse m.stable → NoGroupHasMoreLeft e w p
   pub stable_yes : status ≡ Yes → IsTrue m.stable → NothingBlocks e w p
   pub any_yes : status ≡ Yes → BudgetsAreWithinReach e w p

@@ -1,7 +1,7 @@
 -- When a price system supports an outcome: each condition, and its culprits in order. C1 to C5 are after Peters,
 -- Pierczyński and Skowron (2021), and S5 is after the stable form that Peters, Pierczyński, Shah and Skowron (2021)
 -- give for committees. The form of S5 for projects with costs, Feasible, Exhaustive and Cover are this project's own.
-use Rattle.std.specs.Prelude.{◌≡◌, ◌<◌, ◌≤◌, ◌+◌, ◌*◌, ◌==◌, ◌&&◌, not, nat_lt, nat_le, int_lt, ℕ, ℤ, pos, ◌+ℤ◌, ◌≤ℤ◌, Bool, IsFalse, IsTrue, List, [], ◌∷◌, map, filter, flat_map}
+use Rattle.std.specs.Prelude.{◌≡◌, ◌<◌, ◌≤◌, ◌+◌, ◌*◌, ◌==◌, ◌&&◌, not, nat_lt, nat_le, int_lt, ℕ, ℤ, pos, ◌+ℤ◌, ◌≤ℤ◌, Bool, List, [], ◌∷◌, map, filter, flat_map}
 use Rattle.std.specs.Int.{int_max}
 use Rattle.pb_election.specs.Instance.{Approves, Instance, IsProject, IsVoter, all_projects, all_voters, approves, cost_of, supporters, voters}
 use Rattle.pb_certificate.specs.Prices.{Prices, payment}
@@ -81,15 +81,3 @@ culprits_of_C5 e w p = filter (λ c. int_lt (pos (cost e p c)) (sum_ℤ (left e 
 
 abbrev pub culprits_of_S5 : Instance → List Bool → Prices → List ℕ
 culprits_of_S5 e w p = filter (λ c. int_lt (pos (cost e p c)) (sum_ℤ (most_of e p) (supporters e c))) (unfunded e w)
-
--- the prices support the outcome, in the plain or the stable form, with or without Exhaustive and Cover
-pub record Supports (stable exhaustive cover : Bool) (e : Instance) (w : List Bool) (p : Prices) : Type 0 where
-  pub feasible : Feasible e w
-  pub exhausts : IsTrue exhaustive → Exhaustive e w
-  pub covers : IsTrue cover → Cover e p
-  pub approved : C1 e p
-  pub within_budget : C2 e p
-  pub paid_for : C3 e w p
-  pub none_wasted : C4 e w p
-  pub plain : IsFalse stable → C5 e w p
-  pub stable_form : IsTrue stable → S5 e w p

@@ -4,7 +4,7 @@ use Rattle.std.specs.Prelude.{Ok, Option, Result, Some, None}
 use Rattle.std.proofs.lemmas.Bool.{cases_Bool}
 use Rattle.pb_election.specs.Instance.{Instance}
 use Rattle.pb_certificate.specs.Prices.{Prices}
-use Rattle.pb_cohesion.specs.Conditions.{C2, C5, S5, Supports}
+use Rattle.pb_cohesion.specs.Conditions.{C2, C5, S5}
 use Rattle.pb_cohesion.specs.EveryGroup.{BudgetsAreWithinReach, GroupsGetTheirShare, NoGroupHasMoreLeft, NoViolationByCounting, NothingBlocks, SupportersBlock, SupportersHaveMoreLeft}
 use Rattle.pb_cohesion.proofs.Justified.{stable_has_no_violation, stable_is_fair}
 use Rattle.pb_cohesion.proofs.Plain as plain
@@ -13,6 +13,7 @@ use Rattle.pb_cohesion.proofs.Stable as stable
 use Rattle.pb_price.proofs.Verdicts.{after_C5, after_S5, supports-iff}
 use Rattle.pb_price.specs.Answers.{IsVerdictOn}
 use Rattle.pb_price.specs.First.{First, verdict_of}
+use Rattle.pb_price.specs.Supports.{Supports}
 use Rattle.pb_price.specs.declared.Mode.{Mode}
 use Rattle.pb_price.specs.declared.Failure.{Failure}
 use Rattle.pb_price.specs.declared.Failure.TheVariants as failure
@@ -22,7 +23,7 @@ use Rattle.pb_price.specs.declared.Verdict.TheVariants as verdict
 pub plain-yes : (m : Mode) (e : Instance) (w : List Bool) (p : Prices) → First m e w p ≡ None → m.stable ≡ false
     → NoGroupHasMoreLeft e w p
 plain-yes m e w p none is_plain s c unfunded group =
-    let yes' : Supports m.stable m.exhaustive m.cover e w p = (supports-iff m e w p).0 none in
+    let yes' : Supports m e w p = (supports-iff m e w p).0 none in
     plain.every_group e w p s c yes'.within_budget (yes'.plain is_plain) unfunded group
 
 pub plain-no : (m : Mode) (e : Instance) (w : List Bool) (p : Prices) (c : ℕ) → First m e w p ≡ Some (failure.C5 c)
@@ -32,7 +33,7 @@ plain-no m e w p c h = plain.after_C5 e w p c (after_C5 m e w p c h)
 pub stable-yes : (m : Mode) (e : Instance) (w : List Bool) (p : Prices) → First m e w p ≡ None → m.stable ≡ true
     → NothingBlocks e w p
 stable-yes m e w p none is_stable s c x blocks =
-    let yes' : Supports m.stable m.exhaustive m.cover e w p = (supports-iff m e w p).0 none in
+    let yes' : Supports m e w p = (supports-iff m e w p).0 none in
     stable.none_blocks e w p s c x (yes'.stable_form is_stable) blocks
 
 pub stable-no : (m : Mode) (e : Instance) (w : List Bool) (p : Prices) (c : ℕ) → First m e w p ≡ Some (failure.S5 c)
@@ -44,7 +45,7 @@ stable-no m e w p c h =
 pub budgets : (m : Mode) (e : Instance) (w : List Bool) (p : Prices) → First m e w p ≡ None
     → BudgetsAreWithinReach e w p
 budgets m e w p none s c unfunded group =
-    let yes' : Supports m.stable m.exhaustive m.cover e w p = (supports-iff m e w p).0 none in
+    let yes' : Supports m e w p = (supports-iff m e w p).0 none in
     let form : (C2 e p × C5 e w p) ⊎ S5 e w p =
     elim (cases_Bool m.stable)
     [ inl k ↦ inr (yes'.stable_form k) | inr k ↦ inl (yes'.within_budget, yes'.plain k) ] in
@@ -53,14 +54,14 @@ budgets m e w p none s c unfunded group =
 pub fair : (m : Mode) (e : Instance) (w : List Bool) (p : Prices) → First m e w p ≡ None → m.stable ≡ true
     → GroupsGetTheirShare e w p
 fair m e w p none is_stable s t group projects approve rich =
-    let yes' : Supports m.stable m.exhaustive m.cover e w p = (supports-iff m e w p).0 none in
+    let yes' : Supports m e w p = (supports-iff m e w p).0 none in
     stable_is_fair e w p s t yes'.approved yes'.paid_for yes'.none_wasted (yes'.stable_form is_stable) group projects
     approve rich
 
 pub no-violation : (m : Mode) (e : Instance) (w : List Bool) (p : Prices) → First m e w p ≡ None → m.stable ≡ true
     → m.cover ≡ true → NoViolationByCounting e w
 no-violation m e w p none is_stable is_covered s t group projects violation =
-    let yes' : Supports m.stable m.exhaustive m.cover e w p = (supports-iff m e w p).0 none in
+    let yes' : Supports m e w p = (supports-iff m e w p).0 none in
     stable_has_no_violation e w p s t yes'.approved yes'.paid_for yes'.none_wasted (yes'.stable_form is_stable)
     (yes'.covers is_covered) group projects violation
 

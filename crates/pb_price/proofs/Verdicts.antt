@@ -7,11 +7,12 @@ use Rattle.pb_election.specs.Instance.{Instance, voters}
 use Rattle.pb_certificate.specs.Prices.{Prices}
 use Rattle.pb_cohesion.specs.Amounts.{beta, budget_limit}
 use Rattle.pb_cohesion.specs.Outcome.{total}
-use Rattle.pb_cohesion.specs.Conditions.{C1, C2, C3, C4, Cover, Supports, culprits_of_C1, culprits_of_C2, culprits_of_C3, culprits_of_C4, culprits_of_C5, culprits_of_Exhaustive, culprits_of_S5}
+use Rattle.pb_cohesion.specs.Conditions.{C1, C2, C3, C4, Cover, culprits_of_C1, culprits_of_C2, culprits_of_C3, culprits_of_C4, culprits_of_C5, culprits_of_Exhaustive, culprits_of_S5}
 use Rattle.pb_cohesion.proofs.Culprits.{C1-iff, C2-iff, C3-iff, C4-iff, C5-iff, Exhaustive-iff, S5-iff, append-nil, first-none, if-nil, map-nil, nil-append, nil-map, when-nil}
 use Rattle.pb_price.specs.declared.Mode.{Mode}
 use Rattle.pb_price.specs.declared.Failure.{Failure}
 use Rattle.pb_price.specs.declared.Failure.TheVariants as failure
+use Rattle.pb_price.specs.Supports.{Supports}
 use Rattle.pb_price.specs.First.{First, failures_of, failures_of_budgets, failures_of_outcome, failures_of_payments, failures_of_supporters}
 
 -- one of two lists is empty where the chosen one is
@@ -61,7 +62,7 @@ before-nil m e w p h =
     }
 
 pub supports-iff : (m : Mode) (e : Instance) (w : List Bool) (p : Prices)
-    → (First m e w p ≡ None) ↔ Supports m.stable m.exhaustive m.cover e w p
+    → (First m e w p ≡ None) ↔ Supports m e w p
 supports-iff m e w p = (
   λ h.
       let all : failures_of m e w p ≡ [] = (first-none (failures_of m e w p)).0 h in

@@ -4,9 +4,9 @@ use Rattle.pb_election.specs.Instance.{Instance, approvals, projects, voters}
 use Rattle.pb_records.specs.Cells.{nonblank}
 use Rattle.pb_certificate.specs.Faults.{certificate_records}
 use Rattle.pb_certificate.specs.Prices.{Prices}
-use Rattle.pb_cohesion.specs.Conditions.{Supports}
 use Rattle.pb_cohesion.specs.EveryGroup.{BudgetsAreWithinReach, GroupsGetTheirShare, NoGroupHasMoreLeft, NoViolationByCounting, NothingBlocks, SupportersBlock, SupportersHaveMoreLeft}
 use Rattle.pb_price.specs.First.{First, verdict_of}
+use Rattle.pb_price.specs.Supports.{Supports}
 use Rattle.pb_price.specs.declared.Failure.TheVariants as failure
 use Rattle.pb_price.specs.declared.Mode.{Mode}
 use Rattle.pb_price.specs.declared.Verdict.{Verdict}
@@ -15,7 +15,7 @@ use Rattle.pb_price.specs.declared.Verdict.TheVariants as verdict
 -- the verdict is the one for these prices, with what it says of every group
 pub record IsVerdictOn (m : Mode) (e : Instance) (w : List Bool) (p : Prices) (v : Verdict) : Type 0 where
   pub first : v ≡ verdict_of (First m e w p)
-  pub supported : (v ≡ verdict.Supported) ↔ Supports m.stable m.exhaustive m.cover e w p
+  pub supported : (v ≡ verdict.Supported) ↔ Supports m e w p
   -- what a plain answer says
   pub plain_yes : v ≡ verdict.Supported → IsFalse m.stable → NoGroupHasMoreLeft e w p
   pub plain_no : (c : ℕ) → v ≡ verdict.Failed (failure.C5 c) → SupportersHaveMoreLeft e p c

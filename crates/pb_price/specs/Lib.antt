@@ -1,3 +1,4 @@
+pub mod Supports
 pub mod First
 pub mod Answers
 pub mod Margins

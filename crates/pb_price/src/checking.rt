@@ -7,9 +7,9 @@ ghost use Rattle.pb_certificate.specs.Faults.{Refuses, certificate_records, no_m
 ghost use Rattle.pb_certificate.specs.Prices as spec;
 ghost use Rattle.pb_certificate.specs.PriceText.{IsPriceText};
 ghost use Rattle.pb_certificate.specs.Prices.{most_denominator};
-ghost use Rattle.pb_cohesion.specs.Conditions.{Supports};
 ghost use Rattle.pb_cohesion.specs.EveryGroup.{BudgetsAreWithinReach, GroupsGetTheirShare, NoGroupHasMoreLeft, NoViolationByCounting, NothingBlocks, SupportersBlock, SupportersHaveMoreLeft};
 ghost use Rattle.pb_price.specs.Answers.{AreStepsOf, IsVerdictOn, row_count};
+ghost use Rattle.pb_price.specs.Supports.{Supports};
 ghost use Rattle.pb_price.specs.First.{First, verdict_of};
 ghost use Rattle.pb_price.specs.Inside.Tallies.{IsTallyOf, most_grains};
 
@@ -35,7 +35,7 @@ pub fn check(
     requires outcome { outcomes.Fits outcome.now election.now }
     requires prices { spec.Fits prices.now election.now }
     ensures first { IfOk result (λ v. v ≡ verdict_of (First mode election.now (outcome.now).marks prices.now)) }
-    ensures supported { IfOk result (λ v. (v ≡ Verdict.Supported) ↔ Supports mode.stable mode.exhaustive mode.cover election.now (outcome.now).marks prices.now) }
+    ensures supported { IfOk result (λ v. (v ≡ Verdict.Supported) ↔ Supports mode election.now (outcome.now).marks prices.now) }
 
     // What a plain answer says of every group.
     ensures plain_yes { result ≡ Ok Verdict.Supported → IsFalse mode.stable → NoGroupHasMoreLeft election.now (outcome.now).marks prices.now }

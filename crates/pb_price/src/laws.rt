@@ -4,16 +4,16 @@ ghost use Rattle.std.specs.Prelude.{◌≡◌, ◌≤◌, ◌↔◌, Bool, List,
 ghost use Rattle.pb_election.specs.Instance.{Instance};
 ghost use Rattle.pb_election.specs.Text.{IsElection};
 ghost use Rattle.pb_certificate.specs.Prices.{ArePrices, Prices};
-ghost use Rattle.pb_cohesion.specs.Conditions.{Supports};
 ghost use Rattle.pb_price.specs.Findings.{findings};
 ghost use Rattle.pb_price.specs.First.{First};
+ghost use Rattle.pb_price.specs.Supports.{Supports};
 ghost use Rattle.pb_price.specs.Ranges.{AllSumsFit};
 ghost use Rattle.pb_price.specs.Told.{TellWhatHolds, first_told};
 ghost use Rattle.pb_price.specs.declared.Mode.{Mode};
 
 /// The prices support the outcome exactly where no condition fails, whatever the mode asks for.
 pub fn supported_where_no_condition_fails()
-    ensures { (m : Mode) (e : Instance) (w : List Bool) (p : Prices) → (First m e w p ≡ None) ↔ Supports m.stable m.exhaustive m.cover e w p }
+    ensures { (m : Mode) (e : Instance) (w : List Bool) (p : Prices) → (First m e w p ≡ None) ↔ Supports m e w p }
 {}
 
 /// Within the limits on elections and certificates each sum that the conditions compare, and each sum over a part of

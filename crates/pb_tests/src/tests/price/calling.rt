@@ -6,8 +6,8 @@ ghost use Rattle.pb_election.specs.Text.{IsTextOf};
 ghost use Rattle.pb_certificate.specs.Faults.{certificate_records};
 ghost use Rattle.pb_certificate.specs.Prices as spec;
 ghost use Rattle.pb_certificate.specs.PriceText.{IsPriceText};
-ghost use Rattle.pb_cohesion.specs.Conditions.{Supports};
 ghost use Rattle.pb_cohesion.specs.EveryGroup.{NoGroupHasMoreLeft};
+ghost use Rattle.pb_price.specs.Supports.{Supports};
 
 use crate::tests::samples::{ELECTION, PRICES};
 use pb_certificate::Prices;
@@ -16,13 +16,16 @@ use pb_price::{Mode, Verdict, check};
 use std::alloc::Global;
 use std::test::Fail;
 
+/// The plain form, with Exhaustive and without Cover.
+const PLAIN: Mode = Mode::PLAIN;
+
 /// Whether the prices of a certificate support the outcome that an election's file states; nothing where a file is
 /// refused, or memory is wanted.
 fn is_supported(alloc: Global, election: &[u8], certificate: &[u8]) -> Option<bool>
     // After a yes no group of an unfunded project's supporters has more left than it costs, by what the files state.
     ensures yes { result ≡ Some true → (e : Instance) × (w : List Bool) × (p : spec.Prices) × IsTextOf election.now e × (e.selected ≡ Some w) × IsPriceText (certificate_records certificate.now) e p × NoGroupHasMoreLeft e w p }
     // After a no the prices don't support the outcome by the plain conditions.
-    ensures no { result ≡ Some false → (e : Instance) × (w : List Bool) × (p : spec.Prices) × IsTextOf election.now e × (e.selected ≡ Some w) × IsPriceText (certificate_records certificate.now) e p × (Supports false true false e w p → ⊥) }
+    ensures no { result ≡ Some false → (e : Instance) × (w : List Bool) × (p : spec.Prices) × IsTextOf election.now e × (e.selected ≡ Some w) × IsPriceText (certificate_records certificate.now) e p × (Supports PLAIN e w p → ⊥) }
 {
     let Ok(election) = Election::read(alloc, election) else {
         return None;
@@ -33,7 +36,7 @@ fn is_supported(alloc: Global, election: &[u8], certificate: &[u8]) -> Option<bo
     let Ok(prices) = Prices::read(alloc, certificate, &election) else {
         return None;
     };
-    match check(alloc, &election, &outcome, &prices, Mode::PLAIN) {
+    match check(alloc, &election, &outcome, &prices, PLAIN) {
         Ok(Verdict::Supported) => Some(true),
         Ok(Verdict::Failed(_)) => Some(false),
         Err(_) => None,
