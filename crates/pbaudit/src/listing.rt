@@ -35,6 +35,13 @@ pub enum ListFault {
     Unlisted,
 }
 
+/// What a file is by the ending of its name.
+const KINDS: [(&str, Kind); 3] = [
+    (ELECTION, Kind::Election),
+    (PRICES, Kind::Prices),
+    (VIOLATION, Kind::Violation),
+];
+
 impl From<AllocError> for ListFault {
     fn from(_error: AllocError) -> ListFault {
         ListFault::Memory
@@ -104,14 +111,12 @@ impl Listing {
 
 /// What a file is by its name, and the name without the ending.
 fn split(file_name: &str) -> Option<(Kind, &str)> {
-    if let Some(name) = file_name.strip_suffix(ELECTION) {
-        return Some((Kind::Election, name));
+    for (ending, kind) in KINDS {
+        if let Some(name) = file_name.strip_suffix(ending) {
+            return Some((kind, name));
+        }
     }
-    if let Some(name) = file_name.strip_suffix(PRICES) {
-        return Some((Kind::Prices, name));
-    }
-    let name = file_name.strip_suffix(VIOLATION)?;
-    Some((Kind::Violation, name))
+    None
 }
 
 /// Whether an entry may have this name: it isn't empty and holds no control byte.

@@ -82,30 +82,54 @@ fn explains_violation(
 /// What an input of a task is to be, as far as the task tells, by its name in refusals, and its path; none for standard
 /// input.
 fn input_of<'a>(task: &'a Task, input: &str) -> Option<(Kind, Option<&'a str>)> {
-    let (kind, path) = match (task, input) {
-        (Task::Read(None), "election") => return Some((Kind::Election, None)),
-        (Task::Read(Some(election)), "election") => (Kind::Election, election),
-        (Task::Prices { election, .. }, "election") => (Kind::Election, election),
-        (Task::Violation { election, .. }, "election") => (Kind::Election, election),
-        (Task::Both { election, .. }, "election") => (Kind::Election, election),
-        (Task::Explain { election, .. }, "election") => (Kind::Election, election),
-        (Task::Margins { election, .. }, "election") => (Kind::Election, election),
-        (Task::Tidy { election, .. }, "election") => (Kind::Election, election),
-        (Task::Prices { outcome, .. }, "outcome") => (Kind::Outcome, outcome.as_ref()?),
-        (Task::Violation { outcome, .. }, "outcome") => (Kind::Outcome, outcome.as_ref()?),
-        (Task::Both { outcome, .. }, "outcome") => (Kind::Outcome, outcome.as_ref()?),
-        (Task::Explain { outcome, .. }, "outcome") => (Kind::Outcome, outcome.as_ref()?),
-        (Task::Margins { outcome, .. }, "outcome") => (Kind::Outcome, outcome.as_ref()?),
-        (Task::Both { prices, .. }, "prices") => (Kind::Prices, prices),
-        (Task::Both { violation, .. }, "violation") => (Kind::Violation, violation),
-        (Task::Prices { certificate, .. }, "certificate") => (Kind::Prices, certificate),
-        (Task::Violation { certificate, .. }, "certificate") => (Kind::Violation, certificate),
-        (Task::Explain { certificate, .. }, "certificate") => (Kind::Prices, certificate),
-        (Task::Margins { certificate, .. }, "certificate") => (Kind::Prices, certificate),
-        (Task::Tidy { certificate, .. }, "certificate") => (Kind::Prices, certificate),
-        _ => return None,
-    };
-    Some((kind, Some(path.as_str())))
+    match input {
+        "election" => Some((Kind::Election, election_of(task)?)),
+        "outcome" => Some((Kind::Outcome, Some(outcome_of(task)?))),
+        _ => {
+            let (kind, path) = certificate_of(task, input == "violation")?;
+            Some((kind, Some(path)))
+        }
+    }
+}
+
+/// The path of a task's election; none for standard input.
+fn election_of(task: &Task) -> Option<Option<&str>> {
+    match task {
+        Task::Read(election) => Some(election.as_deref()),
+        Task::Prices { election, .. }
+        | Task::Violation { election, .. }
+        | Task::Both { election, .. }
+        | Task::Explain { election, .. }
+        | Task::Margins { election, .. }
+        | Task::Tidy { election, .. } => Some(Some(election)),
+        Task::Folder { .. } => None,
+    }
+}
+
+/// The path of the file from which a task takes the outcome.
+fn outcome_of(task: &Task) -> Option<&str> {
+    match task {
+        Task::Prices { outcome, .. }
+        | Task::Violation { outcome, .. }
+        | Task::Both { outcome, .. }
+        | Task::Explain { outcome, .. }
+        | Task::Margins { outcome, .. } => outcome.as_deref(),
+        Task::Read(_) | Task::Tidy { .. } | Task::Folder { .. } => None,
+    }
+}
+
+/// What a task's certificate is to be, and its path. Of two it is that of a violation where that is asked for.
+fn certificate_of(task: &Task, of_violation: bool) -> Option<(Kind, &str)> {
+    match task {
+        Task::Prices { certificate, .. }
+        | Task::Explain { certificate, .. }
+        | Task::Margins { certificate, .. }
+        | Task::Tidy { certificate, .. } => Some((Kind::Prices, certificate)),
+        Task::Violation { certificate, .. } => Some((Kind::Violation, certificate)),
+        Task::Both { violation, .. } if of_violation => Some((Kind::Violation, violation)),
+        Task::Both { prices, .. } => Some((Kind::Prices, prices)),
+        Task::Read(_) | Task::Folder { .. } => None,
+    }
 }
 
 /// The bytes of a file that can be read again: a regular one of at most 2^28 bytes. A pipe can't, and could wait for
