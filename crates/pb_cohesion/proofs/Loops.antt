@@ -1,6 +1,6 @@
 -- Loops over all voters or all projects, which count from 1.
-use Rattle.std.proofs.Common.{◌≡◌, ℕ, zero, suc, ◌+◌, ◌-◌, ◌<◌, ◌≤◌, Bool, true, false, List, [], ◌∷◌, length, get_or, take, refl, ◌∙◌, ap, subst, arith}
-use Rattle.std.specs.Prelude.{Some, None, filter, flat_map, slice_get, sum_by}
+use Rattle.std.proofs.Common.{◌≡◌, ℕ, zero, suc, ◌+◌, ◌-◌, ◌<◌, ◌≤◌, Bool, true, false, List, [], ◌∷◌, length, get_or, take, ◌∙◌, ap, arith}
+use Rattle.std.specs.Prelude.{Some, filter, flat_map, slice_get, sum_by}
 use Rattle.std.specs.List.{range_with_len}
 use Rattle.std.proofs.lemmas.List.Elements.{filter-append}
 use Rattle.std.proofs.lemmas.List.FromFn.{get_or-range_with_len, length-range_with_len}
@@ -26,20 +26,6 @@ range-first q n j none low high pass =
     ap (filter q) (front n j low (omega arith)) ∙ none in
     let pass_at : q (get_or (range_with_len 1 n) (j - 1) 0) ≡ true = ap q (at-place n j low high) ∙ pass in
     filter-first q (range_with_len 1 n) (j - 1) none_in (within n j low high) pass_at ∙ ap Some (at-place n j low high)
-
-pub range-more : (q : ℕ → Bool) (j : ℕ) → filter q (range_with_len 1 (j - 1)) ≡ [] → 1 ≤ j → q j ≡ false
-    → filter q (range_with_len 1 (j + 1 - 1)) ≡ []
-range-more q j none low fail =
-    let is : j + 1 - 1 ≡ (j - 1) + 1 = omega arith in
-    let last : 1 + (j - 1) ≡ j = omega arith in
-    ap (λ n. filter q (range_with_len 1 n)) is ∙ ap (filter q) (range-next (j - 1) 1)
-    ∙ filter-append q (range_with_len 1 (j - 1)) ((1 + (j - 1)) ∷ [])
-    ∙ rw (none, last, fail) refl
-
-pub range-end : (q : ℕ → Bool) (n j : ℕ) → filter q (range_with_len 1 (j - 1)) ≡ [] → j ≡ n + 1
-    → slice_get (filter q (range_with_len 1 n)) 0 ≡ None
-range-end q n j none is = let end : j - 1 ≡ n = omega arith in
-    rw (subst (λ k. filter q (range_with_len 1 k) ≡ []) end none) refl
 
 -- the same where each number gives a list
 pub range-lists-first : {A : Type 0} (g : ℕ → List A) (n j : ℕ) (a : A) → flat_map g (range_with_len 1 (j - 1)) ≡ []

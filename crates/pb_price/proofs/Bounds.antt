@@ -46,25 +46,28 @@ pub most-bound : (e : Instance) (a : Taken) (t : Tally) (i : ℕ) → Tallied e 
     → IsWithin (10 ^ 32) (most_by a.budget e a.pays i)
 most-bound e a t i h = most-small a.budget e a.pays i h.taken.small_budget h.taken.small
 
+-- a sum over the supporters among the closed voters
+few-supporters : (e : Instance) (a : Taken) (t : Tally) (k : ℕ) (f : ℕ → ℤ) → Tallied e a t
+    → ((i : ℕ) → IsWithin (10 ^ 32) (f i)) → IsWithin (10 ^ 38) (sum_ℤ f (first_supporters e t.closed k))
+few-supporters e a t k f h each =
+    few-times t.closed (length (first_supporters e t.closed k)) (sum_ℤ f (first_supporters e t.closed k))
+    (count-most (λ i. approves e i k) 1 t.closed) (omega (arith, h.sound.few_voters, h.taken.within))
+    (signed-most f (first_supporters e t.closed k) each)
+
 pub sums-bound : (e : Instance) (a : Taken) (t : Tally) (k : ℕ) (d : ProjectSums) → Tallied e a t → t.closed < voters e
     → k < projects e → AreSmall (get_or t.projects.items k d)
-sums-bound e a t k d h more within =
-    let few : length (first_supporters e t.closed (k + 1)) ≤ t.closed =
-    count-most (λ i. approves e i (k + 1)) 1 t.closed in
-    let closed : t.closed ≤ 1000000 = omega (arith, h.sound.few_voters) in
-    record {
-      left =
-          rw (h.sums.left k d within)
-          (few-times t.closed (length (first_supporters e t.closed (k + 1)))
-          (sum_ℤ (left_by a.budget e a.pays) (first_supporters e t.closed (k + 1))) few closed
-          (signed-most (left_by a.budget e a.pays) (first_supporters e t.closed (k + 1)) (λ i. left-bound e a t i h)));
-      offer =
-          rw (h.sums.offer k d within)
-          (few-times t.closed (length (first_supporters e t.closed (k + 1)))
-          (sum_ℤ (most_by a.budget e a.pays) (first_supporters e t.closed (k + 1))) few closed
-          (signed-most (most_by a.budget e a.pays) (first_supporters e t.closed (k + 1)) (λ i. most-bound e a t i h)));
-      supporters = omega (arith, h.sums.count k d within);
-    }
+sums-bound e a t k d h more within = record {
+  left = rw (h.sums.left k d within)
+      (few-supporters e a t (k + 1) (left_by a.budget e a.pays) h (λ i. left-bound e a t i h));
+  offer = rw (h.sums.offer k d within)
+      (few-supporters e a t (k + 1) (most_by a.budget e a.pays) h (λ i. most-bound e a t i h));
+  supporters = omega (
+    arith,
+    h.sums.count k d within,
+    count-most (λ i. approves e i (k + 1)) 1 t.closed,
+    h.sound.few_voters,
+  );
+}
 
 -- the sums of all closed voters, of project c
 pub sums-of-bound : (e : Instance) (a : Taken) (t : Tally) (c : ℕ) → Tallied e a t → IsProject e c
@@ -72,25 +75,14 @@ pub sums-of-bound : (e : Instance) (a : Taken) (t : Tally) (c : ℕ) → Tallied
 sums-of-bound e a t c h ip =
     let low : 1 ≤ c = ip.0 in
     let within : c - 1 < projects e = omega (arith, ip.1) in
-    let few : length (first_supporters e t.closed (c - 1 + 1)) ≤ t.closed =
-    count-most (λ i. approves e i (c - 1 + 1)) 1 t.closed in
-    let closed : t.closed ≤ 1000000 = omega (arith, h.sound.few_voters, h.taken.within) in
     record {
       paid =
           omega
           (arith, h.sums.paid (c - 1) nothing within, paid-most e a.pays (c - 1 + 1) h.taken.small, h.sound.few_voters);
-      left =
-          rw (h.sums.left (c - 1) nothing within)
-          (few-times t.closed (length (first_supporters e t.closed (c - 1 + 1)))
-          (sum_ℤ (left_by a.budget e a.pays) (first_supporters e t.closed (c - 1 + 1))) few closed
-          (signed-most (left_by a.budget e a.pays) (first_supporters e t.closed (c - 1 + 1))
-          (λ i. left-bound e a t i h)));
-      offer =
-          rw (h.sums.offer (c - 1) nothing within)
-          (few-times t.closed (length (first_supporters e t.closed (c - 1 + 1)))
-          (sum_ℤ (most_by a.budget e a.pays) (first_supporters e t.closed (c - 1 + 1))) few closed
-          (signed-most (most_by a.budget e a.pays) (first_supporters e t.closed (c - 1 + 1))
-          (λ i. most-bound e a t i h)));
+      left = rw (h.sums.left (c - 1) nothing within)
+          (few-supporters e a t (c - 1 + 1) (left_by a.budget e a.pays) h (λ i. left-bound e a t i h));
+      offer = rw (h.sums.offer (c - 1) nothing within)
+          (few-supporters e a t (c - 1 + 1) (most_by a.budget e a.pays) h (λ i. most-bound e a t i h));
     }
 
 long : (bs : List (List ℕ)) (k : ℕ) → length (get_or bs k []) ≤ approvals bs

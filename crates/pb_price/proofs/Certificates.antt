@@ -1,19 +1,23 @@
 -- A tally of all rows of a certificate is that of the prices that it states.
 use Rattle.std.proofs.Common.{◌≡◌, ◌⊎◌, ℕ, List, [], length, drop, refl, sym, ◌∙◌, ap, subst, inl, inr}
+use Rattle.std.specs.Prelude.{Err, IsErrAnd, Result}
+use Rattle.std.proofs.lemmas.Result.{err_from_is_err_and}
 use Rattle.pb_money.specs.Grains.{payment_grains}
 use Rattle.pb_election.specs.Instance.{Instance, IsProject, IsVoter, voters}
 use Rattle.pb_records.specs.Records.{Rec}
 use Rattle.pb_records.specs.Cells.{nonblank}
 use Rattle.pb_records.specs.FirstFault.{IsFirstFault}
-use Rattle.pb_certificate.specs.Faults.{no_memory, price_form}
+use Rattle.pb_certificate.specs.Faults.{certificate_records, no_memory, price_form}
 use Rattle.pb_certificate.specs.Prices.{Prices, payment}
 use Rattle.pb_certificate.specs.PriceText.{IsPriceText, Payment, stated}
 use Rattle.pb_certificate.specs.Rows.{Rows, given, prices_given}
 use Rattle.pb_certificate.specs.declared.refusal.CertRefusal.{CertRefusal}
 use Rattle.pb_certificate.proofs.PriceClear.{price-clear}
 use Rattle.pb_certificate.proofs.Texts.{stated-payment}
-use Rattle.pb_price.specs.Inside.Takings.{TakesCertificate, taken_from}
+use Rattle.pb_certificate.proofs.Unique.{price-text-same}
+use Rattle.pb_price.specs.Inside.Takings.{IsTallied, TakesCertificate, taken_from}
 use Rattle.pb_price.specs.Inside.Tallies.{IsTallyOf, Taken, Tallied}
+use Rattle.pb_price.specs.declared.takings.CertificateTally.{CertificateTally}
 use Rattle.pb_price.specs.declared.tally.Tally.{Tally}
 use Rattle.pb_price.proofs.Rows.{count-is, given-is}
 use Rattle.pb_price.proofs.Starting.{no_payment}
@@ -70,8 +74,19 @@ certified r e recs t new k is_e is_recs h all =
           ∙ ap (λ x. length (drop 4 (nonblank x))) (end_recs ∙ is_recs);
     }
 
--- a text is refused for want of memory alone
-pub only-memory : (recs : List Rec) (e : Instance) (p : Prices) (f : CertRefusal) → IsPriceText recs e p
-    → (f ≡ no_memory) ⊎ IsFirstFault (price_form e) recs f.place f.fault → f ≡ no_memory
-only-memory recs e p f text (inl h) = h
-only-memory recs e p f text (inr h) = absurd (price-clear recs e p text f.place f.fault h)
+-- what holds of the prices that a certificate states holds of any that it states
+pub of-any : {e : Instance} {bytes : List ℕ} {t : CertificateTally} (P : Prices → Type 0) (k : IsTallied e bytes t)
+    → P k.prices → (p : Prices) → IsPriceText (certificate_records bytes) e p → P p
+of-any {e} {bytes} P k h p text = subst P (price-text-same (certificate_records bytes) e k.prices p k.text text) h
+
+-- the refusal that a `?` hands on is want of memory, where the records state prices
+pub only-memory : {A : Type 0} (recs : List Rec) (e : Instance) (p : Prices) (f : CertRefusal)
+    (r : Result A CertRefusal) → IsErrAnd r (λ x. x ≡ f) → IsPriceText recs e p
+    → (f ≡ no_memory) ⊎ IsFirstFault (price_form e) recs f.place f.fault → r ≡ Err no_memory
+only-memory recs e p f r handed text refused =
+    let x = err_from_is_err_and r handed in
+    x.1 ∙ ap Err (x.2 ∙ go refused)
+  where
+    go : (f ≡ no_memory) ⊎ IsFirstFault (price_form e) recs f.place f.fault → f ≡ no_memory
+    go (inl h) = h
+    go (inr h) = absurd (price-clear recs e p text f.place f.fault h)

@@ -7,6 +7,7 @@ use Rattle.std.specs.Int.{int_max}
 use Rattle.std.proofs.lemmas.Bool.{eq-eqb, ne_eqb}
 use Rattle.std.proofs.lemmas.List.Sums.{sum_by_more}
 use Rattle.pb_election.specs.Instance.{Instance, approvals, approves, ballot_of, voters}
+use Rattle.pb_cohesion.proofs.Sums.{among}
 use Rattle.pb_price.specs.Inside.Tallies.{AreChanged, AreSumsOf, IsWithin, Taken, Tallied, left_by, marked_with, most_by, spent_by, top_by, with_supporter}
 use Rattle.pb_price.specs.declared.tally.ProjectSums.{ProjectSums}
 use Rattle.pb_price.specs.declared.tally.Tally.{Tally}
@@ -17,22 +18,20 @@ use Rattle.pb_price.specs.Inside.Looked.{compared}
 use Rattle.pb_price.proofs.OneMore.{tried}
 use Rattle.pb_price.proofs.Signed.{count-next, signed-next, small-kept}
 
--- a mark changes no sum
-marked-paid : (b : Bool) (i : ℕ) (s : ProjectSums) → (cond b (marked_with i s) s).paid ≡ s.paid
-marked-paid true i s = refl
-marked-paid false i s = refl
+-- a part of the sums of a project that may be changed
+part : {A : Type 0} (get : ProjectSums → A) (b : Bool) (s t : ProjectSums) → get (cond b s t) ≡ cond b (get s) (get t)
+part get true s t = refl
+part get false s t = refl
 
-marked-left : (b : Bool) (i : ℕ) (s : ProjectSums) → (cond b (marked_with i s) s).left ≡ s.left
-marked-left true i s = refl
-marked-left false i s = refl
-
-marked-offer : (b : Bool) (i : ℕ) (s : ProjectSums) → (cond b (marked_with i s) s).offer ≡ s.offer
-marked-offer true i s = refl
-marked-offer false i s = refl
-
-marked-count : (b : Bool) (i : ℕ) (s : ProjectSums) → (cond b (marked_with i s) s).supporters ≡ s.supporters
-marked-count true i s = refl
-marked-count false i s = refl
+-- a part that the change leaves as it is
+part-kept : {A : Type 0} {change : ProjectSums → ProjectSums} {xs ys : List ProjectSums} {b : List ℕ}
+    (get : ProjectSums → A) (k : ℕ) (d : ProjectSums) → AreChanged change xs ys b → k < length xs
+    → ((s : ProjectSums) → get (change s) ≡ get s) → get (get_or ys k d) ≡ get (get_or xs k d)
+part-kept {change} {xs} {b} get k d m w same = ap get (m.each k d w) ∙ go (among b (k + 1))
+  where
+    go : (c : Bool) → get (cond c (change (get_or xs k d)) (get_or xs k d)) ≡ get (get_or xs k d)
+    go true = same (get_or xs k d)
+    go false = refl
 
 -- opened: the projects of its ballot are marked
 sums-opened : (e : Instance) (a : Taken) (closed opened : ℕ) (xs ys : List ProjectSums) → AreSumsOf e a closed opened xs
@@ -40,22 +39,10 @@ sums-opened : (e : Instance) (a : Taken) (closed opened : ℕ) (xs ys : List Pro
     → AreSumsOf e a closed (closed + 1) ys
 sums-opened e a closed opened xs ys h early m = record {
   as_many = m.as_many ∙ h.as_many;
-  paid =
-      λ k d w.
-      (ap (λ x. x.paid) (m.each k d (rw h.as_many w))
-      ∙ marked-paid (approves e (closed + 1) (k + 1)) (closed + 1) (get_or xs k d) ∙ h.paid k d w);
-  left =
-      λ k d w.
-      (ap (λ x. x.left) (m.each k d (rw h.as_many w))
-      ∙ marked-left (approves e (closed + 1) (k + 1)) (closed + 1) (get_or xs k d) ∙ h.left k d w);
-  offer =
-      λ k d w.
-      (ap (λ x. x.offer) (m.each k d (rw h.as_many w))
-      ∙ marked-offer (approves e (closed + 1) (k + 1)) (closed + 1) (get_or xs k d) ∙ h.offer k d w);
-  count =
-      λ k d w.
-      (ap (λ x. x.supporters) (m.each k d (rw h.as_many w))
-      ∙ marked-count (approves e (closed + 1) (k + 1)) (closed + 1) (get_or xs k d) ∙ h.count k d w);
+  paid = λ k d w. (part-kept (λ s. s.paid) k d m (rw h.as_many w) (λ s. refl) ∙ h.paid k d w);
+  left = λ k d w. (part-kept (λ s. s.left) k d m (rw h.as_many w) (λ s. refl) ∙ h.left k d w);
+  offer = λ k d w. (part-kept (λ s. s.offer) k d m (rw h.as_many w) (λ s. refl) ∙ h.offer k d w);
+  count = λ k d w. (part-kept (λ s. s.supporters) k d m (rw h.as_many w) (λ s. refl) ∙ h.count k d w);
   seen =
       λ k d w. rw (m.each k d (rw h.as_many w))
       (seen_by (approves e (closed + 1) (k + 1)) (get_or xs k d) (h.seen k d w));
@@ -106,60 +93,34 @@ opened e a t u h early m budget closed opened_is unapproved over steps spent lar
 }
 
 -- closed: each project of its ballot has one supporter more
-closed-paid : (b : Bool) (l o : ℤ) (s : ProjectSums) → (cond b (with_supporter l o s) s).paid ≡ s.paid
-closed-paid true l o s = refl
-closed-paid false l o s = refl
-
-closed-left : (b : Bool) (l o : ℤ) (s : ProjectSums)
-    → (cond b (with_supporter l o s) s).left ≡ cond b (s.left +ℤ l) s.left
-closed-left true l o s = refl
-closed-left false l o s = refl
-
-closed-offer : (b : Bool) (l o : ℤ) (s : ProjectSums)
-    → (cond b (with_supporter l o s) s).offer ≡ cond b (s.offer +ℤ o) s.offer
-closed-offer true l o s = refl
-closed-offer false l o s = refl
-
-closed-count : (b : Bool) (l o : ℤ) (s : ProjectSums)
-    → (cond b (with_supporter l o s) s).supporters ≡ cond b (s.supporters + 1) s.supporters
-closed-count true l o s = refl
-closed-count false l o s = refl
-
-closed-seen : (b : Bool) (l o : ℤ) (s : ProjectSums) → (cond b (with_supporter l o s) s).last_approver ≡ s.last_approver
-closed-seen true l o s = refl
-closed-seen false l o s = refl
-
 sums-closed : (e : Instance) (a : Taken) (closed opened : ℕ) (l o : ℤ) (xs ys : List ProjectSums)
     → AreSumsOf e a closed opened xs → opened ≤ closed + 1
     → l ≡ left_by a.budget e a.pays (closed + 1) → o ≡ most_by a.budget e a.pays (closed + 1)
     → AreChanged (with_supporter l o) xs ys (ballot_of e (closed + 1)) → AreSumsOf e a (closed + 1) opened ys
 sums-closed e a closed opened l o xs ys h seen_is l_is o_is m = record {
   as_many = m.as_many ∙ h.as_many;
-  paid =
-      λ k d w.
-      (ap (λ x. x.paid) (m.each k d (rw h.as_many w))
-      ∙ closed-paid (approves e (closed + 1) (k + 1)) l o (get_or xs k d) ∙ h.paid k d w);
+  paid = λ k d w. (part-kept (λ s. s.paid) k d m (rw h.as_many w) (λ s. refl) ∙ h.paid k d w);
   left = λ k d w. (
-      ap (λ x. x.left) (m.each k d (rw h.as_many w)) ∙ closed-left (approves e (closed + 1) (k + 1)) l o (get_or xs k d)
+      ap (λ x. x.left) (m.each k d (rw h.as_many w))
+      ∙ part (λ s. s.left) (approves e (closed + 1) (k + 1)) (with_supporter l o (get_or xs k d)) (get_or xs k d)
       ∙ ap (λ x. cond (approves e (closed + 1) (k + 1)) ((get_or xs k d).left +ℤ x) (get_or xs k d).left) l_is
       ∙ signed-next (left_by a.budget e a.pays) (λ i. approves e i (k + 1)) closed (get_or xs k d).left
       (approves e (closed + 1) (k + 1)) refl (h.left k d w));
   offer = λ k d w. (
       ap (λ x. x.offer) (m.each k d (rw h.as_many w))
-      ∙ closed-offer (approves e (closed + 1) (k + 1)) l o (get_or xs k d)
+      ∙ part (λ s. s.offer) (approves e (closed + 1) (k + 1)) (with_supporter l o (get_or xs k d)) (get_or xs k d)
       ∙ ap (λ x. cond (approves e (closed + 1) (k + 1)) ((get_or xs k d).offer +ℤ x) (get_or xs k d).offer) o_is
       ∙ signed-next (most_by a.budget e a.pays) (λ i. approves e i (k + 1)) closed (get_or xs k d).offer
       (approves e (closed + 1) (k + 1)) refl (h.offer k d w));
   count = λ k d w. (
       ap (λ x. x.supporters) (m.each k d (rw h.as_many w))
-      ∙ closed-count (approves e (closed + 1) (k + 1)) l o (get_or xs k d)
+      ∙ part (λ s. s.supporters) (approves e (closed + 1) (k + 1)) (with_supporter l o (get_or xs k d)) (get_or xs k d)
       ∙ count-next (λ i. approves e i (k + 1)) closed (get_or xs k d).supporters (approves e (closed + 1) (k + 1)) refl
       (h.count k d w));
   seen =
       λ k d w. omega (
         arith,
-        ap (λ x. x.last_approver) (m.each k d (rw h.as_many w)),
-        closed-seen (approves e (closed + 1) (k + 1)) l o (get_or xs k d),
+        part-kept (λ s. s.last_approver) k d m (rw h.as_many w) (λ s. refl),
         h.seen k d w,
       );
   marked = λ k d w early. absurd (omega arith);

@@ -1,6 +1,7 @@
 -- The conditions as the sums tell them are the conditions on the prices.
-use Rattle.std.proofs.Common.{◌≡◌, ℕ, zero, suc, ◌+◌, ◌*◌, ◌<◌, ◌-◌, ◌≤◌, Bool, true, false, List, [], ◌∷◌, ◌++◌, get_or, refl, sym, ◌∙◌, ap, arith}
-use Rattle.std.specs.Prelude.{ℤ, length, None, Some, ◌==◌, ◌&&◌, filter, int_lt, map, not, pos, slice_get}
+use Rattle.std.proofs.Common.{◌≡◌, ℕ, zero, suc, ◌+◌, ◌*◌, ◌<◌, ◌-◌, ◌≤◌, Bool, true, false, cond, List, [], ◌∷◌, ◌++◌, get_or, refl, sym, ◌∙◌, ap, arith}
+use Rattle.std.specs.Prelude.{ℤ, length, Option, None, ◌==◌, ◌&&◌, filter, int_lt, map, not, option_map, pos, slice_get}
+use Rattle.std.specs.Option.{option_or}
 use Rattle.std.specs.List.{range_with_len}
 use Rattle.std.proofs.lemmas.List.{map-append}
 use Rattle.pb_money.specs.Grains.{cost_grains}
@@ -10,10 +11,9 @@ use Rattle.pb_certificate.specs.Prices.{Prices}
 use Rattle.pb_cohesion.specs.Amounts.{cost, left, paid}
 use Rattle.pb_cohesion.specs.Conditions.{culprits_of_C1, culprits_of_C2, culprits_of_C3, culprits_of_C4, culprits_of_C5, culprits_of_S5, most_of, sum_ℤ}
 use Rattle.pb_cohesion.proofs.Ballots.{filter-same}
-use Rattle.pb_cohesion.proofs.Firsts.{first-left, first-mapped, first-right, range-next}
-use Rattle.pb_cohesion.proofs.Loops.{range-first}
+use Rattle.pb_cohesion.proofs.Firsts.{range-next}
 use Rattle.pb_price.specs.First.{failures_of_payments, failures_of_supporters}
-use Rattle.pb_price.specs.Inside.Tallies.{AreSums, figures_of, has_more, in_vain, not_exactly, sums_of}
+use Rattle.pb_price.specs.Inside.Tallies.{AreSums, figures_of, has_more, in_vain, not_exactly, paid_wrongly, sums_of}
 use Rattle.pb_price.specs.Margins.{AreMargins, margins_of_project}
 use Rattle.pb_price.specs.declared.Margins.{Margins}
 use Rattle.pb_price.specs.declared.ProjectMargins.{ProjectMargins}
@@ -22,7 +22,7 @@ use Rattle.pb_price.specs.declared.Mode.{Mode}
 use Rattle.pb_price.specs.declared.tally.ProjectSums.{ProjectSums}
 use Rattle.pb_price.proofs.Ballots.{nothing}
 use Rattle.pb_price.proofs.Culprits.{more_left, more_left-is, more_offered, more_offered-is, not_paid_exactly, not_paid_exactly-is, paid_in_vain, paid_in_vain-is}
-use Rattle.pb_price.proofs.Parts.{payments-rest, supporters-plain, supporters-plain-none, supporters-stable, supporters-stable-none}
+use Rattle.pb_price.proofs.Parts.{of-mapped, of-two, payments-of}
 
 -- what the sums have for a project
 pub paid-at : (e : Instance) (p : Prices) (sums : List ProjectSums) (c : ℕ) → AreSums e p sums → 1 ≤ c → c ≤ projects e
@@ -82,83 +82,41 @@ stable-is e w p d sums is h =
     ∙ ap (λ n. not (has w c) && int_lt (pos n) (sum_ℤ (most_of e p) (supporters e c))) (cost-at e p d c is)))
     ∙ sym (more_offered-is e w p)
 
--- the first that is paid for wrongly
-pub wrongly-first : (q r : ℕ → Bool) (n j : ℕ) → filter q (range_with_len 1 (j - 1)) ≡ [] → 1 ≤ j → j ≤ n → q j ≡ true
-    → slice_get (map failure.C3 (filter q (range_with_len 1 n)) ++ map failure.C4 (filter r (range_with_len 1 n))) 0
-    ≡ Some (failure.C3 j)
-wrongly-first q r n j none low high pass =
-    first-left (map failure.C3 (filter q (range_with_len 1 n))) (map failure.C4 (filter r (range_with_len 1 n)))
-    (failure.C3 j)
-    (first-mapped failure.C3 (filter q (range_with_len 1 n)) j (range-first q n j none low high pass))
-
-pub wrongly-last : (q r : ℕ → Bool) (n j : ℕ) → filter q (range_with_len 1 n) ≡ []
-    → Some j ≡ slice_get (filter r (range_with_len 1 n)) 0
-    → slice_get (map failure.C3 (filter q (range_with_len 1 n)) ++ map failure.C4 (filter r (range_with_len 1 n))) 0
-    ≡ Some (failure.C4 j)
-wrongly-last q r n j none some =
-    first-right (map failure.C3 (filter q (range_with_len 1 n))) (map failure.C4 (filter r (range_with_len 1 n)))
-    (ap (map failure.C3) none)
-    ∙ first-mapped failure.C4 (filter r (range_with_len 1 n)) j (sym some)
-
-none-mapped : (xs : List ℕ) → slice_get xs 0 ≡ None → slice_get (map failure.C4 xs) 0 ≡ None
-none-mapped [] h = refl
-none-mapped (x ∷ xs) h = cc
-
-pub wrongly-none : (q r : ℕ → Bool) (n : ℕ) → filter q (range_with_len 1 n) ≡ []
-    → None ≡ slice_get (filter r (range_with_len 1 n)) 0
-    → slice_get (map failure.C3 (filter q (range_with_len 1 n)) ++ map failure.C4 (filter r (range_with_len 1 n))) 0
-    ≡ None
-wrongly-none q r n none no' =
-    first-right (map failure.C3 (filter q (range_with_len 1 n))) (map failure.C4 (filter r (range_with_len 1 n)))
-    (ap (map failure.C3) none)
-    ∙ none-mapped (filter r (range_with_len 1 n)) (sym no')
+-- the first that is paid for wrongly, by the first of each kind
+pub wrongly-of : (e : Instance) (w : List Bool) (d : ℕ) (sums : List ProjectSums) (c3 c4 : Option ℕ)
+    → c3 ≡ slice_get (filter (not_exactly e w d sums) (all_projects e)) 0
+    → c4 ≡ slice_get (filter (in_vain w sums) (all_projects e)) 0
+    → option_or (option_map failure.C3 c3) (option_map failure.C4 c4) ≡ slice_get (paid_wrongly e w d sums) 0
+wrongly-of e w d sums c3 c4 is3 is4 =
+    of-two (map failure.C3 (filter (not_exactly e w d sums) (all_projects e)))
+    (map failure.C4 (filter (in_vain w sums) (all_projects e))) _ _
+    (of-mapped failure.C3 (filter (not_exactly e w d sums) (all_projects e)) c3 is3)
+    (of-mapped failure.C4 (filter (in_vain w sums) (all_projects e)) c4 is4)
 
 -- the payments, where no voter pays wrongly or too much
 pub payments-wrongly : (e : Instance) (w : List Bool) (p : Prices) (d : ℕ) (sums : List ProjectSums) → p.denominator ≡ d
-    → AreSums e p sums → slice_get (culprits_of_C1 e p) 0 ≡ None → slice_get (culprits_of_C2 e p) 0 ≡ None
-    → slice_get
-    (map failure.C3 (filter (not_exactly e w d sums) (all_projects e))
-    ++ map failure.C4 (filter (in_vain w sums) (all_projects e))) 0 ≡ slice_get (failures_of_payments e w p) 0
-payments-wrongly e w p d sums is h a b =
-    ap (λ xs. slice_get (map failure.C3 xs ++ map failure.C4 (filter (in_vain w sums) (all_projects e))) 0)
-    (exactly-is e w p d sums is h)
-    ∙ ap (λ xs. slice_get (map failure.C3 (culprits_of_C3 e w p) ++ map failure.C4 xs) 0) (vain-is e w p sums h)
-    ∙ sym (payments-rest e w p a b)
+    → AreSums e p sums → None ≡ slice_get (culprits_of_C1 e p) 0 → None ≡ slice_get (culprits_of_C2 e p) 0
+    → slice_get (paid_wrongly e w d sums) 0 ≡ slice_get (failures_of_payments e w p) 0
+payments-wrongly e w p d sums is h none1 none2 =
+    sym (wrongly-of e w d sums _ _ refl refl)
+    ∙ payments-of e w p None None _ _ none1 none2
+    (ap (λ xs. slice_get xs 0) (exactly-is e w p d sums is h))
+    (ap (λ xs. slice_get xs 0) (vain-is e w p sums h))
 
--- the supporters
-pub supporters-none : (m : Mode) (e : Instance) (w : List Bool) (p : Prices) (d : ℕ) (sums : List ProjectSums)
-    → p.denominator ≡ d → AreSums e p sums
-    → slice_get (filter (has_more e w d m.stable sums) (all_projects e)) 0 ≡ None
-    → slice_get (failures_of_supporters m e w p) 0 ≡ None
-supporters-none m e w p d sums is h none = go m.stable refl
+-- the supporters, in the form of the mode
+pub supporters-of : (m : Mode) (e : Instance) (w : List Bool) (p : Prices) (d : ℕ) (sums : List ProjectSums) (b : Bool)
+    (o : Option ℕ) → p.denominator ≡ d → AreSums e p sums → m.stable ≡ b
+    → o ≡ slice_get (filter (has_more e w d m.stable sums) (all_projects e)) 0
+    → option_map (cond b failure.S5 failure.C5) o ≡ slice_get (failures_of_supporters m e w p) 0
+supporters-of m e w p d sums b o is h form found = rw form (go b (rw form at found))
   where
-    go : (b : Bool) → m.stable ≡ b → slice_get (failures_of_supporters m e w p) 0 ≡ None
-    go true stable =
-        supporters-stable-none m e w p stable
-        (ap (λ xs. slice_get xs 0) (sym (stable-is e w p d sums is h))
-        ∙ ap (λ b. slice_get (filter (has_more e w d b sums) (all_projects e)) 0) (sym stable) ∙ none)
-    go false plain =
-        supporters-plain-none m e w p plain
-        (ap (λ xs. slice_get xs 0) (sym (plain-is e w p d sums is h))
-        ∙ ap (λ b. slice_get (filter (has_more e w d b sums) (all_projects e)) 0) (sym plain) ∙ none)
-
-pub supporters-S5 : (m : Mode) (e : Instance) (w : List Bool) (p : Prices) (d : ℕ) (sums : List ProjectSums) (j : ℕ)
-    → p.denominator ≡ d → AreSums e p sums → m.stable ≡ true
-    → slice_get (filter (has_more e w d m.stable sums) (all_projects e)) 0 ≡ Some j
-    → slice_get (failures_of_supporters m e w p) 0 ≡ Some (failure.S5 j)
-supporters-S5 m e w p d sums j is h stable some =
-    supporters-stable m e w p j stable
-    (ap (λ xs. slice_get xs 0) (sym (stable-is e w p d sums is h))
-    ∙ ap (λ b. slice_get (filter (has_more e w d b sums) (all_projects e)) 0) (sym stable) ∙ some)
-
-pub supporters-C5 : (m : Mode) (e : Instance) (w : List Bool) (p : Prices) (d : ℕ) (sums : List ProjectSums) (j : ℕ)
-    → p.denominator ≡ d → AreSums e p sums → m.stable ≡ false
-    → slice_get (filter (has_more e w d m.stable sums) (all_projects e)) 0 ≡ Some j
-    → slice_get (failures_of_supporters m e w p) 0 ≡ Some (failure.C5 j)
-supporters-C5 m e w p d sums j is h plain some =
-    supporters-plain m e w p j plain
-    (ap (λ xs. slice_get xs 0) (sym (plain-is e w p d sums is h))
-    ∙ ap (λ b. slice_get (filter (has_more e w d b sums) (all_projects e)) 0) (sym plain) ∙ some)
+    go : (b : Bool) → o ≡ slice_get (filter (has_more e w d b sums) (all_projects e)) 0
+        → option_map (cond b failure.S5 failure.C5) o
+        ≡ slice_get (cond b (map failure.S5 (culprits_of_S5 e w p)) (map failure.C5 (culprits_of_C5 e w p))) 0
+    go true first = of-mapped failure.S5 (culprits_of_S5 e w p) o
+        (first ∙ ap (λ xs. slice_get xs 0) (stable-is e w p d sums is h))
+    go false first = of-mapped failure.C5 (culprits_of_C5 e w p) o
+        (first ∙ ap (λ xs. slice_get xs 0) (plain-is e w p d sums is h))
 
 -- the figures of the projects
 figures-same : {A : Type 0} (f g : ℕ → A) (a n : ℕ) → ((c : ℕ) → a ≤ c → c < a + n → f c ≡ g c)

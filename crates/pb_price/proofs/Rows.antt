@@ -1,48 +1,24 @@
 -- The rows of a certificate, one after another.
-use Rattle.std.proofs.Common.{◌≡◌, ℕ, ◌+◌, ◌-◌, ◌<◌, ◌≤◌, Bool, true, false, cond, List, [], ◌∷◌, ◌++◌, length, drop, take, refl, sym, ◌∙◌, ap, subst, inl, inr, arith, length-append, length-drop}
-use Rattle.std.specs.Prelude.{Option, Some, None, ◌&&◌, ◌==◌, filter_map, map, nat_le, nat_lt, not}
+use Rattle.std.proofs.Common.{◌≡◌, ℕ, ◌+◌, ◌-◌, ◌<◌, ◌≤◌, true, false, List, [], ◌∷◌, ◌++◌, length, drop, take, refl, sym, ◌∙◌, ap, subst, inl, inr, arith, length-append, length-drop}
+use Rattle.std.specs.Prelude.{Option, Some, ◌&&◌, ◌==◌, filter_map, map, not}
 use Rattle.std.specs.List.{list_any}
-use Rattle.std.proofs.lemmas.Bool.{and_left, and_right, cases_Bool, cases_eq, eq-eqb, leb-false, ltb-false, ne_eqb}
+use Rattle.std.proofs.lemmas.Bool.{and_left, and_right, cases_Bool, cases_eq, eq-eqb, ne_eqb}
 use Rattle.std.proofs.lemmas.List.{length_push, take-append-drop}
 use Rattle.std.proofs.lemmas.List.Elements.{filter-append}
 use Rattle.pb_money.specs.Grains.{payment_grains}
 use Rattle.pb_election.specs.Instance.{Instance, IsProject, IsVoter}
 use Rattle.pb_records.specs.Records.{Rec}
 use Rattle.pb_records.specs.Cells.{is_blank, nonblank}
-use Rattle.pb_certificate.specs.PriceRows.{as_payment, last_number, last_voter, payment_fault}
+use Rattle.pb_certificate.specs.PriceRows.{as_payment, last_number, last_voter}
 use Rattle.pb_certificate.specs.PriceText.{IsPriceText, Payment, payment_of, same_pair, stated}
 use Rattle.pb_certificate.specs.Prices.{Prices}
 use Rattle.pb_certificate.specs.Rows.{ComesNext, GivesRow, Rows, given}
 use Rattle.pb_certificate.specs.declared.price_row.PriceRow.{PriceRow}
-use Rattle.pb_certificate.specs.declared.refusal.CertFault.{CertFault}
-use Rattle.pb_certificate.specs.declared.refusal.CertFault.TheVariants as fault
+use Rattle.pb_certificate.proofs.GatherSteps.{may-follow}
 use Rattle.pb_certificate.proofs.Texts.{stated-length}
 use Rattle.pb_price.specs.Inside.Tallies.{CanTakeRow, TakesRow, Tallied}
 use Rattle.pb_price.specs.Inside.Takings.{taken_from}
 use Rattle.pb_price.specs.declared.tally.Tally.{Tally}
-
--- what it says that a payment has no fault after some others
-pub record Follows (qs : List Payment) (q : Payment) : Type 0 where
-  pub order : last_voter qs ≤ q.voter
-  pub new : list_any (same_pair q) qs ≡ false
-  pub few : length qs < 10000000
-
-some-fault : (f : CertFault) → ◌≡◌ {A = Option CertFault} (Some f) None → ⊥
-some-fault f h = cc
-
-pub follows : (qs : List Payment) (q : Payment) → payment_fault qs q ≡ None → Follows qs q
-follows qs q h =
-    go (nat_lt q.voter (last_voter qs)) (list_any (same_pair q) qs) (nat_le 10000000 (length qs)) refl refl refl h
-  where
-    go : (a b c : Bool) → nat_lt q.voter (last_voter qs) ≡ a → list_any (same_pair q) qs ≡ b
-        → nat_le 10000000 (length qs) ≡ c
-        → cond a (Some fault.OutOfOrder) (cond b (Some fault.Repeated) (cond c (Some fault.TooMany) None)) ≡ None
-        → Follows qs q
-    go true b c ea eb ec k = absurd (some-fault fault.OutOfOrder k)
-    go false true c ea eb ec k = absurd (some-fault fault.Repeated k)
-    go false false true ea eb ec k = absurd (some-fault fault.TooMany k)
-    go false false false ea eb ec k =
-        record { order = ltb-false q.voter (last_voter qs) ea; new = eb; few = leb-false 10000000 (length qs) ec }
 
 -- what is stated with one more payment
 swap : (q x : Payment) → same_pair q x ≡ ((x.voter == q.voter) && (x.project == q.project))
@@ -92,12 +68,12 @@ stated-other (x ∷ xs) q i c h = rw (stated-other xs q i c h) refl
 
 pub takes-row : (old new : Rows) (q : PriceRow) → GivesRow old new q → TakesRow (taken_from old) (taken_from new) q
 takes-row old new q g =
-    let f : Follows (given old) (as_payment q) = follows (given old) (as_payment q) g.follows in
+    let f = may-follow (given old) (as_payment q) g.follows in
     record {
       budget = ap (λ x. payment_grains x.budget) g.same;
       rows = ap length g.given_then ∙ length_push (given old) (as_payment q);
-      none_yet = stated-none (given old) (as_payment q) f.new;
-      here = ap (λ qs. stated qs q.voter q.project) g.given_then ∙ stated-here (given old) (as_payment q) f.new;
+      none_yet = stated-none (given old) (as_payment q) f.fresh;
+      here = ap (λ qs. stated qs q.voter q.project) g.given_then ∙ stated-here (given old) (as_payment q) f.fresh;
       voters =
           λ i c ne.
           (ap (λ qs. stated qs i c) g.given_then
@@ -113,7 +89,7 @@ takes-row old new q g =
 pub can-take : (e : Instance) (old new : Rows) (q : PriceRow) (t : Tally) → GivesRow old new q → old.election ≡ e
     → Tallied e (taken_from old) t → t.closed ≤ last_voter (given old) - 1 → CanTakeRow e t q
 can-take e old new q t g is h closed =
-    let f : Follows (given old) (as_payment q) = follows (given old) (as_payment q) g.follows in
+    let f = may-follow (given old) (as_payment q) g.follows in
     let voter : IsVoter e q.voter = subst (λ x. IsVoter x q.voter) is g.voter in
     record {
       taken = taken_from old;
@@ -121,14 +97,14 @@ can-take e old new q t g is h closed =
       voter = voter;
       project = subst (λ x. IsProject x q.project) is g.project;
       small = g.small;
-      follows = omega (arith, closed, f.order, voter.0);
-      none_yet = stated-none (given old) (as_payment q) f.new;
+      follows = omega (arith, closed, f.not_lower, voter.0);
+      none_yet = stated-none (given old) (as_payment q) f.fresh;
       few = omega (arith, f.few);
     }
 
 pub few-then : (old new : Rows) (q : PriceRow) → GivesRow old new q → length (given new) ≤ 10000000
 few-then old new q g =
-    let f : Follows (given old) (as_payment q) = follows (given old) (as_payment q) g.follows in
+    let f = may-follow (given old) (as_payment q) g.follows in
     omega (arith, ap length g.given_then, length_push (given old) (as_payment q), f.few)
 
 last-of : (n : ℕ) (qs : List Payment) (q : Payment)

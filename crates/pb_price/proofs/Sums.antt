@@ -8,24 +8,6 @@ use Rattle.std.proofs.lemmas.List.Sums.{sum_by-cons}
 use Rattle.pb_cohesion.specs.Amounts.{largest_by}
 use Rattle.pb_cohesion.proofs.Sums.{range-le, range-same, sum-const}
 
--- a term that was 0 becomes x
-pub sum-one-more : (f g : ℕ → ℕ) (n a j x : ℕ) → a ≤ j → j < a + n → f j ≡ 0 → g j ≡ x
-    → ((i : ℕ) → (i ≡ j → ⊥) → g i ≡ f i) → sum_by g (range_with_len a n) ≡ sum_by f (range_with_len a n) + x
-sum-one-more f g zero a j x low high none here other = absurd (omega arith)
-sum-one-more f g (suc n) a j x low high none here other = elim (cases_eq j a) [
-  | inl e ↦
-      let rest : sum_by g (range_with_len (a + 1) n) ≡ sum_by f (range_with_len (a + 1) n) =
-      range-same g f (a + 1) n (λ i low' high'. other i (λ k. omega arith)) in
-      let at_f : f a ≡ 0 = ap f (sym e) ∙ none in
-      let at_g : g a ≡ x = ap g (sym e) ∙ here in
-      omega (arith, sum_by-cons f a (range_with_len (a + 1) n), sum_by-cons g a (range_with_len (a + 1) n))
-  | inr ne ↦
-      let rest : sum_by g (range_with_len (a + 1) n) ≡ sum_by f (range_with_len (a + 1) n) + x =
-      sum-one-more f g n (a + 1) j x (omega arith) (omega arith) none here other in
-      let same : g a ≡ f a = other a (λ k. ne (sym k)) in
-      omega (arith, sum_by-cons f a (range_with_len (a + 1) n), sum_by-cons g a (range_with_len (a + 1) n))
-]
-
 -- a term that becomes x more
 pub sum-one-changed : (f g : ℕ → ℕ) (n a j x : ℕ) → a ≤ j → j < a + n → g j ≡ f j + x
     → ((i : ℕ) → (i ≡ j → ⊥) → g i ≡ f i) → sum_by g (range_with_len a n) ≡ sum_by f (range_with_len a n) + x
@@ -42,6 +24,12 @@ sum-one-changed f g (suc n) a j x low high here other = elim (cases_eq j a) [
       let same : g a ≡ f a = other a (λ k. ne (sym k)) in
       omega (arith, sum_by-cons f a (range_with_len (a + 1) n), sum_by-cons g a (range_with_len (a + 1) n))
 ]
+
+-- a term that was 0 becomes x
+pub sum-one-more : (f g : ℕ → ℕ) (n a j x : ℕ) → a ≤ j → j < a + n → f j ≡ 0 → g j ≡ x
+    → ((i : ℕ) → (i ≡ j → ⊥) → g i ≡ f i) → sum_by g (range_with_len a n) ≡ sum_by f (range_with_len a n) + x
+sum-one-more f g n a j x low high none here other =
+    sum-one-changed f g n a j x low high (omega (arith, none, here)) other
 
 -- the largest of equal terms
 pub largest-same : (f g : ℕ → ℕ) (a n : ℕ) → ((j : ℕ) → a ≤ j → j < a + n → f j ≡ g j)

@@ -1,7 +1,6 @@
 -- What the findings tell is so by the definitions.
-use Rattle.std.proofs.Common.{◌≡◌, ℕ, ◌+◌, ◌*◌, ◌≤◌, ◌↔◌, Bool, true, false, cond, List, [], ◌∷◌, ◌++◌, length, refl, sym, ◌∙◌, ap, inl, inr, arith}
-use Rattle.std.specs.Prelude.{Option, Some, None, map, nat_le, nat_lt, option_map, slice_get}
-use Rattle.std.specs.Option.{option_or}
+use Rattle.std.proofs.Common.{◌≡◌, ℕ, ◌+◌, ◌*◌, ◌≤◌, ◌↔◌, Bool, cond, List, [], ◌∷◌, length, refl, sym, ◌∙◌, ap, inl, inr, arith}
+use Rattle.std.specs.Prelude.{Some, None, map, nat_le, nat_lt, slice_get}
 use Rattle.std.proofs.lemmas.Bool.{cases_lt, le-ltb, lt-ltb}
 use Rattle.std.proofs.lemmas.Nat.{mul-le}
 use Rattle.pb_election.specs.Instance.{Instance, voters}
@@ -11,11 +10,11 @@ use Rattle.pb_cohesion.specs.Conditions.{culprits_of_C1, culprits_of_C2, culprit
 use Rattle.pb_cohesion.specs.Outcome.{total}
 use Rattle.pb_cohesion.proofs.Culprits.{C1-iff, C2-iff, C3-iff, C4-iff, C5-iff, Exhaustive-iff, S5-iff}
 use Rattle.pb_price.specs.Findings.{findings}
-use Rattle.pb_price.specs.First.{First, failures_of_budgets, failures_of_outcome, failures_of_payments, failures_of_supporters}
-use Rattle.pb_price.specs.Told.{TellWhatHolds, first_told, told_of_budgets, told_of_outcome, told_of_payments, told_of_supporters}
-use Rattle.pb_price.specs.declared.Failure.{Failure}
+use Rattle.pb_price.specs.First.{First, failures_of_budgets, failures_of_outcome, failures_of_supporters}
+use Rattle.pb_price.specs.Told.{TellWhatHolds, first_told, told_of_budgets, told_of_outcome, told_of_supporters}
 use Rattle.pb_price.specs.declared.Failure.TheVariants as failure
 use Rattle.pb_price.specs.declared.Mode.{Mode}
+use Rattle.pb_price.proofs.Parts.{first-of, of-choice, of-mapped, of-test, of-two, payments-of}
 
 -- a condition holds where its culprits are none
 none-iff : {A : Type 0} (xs : List A) (n : ℕ) → n ≡ length xs → (n ≡ 0) ↔ (xs ≡ [])
@@ -56,31 +55,6 @@ tell-what-holds e w p low = record {
   s5 = through (none-iff (culprits_of_S5 e w p) _ refl) (S5-iff e w p);
 }
 
--- the first of two lists, and of one that is mapped
-of-two : (xs ys : List Failure) (a b : Option Failure) → a ≡ slice_get xs 0 → b ≡ slice_get ys 0
-    → option_or a b ≡ slice_get (xs ++ ys) 0
-of-two [] ys a b p q = ap (λ x. option_or x b) p ∙ q
-of-two (x ∷ xs) ys a b p q = ap (λ y. option_or y b) p
-
-of-mapped : {A : Type 0} (g : A → Failure) (xs : List A) (o : Option A) → o ≡ slice_get xs 0
-    → option_map g o ≡ slice_get (map g xs) 0
-of-mapped g [] o is = ap (option_map g) is
-of-mapped g (x ∷ xs) o is = ap (option_map g) is
-
-of-test : (b : Bool) (x : Failure) → cond b (Some x) None ≡ slice_get (cond b (x ∷ []) []) 0
-of-test true x = refl
-of-test false x = refl
-
-of-asked : (b : Bool) (xs : List Failure) (o : Option Failure) → o ≡ slice_get xs 0
-    → cond b o None ≡ slice_get (cond b xs []) 0
-of-asked true xs o is = is
-of-asked false xs o is = refl
-
-of-choice : (b : Bool) (xs ys : List Failure) (o q : Option Failure) → o ≡ slice_get xs 0 → q ≡ slice_get ys 0
-    → cond b o q ≡ slice_get (cond b xs ys) 0
-of-choice true xs ys o q is is' = is
-of-choice false xs ys o q is is' = is'
-
 outcome-told : (m : Mode) (e : Instance) (w : List Bool) (p : Prices) → 1 ≤ p.denominator
     → told_of_outcome m (findings e w p) ≡ slice_get (failures_of_outcome m e w) 0
 outcome-told m e w p low =
@@ -88,25 +62,14 @@ outcome-told m e w p low =
     (cond m.exhaustive (map failure.Exhaustive (culprits_of_Exhaustive e w)) []) _ _
     (ap (λ b. cond b (Some failure.Feasible) None) (over-is (total e w) e.limit p.denominator low)
     ∙ of-test (nat_lt e.limit (total e w)) failure.Feasible)
-    (of-asked m.exhaustive (map failure.Exhaustive (culprits_of_Exhaustive e w)) _
-    (of-mapped failure.Exhaustive (culprits_of_Exhaustive e w) _ refl))
+    (of-choice m.exhaustive (map failure.Exhaustive (culprits_of_Exhaustive e w)) [] _ _
+    (of-mapped failure.Exhaustive (culprits_of_Exhaustive e w) _ refl) refl)
 
 budgets-told : (m : Mode) (e : Instance) (w : List Bool) (p : Prices)
     → told_of_budgets m (findings e w p) ≡ slice_get (failures_of_budgets m e p) 0
 budgets-told m e w p =
-    of-asked m.cover (cond (nat_le (voters e * beta p) (budget_limit e p)) (failure.Cover ∷ []) []) _
-    (of-test (nat_le (voters e * beta p) (budget_limit e p)) failure.Cover)
-
-payments-told : (e : Instance) (w : List Bool) (p : Prices)
-    → told_of_payments (findings e w p) ≡ slice_get (failures_of_payments e w p) 0
-payments-told e w p =
-    of-two _ (map failure.C4 (culprits_of_C4 e w p)) _ _
-    (of-two _ (map failure.C3 (culprits_of_C3 e w p)) _ _
-    (of-two (map (λ q. failure.C1 q.0 q.1) (culprits_of_C1 e p)) (map failure.C2 (culprits_of_C2 e p)) _ _
-    (of-mapped (λ q. failure.C1 q.0 q.1) (culprits_of_C1 e p) _ refl)
-    (of-mapped failure.C2 (culprits_of_C2 e p) _ refl))
-    (of-mapped failure.C3 (culprits_of_C3 e w p) _ refl))
-    (of-mapped failure.C4 (culprits_of_C4 e w p) _ refl)
+    of-choice m.cover (cond (nat_le (voters e * beta p) (budget_limit e p)) (failure.Cover ∷ []) []) [] _ _
+    (of-test (nat_le (voters e * beta p) (budget_limit e p)) failure.Cover) refl
 
 supporters-told : (m : Mode) (e : Instance) (w : List Bool) (p : Prices)
     → told_of_supporters m (findings e w p) ≡ slice_get (failures_of_supporters m e w p) 0
@@ -117,10 +80,5 @@ supporters-told m e w p =
 pub tell-first : (m : Mode) (e : Instance) (w : List Bool) (p : Prices) → 1 ≤ p.denominator
     → first_told m (findings e w p) ≡ First m e w p
 tell-first m e w p low =
-    of-two (failures_of_outcome m e w ++ failures_of_budgets m e p ++ failures_of_payments e w p)
-    (failures_of_supporters m e w p) _ _
-    (of-two (failures_of_outcome m e w ++ failures_of_budgets m e p) (failures_of_payments e w p) _ _
-    (of-two (failures_of_outcome m e w) (failures_of_budgets m e p) _ _ (outcome-told m e w p low)
-    (budgets-told m e w p))
-    (payments-told e w p))
-    (supporters-told m e w p)
+    first-of m e w p _ _ _ _ (outcome-told m e w p low) (budgets-told m e w p)
+    (payments-of e w p _ _ _ _ refl refl refl refl) (supporters-told m e w p)

@@ -200,10 +200,7 @@ fn first_paid_wrongly(
         }
         vainly = first_where(vainly, is_paid_in_vain(election, outcome, sums, j), j);
     }
-    match vainly {
-        Some(j) => Some(Failure::C4(j)),
-        None => None,
-    }
+    vainly.map(Failure::C4)
 }
 
 // Whether project `j` is funded and the payments for it are not exactly its cost.

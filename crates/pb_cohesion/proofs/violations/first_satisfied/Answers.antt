@@ -1,4 +1,4 @@
-use Rattle.std.proofs.Common.{◌≡◌, ℕ, true, false, get_or, sym, ◌∙◌, ap}
+use Rattle.std.proofs.Common.{get_or, sym, ◌∙◌, ap}
 use Rattle.std.specs.Prelude.{nat_le}
 use Rattle.std.proofs.lemmas.Bool.{le-leb, lt-leb}
 use Rattle.pb_election.specs.Instance.{voters}
@@ -14,30 +14,22 @@ ballot-requires g c =
 
 pub returns-then-demanded-worth_of_funded : goal.returns-then-demanded-worth_of_funded
 returns-then-demanded-worth_of_funded g c =
-    let is = worth-is (g.S.Satisfaction.meaning c.args.satisfaction.now c.args.election.now) c.args.election.now
-    c.args.outcome.now.marks (get_or c.args.group.now c.loop-i.i-index 0) c.ballot.result.now
-    c.worth_of_funded.result c.ballot.ensures.value c.ballot.ensures.rising c.worth_of_funded.ensures.value in
-    let enough : nat_le c.args.demanded
-    (sat (g.S.Satisfaction.meaning c.args.satisfaction.now c.args.election.now)
-    (gets c.args.election.now c.args.outcome.now.marks (get_or c.args.group.now c.loop-i.i-index 0))) ≡ true
-    = ap (nat_le c.args.demanded) (sym is) ∙ le-leb _ _ c.if-demanded-worth_of_funded.true in
+    let meaning = g.S.Satisfaction.meaning c.args.satisfaction.now c.args.election.now in
+    let is = worth-is meaning c.args.election.now c.args.outcome.now.marks
+    (get_or c.args.group.now c.loop-i.i-index 0) c.ballot.result.now c.worth_of_funded.result
+    c.ballot.ensures.value c.ballot.ensures.rising c.worth_of_funded.ensures.value in
     sym (filter-first
-    (λ (i : ℕ). nat_le c.args.demanded
-    (sat (g.S.Satisfaction.meaning c.args.satisfaction.now c.args.election.now)
-    (gets c.args.election.now c.args.outcome.now.marks i))) c.args.group.now c.loop-i.i-index c.loop-i.invariant
-    c.loop-i-test.true enough)
+    (λ i. nat_le c.args.demanded (sat meaning (gets c.args.election.now c.args.outcome.now.marks i))) c.args.group.now
+    c.loop-i.i-index c.loop-i.invariant c.loop-i-test.true
+    (ap (nat_le c.args.demanded) (sym is) ∙ le-leb _ _ c.if-demanded-worth_of_funded.true))
 
 pub loop-i-preserved : goal.loop-i-preserved
 loop-i-preserved g c =
-    let is = worth-is (g.S.Satisfaction.meaning c.args.satisfaction.now c.args.election.now) c.args.election.now
-    c.args.outcome.now.marks (get_or c.args.group.now c.loop-i.i-index 0) c.ballot.result.now
-    c.worth_of_funded.result c.ballot.ensures.value c.ballot.ensures.rising c.worth_of_funded.ensures.value in
-    let less : nat_le c.args.demanded
-    (sat (g.S.Satisfaction.meaning c.args.satisfaction.now c.args.election.now)
-    (gets c.args.election.now c.args.outcome.now.marks (get_or c.args.group.now c.loop-i.i-index 0))) ≡ false
-    = ap (nat_le c.args.demanded) (sym is) ∙ lt-leb _ _ c.if-demanded-worth_of_funded.false in
+    let meaning = g.S.Satisfaction.meaning c.args.satisfaction.now c.args.election.now in
+    let is = worth-is meaning c.args.election.now c.args.outcome.now.marks
+    (get_or c.args.group.now c.loop-i.i-index 0) c.ballot.result.now c.worth_of_funded.result
+    c.ballot.ensures.value c.ballot.ensures.rising c.worth_of_funded.ensures.value in
     filter-more
-    (λ (i : ℕ). nat_le c.args.demanded
-    (sat (g.S.Satisfaction.meaning c.args.satisfaction.now c.args.election.now)
-    (gets c.args.election.now c.args.outcome.now.marks i))) c.args.group.now c.loop-i.i-index c.loop-i.invariant
-    c.loop-i-test.true less
+    (λ i. nat_le c.args.demanded (sat meaning (gets c.args.election.now c.args.outcome.now.marks i))) c.args.group.now
+    c.loop-i.i-index c.loop-i.invariant c.loop-i-test.true
+    (ap (nat_le c.args.demanded) (sym is) ∙ lt-leb _ _ c.if-demanded-worth_of_funded.false)

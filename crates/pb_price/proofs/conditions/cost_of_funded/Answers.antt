@@ -81,17 +81,3 @@ returns-after-has-clause-value c =
           let next = sum-failing (cost_of c.args.election.now) (has c.args.outcome.now.marks) c.loop-j.j low unfunded in
           omega (arith, whole, next, w.cost-is, c.loop-j.invariant.value)
     ]
-
-pub overflow_add-steps : goal.overflow_add-steps
-overflow_add-steps c =
-    omega (
-      arith,
-      c.requires.steps,
-      c.loop-j.invariant.steps,
-      c.projects-j-end.ensures.value,
-      c.projects-j-end.ensures.sound.few_projects,
-    )
-
-pub returns-clause-steps : goal.returns-clause-steps
-returns-clause-steps c =
-    omega (arith, c.projects-j-end.ensures.value, c.loop-j.invariant.steps, c.loop-j.invariant.within)

@@ -1,133 +1,45 @@
-use Rattle.std.proofs.Common.{◌≡◌, ◌+◌, ◌-◌, ◌≤◌, true, false, [], sym, ◌∙◌, ap, subst, arith}
-use Rattle.std.specs.Prelude.{filter, slice_get}
-use Rattle.std.specs.List.{range_with_len}
+use Rattle.std.proofs.Common.{◌≡◌, ◌-◌, ◌≤◌, Some, None, option_map, refl, sym, ◌∙◌, arith, rules}
 use Rattle.pb_election.specs.Instance.{projects}
-use Rattle.pb_cohesion.proofs.Loops.{range-more}
-use Rattle.pb_price.specs.Inside.Tallies.{in_vain, not_exactly}
-use Rattle.pb_price.proofs.Firsts.{number-at}
-use Rattle.pb_price.proofs.Reading.{wrongly-first, wrongly-last, wrongly-none}
+use Rattle.pb_price.specs.declared.Failure.TheVariants as failure
+use Rattle.pb_price.proofs.Firsts.{number-end, number-found, number-last, number-more}
+use Rattle.pb_price.proofs.Reading.{wrongly-of}
 use Rattle.pb_price.proofs.conditions.first_paid_wrongly.Goals as goal
 use Rattle.pb_price.proofs.conditions.first_paid_wrongly.Goals.{else-loop-j-test, then-loop-j-test+else-is_not_paid_exactly+else-j-j-end}
 
-pub overflow_add-steps : goal.overflow_add-steps
-overflow_add-steps c =
-    omega (
-      arith,
-      c.requires.steps,
-      c.loop-j.invariant.steps,
-      c.projects-j-end.ensures.value,
-      c.projects-j-end.ensures.sound.few_projects,
-    )
-
 pub loop-j-preserved : goal.loop-j-preserved
-loop-j-preserved c =
-    let low : 1 ≤ c.loop-j.j = omega arith in
-    let passes : not_exactly c.args.election.now c.args.outcome.now.marks c.args.denominator c.args.sums.now c.loop-j.j
-    ≡ false = sym c.is_not_paid_exactly.ensures ∙ c.if-is_not_paid_exactly.false in
-    record {
-      none = range-more (not_exactly c.args.election.now c.args.outcome.now.marks c.args.denominator c.args.sums.now)
-          c.loop-j.j c.loop-j.invariant.none low passes;
-      vainly = c.first_where-vainly.ensures
-          ∙ number-at (in_vain c.args.outcome.now.marks c.args.sums.now) c.loop-j.j c.is_paid_in_vain.result
-          c.loop-j.vainly low c.is_paid_in_vain.ensures c.loop-j.invariant.vainly;
-      within = omega (arith, c.projects-j-end.ensures.value, c.loop-j-test.true);
-      steps = omega (arith, c.loop-j.invariant.steps);
-    }
+loop-j-preserved c = record {
+  none = number-more c.loop-j.j c.loop-j.invariant.none (omega arith)
+      (sym c.if-is_not_paid_exactly.false ∙ c.is_not_paid_exactly.ensures) refl;
+  vainly = number-more c.loop-j.j c.loop-j.invariant.vainly (omega arith) c.is_paid_in_vain.ensures
+      c.first_where-vainly.ensures;
+  within = omega (arith, c.projects-j-end.ensures.value, c.loop-j-test.true);
+  steps = omega (arith, c.loop-j.invariant.steps);
+}
 
 pub returns-then-is_not_paid_exactly-clause-first : goal.returns-then-is_not_paid_exactly-clause-first
 returns-then-is_not_paid_exactly-clause-first c =
-    let low : 1 ≤ c.loop-j.j = omega arith in
-    let high : c.loop-j.j ≤ projects c.args.election.now = omega (arith, c.projects-j-end.ensures.value) in
-    let fails : not_exactly c.args.election.now c.args.outcome.now.marks c.args.denominator c.args.sums.now c.loop-j.j
-    ≡ true = sym c.is_not_paid_exactly.ensures ∙ c.if-is_not_paid_exactly.true in
-    sym (wrongly-first (not_exactly c.args.election.now c.args.outcome.now.marks c.args.denominator c.args.sums.now)
-    (in_vain c.args.outcome.now.marks c.args.sums.now) (projects c.args.election.now) c.loop-j.j
-    c.loop-j.invariant.none low high fails)
+    wrongly-of c.args.election.now c.args.outcome.now.marks c.args.denominator c.args.sums.now (Some c.loop-j.j) _
+    (number-found (projects c.args.election.now) c.loop-j.j c.loop-j.invariant.none (omega arith)
+    (omega (arith, c.projects-j-end.ensures.value))
+    (sym c.is_not_paid_exactly.ensures ∙ c.if-is_not_paid_exactly.true)) refl
 
-pub returns-in-Some-clause-first : goal.returns-in-Some-clause-first
-returns-in-Some-clause-first c =
-    elim c.loop-j-test.branch [
+pub returns-clause-first : goal.returns-clause-first
+returns-clause-first c =
+    let mapped : c.map.result ≡ option_map failure.C4 c.loop-j-test.vainly = search rules in
+    let n = projects c.args.election.now in
+    let of_first = wrongly-of c.args.election.now c.args.outcome.now.marks c.args.denominator c.args.sums.now None
+    c.loop-j-test.vainly in
+    mapped ∙ elim c.loop-j-test.branch [
       | else-loop-j-test w ↦
-          let end : c.loop-j.j - 1 ≡ projects c.args.election.now =
-          omega (arith, c.projects-j-end.ensures.value, c.loop-j.invariant.within) in
-          sym (wrongly-last
-          (not_exactly c.args.election.now c.args.outcome.now.marks c.args.denominator c.args.sums.now)
-          (in_vain c.args.outcome.now.marks c.args.sums.now) (projects c.args.election.now) c.in-Some.j
-          (subst
-          (λ k. filter (not_exactly c.args.election.now c.args.outcome.now.marks c.args.denominator c.args.sums.now)
-          (range_with_len 1 k) ≡ []) end c.loop-j.invariant.none)
-          (sym c.in-Some.is ∙ w.vainly-is ∙ c.loop-j.invariant.vainly
-          ∙ ap (λ k. slice_get (filter (in_vain c.args.outcome.now.marks c.args.sums.now) (range_with_len 1 k)) 0)
-          end))
+          let end : c.loop-j.j - 1 ≡ n = omega (arith, c.projects-j-end.ensures.value, c.loop-j.invariant.within) in
+          of_first (number-end n c.loop-j.invariant.none end)
+          (w.vainly-is ∙ number-end n c.loop-j.invariant.vainly end)
       | then-loop-j-test+else-is_not_paid_exactly+else-j-j-end w ↦
           let low : 1 ≤ c.loop-j.j = omega arith in
-          let end : c.loop-j.j + 1 - 1 ≡ projects c.args.election.now = omega (arith, c.projects-j-end.ensures.value) in
-          let passes : not_exactly c.args.election.now c.args.outcome.now.marks c.args.denominator c.args.sums.now
-          c.loop-j.j ≡ false = sym w.is_not_paid_exactly.ensures ∙ w.if-is_not_paid_exactly.false in
-          sym (wrongly-last
-          (not_exactly c.args.election.now c.args.outcome.now.marks c.args.denominator c.args.sums.now)
-          (in_vain c.args.outcome.now.marks c.args.sums.now) (projects c.args.election.now) c.in-Some.j
-          (subst
-          (λ k. filter (not_exactly c.args.election.now c.args.outcome.now.marks c.args.denominator c.args.sums.now)
-          (range_with_len 1 k) ≡ []) end
-          (range-more (not_exactly c.args.election.now c.args.outcome.now.marks c.args.denominator c.args.sums.now)
-          c.loop-j.j c.loop-j.invariant.none low passes))
-          (sym c.in-Some.is ∙ w.vainly-is ∙ w.first_where-vainly.ensures
-          ∙ number-at (in_vain c.args.outcome.now.marks c.args.sums.now) c.loop-j.j w.is_paid_in_vain.result
-          c.loop-j.vainly low w.is_paid_in_vain.ensures c.loop-j.invariant.vainly
-          ∙ ap (λ k. slice_get (filter (in_vain c.args.outcome.now.marks c.args.sums.now) (range_with_len 1 k)) 0)
-          end))
-    ]
-
-pub returns-in-None-clause-first : goal.returns-in-None-clause-first
-returns-in-None-clause-first c =
-    elim c.loop-j-test.branch [
-      | else-loop-j-test w ↦
-          let end : c.loop-j.j - 1 ≡ projects c.args.election.now =
-          omega (arith, c.projects-j-end.ensures.value, c.loop-j.invariant.within) in
-          sym (wrongly-none
-          (not_exactly c.args.election.now c.args.outcome.now.marks c.args.denominator c.args.sums.now)
-          (in_vain c.args.outcome.now.marks c.args.sums.now) (projects c.args.election.now)
-          (subst
-          (λ k. filter (not_exactly c.args.election.now c.args.outcome.now.marks c.args.denominator c.args.sums.now)
-          (range_with_len 1 k) ≡ []) end c.loop-j.invariant.none)
-          (sym c.in-None.is ∙ w.vainly-is ∙ c.loop-j.invariant.vainly
-          ∙ ap (λ k. slice_get (filter (in_vain c.args.outcome.now.marks c.args.sums.now) (range_with_len 1 k)) 0)
-          end))
-      | then-loop-j-test+else-is_not_paid_exactly+else-j-j-end w ↦
-          let low : 1 ≤ c.loop-j.j = omega arith in
-          let end : c.loop-j.j + 1 - 1 ≡ projects c.args.election.now = omega (arith, c.projects-j-end.ensures.value) in
-          let passes : not_exactly c.args.election.now c.args.outcome.now.marks c.args.denominator c.args.sums.now
-          c.loop-j.j ≡ false = sym w.is_not_paid_exactly.ensures ∙ w.if-is_not_paid_exactly.false in
-          sym (wrongly-none
-          (not_exactly c.args.election.now c.args.outcome.now.marks c.args.denominator c.args.sums.now)
-          (in_vain c.args.outcome.now.marks c.args.sums.now) (projects c.args.election.now)
-          (subst
-          (λ k. filter (not_exactly c.args.election.now c.args.outcome.now.marks c.args.denominator c.args.sums.now)
-          (range_with_len 1 k) ≡ []) end
-          (range-more (not_exactly c.args.election.now c.args.outcome.now.marks c.args.denominator c.args.sums.now)
-          c.loop-j.j c.loop-j.invariant.none low passes))
-          (sym c.in-None.is ∙ w.vainly-is ∙ w.first_where-vainly.ensures
-          ∙ number-at (in_vain c.args.outcome.now.marks c.args.sums.now) c.loop-j.j w.is_paid_in_vain.result
-          c.loop-j.vainly low w.is_paid_in_vain.ensures c.loop-j.invariant.vainly
-          ∙ ap (λ k. slice_get (filter (in_vain c.args.outcome.now.marks c.args.sums.now) (range_with_len 1 k)) 0)
-          end))
-    ]
-
-pub returns-in-None-clause-most : goal.returns-in-None-clause-most
-returns-in-None-clause-most c =
-    elim c.loop-j-test.branch [
-      | else-loop-j-test w ↦
-          omega (arith, w.steps-is, c.projects-j-end.ensures.value, c.loop-j.invariant.within, c.loop-j.invariant.steps)
-      | then-loop-j-test+else-is_not_paid_exactly+else-j-j-end w ↦
-          omega (arith, w.steps-is, c.projects-j-end.ensures.value, c.loop-j.invariant.within, c.loop-j.invariant.steps)
-    ]
-
-pub returns-in-Some-clause-most : goal.returns-in-Some-clause-most
-returns-in-Some-clause-most c =
-    elim c.loop-j-test.branch [
-      | else-loop-j-test w ↦
-          omega (arith, w.steps-is, c.projects-j-end.ensures.value, c.loop-j.invariant.within, c.loop-j.invariant.steps)
-      | then-loop-j-test+else-is_not_paid_exactly+else-j-j-end w ↦
-          omega (arith, w.steps-is, c.projects-j-end.ensures.value, c.loop-j.invariant.within, c.loop-j.invariant.steps)
+          let end : c.loop-j.j ≡ n = omega (arith, c.projects-j-end.ensures.value) in
+          of_first
+          (number-last n c.loop-j.j c.loop-j.invariant.none low end
+          (sym w.if-is_not_paid_exactly.false ∙ w.is_not_paid_exactly.ensures) refl)
+          (w.vainly-is ∙ number-last n c.loop-j.j c.loop-j.invariant.vainly low end w.is_paid_in_vain.ensures
+          w.first_where-vainly.ensures)
     ]

@@ -1,56 +1,22 @@
-use Rattle.std.proofs.Common.{◌≡◌, ◌+◌, ◌≤◌, true, false, sym, ◌∙◌, arith}
+use Rattle.std.proofs.Common.{refl, sym, ◌∙◌, arith}
 use Rattle.pb_election.specs.Instance.{projects}
-use Rattle.pb_cohesion.proofs.Loops.{range-end, range-first, range-more}
-use Rattle.pb_price.specs.Inside.Tallies.{has_more}
+use Rattle.pb_price.proofs.Firsts.{number-found, number-last, number-more}
 use Rattle.pb_price.proofs.conditions.first_with_more.Goals as goal
 
 pub returns-then-is_with_more-clause-first : goal.returns-then-is_with_more-clause-first
 returns-then-is_with_more-clause-first c =
-    let low : 1 ≤ c.loop-j.j = omega arith in
-    let high : c.loop-j.j ≤ projects c.args.election.now = omega (arith, c.projects-j-end.ensures.value) in
-    let fails : has_more c.args.election.now c.args.outcome.now.marks c.args.denominator c.args.mode.stable
-    c.args.sums.now c.loop-j.j ≡ true = sym c.is_with_more.ensures ∙ c.if-is_with_more.true in
-    sym (range-first
-    (has_more c.args.election.now c.args.outcome.now.marks c.args.denominator c.args.mode.stable c.args.sums.now)
-    (projects c.args.election.now) c.loop-j.j c.loop-j.invariant.none low high fails)
+    number-found (projects c.args.election.now) c.loop-j.j c.loop-j.invariant.none (omega arith)
+    (omega (arith, c.projects-j-end.ensures.value)) (sym c.is_with_more.ensures ∙ c.if-is_with_more.true)
 
 pub loop-j-preserved : goal.loop-j-preserved
-loop-j-preserved c =
-    let low : 1 ≤ c.loop-j.j = omega arith in
-    let passes : has_more c.args.election.now c.args.outcome.now.marks c.args.denominator c.args.mode.stable
-    c.args.sums.now c.loop-j.j ≡ false = sym c.is_with_more.ensures ∙ c.if-is_with_more.false in
-    record {
-      none =
-          range-more
-          (has_more c.args.election.now c.args.outcome.now.marks c.args.denominator c.args.mode.stable c.args.sums.now)
-          c.loop-j.j c.loop-j.invariant.none low passes;
-      within = omega (arith, c.projects-j-end.ensures.value, c.loop-j-test.true);
-      steps = omega (arith, c.loop-j.invariant.steps);
-    }
+loop-j-preserved c = record {
+  none = number-more c.loop-j.j c.loop-j.invariant.none (omega arith)
+      (sym c.if-is_with_more.false ∙ c.is_with_more.ensures) refl;
+  within = omega (arith, c.projects-j-end.ensures.value, c.loop-j-test.true);
+  steps = omega (arith, c.loop-j.invariant.steps);
+}
 
 pub returns-else-is_with_more-clause-first : goal.returns-else-is_with_more-clause-first
 returns-else-is_with_more-clause-first c =
-    let low : 1 ≤ c.loop-j.j = omega arith in
-    let end : c.loop-j.j + 1 ≡ projects c.args.election.now + 1 = omega (arith, c.projects-j-end.ensures.value) in
-    let passes : has_more c.args.election.now c.args.outcome.now.marks c.args.denominator c.args.mode.stable
-    c.args.sums.now c.loop-j.j ≡ false = sym c.is_with_more.ensures ∙ c.if-is_with_more.false in
-    sym (range-end
-    (has_more c.args.election.now c.args.outcome.now.marks c.args.denominator c.args.mode.stable c.args.sums.now)
-    (projects c.args.election.now) (c.loop-j.j + 1)
-    (range-more
-    (has_more c.args.election.now c.args.outcome.now.marks c.args.denominator c.args.mode.stable c.args.sums.now)
-    c.loop-j.j c.loop-j.invariant.none low passes) end)
-
-pub overflow_add-steps : goal.overflow_add-steps
-overflow_add-steps c =
-    omega (
-      arith,
-      c.requires.steps,
-      c.loop-j.invariant.steps,
-      c.projects-j-end.ensures.value,
-      c.projects-j-end.ensures.sound.few_projects,
-    )
-
-pub returns-clause-most : goal.returns-clause-most
-returns-clause-most c =
-    omega (arith, c.projects-j-end.ensures.value, c.loop-j.invariant.steps, c.loop-j.invariant.within)
+    number-last (projects c.args.election.now) c.loop-j.j c.loop-j.invariant.none (omega arith)
+    (omega (arith, c.projects-j-end.ensures.value)) (sym c.if-is_with_more.false ∙ c.is_with_more.ensures) refl

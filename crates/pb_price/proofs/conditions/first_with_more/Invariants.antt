@@ -1,13 +1,12 @@
-use Rattle.std.proofs.Common.{◌≡◌, ◌≤◌, ◌+◌, ◌-◌, [], filter}
-use Rattle.std.specs.List.{range_with_len}
+use Rattle.std.proofs.Common.{◌≡◌, ◌≤◌, ◌+◌, ◌-◌, None}
 use Rattle.pb_election.specs.Instance.{projects}
 use Rattle.pb_price.specs.Inside.Tallies.{has_more}
+use Rattle.pb_price.proofs.Firsts.{IsFirstTo}
 use Rattle.pb_price.proofs.conditions.first_with_more.Given as goal
 
 abbrev pub invariant-loop-j : goal.invariant-loop-j
 invariant-loop-j l = record {
-  none : filter (has_more l.election l.outcome.marks l.denominator l.mode.stable l.sums) (range_with_len 1 (l.j - 1))
-      ≡ [];
+  none : IsFirstTo (has_more l.election l.outcome.marks l.denominator l.mode.stable l.sums) (l.j - 1) None;
   within : l.j - 1 ≤ projects l.election;
   steps : l.steps + 1 ≡ l.initial.steps + l.j;
 }

@@ -14,8 +14,6 @@ loop-k-init c = record { found = found-none _ _ _ _ _; small = small-none }
 
 pub loop-k-preserved : goal.loop-k-preserved
 loop-k-preserved c =
-    let e = c.args.election.now in
-    let n = c.loop-k.k in
     let ip : IsProject c.args.election.now (c.loop-k.k + 1) =
     (omega arith, omega (arith, c.loop-k-test.true, c.loop-k.auto.k-end, c.projects-k-end.ensures.value)) in
     let cost_is : c.cost_grains-cost.result

@@ -55,8 +55,6 @@ overflow_cast-compared c =
 
 pub note-requires : goal.note-requires
 note-requires c =
-    let a = c.requires.tallied.0 in
-    let h = c.requires.tallied.1 in
     let most = spent-bound c.args.election.now c.requires.tallied.0 c.args.self.now c.requires.tallied.1 in
     record {
       few = over-few c.args.election.now c.requires.tallied.0 c.args.self.now c.requires.tallied.1;

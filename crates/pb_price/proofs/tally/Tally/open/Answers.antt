@@ -7,8 +7,6 @@ use Rattle.pb_price.proofs.tally.Tally.open.Goals as goal
 
 pub overflow_add-self : goal.overflow_add-self
 overflow_add-self c =
-    let a = c.requires.tallied.0 in
-    let h = c.requires.tallied.1 in
     omega (
       arith,
       steps-bound c.args.election.now c.requires.tallied.0 c.args.self.now c.requires.tallied.1
