@@ -67,6 +67,7 @@ WAYS = [
 TESTS = (
     "tests::certificate::canonical::", "tests::cohesion::", "tests::command::", "tests::election::", "tests::explain::",
     "tests::price::telling::", "tests::price::verdicts::prices_support_the_outcome_of_a_file", "tests::replies::",
+    "tests::reply::answers::", "tests::reply::lines::", "tests::reply::taking::",
 )  # fmt: skip
 # How such a test ends where memory is wanted: by the call, or by the writer into memory that the test gives it.
 WANTS = (

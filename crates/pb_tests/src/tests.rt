@@ -13,4 +13,5 @@ mod money;
 mod price;
 mod records;
 mod replies;
+mod reply;
 mod samples;

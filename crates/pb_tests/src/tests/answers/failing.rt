@@ -75,19 +75,6 @@ fn writer_that_fails_has_a_front_of_the_answer(rt: HostRuntime) -> Result<(), Fa
 }
 
 #[test]
-fn each_fault_has_its_own_text(rt: HostRuntime) -> Result<(), Fail> {
-    let alloc = rt.alloc();
-    for (fault, want) in [
-        (Fault::Memory, "fault memory"),
-        (Fault::Write, "fault write"),
-    ] {
-        let text = fault.to_string(alloc)?;
-        assert!(rt; text.as_str() == want);
-    }
-    Ok(())
-}
-
-#[test]
 fn interrupted_read_is_a_failure(rt: HostRuntime) -> Result<(), Fail> {
     for at in 1..=2 {
         let mut reader = InterruptedReader::new(ELECTION, 1000, at);

@@ -1,7 +1,7 @@
 //! The reports on entries of a folder.
 use crate::tests::samples::{ELECTION, FAIR_VIOLATION, PLAIN, PRICES, without_outcome};
 use pb_audit::{Entry, FolderReport, Loaded, Status, folder_text};
-use pb_election::{Input, Output};
+use pb_election::Output;
 use std::alloc::{AllocError, Global};
 use std::process::Abort;
 use std::test::Fail;
@@ -152,11 +152,4 @@ total 1 elections 0 yes 1 no 0 refused
 ",
         Status::No,
     )
-}
-
-#[test]
-fn loads_what_a_reader_delivers(rt: HostRuntime) -> Result<(), Fail> {
-    let loaded = Loaded::load(rt.alloc(), &mut Input::new(b"abc".as_slice()))?;
-    assert!(rt; matches!(&loaded, Loaded::Bytes(bytes) if bytes.as_slice() == b"abc".as_slice()));
-    Ok(())
 }
