@@ -47,13 +47,13 @@ WRONG = {
     ),
     "C5 asks for less than the cost": (
         "conditions.py",
-        "claim.left_of_supporters(project) <= ",
-        "claim.left_of_supporters(project) < ",
+        "claim.left_of_supporters(each) <= ",
+        "claim.left_of_supporters(each) < ",
     ),
     "S5 asks for less than the cost": (
         "conditions.py",
-        "claim.offer_of_supporters(project) <= ",
-        "claim.offer_of_supporters(project) < ",
+        "claim.offer_of_supporters(each) <= ",
+        "claim.offer_of_supporters(each) < ",
     ),
     "C2 is left out": (
         "conditions.py",

@@ -23,11 +23,21 @@ _HOW_TO_BUILD = (
 
 @dataclass(frozen=True)
 class Mode:
-    """Which conditions are asked of prices."""
+    """Which conditions are asked of prices. Each switch may be given as any value that is true or false."""
 
     stable: bool = False
     exhaustive: bool = True
     cover: bool = False
+
+    def __post_init__(self):
+        for name, value in vars(self).items():
+            object.__setattr__(self, name, bool(value))
+
+    @property
+    def options(self):
+        """The options of a command that ask for it."""
+        options = [("--stable", self.stable), ("--no-exhaustive", not self.exhaustive), ("--cover", self.cover)]
+        return [option for option, is_on in options if is_on]
 
 
 @dataclass(frozen=True)
@@ -113,7 +123,7 @@ class _Program:
             if question.outcome is not None:
                 words += ["--outcome", self._file(folder, "outcome.csv", question.outcome)]
             if question.command in _WITH_MODE:
-                words += self._switches(question.mode)
+                words += question.mode.options
             done = subprocess.run(words, stdin=subprocess.DEVNULL, capture_output=True, check=False)
         if done.returncode in (0, 1, 2):
             return done.returncode, done.stdout
@@ -128,11 +138,6 @@ class _Program:
         with open(path, "wb") as file:
             file.write(data)
         return path
-
-    @staticmethod
-    def _switches(mode):
-        switches = [("--stable", mode.stable), ("--no-exhaustive", not mode.exhaustive), ("--cover", mode.cover)]
-        return [switch for switch, is_on in switches if is_on]
 
 
 def _certificates(question):

@@ -121,7 +121,7 @@ def audit_prices(election: File, certificate: File, outcome: Optional[File] = No
     """Whether the payments of a price certificate support the outcome: that of the outcome file, and where that is None
     the election's own, the column `selected`. `stable` asks for S5 in place of C5; without `exhaustive` the condition
     Exhaustive is left out; `cover` adds Cover. Raises Refusal, OSError and MemoryError."""
-    mode = Mode(bool(stable), bool(exhaustive), bool(cover))
+    mode = Mode(stable, exhaustive, cover)
     return verdict(Question("prices", bytes_of(election), bytes_of(certificate), outcome=_given(outcome), mode=mode))
 
 
@@ -136,7 +136,7 @@ def audit_both(election: File, prices: File, violation: File, outcome: Optional[
     """The verdict on a price certificate and then that on a violation certificate, for one outcome. The switches are those of
     `audit_prices`. In the stable form with Cover, prices that support the outcome never stand beside a violation by counting.
     Raises Refusal, OSError and MemoryError."""
-    mode = Mode(bool(stable), bool(exhaustive), bool(cover))
+    mode = Mode(stable, exhaustive, cover)
     files = bytes_of(election), bytes_of(prices), bytes_of(violation)
     first, second = _lines(Question("both", *files, outcome=_given(outcome), mode=mode))
     return _verdict(first), _verdict(second)
@@ -159,7 +159,7 @@ def explain(election: File, certificate: File, outcome: Optional[File] = None, *
     """What each condition comes to by a price certificate, or each test by a violation certificate, with the verdict of
     `audit_prices` or `audit_violation`. The outcome and the switches are as for `audit_prices`; a violation doesn't
     depend on the switches. Raises Refusal, OSError and MemoryError."""
-    mode = Mode(bool(stable), bool(exhaustive), bool(cover))
+    mode = Mode(stable, exhaustive, cover)
     text = _text(Question("explain", bytes_of(election), bytes_of(certificate), outcome=_given(outcome), mode=mode))
     line, _, *rows = text.decode("utf-8").rstrip("\n").split("\n")
     # Names stand in 12 columns and states in 11.

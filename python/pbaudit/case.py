@@ -1,6 +1,6 @@
 """What a page is about: the files as they were read once, and what the auditor tells of them."""
 import os
-from dataclasses import dataclass
+from dataclasses import asdict, dataclass
 from functools import cached_property
 from typing import FrozenSet, Optional, Tuple
 
@@ -52,8 +52,7 @@ def case_of(election: File, certificate: File, outcome: Optional[File], mode: Mo
     chosen = None if outcome is None else _given(outcome)
     claim = _given(certificate)
     funded = None if chosen is None else chosen.data
-    explanation = auditing.explain(town.data, claim.data, funded, stable=mode.stable, exhaustive=mode.exhaustive,
-                                   cover=mode.cover)
+    explanation = auditing.explain(town.data, claim.data, funded, **asdict(mode))
     prices = claim.data if _kind(explanation) == "prices" else NO_PRICES
     projects = auditing.margins(town.data, prices, funded)
     return Case(town, claim, chosen, mode, explanation, projects, titles_of(town.data))

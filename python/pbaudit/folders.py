@@ -55,7 +55,7 @@ def audit_folder(path: "os.PathLike[str]", executor: Optional[Executor] = None, 
     still works and else in a process of its own, three times in all; then its line says so, and it is never left out.
     Raises OSError where the folder can't be listed.
     """
-    entries = _entries(os.path.abspath(os.fspath(path)), Mode(bool(stable), bool(exhaustive), bool(cover)))
+    entries = _entries(os.path.abspath(os.fspath(path)), Mode(stable, exhaustive, cover))
     found = {entry: audit_entry(entry) for entry in entries} if executor is None else _spread(executor, entries)
     return _report(entries, found)
 

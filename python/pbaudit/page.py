@@ -30,7 +30,7 @@ def write_page(election: File, certificate: File, outcome: Optional[File] = None
     """A page on a price or a violation certificate, as one HTML file: answers its bytes, and writes them to `path` as
     well where one is given. The outcome and the switches are as for `explain`. Raises Refusal, OSError and MemoryError,
     and then writes nothing."""
-    case = case_of(election, certificate, outcome, Mode(bool(stable), bool(exhaustive), bool(cover)))
+    case = case_of(election, certificate, outcome, Mode(stable, exhaustive, cover))
     page = "".join(_page(case)).encode("utf-8")
     if path is not None:
         with open(path, "wb") as file:
@@ -96,11 +96,7 @@ def _what_it_is_about(case):
 
 
 def _options(case) -> List[str]:
-    if case.kind == "violation":
-        return []
-    mode = case.mode
-    options = [("--stable", mode.stable), ("--no-exhaustive", not mode.exhaustive), ("--cover", mode.cover)]
-    return [option for option, is_on in options if is_on]
+    return [] if case.kind == "violation" else case.mode.options
 
 
 def _name(file, role):

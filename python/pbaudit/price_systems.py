@@ -33,7 +33,7 @@ def validate_price_system(instance, profile, budget_allocation: Iterable, voter_
     scaled = Instance([Project(name, cost * factor) for name, cost in costs.items()], limit * factor)
     election = write_election(scaled, ballots, budget_allocation)
     certificate = write_prices(budget * factor, [{name: x * factor for name, x in mine.items()} for mine in payments])
-    return verdict(Question("prices", election, certificate, mode=Mode(bool(stable), bool(exhaustive))))
+    return verdict(Question("prices", election, certificate, mode=Mode(stable, exhaustive)))
 
 
 def _payments_of(voter, function, costs):

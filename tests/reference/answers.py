@@ -68,14 +68,12 @@ def take_outcome(election, path):
 
 
 def failed(election, name, culprit):
-    """The line of a condition or test with its culprit: nothing, a project, a voter, or a voter and a project."""
-    words = [b"failed", name.encode()]
-    if name in ("C1", "V2"):
-        words += [b"voter %d" % culprit[0], b"project " + election.id(culprit[1])]
-    elif name in ("C2", "V4"):
-        words.append(b"voter %d" % culprit[0])
-    elif culprit:
-        words.append(b"project " + election.id(culprit[0]))
+    """The line of a condition or test with its culprit."""
+    words, (voter, project) = [b"failed", name.encode()], culprit
+    if voter is not None:
+        words.append(b"voter %d" % voter)
+    if project is not None:
+        words.append(b"project " + election.id(project))
     return b" ".join(words) + b"\n"
 
 

@@ -54,20 +54,21 @@ class Claim:
         return sum((self.offer(voter) for voter in self.election.supporters(project)), Fraction(0))
 
 
-# Each condition answers its culprits, the lowest voter first and then the lowest project. It holds where it has none.
+# Each condition answers its culprits, the lowest voter first and then the lowest project: of each the voter and the
+# project, None where it has none. A condition holds where it has no culprits.
 
 
 def feasible(claim):
-    return [] if claim.cost_of(claim.funded()) <= claim.limit else [()]
+    return [] if claim.cost_of(claim.funded()) <= claim.limit else [(None, None)]
 
 
 def exhaustive(claim):
     total = claim.cost_of(claim.funded())
-    return [(project,) for project in claim.unfunded() if not total + claim.cost(project) > claim.limit]
+    return [(None, project) for project in claim.unfunded() if not total + claim.cost(project) > claim.limit]
 
 
 def cover(claim):
-    return [] if len(claim.election.ballots) * claim.budget > claim.limit else [()]
+    return [] if len(claim.election.ballots) * claim.budget > claim.limit else [(None, None)]
 
 
 def c1(claim):
@@ -77,23 +78,23 @@ def c1(claim):
 
 
 def c2(claim):
-    return [(voter,) for voter in claim.election.voters if not claim.spends(voter) <= claim.budget]
+    return [(voter, None) for voter in claim.election.voters if not claim.spends(voter) <= claim.budget]
 
 
 def c3(claim):
-    return [(project,) for project in claim.funded() if not claim.paid(project) == claim.cost(project)]
+    return [(None, project) for project in claim.funded() if not claim.paid(project) == claim.cost(project)]
 
 
 def c4(claim):
-    return [(project,) for project in claim.unfunded() if not claim.paid(project) == 0]
+    return [(None, project) for project in claim.unfunded() if not claim.paid(project) == 0]
 
 
 def c5(claim):
-    return [(project,) for project in claim.unfunded() if not claim.left_of_supporters(project) <= claim.cost(project)]
+    return [(None, each) for each in claim.unfunded() if not claim.left_of_supporters(each) <= claim.cost(each)]
 
 
 def s5(claim):
-    return [(project,) for project in claim.unfunded() if not claim.offer_of_supporters(project) <= claim.cost(project)]
+    return [(None, each) for each in claim.unfunded() if not claim.offer_of_supporters(each) <= claim.cost(each)]
 
 
 def conditions_of(mode):

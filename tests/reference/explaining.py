@@ -41,7 +41,7 @@ class PriceTable:
     def exhaustive(self, culprits):
         remains = self.claim.limit - self.total
         if culprits:
-            [project] = culprits[0]
+            _, project = culprits[0]
             cost, end = amount(self.claim.cost(project)), how_many("unfunded projects that still fit", culprits)
             return f"{amount(remains)} of the limit remains, and project {self.id(project)} costs {cost}{end}"
         project = closest(self.claim.unfunded(), lambda project: -self.claim.cost(project))
@@ -64,7 +64,7 @@ class PriceTable:
     def c2(self, culprits):
         budget = amount(self.claim.budget)
         if culprits:
-            [voter] = culprits[0]
+            voter, _ = culprits[0]
             end = how_many("voters who spend more than that", culprits)
             return f"voter {voter} spends {amount(self.claim.spends(voter))} and has a budget of {budget}{end}"
         voter = closest(self.claim.election.voters, self.claim.spends)
@@ -75,7 +75,7 @@ class PriceTable:
     def c3(self, culprits):
         if not culprits:
             return "each funded project is paid for exactly"
-        [project] = culprits[0]
+        _, project = culprits[0]
         cost, paid = amount(self.claim.cost(project)), amount(self.claim.paid(project))
         end = how_many("funded projects not paid exactly", culprits)
         return f"project {self.id(project)} costs {cost}, and {paid} is paid for it{end}"
@@ -83,7 +83,7 @@ class PriceTable:
     def c4(self, culprits):
         if not culprits:
             return "nothing is paid for an unfunded project"
-        [project] = culprits[0]
+        _, project = culprits[0]
         end = how_many("unfunded projects that are paid for", culprits)
         return f"{amount(self.claim.paid(project))} is paid for project {self.id(project)}, which isn't funded{end}"
 
@@ -100,7 +100,7 @@ class PriceTable:
 
         if culprits:
             end = how_many("unfunded projects where that is more than the cost", culprits)
-            return figures(culprits[0][0]) + end
+            return figures(culprits[0][1]) + end
         project = closest(self.claim.unfunded(), lambda project: sum_of(project) - self.claim.cost(project))
         return "every project is funded" if project is None else figures(project, ", the closest,")
 
@@ -158,7 +158,7 @@ def worth_sentence(election, funded, violation, culprits):
     demanded = said(violations.worth(election, violation.demand, violation.by_cost))
     measure = "by cost" if violation.by_cost else "by count"
     if culprits:
-        [voter] = culprits[0]
+        voter, _ = culprits[0]
         end = f"voter {voter} gets {said(gets(voter))}" + how_many("members who get enough", culprits)
     else:
         end = f"each member gets at most {said(max(map(gets, violation.group), default=0))}"

@@ -6,11 +6,11 @@ def worth(election, projects, by_cost):
     return sum(election.costs[project] if by_cost else 1 for project in projects)
 
 
-# Each test answers its culprits, the lowest voter first and then the lowest project. It is passed where it has none.
+# Each test answers its culprits, as a condition does. It is passed where it has none.
 
 
 def v1(election, funded, violation):
-    return [] if violation.group else [()]
+    return [] if violation.group else [(None, None)]
 
 
 def v2(election, funded, violation):
@@ -21,13 +21,13 @@ def v2(election, funded, violation):
 
 def v3(election, funded, violation):
     demanded = sum(election.costs[project] for project in violation.demand)
-    return [] if len(violation.group) * election.limit >= len(election.ballots) * demanded else [()]
+    return [] if len(violation.group) * election.limit >= len(election.ballots) * demanded else [(None, None)]
 
 
 def v4(election, funded, violation):
     demanded = worth(election, violation.demand, violation.by_cost)
     gets = {voter: worth(election, election.ballot(voter) & funded, violation.by_cost) for voter in violation.group}
-    return [(voter,) for voter in sorted(gets) if not gets[voter] < demanded]
+    return [(voter, None) for voter in sorted(gets) if not gets[voter] < demanded]
 
 
 TESTS = [("V1", v1), ("V2", v2), ("V3", v3), ("V4", v4)]
