@@ -49,12 +49,6 @@ returns-clause-value c =
     ∙ ap (λ n. sum_by (cost_of c.args.election.now) (filter (has c.args.outcome.now.marks) (range_with_len 1 n)))
     end
 
-pub returns-clause-small : goal.returns-clause-small
-returns-clause-small c =
-    let end : c.loop-j.j - 1 ≡ projects c.args.election.now =
-    omega (arith, c.projects-j-end.ensures.value, c.loop-j.invariant.within) in
-    omega (arith, c.projects-j-end.ensures.sound.few_projects, c.loop-j.invariant.small)
-
 pub returns-after-has-clause-value : goal.returns-after-has-clause-value
 returns-after-has-clause-value c =
     let low : 1 ≤ c.loop-j.j = omega arith in

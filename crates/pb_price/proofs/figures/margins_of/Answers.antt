@@ -1,12 +1,9 @@
-use Rattle.std.proofs.Common.{◌*◌, length, sym, ◌∙◌, ap, subst, arith}
+use Rattle.std.proofs.Common.{◌*◌, length, sym, ◌∙◌, ap, subst}
 use Rattle.pb_certificate.specs.Faults.{certificate_records}
 use Rattle.pb_price.specs.Inside.Tallies.{AreSums}
 use Rattle.pb_price.proofs.Certificates.{of-any, only-memory}
 use Rattle.pb_price.proofs.Reading.{margins-are}
 use Rattle.pb_price.proofs.figures.margins_of.Goals as goal
-
-pub overflow_mul-grains_per_unit : goal.overflow_mul-grains_per_unit
-overflow_mul-grains_per_unit c = omega (arith, c.in_ok-taken.ensures.taken.high, c.from-grains_per_unit.ensures)
 
 pub margins_by-requires : goal.margins_by-requires
 margins_by-requires c =

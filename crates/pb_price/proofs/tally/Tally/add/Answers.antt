@@ -7,16 +7,6 @@ use Rattle.pb_price.proofs.tally.Tally.add.Goals as goal
 pub overflow_sub-row : goal.overflow_sub-row
 overflow_sub-row c = c.requires.can.project.0
 
-pub index_mut-sums-requires : goal.index_mut-sums-requires
-index_mut-sums-requires c =
-    omega (
-      arith,
-      c.requires.can.project.0,
-      c.requires.can.project.1,
-      c.requires.can.tallied.sums.as_many,
-      c.args.self.now.projects.ok.0,
-    )
-
 pub overflow_add-sums : goal.overflow_add-sums
 overflow_add-sums c =
     let can = c.requires.can in
@@ -43,9 +33,6 @@ pub overflow_add-self-2 : goal.overflow_add-self-2
 overflow_add-self-2 c =
     let can = c.requires.can in
     omega (arith, steps-bound c.args.election.now can.taken c.args.self.now can.tallied can.few)
-
-pub unapproved_with-self-requires : goal.unapproved_with-self-requires
-unapproved_with-self-requires c = omega (arith, c.requires.can.tallied.few_unapproved, c.requires.can.few)
 
 pub returns-clause-taken : goal.returns-clause-taken
 returns-clause-taken c = λ a b h r. (

@@ -17,12 +17,6 @@ pub offer_of-offer-requires : goal.offer_of-offer-requires
 offer_of-offer-requires c =
     omega (arith, largest-bound c.args.election.now c.requires.tallied.0 c.args.self.now c.requires.tallied.1)
 
-pub overflow_add-voter : goal.overflow_add-voter
-overflow_add-voter c = omega (arith, c.requires.more, c.requires.tallied.1.sound.few_voters)
-
-pub ballot-ballot-requires : goal.ballot-ballot-requires
-ballot-ballot-requires c = (omega arith, omega (arith, c.requires.more))
-
 pub give-requires : goal.give-requires
 give-requires c =
     let long : length c.deref_mut.result.now ≡ projects c.args.election.now =

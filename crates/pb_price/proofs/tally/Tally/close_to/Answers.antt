@@ -20,11 +20,5 @@ loop-self-preserved c = record {
   order = omega (arith, c.close.ensures.closed, c.loop-self-test.true);
 }
 
-pub loop-self-smaller : goal.loop-self-smaller
-loop-self-smaller c = omega (arith, c.close.ensures.closed, c.loop-self-test.true)
-
 pub returns-clause-taken : goal.returns-clause-taken
 returns-clause-taken c = c.loop-self.invariant.taken
-
-pub returns-clause-closed : goal.returns-clause-closed
-returns-clause-closed c = omega (arith, c.loop-self.invariant.order, c.loop-self-test.false)

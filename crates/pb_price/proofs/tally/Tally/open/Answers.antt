@@ -16,12 +16,6 @@ overflow_add-self c =
       c.requires.tallied.1.sound.few_approvals,
     )
 
-pub overflow_add-voter : goal.overflow_add-voter
-overflow_add-voter c = omega (arith, c.requires.more, c.requires.tallied.1.sound.few_voters)
-
-pub ballot-ballot-requires : goal.ballot-ballot-requires
-ballot-ballot-requires c = (omega arith, omega (arith, c.requires.more))
-
 pub mark-requires : goal.mark-requires
 mark-requires c =
     subst (λ n. IsSet 1 n c.ballot-ballot.result.now)

@@ -32,7 +32,3 @@ add-requires c = record {
 
 pub returns-clause-taken : goal.returns-clause-taken
 returns-clause-taken c = λ a b h r. c.add.ensures.taken a b (c.open.ensures.taken a (c.close_to.ensures.taken a h)) r
-
-pub returns-clause-closed : goal.returns-clause-closed
-returns-clause-closed c =
-    omega (arith, c.add.ensures.closed, c.open.ensures.closed, c.close_to.ensures.closed, c.requires.voter.0)
