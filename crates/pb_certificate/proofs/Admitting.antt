@@ -11,7 +11,8 @@ use Rattle.pb_certificate.specs.PriceRows.{last_voter, payment_fault}
 use Rattle.pb_certificate.specs.Inside.PriorRows.{Remembers, last_payer}
 use Rattle.pb_certificate.specs.declared.prior_rows.PriorRows.{PriorRows}
 use Rattle.pb_certificate.specs.declared.refusal.CertFault.TheVariants as fault
-use Rattle.pb_certificate.proofs.RowSteps.{in-order-push, last_voter-push, once-push, payer-here, payer-other, set-range, stood}
+use Rattle.pb_certificate.proofs.MarkLemmas.{set-range}
+use Rattle.pb_certificate.proofs.RowSteps.{in-order-push, last_voter-push, once-push, payer-here, payer-other, stood}
 
 -- no row
 zeros-range : (n a : ℕ) → replicate n 0 ≡ map (last_payer []) (range_with_len a n)

@@ -60,17 +60,7 @@ any-place has s n qs t h =
 
 at-place : (has : Instance → Prices → Type 0) (s : Rows) (n : ℕ) (qs : List Payment) (t : Turn) → Holds has s qs t
     → Holds has (record s { place = n }) qs t
-at-place has s n qs t h =
-    record {
-      has_done = h.has_done;
-      at_hand = h.at_hand;
-      none_later = h.none_later;
-      once = h.once;
-      within = h.within;
-      small = h.small;
-      total = h.total;
-      few = h.few;
-    }
+at-place has s n = any-place has (record s { place = n }) s.place
 
 -- how far the rows behind the first were gathered
 pub record Gathers (has : Instance → Prices → Type 0) (first s : Rows) (t : Turn) : Type 0 where
@@ -170,13 +160,9 @@ pub text-refused : (recs : List Rec) (e : Instance) (p : Prices) (r : CertRefusa
 text-refused recs e p r text h =
     elim h [ inl memory ↦ memory | inr first ↦ absurd (price-clear recs e p text r.place r.fault first) ]
 
-pub refused-file : (recs : List Rec) (e : Instance) (first : Rows) (r : CertRefusal) → first.election ≡ e
-    → first.records ≡ recs → (r ≡ no_memory) ⊎ IsFirstFault (price_form first.election) first.records r.place r.fault
-    → (r ≡ no_memory) ⊎ IsFirstFault (price_form e) recs r.place r.fault
-refused-file recs e first r same_election same_records h = elim h [
-  | inl memory ↦ inl memory
-  | inr at ↦
-      inr
-      (subst (λ (xs : List Rec). IsFirstFault (price_form e) xs r.place r.fault) same_records
-      (subst (λ (x : Instance). IsFirstFault (price_form x) first.records r.place r.fault) same_election at))
-]
+-- and so is one while its rows were gathered
+pub gathering-refused : (recs : List Rec) (e : Instance) (p : Prices) (first : Rows) (r : CertRefusal)
+    → IsPriceText recs e p → first.election ≡ e → first.records ≡ recs
+    → (r ≡ no_memory) ⊎ IsFirstFault (price_form first.election) first.records r.place r.fault → r ≡ no_memory
+gathering-refused recs e p first r text same_election same_records =
+    rw (same_election, same_records) (text-refused recs e p r text)

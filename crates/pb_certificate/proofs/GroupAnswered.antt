@@ -1,23 +1,23 @@
 -- Records without a fault are the text of a measure, a group and a demand.
 use Rattle.std.proofs.Common.{◌≡◌, ℕ, Bool, true, false, List, [], ◌∷◌, ◌++◌, refl, inl, inr, Some, None}
 use Rattle.std.specs.Prelude.{◌⊎◌, Result, Ok, Err}
+use Rattle.std.proofs.lemmas.List.Folds.{Any-from_list_any}
 use Rattle.pb_election.specs.Instance.{Instance}
 use Rattle.pb_records.specs.Records.{Rec}
 use Rattle.pb_records.specs.Cells.{is_text, nonblank}
 use Rattle.pb_records.specs.FirstFault.{NoFault}
 use Rattle.pb_certificate.specs.Fields.{fields, same_fields}
-use Rattle.pb_certificate.specs.Faults.{violation_form}
+use Rattle.pb_certificate.specs.Faults.{states_measure, violation_form}
 use Rattle.pb_certificate.specs.Inside.Marks.{marked, project_marks, voter_marks}
 use Rattle.pb_certificate.specs.Inside.ViolationDrafts.{TakenSoFar, ViolationTaken, after_violation_row}
-use Rattle.pb_certificate.specs.ViolationText.{IsViolationText, satisfaction_by, version_1, version_2}
+use Rattle.pb_certificate.specs.ViolationText.{IsViolationText, all_measures, satisfaction_by, version_1, version_2}
 use Rattle.pb_certificate.specs.declared.measure.Measure.{Measure}
-use Rattle.pb_certificate.specs.declared.measure.Measure.TheVariants.{ByCount, ByCost}
+use Rattle.pb_certificate.specs.declared.measure.Measure.TheVariants.{ByCount}
 use Rattle.pb_certificate.specs.declared.violation_draft.Awaited.{Awaited}
 use Rattle.pb_certificate.specs.declared.violation_draft.Awaited.TheVariants.{Format, Satisfaction, Row}
 use Rattle.pb_certificate.specs.declared.refusal.CertFault.{CertFault}
 use Rattle.pb_certificate.specs.declared.refusal.CertFault.TheVariants as fault
 use Rattle.pb_certificate.proofs.FirstOrNone.{HasFirst, Kept, first-or-none, kept-to-end}
-use Rattle.pb_certificate.proofs.Sweep.{or-false}
 use Rattle.pb_certificate.proofs.ViolationSteps.{format-refused, measure-refused, measure-taken, row-refused, row-taken, version-1-taken, version-2-taken, whole-violation}
 
 -- some head records and rows were taken
@@ -49,8 +49,7 @@ after-format e before r d at h none = by (same_fields (fields r) version_1) (sam
 
 after-satisfaction : (e : Instance) (before : List Rec) (r : Rec) (d : TakenSoFar) → d.awaited ≡ Satisfaction
     → ViolationTaken e d before → violation_form e before (Some r) ≡ None → Taken e (before ++ (r ∷ []))
-after-satisfaction e before r d at h none =
-    by (same_fields (fields r) (satisfaction_by ByCount)) (same_fields (fields r) (satisfaction_by ByCost)) refl refl
+after-satisfaction e before r d at h none = by (states_measure r) refl
   where
     text : is_text r ≡ true
     text = is-text e before r none
@@ -59,12 +58,11 @@ after-satisfaction e before r d at h none =
     states m is = let new : TakenSoFar = record d { awaited = Row; measure = m } in
         (new, (measure-taken e d new r text at is refl refl refl before h).1)
 
-    by : (count cost : Bool) → same_fields (fields r) (satisfaction_by ByCount) ≡ count
-        → same_fields (fields r) (satisfaction_by ByCost) ≡ cost → Taken e (before ++ (r ∷ []))
-    by true cost count_is cost_is = states ByCount count_is
-    by false true count_is cost_is = states ByCost cost_is
-    by false false count_is cost_is = let refused =
-        measure-refused e d r text at (or-false _ _ count_is cost_is) before h in cc (none, refused)
+    by : (b : Bool) → states_measure r ≡ b → Taken e (before ++ (r ∷ []))
+    by true is =
+        let named = Any-from_list_any (λ m. same_fields (fields r) (satisfaction_by m)) all_measures is in
+        states named.1 named.4
+    by false is = let refused = measure-refused e d r text at is before h in cc (none, refused)
 
 after-rows : (e : Instance) (before : List Rec) (r : Rec) (d : TakenSoFar) → d.awaited ≡ Row → ViolationTaken e d before
     → violation_form e before (Some r) ≡ None → Taken e (before ++ (r ∷ []))

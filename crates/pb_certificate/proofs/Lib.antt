@@ -34,7 +34,6 @@ pub mod ReadBack
 pub mod StatedBack
 pub mod CanonFields
 pub mod CanonLaw
-pub mod Positions
 pub mod MarkLemmas
 pub mod Ends
 pub mod OutcomeSteps

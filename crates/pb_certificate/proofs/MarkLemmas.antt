@@ -24,28 +24,28 @@ pub mark-is : (f : ℕ → Bool) (n j : ℕ) → 1 ≤ j → j ≤ n → is_mark
 mark-is f n j low high = get_or-map-range_with_len f 1 n (j - 1) j true (omega arith) (omega arith)
 
 -- a list over a range, changed at one place
-set-range : (f g : ℕ → Bool) (n a k : ℕ) → k < n → g (a + k) ≡ true → ((i : ℕ) → i ≢ a + k → g i ≡ f i)
-    → set (map f (range_with_len a n)) k true ≡ map g (range_with_len a n)
-set-range f g zero a k within here other = absurd (omega arith)
-set-range f g (suc n) a zero within here other =
+pub set-range : {A : Type 0} (f g : ℕ → A) (n a k : ℕ) (x : A) → k < n → g (a + k) ≡ x
+    → ((i : ℕ) → i ≢ a + k → g i ≡ f i) → set (map f (range_with_len a n)) k x ≡ map g (range_with_len a n)
+set-range f g zero a k x within here other = absurd (omega arith)
+set-range f g (suc n) a zero x within here other =
     let e : a + 0 ≡ a = omega arith in
     rw (sym (rw e at here), rest n (a + 1) (omega arith)) refl
   where
     rest : (m b : ℕ) → a < b → map g (range_with_len b m) ≡ map f (range_with_len b m)
     rest zero b l = refl
     rest (suc m) b l = rw (other b (λ e. omega arith), rest m (b + 1) (omega arith)) refl
-set-range f g (suc n) a (suc k) within here other =
+set-range f g (suc n) a (suc k) x within here other =
     let e : a + suc k ≡ a + 1 + k = omega arith in
     rw (other a (λ e. omega arith))
     (ap (λ xs. f a ∷ xs)
-    (set-range f g n (a + 1) k (omega arith) (rw e at here) (λ i ne. other i (λ q. ne (q ∙ e)))))
+    (set-range f g n (a + 1) k x (omega arith) (rw e at here) (λ i ne. other i (λ q. ne (q ∙ e)))))
 
 -- one more mark, where one more number passes the test
 pub one-more-mark : (f g : ℕ → Bool) (n j : ℕ) → 1 ≤ j → j ≤ n → g j ≡ true → ((i : ℕ) → i ≢ j → g i ≡ f i)
     → with_mark (marks_of f n) j ≡ marks_of g n
 one-more-mark f g n j low high here other =
     let e : 1 + (j - 1) ≡ j = omega arith in
-    set-range f g n 1 (j - 1) (omega arith) (rw e here) (λ i ne. other i (λ q. ne (q ∙ sym e)))
+    set-range f g n 1 (j - 1) true (omega arith) (rw e here) (λ i ne. other i (λ q. ne (q ∙ sym e)))
 
 pub same-marks : (f g : ℕ → Bool) (n : ℕ) → ((i : ℕ) → g i ≡ f i) → marks_of f n ≡ marks_of g n
 same-marks f g n h = go n 1

@@ -17,10 +17,10 @@ use Rattle.pb_certificate.specs.NamedRows.{Named, RowsName, named_by, named_of, 
 use Rattle.pb_certificate.specs.NamedRows.Named.{Voter, Project}
 use Rattle.pb_certificate.specs.declared.refusal.CertFault.{CertFault}
 use Rattle.pb_certificate.specs.declared.refusal.CertFault.TheVariants as fault
+use Rattle.pb_election.proofs.Elections.{found_is}
 use Rattle.pb_certificate.proofs.Heads.{pair-is}
 use Rattle.pb_certificate.proofs.MarkLemmas.{distinct-push, mark-is, one-more-mark, same-marks, was-marked}
 use Rattle.pb_certificate.proofs.NamedRows.{apart, row-of, stood-before}
-use Rattle.pb_certificate.proofs.Positions.{found-project}
 use Rattle.pb_certificate.proofs.Sweep.{joined-by}
 use Rattle.pb_certificate.proofs.Texts.{within-some}
 
@@ -79,7 +79,7 @@ project-fault e r rows names marks named are two project = by (project_in e (cel
     by None is = refl
     by (Some j) is =
         let stood : list_any (same_name r) rows ≡ is_marked marks j =
-        project-stood e r rows names j named (project-states e r j two project is) (found-project e (cell 1 r) j is).0
+        project-stood e r rows names j named (project-states e r j two project is) (found_is e (cell 1 r) j is).0
         ∙ ap (λ (ms : List Bool). is_marked ms j) (sym are) in
         rw stood (tested (is_marked marks j) (with_mark marks j))
 
@@ -166,7 +166,7 @@ pub project-added : (e : Instance) (r : Rec) (rows : List Rec) (names : List Nam
 project-added e r rows names marks new named are two project after =
     let was = was-marked fault.UnknownProject (project_in e (cell 1 r)) marks new after in
     let j = was.0 in
-    let at : IsProject e j = (found-project e (cell 1 r) j was.1).0 in
+    let at : IsProject e j = (found_is e (cell 1 r) j was.1).0 in
     let free : was_named names (Project j) ≡ false =
     sym (mark-is (λ k. was_named names (Project k)) (projects e) j at.0 at.1)
     ∙ ap (λ (ms : List Bool). is_marked ms j) (sym are) ∙ was.2 in (

@@ -14,8 +14,8 @@ use Rattle.pb_certificate.specs.NamedRows.{Named, named_by, named_of, same_named
 use Rattle.pb_certificate.specs.NamedRows.Named.{Voter, Project}
 use Rattle.pb_certificate.specs.Faults.{in_order, is_kind, same_name}
 use Rattle.pb_certificate.specs.declared.refusal.CertFault.{CertFault}
+use Rattle.pb_election.proofs.Elections.{found_is}
 use Rattle.pb_certificate.proofs.Cells.{cell-is}
-use Rattle.pb_certificate.proofs.Positions.{found-project}
 use Rattle.pb_certificate.proofs.PriceClear.{whole-is}
 use Rattle.pb_certificate.proofs.Sweep.{ClearFrom, apart-more, joined-by, no-fault, or-false}
 use Rattle.pb_certificate.proofs.Texts.{map-some}
@@ -100,8 +100,8 @@ ids-same : (e : Instance) (r d : Rec) (j k : ℕ) → Row e r (Project j) → Ro
 ids-same e r d j k a b =
     elim (cases_eq j k) [
       | inl same ↦
-          let ids : cell 1 r ≡ cell 1 d = sym (found-project e (cell 1 r) j (row-project e r j a)).1 ∙ ap (id_of e) same
-          ∙ (found-project e (cell 1 d) k (row-project e d k b)).1 in
+          let ids : cell 1 r ≡ cell 1 d = sym (found_is e (cell 1 r) j (row-project e r j a)).1 ∙ ap (id_of e) same
+          ∙ (found_is e (cell 1 d) k (row-project e d k b)).1 in
           (bytes_eq-Decides (cell 1 r) (cell 1 d)).1 ids ∙ sym (eq-eqb j k same)
       | inr other ↦ elim (cases_Bool (bytes_eq (cell 1 r) (cell 1 d))) [
         | inl equal ↦ absurd (other (clash ((bytes_eq-Decides (cell 1 r) (cell 1 d)).0 equal)))

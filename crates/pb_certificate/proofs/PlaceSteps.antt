@@ -13,7 +13,7 @@ use Rattle.pb_records.specs.FirstFault.{Form, fault_after, fault_at}
 use Rattle.pb_records.specs.Inside.Position.{MeetsEnd, MeetsNotText, MeetsRecord, Position}
 use Rattle.pb_certificate.specs.Inside.Places.{RefusedBehind, StandsBehind}
 use Rattle.pb_certificate.specs.declared.refusal.CertFault.{CertFault}
-use Rattle.pb_certificate.proofs.RowSteps.{all-push}
+use Rattle.pb_certificate.proofs.MarkLemmas.{all-push}
 
 -- Lists that are cut in two.
 

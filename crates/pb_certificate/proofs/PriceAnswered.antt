@@ -1,8 +1,7 @@
 -- Records without a fault are the text of prices.
 use Rattle.std.proofs.Common.{◌≡◌, ◌∙◌, ◌<◌, ◌≤◌, ◌^◌, ℕ, Bool, true, false, cond, List, [], ◌∷◌, ◌++◌, length, refl, sym, ap, inl, inr, arith, Option, Some, None, length-append}
-use Rattle.std.specs.Prelude.{◌⊎◌, ◌==◌, ◌||◌, not, codes, is_none, map, nat_le, nat_lt}
-use Rattle.std.specs.List.{AllByRecursion, IsDistinct, list_any}
-use Rattle.std.proofs.lemmas.Bool.{leb-false, ltb-false}
+use Rattle.std.specs.Prelude.{◌⊎◌, ◌==◌, ◌||◌, not, codes, is_none, map}
+use Rattle.std.specs.List.{AllByRecursion, IsDistinct}
 use Rattle.pb_election.specs.Instance.{Instance, all_voters, projects}
 use Rattle.pb_records.specs.Records.{Rec}
 use Rattle.pb_records.specs.Cells.{cell, is_text, nonblank}
@@ -10,7 +9,7 @@ use Rattle.pb_records.specs.FirstFault.{NoFault}
 use Rattle.pb_certificate.specs.Fields.{StatesNumber, fields, project_in, same_fields, voter_in, whole_in, whole_within}
 use Rattle.pb_certificate.specs.Faults.{is_value_of, price_form}
 use Rattle.pb_certificate.specs.Inside.PriceHead.{column_fields, name_fields}
-use Rattle.pb_certificate.specs.PriceRows.{last_voter, payment_fault, row_fault}
+use Rattle.pb_certificate.specs.PriceRows.{row_fault}
 use Rattle.pb_certificate.specs.Prices.{Prices}
 use Rattle.pb_certificate.specs.PriceText.{IsPriceText, Payment, numerator_of, payment_by, payment_of, payments_stated, same_pair}
 use Rattle.pb_certificate.specs.Inside.PriorRows.{RiseFrom}
@@ -18,6 +17,7 @@ use Rattle.pb_certificate.specs.declared.refusal.CertFault.{CertFault}
 use Rattle.pb_certificate.specs.declared.refusal.CertFault.TheVariants as fault
 use Rattle.pb_certificate.proofs.Ends.{none-at-end}
 use Rattle.pb_certificate.proofs.FirstOrNone.{HasFirst, Kept, first-or-none, kept-to-end}
+use Rattle.pb_certificate.proofs.GatherSteps.{may-follow}
 use Rattle.pb_certificate.proofs.Heads.{same-is, states-number, triple-is}
 use Rattle.pb_certificate.proofs.HeadSteps.{end-form}
 use Rattle.pb_certificate.proofs.MarkLemmas.{all-push}
@@ -105,25 +105,6 @@ payment-stated e r h =
     by true (Some x) (Some y) (Some i) (Some c) is n v j k =
         (record { voter = i; project = c; numerator = y }, ap (payment_by e) (triple-is r is) ∙ rw (v, j, n) refl)
 
--- what a payment keeps that has no fault after some others
-record Follows (qs : List Payment) (q : Payment) : Type 0 where
-  not_lower : nat_lt q.voter (last_voter qs) ≡ false
-  new : list_any (same_pair q) qs ≡ false
-  few : nat_le 10000000 (length qs) ≡ false
-
-follows : (qs : List Payment) (q : Payment) → payment_fault qs q ≡ None → Follows qs q
-follows qs q h =
-    by (nat_lt q.voter (last_voter qs)) (list_any (same_pair q) qs) (nat_le 10000000 (length qs)) refl refl refl h
-  where
-    by : (a b c : Bool) → nat_lt q.voter (last_voter qs) ≡ a → list_any (same_pair q) qs ≡ b
-        → nat_le 10000000 (length qs) ≡ c
-        → cond a (Some fault.OutOfOrder) (cond b (Some fault.Repeated) (cond c (Some fault.TooMany) None)) ≡ None
-        → Follows qs q
-    by true b c is_a is_b is_c k = cc k
-    by false true c is_a is_b is_c k = cc k
-    by false false true is_a is_b is_c k = cc k
-    by false false false is_a is_b is_c k = record { not_lower = is_a; new = is_b; few = is_c }
-
 row-more : (e : Instance) (h d b c : Rec) (rows : List Rec) (r : Rec) → is_text r ≡ true → TakenRows e rows
     → price_form e (h ∷ d ∷ b ∷ c ∷ rows) (Some r) ≡ None → TakenRows e (rows ++ (r ∷ []))
 row-more e h d b c rows r text taken none =
@@ -131,15 +112,13 @@ row-more e h d b c rows r text taken none =
     let parts = neither (row_fault e r) (place_fault r rows) (sym (form-at-row e h d b c rows r text) ∙ none) in
     let states = payment-stated e r parts.0 in
     let q = states.0 in
-    let after = follows qs q (sym (place-is e r q rows qs states.1 taken.each_row) ∙ parts.1) in
-    let many : length qs < 10000000 = leb-false 10000000 (length qs) after.few in
-    let low : last_voter qs ≤ q.voter = ltb-false q.voter (last_voter qs) after.not_lower in
+    let after = may-follow qs q (sym (place-is e r q rows qs states.1 taken.each_row) ∙ parts.1) in
     record {
       payments = qs ++ (q ∷ []);
       each_row = joined-by (payment_of e) rows r qs q taken.each_row states.1;
-      few = omega (arith, many, length-append qs (q ∷ []));
-      in_order = in-order-push qs q taken.in_order low;
-      once = once-push qs q taken.once after.new;
+      few = omega (arith, after.few, length-append qs (q ∷ []));
+      in_order = in-order-push qs q taken.in_order after.not_lower;
+      once = once-push qs q taken.once after.fresh;
     }
 
 no-rows : (e : Instance) → TakenRows e []

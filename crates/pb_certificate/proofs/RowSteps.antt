@@ -1,14 +1,14 @@
 -- One more payment after some others.
-use Rattle.std.proofs.Common.{◌≡◌, ◌≢◌, ◌≤◌, ◌<◌, ◌+◌, ◌∙◌, ℕ, zero, suc, Bool, true, false, List, [], ◌∷◌, ◌++◌, refl, sym, ap, subst, inl, inr, arith}
+use Rattle.std.proofs.Common.{◌≡◌, ◌≢◌, ◌≤◌, ◌∙◌, ℕ, Bool, true, false, List, [], ◌∷◌, ◌++◌, refl, sym, ap, subst, inl, inr, arith}
 use Rattle.std.specs.Prelude.{◌==◌, ◌&&◌, ◌||◌, filter, map}
-use Rattle.std.specs.List.{AllByRecursion, IsDistinct, list_any, range_with_len}
-use Rattle.std.proofs.lemmas.Bool.{and_parts, cases_Bool, cases_eq, eq-eqb, eqb-true, false≢true, ne_eqb}
+use Rattle.std.specs.List.{AllByRecursion, IsDistinct, list_any}
+use Rattle.std.proofs.lemmas.Bool.{and_parts, cases_Bool, cases_eq, eq-eqb, eqb-true, false≢true, ne_eqb, or_parts}
 use Rattle.std.proofs.lemmas.List.{append-nil, map-append}
 use Rattle.std.proofs.lemmas.List.Elements.{filter-append}
-use Rattle.std.proofs.Math.ListN.{set}
 use Rattle.pb_certificate.specs.PriceText.{Payment, same_pair}
 use Rattle.pb_certificate.specs.PriceRows.{last_number, last_voter}
 use Rattle.pb_certificate.specs.Inside.PriorRows.{RiseFrom, last_payer}
+use Rattle.pb_certificate.proofs.MarkLemmas.{distinct-push}
 
 abbrev pub voters_of : List Payment → List ℕ
 voters_of qs = map (λ q. q.voter) qs
@@ -109,27 +109,13 @@ stood qs q some h most =
         plain true = refl
         plain false = refl
 
--- payments that differ from one more
-distinct-push : (qs : List Payment) (q : Payment) → IsDistinct same_pair qs → list_any (same_pair q) qs ≡ false
-    → IsDistinct same_pair (qs ++ (q ∷ []))
-unfolding IsDistinct
-distinct-push [] q h k = (tt, tt)
-distinct-push (p ∷ ps) q h k = (apart p ps h.0 (or-first k), distinct-push ps q h.1 (or-rest k))
+-- payments that differ from one of a new pair
+apart : (qs : List Payment) (q : Payment) → list_any (same_pair q) qs ≡ false
+    → AllByRecursion (λ p. same_pair p q ≡ false) qs
+apart [] q h = tt
+apart (p ∷ ps) q h =
+    let parts = or_parts (same_pair q p) (list_any (same_pair q) ps) h in (turned q p parts.0, apart ps q parts.1)
   where
-    or-first : (same_pair q p || list_any (same_pair q) ps) ≡ false → same_pair q p ≡ false
-    or-first e = by (same_pair q p) refl e
-      where
-        by : (b : Bool) → same_pair q p ≡ b → (b || list_any (same_pair q) ps) ≡ false → same_pair q p ≡ false
-        by true is e = cc e
-        by false is e = is
-
-    or-rest : (same_pair q p || list_any (same_pair q) ps) ≡ false → list_any (same_pair q) ps ≡ false
-    or-rest e = by (same_pair q p) e
-      where
-        by : (b : Bool) → (b || list_any (same_pair q) ps) ≡ false → list_any (same_pair q) ps ≡ false
-        by true e = cc e
-        by false e = e
-
     turned : (a b : Payment) → same_pair a b ≡ false → same_pair b a ≡ false
     turned a b e = elim (cases_Bool (same_pair b a)) [
       | inl yes' ↦
@@ -142,36 +128,9 @@ distinct-push (p ∷ ps) q h k = (apart p ps h.0 (or-first k), distinct-push ps 
       | inr no' ↦ no'
     ]
 
-    apart : (p : Payment) (rs : List Payment) → AllByRecursion (λ y. same_pair p y ≡ false) rs → same_pair q p ≡ false
-        → AllByRecursion (λ y. same_pair p y ≡ false) (rs ++ (q ∷ []))
-    apart p [] h e = (turned q p e, tt)
-    apart p (r ∷ rs) h e = (h.0, apart p rs h.1 e)
-
 pub once-push : (qs : List Payment) (q : Payment) → IsDistinct same_pair qs → list_any (same_pair q) qs ≡ false
     → IsDistinct same_pair (qs ++ (q ∷ []))
-once-push = distinct-push
-
-pub all-push : {A : Type 0} (P : A → Type 0) (xs : List A) (x : A) → AllByRecursion P xs → P x
-    → AllByRecursion P (xs ++ (x ∷ []))
-all-push P [] x h k = (k, tt)
-all-push P (y ∷ ys) x h k = (h.0, all-push P ys x h.1 k)
-
--- a list over a range, changed at one place
-pub set-range : {A : Type 0} (f g : ℕ → A) (n a k : ℕ) (x : A) → k < n → g (a + k) ≡ x
-    → ((i : ℕ) → i ≢ a + k → g i ≡ f i) → set (map f (range_with_len a n)) k x ≡ map g (range_with_len a n)
-set-range f g zero a k x within here other = absurd (omega arith)
-set-range f g (suc n) a zero x within here other =
-    let e : a + 0 ≡ a = omega arith in
-    rw (sym (rw e at here), rest n (a + 1) (omega arith)) refl
-  where
-    rest : (m b : ℕ) → a < b → map g (range_with_len b m) ≡ map f (range_with_len b m)
-    rest zero b l = refl
-    rest (suc m) b l = rw (other b (λ e. omega arith), rest m (b + 1) (omega arith)) refl
-set-range f g (suc n) a (suc k) x within here other =
-    let e : a + suc k ≡ a + 1 + k = omega arith in
-    rw (other a (λ e. omega arith))
-    (ap (λ xs. f a ∷ xs)
-    (set-range f g n (a + 1) k x (omega arith) (rw e at here) (λ i ne. other i (λ q. ne (q ∙ e)))))
+once-push qs q once new = distinct-push same_pair qs q once (apart qs q new)
 
 -- the last payers after one more
 pub payer-here : (qs : List Payment) (q : Payment) → last_payer (qs ++ (q ∷ [])) q.project ≡ q.voter

@@ -15,7 +15,8 @@ use Rattle.pb_certificate.specs.Rows.{Rows}
 use Rattle.pb_election.specs.Instance.{Instance, projects}
 use Rattle.pb_certificate.specs.PriceText.{Payment, same_pair, stated}
 use Rattle.pb_certificate.specs.declared.gathering.Turn.{Turn}
-use Rattle.pb_certificate.proofs.RowSteps.{all-push, once-push}
+use Rattle.pb_certificate.proofs.MarkLemmas.{all-push}
+use Rattle.pb_certificate.proofs.RowSteps.{once-push}
 use Rattle.pb_certificate.proofs.SortedRuns.{sorted-stated}
 use Rattle.pb_certificate.proofs.Texts.{map-stated, pairs}
 

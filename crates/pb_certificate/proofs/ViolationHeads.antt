@@ -23,10 +23,8 @@ pub names-format-2 : (r : Rec) → fields r ≡ version_2 → (is_version_1 r ||
 names-format-2 r is = ap (λ (fs : List Field). same_fields fs version_1 || same_fields fs version_2) is
 
 pub names-measure : (m : Measure) (r : Rec) → fields r ≡ satisfaction_by m → states_measure r ≡ true
-names-measure ByCount r is =
-    ap (λ (fs : List Field). same_fields fs (satisfaction_by ByCount) || same_fields fs (satisfaction_by ByCost)) is
-names-measure ByCost r is =
-    ap (λ (fs : List Field). same_fields fs (satisfaction_by ByCount) || same_fields fs (satisfaction_by ByCost)) is
+names-measure ByCount r is = rw is refl
+names-measure ByCost r is = rw is refl
 
 -- there is one, and they are as many as the first of them says
 pub some-head : (m : Measure) (heads : List Rec) → StateMeasure m heads → 0 < length heads

@@ -12,8 +12,7 @@ use Rattle.pb_records.specs.declared.drafts.Stop.{Stop}
 use Rattle.pb_records.specs.declared.drafts.Stop.TheVariants.{Fault, Memory}
 use Rattle.pb_certificate.specs.Fields.{fields, number, project_in, same_fields, voter_in, whole_in, whole_within}
 use Rattle.pb_certificate.specs.PriceText.{numerator_of}
-use Rattle.pb_certificate.specs.ViolationText.{is_version_1, is_version_2, satisfaction_by}
-use Rattle.pb_certificate.specs.declared.measure.Measure.TheVariants.{ByCount, ByCost}
+use Rattle.pb_certificate.specs.ViolationText.{all_measures, is_version_1, is_version_2, satisfaction_by}
 use Rattle.pb_certificate.specs.declared.refusal.CertFault.{CertFault}
 use Rattle.pb_certificate.specs.declared.refusal.CertFault.TheVariants as fault
 use Rattle.pb_certificate.specs.declared.refusal.CertRefusal.{CertRefusal}
@@ -143,7 +142,7 @@ same_name a b =
 -- A violation certificate of version 1 has one head record. In version 2 it has a second one, which states the measure.
 
 abbrev pub states_measure : Rec → Bool
-states_measure r = same_fields (fields r) (satisfaction_by ByCount) || same_fields (fields r) (satisfaction_by ByCost)
+states_measure r = list_any (λ m. same_fields (fields r) (satisfaction_by m)) all_measures
 
 -- how many head records a violation certificate has that begins with these records
 abbrev pub violation_heads : List Rec → ℕ

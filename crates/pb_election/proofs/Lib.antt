@@ -8,7 +8,7 @@ pub mod Apart
 mod BeginningLemmas
 mod Extends
 pub mod Reading
-mod Elections
+pub mod Elections
 mod Totals
 mod Sound
 mod IdLemmas

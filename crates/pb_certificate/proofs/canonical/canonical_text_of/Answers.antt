@@ -3,7 +3,7 @@ use Rattle.std.proofs.lemmas.Result.{err_from_is_err_and}
 use Rattle.pb_certificate.specs.Canon.{Canon}
 use Rattle.pb_certificate.specs.Inside.CanonicalDrafts.{HasWritten}
 use Rattle.pb_certificate.specs.Faults.{certificate_records}
-use Rattle.pb_certificate.proofs.GatherSteps.{refused-file, states-all, text-refused}
+use Rattle.pb_certificate.proofs.GatherSteps.{gathering-refused, states-all, text-refused}
 use Rattle.pb_certificate.proofs.Texts.{states-prices}
 use Rattle.pb_certificate.proofs.Unique.{price-text-same}
 use Rattle.pb_certificate.proofs.canonical.canonical_text_of.Goals as goal
@@ -18,13 +18,11 @@ returns-in_err-rows-clause-only c = λ p text. (
 
 pub returns-in_err-gather-clause-only : goal.returns-in_err-gather-clause-only
 returns-in_err-gather-clause-only c = λ p text. (
-    let recs = certificate_records c.args.bytes.now in
-    let e = c.args.election.now in
     let err = err_from_is_err_and c.from_residual-in_err-gather.result c.from_residual-in_err-gather.ensures.1 in
-    let refused =
-    refused-file recs e c.in_ok-rows.rows c.in_err-gather.field-0.0 c.in_ok-rows.ensures.election
-    c.in_ok-rows.ensures.records c.in_err-gather.ensures.refused in
-    rw (err.1, err.2) (text-refused recs e p c.in_err-gather.field-0.0 text refused)
+    rw (err.1, err.2)
+    (gathering-refused (certificate_records c.args.bytes.now) c.args.election.now p c.in_ok-rows.rows
+    c.in_err-gather.field-0.0 text c.in_ok-rows.ensures.election c.in_ok-rows.ensures.records
+    c.in_err-gather.ensures.refused)
     )
 
 pub returns-clause-found : goal.returns-clause-found

@@ -1,5 +1,4 @@
-use Rattle.std.proofs.Common.{◌≡◌, ◌∙◌, ap, get_or, rules, subst, sym}
-use Rattle.std.specs.Prelude.{MatchResult}
+use Rattle.std.proofs.Common.{◌∙◌, ap, rules, sym}
 use Rattle.std.proofs.lemmas.List.Sorted.{answers_always}
 use Rattle.pb_certificate.specs.Prices.{numerator_in}
 use Rattle.pb_certificate.proofs.Searches.{payment-searched}
@@ -12,10 +11,7 @@ returns-in-Ok-clause-value c =
     let by_project = facts.position (λ q. q.0) (answers_always _ _ _ (λ f a r g called. search rules)) in
     let found = payment-searched 1 c.args.self.now.projects qs c.args.j c.binary_search_by_key.result
     c.payments_of-payments.ensures.map.projects_rise facts.bound by_project in
-    sym (subst
-    (λ r. MatchResult r (λ k. numerator_in qs c.args.j ≡ (get_or qs k (0, 0)).1)
-    (λ k. numerator_in qs c.args.j ≡ 0)) c.in-Ok.is found)
-    ∙ ap (λ xs. numerator_in xs c.args.j) c.payments_of-payments.ensures.value
+    sym (rw c.in-Ok.is at found) ∙ ap (λ xs. numerator_in xs c.args.j) c.payments_of-payments.ensures.value
 
 pub returns-in-Err-clause-value : goal.returns-in-Err-clause-value
 returns-in-Err-clause-value c =
@@ -24,7 +20,4 @@ returns-in-Err-clause-value c =
     let by_project = facts.position (λ q. q.0) (answers_always _ _ _ (λ f a r g called. search rules)) in
     let found = payment-searched 1 c.args.self.now.projects qs c.args.j c.binary_search_by_key.result
     c.payments_of-payments.ensures.map.projects_rise facts.bound by_project in
-    sym (subst
-    (λ r. MatchResult r (λ k. numerator_in qs c.args.j ≡ (get_or qs k (0, 0)).1)
-    (λ k. numerator_in qs c.args.j ≡ 0)) c.in-Err.is found)
-    ∙ ap (λ xs. numerator_in xs c.args.j) c.payments_of-payments.ensures.value
+    sym (rw c.in-Err.is at found) ∙ ap (λ xs. numerator_in xs c.args.j) c.payments_of-payments.ensures.value

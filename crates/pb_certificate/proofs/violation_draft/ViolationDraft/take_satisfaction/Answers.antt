@@ -3,7 +3,6 @@ use Rattle.csv.specs.Records.{fields_of}
 use Rattle.pb_certificate.specs.Inside.ViolationDrafts.{taken_so_far}
 use Rattle.pb_certificate.specs.declared.measure.Measure.TheVariants.{ByCount, ByCost}
 use Rattle.pb_certificate.specs.declared.violation_draft.Awaited.TheVariants.{Row}
-use Rattle.pb_certificate.proofs.Sweep.{or-false}
 use Rattle.pb_certificate.proofs.ViolationSteps.{measure-refused, measure-taken}
 use Rattle.pb_certificate.proofs.violation_draft.ViolationDraft.take_satisfaction.Goals as goal
 
@@ -24,4 +23,4 @@ returns-then-is_pair-2 c = λ e. (
 pub returns : goal.returns
 returns c = λ e. measure-refused e (taken_so_far c.args.self.now) (fields_of c.args.row.now) c.requires.text
     c.requires.awaited
-    (or-false _ _ (sym c.is_pair.ensures ∙ c.if-is_pair.false) (sym c.is_pair-2.ensures ∙ c.if-is_pair-2.false))
+    (rw (sym c.is_pair.ensures ∙ c.if-is_pair.false, sym c.is_pair-2.ensures ∙ c.if-is_pair-2.false) refl)
