@@ -53,18 +53,19 @@ outcome_refused {A} states reply promise election outcome certificate e r given 
 }
 
 -- a reply on a certificate keeps what its status promises
-pub promised_of : {A : Type 0} (reply : Instance → List Bool → A → Reply)
-    (promise : Status → Instance → List Bool → A → Type 0) → Promised reply promise
-    → (e : Instance) (w : List Bool) (c : Stated A) (r : Reply) → r ≡ with_input c (λ a. reply e w a)
-    → IfOk c (λ a. promise r.status e w a)
-promised_of reply promise each e w (Ok a) r is =
-    subst (λ (s : Status). promise s e w a) (sym (ap status_of is)) (each e w a)
-promised_of reply promise each e w (Err why) r is = tt
+pub promised_of : {A : Type 0} (states : Instance → Delivery → Stated A → Type 0)
+    (reply : Instance → List Bool → A → Reply) (promise : Status → Instance → List Bool → A → Type 0)
+    → Promised states reply promise
+    → (e : Instance) (w : List Bool) (d : Delivery) (c : Stated A) (r : Reply) → states e d c
+    → r ≡ with_input c (λ a. reply e w a) → IfOk c (λ a. promise r.status e w a)
+promised_of states reply promise each e w d (Ok a) r given is =
+    subst (λ (s : Status). promise s e w a) (sym (ap status_of is)) (each e w d a given)
+promised_of states reply promise each e w d (Err why) r given is = tt
 
 -- the election and the outcome are accepted
 abbrev pub certificate_answered : {A : Type 0} (states : Instance → Delivery → Stated A → Type 0)
     (reply : Instance → List Bool → A → Reply) (promise : Status → Instance → List Bool → A → Type 0)
-    → Promised reply promise
+    → Promised states reply promise
     → (election : Delivery) (outcome : Option Delivery) (certificate : Delivery) (e : Instance) (w : List Bool)
     (r : Reply)
     → StatesElection election (Ok e) → AuditsOutcome e outcome (Ok w)
@@ -83,7 +84,7 @@ certificate_answered {A} states reply promise each election outcome certificate 
   out = answered.out
       ∙ ap (λ (o : Stated (List Bool)). with_input o (λ marks. with_input answered.c (λ a. reply e marks a))) taken.is;
   promised = subst (λ (o : Stated (List Bool)). IfOk o (λ marks. IfOk answered.c (λ a. promise r.status e marks a)))
-      taken.is (promised_of reply promise each e w answered.c r answered.out);
+      taken.is (promised_of states reply promise each e w certificate answered.c r answered.given answered.out);
 }
 
 -- The same where the work stopped.
@@ -107,7 +108,7 @@ stopped_at_outcome states reply promise election outcome certificate e stop.Memo
 
 pub certificate_settled : {A : Type 0} (states : Instance → Delivery → Stated A → Type 0)
     (reply : Instance → List Bool → A → Reply) (promise : Status → Instance → List Bool → A → Type 0)
-    → Promised reply promise
+    → Promised states reply promise
     → (election : Delivery) (outcome : Option Delivery) (certificate : Delivery) (e : Instance) (w : List Bool)
     (work : Option Reply)
     → StatesElection election (Ok e) → AuditsOutcome e outcome (Ok w)
@@ -118,7 +119,7 @@ certificate_settled states reply promise each election outcome certificate e w (
     certificate_answered states reply promise each election outcome certificate e w r given taken answered
 
 -- The same over readers.
-pub readers_stopped_at_election : {A : Type 0} (states : Instance → Delivery → Stated A → Type 0)
+unfoldable pub readers_stopped_at_election : {A : Type 0} (states : Instance → Delivery → Stated A → Type 0)
     (reply : Instance → List Bool → A → Reply) (promise : Status → Instance → List Bool → A → Type 0)
     (inputs : AuditReadings) (why : Stop)
     → IfTaken {A = Instance} (Err why) (Gives StatesElection inputs.election)
@@ -136,7 +137,7 @@ readers_stopped_at_election states reply promise inputs (stop.Refused input faul
 }
 readers_stopped_at_election states reply promise inputs stop.Memory given same untouched = tt
 
-pub readers_stopped_at_outcome : {A : Type 0} (states : Instance → Delivery → Stated A → Type 0)
+unfoldable pub readers_stopped_at_outcome : {A : Type 0} (states : Instance → Delivery → Stated A → Type 0)
     (reply : Instance → List Bool → A → Reply) (promise : Status → Instance → List Bool → A → Type 0)
     (inputs : AuditReadings) (e : Instance) (why : Stop)
     → Gives StatesElection inputs.election (Ok e) → IfTaken {A = List Bool} (Err why) (ReadsOutcome e inputs.outcome)
@@ -156,9 +157,9 @@ readers_stopped_at_outcome states reply promise inputs e (stop.Refused input fau
 }
 readers_stopped_at_outcome states reply promise inputs e stop.Memory given taken untouched = tt
 
-pub readers_settled : {A : Type 0} (states : Instance → Delivery → Stated A → Type 0)
+unfoldable pub readers_settled : {A : Type 0} (states : Instance → Delivery → Stated A → Type 0)
     (reply : Instance → List Bool → A → Reply) (promise : Status → Instance → List Bool → A → Type 0)
-    → Promised reply promise
+    → Promised states reply promise
     → (inputs : AuditReadings) (e : Instance) (w : List Bool) (d : Delivery) (work : Option Reply)
     → Gives StatesElection inputs.election (Ok e) → ReadsOutcome e inputs.outcome (Ok w) → Delivers inputs.certificate d
     → IfSome work (AnswersCertificate states reply e w d) → IfSome work (ReadsAudit states reply promise inputs)

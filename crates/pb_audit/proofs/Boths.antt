@@ -1,6 +1,6 @@
 -- The answers on both certificates.
-use Rattle.std.proofs.Common.{◌≡◌, ◌∙◌, ap, refl, subst, sym, Bool, Option, List}
-use Rattle.std.specs.Prelude.{◌↔◌, IfOk, IfSome, Ok, Err, Some, None}
+use Rattle.std.proofs.Common.{◌≡◌, ◌∙◌, ap, refl, subst, Bool, Option, List}
+use Rattle.std.specs.Prelude.{◌↔◌, IfSome, Ok, Err, Some, None}
 use Rattle.pb_election.specs.Instance.{Instance}
 use Rattle.pb_records.specs.Loading.{Delivery}
 use Rattle.pb_records.specs.Loading as delivery
@@ -14,18 +14,19 @@ use Rattle.pb_price.specs.declared.Mode.{Mode}
 use Rattle.pb_price.specs.declared.Verdict.{Verdict}
 use Rattle.pb_reply.specs.Replies.{Reply, refused, with_input}
 use Rattle.pb_audit.specs.Answers.{price_reply, violation_reply}
-use Rattle.pb_audit.specs.Both.{AnswersBoth, BothPromise, GroupAndDemand, ReadsBoth, beside, both_on, yes_where_both}
+use Rattle.pb_audit.specs.Both.{BothPromise, BothPromises, GroupAndDemand, ReadsBoth, StatesBoth, beside, both_on, both_reply, yes_where_both}
 use Rattle.pb_reply.specs.Inputs.{InTurn, Stated, StatesElection, StatesPrices, StatesViolation, refusal_of}
 use Rattle.pb_reply.specs.Lines.{Refusal}
 use Rattle.pb_audit.specs.Readers.{AuditReadings}
 use Rattle.pb_reply.specs.Readings.{Delivers, IsUntouched, Reading}
-use Rattle.pb_audit.specs.Inside.Certificates.{AnswersCertificate, JudgesPrices}
-use Rattle.pb_reply.specs.Inside.Taking.{AuditsOutcome, Gives, IfTaken, ReadsOutcome, stopped}
+use Rattle.pb_audit.specs.Inside.Certificates.{AnswersCertificate, JudgesPrices, Promised}
+use Rattle.pb_reply.specs.Inside.Taking.{Gives, IfTaken, ReadsOutcome, stopped}
 use Rattle.pb_reply.specs.declared.input.InputName.TheVariants as name
 use Rattle.pb_reply.specs.declared.input.Stop.{Stop}
 use Rattle.pb_reply.specs.declared.input.Stop.TheVariants as stop
 use Rattle.pb_reply.specs.declared.status.Status.{Status}
 use Rattle.pb_reply.specs.declared.status.Status.TheVariants.{Yes, No, Refused}
+use Rattle.pb_audit.proofs.Audits.{readers_settled, readers_stopped_at_election, readers_stopped_at_outcome}
 use Rattle.pb_audit.proofs.Promises.{no-yes, prices_promise, violation_promises}
 
 both_yes : (first second : Status) → (yes_where_both first second ≡ Yes) ↔ ((first ≡ Yes) × (second ≡ Yes))
@@ -62,233 +63,115 @@ claim_sets e (delivery.Bytes bytes) claim states =
 claim_sets e delivery.Read claim states = cc
 claim_sets e delivery.TooLong claim states = cc
 
-pub beside_promised : (m : Mode) (e : Instance) (w : List Bool) (p : Prices) (d : Delivery) (v : Stated GroupAndDemand)
-    (r : Reply) → StatesViolation name.Violation e d v
-    → r ≡ with_input v (λ claim. both_on m e w p claim) → IfOk v (λ claim. BothPromise m r.status e w p claim)
-beside_promised m e w p d (Ok claim) r states is =
-    let sets = claim_sets e d claim states in
-    subst (λ (s : Status). BothPromise m s e w p claim) (sym (ap (λ (x : Reply). x.status) is))
-    (both_promise m e w p claim sets.0 sets.1)
-beside_promised m e w p d (Err why) r states is = tt
+pub both_promises : (m : Mode) (violation : Delivery) → Promised (StatesBoth violation) (both_reply m) (BothPromises m)
+both_promises m violation e w prices (p, Ok claim) states =
+    let sets = claim_sets e violation claim states.1 in
+    both_promise m e w p claim sets.0 sets.1
+both_promises m violation e w prices (p, Err why) states = tt
 
--- Where the election is refused, the others may state anything.
-abbrev pub election_refused : (m : Mode) (election : Delivery) (outcome : Option Delivery) (prices violation : Delivery)
-    (r : Refusal)
-    → StatesElection election (Err r) → AnswersBoth m election outcome prices violation (refused r)
-election_refused m election outcome prices violation r given = record {
-  e = Err r;
-  o = None;
-  p = Err r;
-  v = Err r;
-  given = record { election_states = given; outcome_states = tt; certificate_states = tt };
-  violation_states = tt;
-  out = refl;
-  promised = tt;
-}
-
--- where the outcome is, the certificates may
-abbrev pub outcome_refused : (m : Mode) (election : Delivery) (outcome : Option Delivery) (prices violation : Delivery)
-    (e : Instance) (r : Refusal)
-    → StatesElection election (Ok e) → AuditsOutcome e outcome (Err r)
-    → AnswersBoth m election outcome prices violation (refused r)
-outcome_refused m election outcome prices violation e r given taken = record {
-  e = Ok e;
-  o = taken.file;
-  p = Err r;
-  v = Err r;
-  given = record {
-    election_states = given;
-    outcome_states = taken.given;
-    certificate_states =
-        subst (λ (o : Stated (List Bool)). IfOk o (λ w. StatesPrices name.Prices e prices (Err r))) taken.is tt;
-  };
-  violation_states = subst (λ (o : Stated (List Bool)). IfOk o (λ w. Unit {0})) taken.is tt;
-  out = ap (λ (o : Stated (List Bool)). with_input o (λ w. refused r)) taken.is;
-  promised = subst (λ (o : Stated (List Bool)). IfOk o (λ w. Unit {0})) taken.is tt;
-}
-
--- where the prices are, the violation certificate may
-abbrev pub prices_refused : (m : Mode) (election : Delivery) (outcome : Option Delivery) (prices violation : Delivery)
-    (e : Instance) (w : List Bool) (r : Refusal)
-    → StatesElection election (Ok e) → AuditsOutcome e outcome (Ok w) → StatesPrices name.Prices e prices (Err r)
-    → AnswersBoth m election outcome prices violation (refused r)
-prices_refused m election outcome prices violation e w r given taken states = record {
-  e = Ok e;
-  o = taken.file;
-  p = Err r;
-  v = Err r;
-  given = record {
-    election_states = given;
-    outcome_states = taken.given;
-    certificate_states =
-        subst (λ (o : Stated (List Bool)). IfOk o (λ marks. StatesPrices name.Prices e prices (Err r))) taken.is states;
-  };
-  violation_states = subst (λ (o : Stated (List Bool)). IfOk o (λ w. Unit {0})) taken.is tt;
-  out = ap (λ (o : Stated (List Bool)). with_input o (λ w. refused r)) taken.is;
-  promised = subst (λ (o : Stated (List Bool)). IfOk o (λ w. Unit {0})) taken.is tt;
-}
+-- the prices are refused
+abbrev prices_refused : (m : Mode) (e : Instance) (w : List Bool) (prices violation : Delivery) (r : Refusal)
+    → StatesPrices name.Prices e prices (Err r)
+    → AnswersCertificate (StatesBoth violation) (both_reply m) e w prices (refused r)
+prices_refused m e w prices violation r states = record { c = Err r; given = states; out = refl }
 
 -- the prices are accepted, and the violation certificate is answered beside the verdict on them
-abbrev pub both_answered : (m : Mode) (election : Delivery) (outcome : Option Delivery) (prices violation : Delivery)
-    (e : Instance) (w : List Bool) (verdict : Verdict) (r : Reply)
-    → StatesElection election (Ok e) → AuditsOutcome e outcome (Ok w)
+abbrev both_answered : (m : Mode) (e : Instance) (w : List Bool) (prices violation : Delivery) (verdict : Verdict)
+    (r : Reply)
     → JudgesPrices name.Prices m e w prices (Ok verdict)
     → AnswersCertificate (StatesViolation name.Violation) (beside m verdict) e w violation r
-    → AnswersBoth m election outcome prices violation r
-both_answered m election outcome prices violation e w verdict r given taken judged answered =
-    let p = judged.0 in
-    let v = answered.c in
-    let is : r ≡ with_input v (λ claim. both_on m e w p claim) =
-    answered.out ∙ ap (λ (found : Verdict). with_input v (λ claim. beside m found e w claim)) judged.1.1 in
-    record {
-      e = Ok e;
-      o = taken.file;
-      p = Ok p;
-      v = v;
-      given = record {
-        election_states = given;
-        outcome_states = taken.given;
-        certificate_states =
-            subst (λ (o : Stated (List Bool)). IfOk o (λ marks. StatesPrices name.Prices e prices (Ok p))) taken.is
-            judged.1.0;
-      };
-      violation_states =
-          subst (λ (o : Stated (List Bool)). IfOk o (λ marks. StatesViolation name.Violation e violation v)) taken.is
-          answered.given;
-      out = is
-          ∙ ap (λ (o : Stated (List Bool)). with_input o (λ marks. with_input v (λ claim. both_on m e marks p claim)))
-          taken.is;
-      promised =
-          subst (λ (o : Stated (List Bool)). IfOk o (λ marks. IfOk v (λ claim. BothPromise m r.status e marks p claim)))
-          taken.is
-          (beside_promised m e w p violation v r answered.given is);
-    }
+    → AnswersCertificate (StatesBoth violation) (both_reply m) e w prices r
+both_answered m e w prices violation verdict r judged answered = record {
+  c = Ok (judged.0, answered.c);
+  given = (judged.1.0, answered.given);
+  out = answered.out
+      ∙ ap (λ (found : Verdict). with_input answered.c (λ claim. beside m found e w claim)) judged.1.1;
+}
 
--- The same where the work stopped.
-pub stopped_at_election : (m : Mode) (election : Delivery) (outcome : Option Delivery) (prices violation : Delivery)
-    (why : Stop)
-    → IfTaken {A = Instance} (Err why) (StatesElection election)
-    → IfSome (stopped why) (AnswersBoth m election outcome prices violation)
-stopped_at_election m election outcome prices violation (stop.Refused input fault) given =
-    election_refused m election outcome prices violation (refusal_of input fault) given
-stopped_at_election m election outcome prices violation stop.Memory given = tt
-
-pub stopped_at_outcome : (m : Mode) (election : Delivery) (outcome : Option Delivery) (prices violation : Delivery)
-    (e : Instance) (why : Stop)
-    → StatesElection election (Ok e) → IfTaken {A = List Bool} (Err why) (AuditsOutcome e outcome)
-    → IfSome (stopped why) (AnswersBoth m election outcome prices violation)
-stopped_at_outcome m election outcome prices violation e (stop.Refused input fault) given taken =
-    outcome_refused m election outcome prices violation e (refusal_of input fault) given taken
-stopped_at_outcome m election outcome prices violation e stop.Memory given taken = tt
-
-pub stopped_at_prices : (m : Mode) (election : Delivery) (outcome : Option Delivery) (prices violation : Delivery)
-    (e : Instance) (w : List Bool) (why : Stop)
-    → StatesElection election (Ok e) → AuditsOutcome e outcome (Ok w)
+-- The same where the work stopped or ended.
+pub stopped_at_prices : (m : Mode) (e : Instance) (w : List Bool) (prices violation : Delivery) (why : Stop)
     → IfTaken {A = Verdict} (Err why) (JudgesPrices name.Prices m e w prices)
-    → IfSome (stopped why) (AnswersBoth m election outcome prices violation)
-stopped_at_prices m election outcome prices violation e w (stop.Refused input fault) given taken judged =
-    prices_refused m election outcome prices violation e w (refusal_of input fault) given taken judged
-stopped_at_prices m election outcome prices violation e w stop.Memory given taken judged = tt
+    → IfSome (stopped why) (AnswersCertificate (StatesBoth violation) (both_reply m) e w prices)
+stopped_at_prices m e w prices violation (stop.Refused input fault) judged =
+    prices_refused m e w prices violation (refusal_of input fault) judged
+stopped_at_prices m e w prices violation stop.Memory judged = tt
 
-pub both_settled : (m : Mode) (election : Delivery) (outcome : Option Delivery) (prices violation : Delivery)
-    (e : Instance) (w : List Bool) (verdict : Verdict) (work : Option Reply)
-    → StatesElection election (Ok e) → AuditsOutcome e outcome (Ok w)
+pub both_settled : (m : Mode) (e : Instance) (w : List Bool) (prices violation : Delivery) (verdict : Verdict)
+    (work : Option Reply)
     → JudgesPrices name.Prices m e w prices (Ok verdict)
     → IfSome work (AnswersCertificate (StatesViolation name.Violation) (beside m verdict) e w violation)
-    → IfSome work (AnswersBoth m election outcome prices violation)
-both_settled m election outcome prices violation e w verdict None given taken judged answered = tt
-both_settled m election outcome prices violation e w verdict (Some r) given taken judged answered =
-    both_answered m election outcome prices violation e w verdict r given taken judged answered
+    → IfSome work (AnswersCertificate (StatesBoth violation) (both_reply m) e w prices)
+both_settled m e w prices violation verdict None judged answered = tt
+both_settled m e w prices violation verdict (Some r) judged answered =
+    both_answered m e w prices violation verdict r judged answered
 
 -- The same over readers.
-pub readers_stopped_at_election : (m : Mode) (inputs : AuditReadings) (violation : Reading) (why : Stop)
+pub both_stopped_at_election : (m : Mode) (inputs : AuditReadings) (violation : Reading) (why : Stop)
     → IfTaken {A = Instance} (Err why) (Gives StatesElection inputs.election)
     → inputs.outcome.after ≡ inputs.outcome.before → IsUntouched inputs.certificate → IsUntouched violation
     → IfSome (stopped why) (ReadsBoth m inputs violation)
-readers_stopped_at_election m inputs violation (stop.Refused input fault) given same prices_same violation_same =
-    record {
-      of_election = given.delivery;
-      of_outcome = None;
-      of_prices = delivery.Read;
-      of_violation = delivery.Read;
-      answers = election_refused m given.delivery None delivery.Read delivery.Read (refusal_of input fault) given.stating;
-      election_delivered = given.delivered;
-      outcome_delivered = same;
-      prices_delivered = prices_same;
-      violation_delivered = violation_same;
-    }
-readers_stopped_at_election m inputs violation stop.Memory given same prices_same violation_same = tt
+unfolding readers_stopped_at_election
+both_stopped_at_election m inputs violation (stop.Refused input fault) given same untouched violation_same = record {
+  of_violation = delivery.Read;
+  reads = readers_stopped_at_election (StatesBoth delivery.Read) (both_reply m) (BothPromises m) inputs
+      (stop.Refused input fault) given same untouched;
+  violation_delivered = violation_same;
+}
+both_stopped_at_election m inputs violation stop.Memory given same untouched violation_same = tt
 
-pub readers_stopped_at_outcome : (m : Mode) (inputs : AuditReadings) (violation : Reading) (e : Instance) (why : Stop)
+pub both_stopped_at_outcome : (m : Mode) (inputs : AuditReadings) (violation : Reading) (e : Instance) (why : Stop)
     → Gives StatesElection inputs.election (Ok e) → IfTaken {A = List Bool} (Err why) (ReadsOutcome e inputs.outcome)
     → IsUntouched inputs.certificate → IsUntouched violation
     → IfSome (stopped why) (ReadsBoth m inputs violation)
-readers_stopped_at_outcome m inputs violation e (stop.Refused input fault) given taken prices_same violation_same =
-    record {
-      of_election = given.delivery;
-      of_outcome = taken.delivery;
-      of_prices = delivery.Read;
-      of_violation = delivery.Read;
-      answers = outcome_refused m given.delivery taken.delivery delivery.Read delivery.Read e (refusal_of input fault)
-          given.stating taken.audits;
-      election_delivered = given.delivered;
-      outcome_delivered = taken.delivered;
-      prices_delivered =
-          subst
-          (λ (o : Stated (List Bool)). InTurn o (λ w. Delivers inputs.certificate delivery.Read)
-          (IsUntouched inputs.certificate)) taken.audits.is prices_same;
-      violation_delivered =
-          subst (λ (o : Stated (List Bool)). InTurn o (λ w. IsUntouched violation) (IsUntouched violation)) taken.audits.is
-          violation_same;
-    }
-readers_stopped_at_outcome m inputs violation e stop.Memory given taken prices_same violation_same = tt
+unfolding readers_stopped_at_outcome
+both_stopped_at_outcome m inputs violation e (stop.Refused input fault) given taken untouched violation_same = record {
+  of_violation = delivery.Read;
+  reads = readers_stopped_at_outcome (StatesBoth delivery.Read) (both_reply m) (BothPromises m) inputs e
+      (stop.Refused input fault) given taken untouched;
+  violation_delivered =
+      subst (λ (o : Stated (List Bool)). InTurn o (λ w. IsUntouched violation) (IsUntouched violation)) taken.audits.is
+      violation_same;
+}
+both_stopped_at_outcome m inputs violation e stop.Memory given taken untouched violation_same = tt
 
-pub readers_stopped_at_prices : (m : Mode) (inputs : AuditReadings) (violation : Reading) (e : Instance) (w : List Bool)
+-- the election and the outcome are accepted
+abbrev both_read : (m : Mode) (inputs : AuditReadings) (violation : Reading) (e : Instance) (w : List Bool)
+    (of_prices of_violation : Delivery) (r : Reply)
+    → Gives StatesElection inputs.election (Ok e) → ReadsOutcome e inputs.outcome (Ok w)
+    → Delivers inputs.certificate of_prices
+    → (answered : AnswersCertificate (StatesBoth of_violation) (both_reply m) e w of_prices r)
+    → InTurn answered.c (λ both. Delivers violation of_violation) (IsUntouched violation)
+    → ReadsBoth m inputs violation r
+unfolding readers_settled
+both_read m inputs violation e w of_prices of_violation r given taken delivered answered next = record {
+  of_violation = of_violation;
+  reads = readers_settled (StatesBoth of_violation) (both_reply m) (BothPromises m) (both_promises m of_violation) inputs
+      e w of_prices (Some r) given taken delivered answered;
+  violation_delivered =
+      subst
+      (λ (o : Stated (List Bool)). InTurn o
+      (λ w. InTurn answered.c (λ both. Delivers violation of_violation) (IsUntouched violation))
+      (IsUntouched violation)) taken.audits.is next;
+}
+
+pub both_stopped_at_prices : (m : Mode) (inputs : AuditReadings) (violation : Reading) (e : Instance) (w : List Bool)
     (why : Stop)
     → Gives StatesElection inputs.election (Ok e) → ReadsOutcome e inputs.outcome (Ok w)
     → IfTaken {A = Verdict} (Err why) (Gives (JudgesPrices name.Prices m e w) inputs.certificate)
     → IsUntouched violation
     → IfSome (stopped why) (ReadsBoth m inputs violation)
-readers_stopped_at_prices m inputs violation e w (stop.Refused input fault) given taken judged same = record {
-  of_election = given.delivery;
-  of_outcome = taken.delivery;
-  of_prices = judged.delivery;
-  of_violation = delivery.Read;
-  answers = prices_refused m given.delivery taken.delivery judged.delivery delivery.Read e w (refusal_of input fault)
-      given.stating taken.audits judged.stating;
-  election_delivered = given.delivered;
-  outcome_delivered = taken.delivered;
-  prices_delivered =
-      subst
-      (λ (o : Stated (List Bool)). InTurn o (λ w. Delivers inputs.certificate judged.delivery)
-      (IsUntouched inputs.certificate)) taken.audits.is judged.delivered;
-  violation_delivered =
-      subst (λ (o : Stated (List Bool)). InTurn o (λ w. IsUntouched violation) (IsUntouched violation)) taken.audits.is
-      same;
-}
-readers_stopped_at_prices m inputs violation e w stop.Memory given taken judged same = tt
+both_stopped_at_prices m inputs violation e w (stop.Refused input fault) given taken judged same =
+    both_read m inputs violation e w judged.delivery delivery.Read _ given taken judged.delivered
+    (prices_refused m e w judged.delivery delivery.Read (refusal_of input fault) judged.stating) same
+both_stopped_at_prices m inputs violation e w stop.Memory given taken judged same = tt
 
-pub readers_settled : (m : Mode) (inputs : AuditReadings) (violation : Reading) (e : Instance) (w : List Bool)
+pub both_read_settled : (m : Mode) (inputs : AuditReadings) (violation : Reading) (e : Instance) (w : List Bool)
     (verdict : Verdict) (d : Delivery) (work : Option Reply)
     → Gives StatesElection inputs.election (Ok e) → ReadsOutcome e inputs.outcome (Ok w)
     → Gives (JudgesPrices name.Prices m e w) inputs.certificate (Ok verdict) → Delivers violation d
     → IfSome work (AnswersCertificate (StatesViolation name.Violation) (beside m verdict) e w d)
     → IfSome work (ReadsBoth m inputs violation)
-readers_settled m inputs violation e w verdict d None given taken judged delivered answered = tt
-readers_settled m inputs violation e w verdict d (Some r) given taken judged delivered answered = record {
-  of_election = given.delivery;
-  of_outcome = taken.delivery;
-  of_prices = judged.delivery;
-  of_violation = d;
-  answers = both_answered m given.delivery taken.delivery judged.delivery d e w verdict r given.stating taken.audits
-      judged.stating answered;
-  election_delivered = given.delivered;
-  outcome_delivered = taken.delivered;
-  prices_delivered =
-      subst
-      (λ (o : Stated (List Bool)). InTurn o (λ w. Delivers inputs.certificate judged.delivery)
-      (IsUntouched inputs.certificate)) taken.audits.is judged.delivered;
-  violation_delivered =
-      subst (λ (o : Stated (List Bool)). InTurn o (λ w. Delivers violation d) (IsUntouched violation)) taken.audits.is
-      delivered;
-}
+both_read_settled m inputs violation e w verdict d None given taken judged delivered answered = tt
+both_read_settled m inputs violation e w verdict d (Some r) given taken judged delivered answered =
+    both_read m inputs violation e w judged.delivery d r given taken judged.delivered
+    (both_answered m e w judged.delivery d verdict r judged.stating answered) delivered

@@ -32,9 +32,9 @@ use Rattle.pb_reply.specs.declared.input.InputName.TheVariants.{Certificate}
 use Rattle.pb_audit.proofs.Culprits.{all-filter, all-first, among-projects, missing-name, prices_name_projects, projects-are, unapproved-name}
 use Rattle.pb_audit.proofs.Promises.{prices_promise, violation_promises}
 
-pub explained_promise : (m : Mode) → Promised (explained_reply m) (ExplainedPromise m)
-explained_promise m e w (OfPrices p) = prices_promise m e w p
-explained_promise m e w (OfViolation v) = violation_promises e w v
+pub explained_promise : (m : Mode) → Promised StatesCertificate (explained_reply m) (ExplainedPromise m)
+explained_promise m e w d (OfPrices p) given = prices_promise m e w p
+explained_promise m e w d (OfViolation v) given = violation_promises e w v
 
 -- a certificate that is taken as prices, or as a violation, is one of either kind
 pub as_prices : (m : Mode) (e : Instance) (w : List Bool) (d : Delivery) (work : Option Reply) → is_violation d ≡ false

@@ -174,8 +174,8 @@ pub stop_told : (is_reply : Reply → Type 0) (why : Stop) → IfSome (stopped w
 stop_told is_reply (stop.Refused input why) of = told is_reply (refused (refusal_of input why)) of
 stop_told is_reply stop.Memory of = tt
 
-always_yes : Promised margins_reply AlwaysYes
-always_yes e w p = refl
+always_yes : Promised (StatesPrices Certificate) margins_reply AlwaysYes
+always_yes e w d p given = refl
 
 pub margins_answered : (election : Delivery) (outcome : Option Delivery) (certificate : Delivery) (e : Instance)
     (w : List Bool) (work : Result Answer Stop)

@@ -4,11 +4,10 @@ use Rattle.std.specs.Prelude.{IfOk, Ok, Err}
 use Rattle.pb_election.specs.Instance.{Instance}
 use Rattle.pb_records.specs.Loading.{Delivery}
 use Rattle.pb_certificate.specs.Prices.{Prices}
-use Rattle.pb_price.specs.First.{First, verdict_of}
 use Rattle.pb_price.specs.declared.Mode.{Mode}
 use Rattle.pb_reply.specs.Replies.{Answer, Reply, answer_of, refused, with_input, TellsReply}
-use Rattle.pb_audit.specs.Answers.{AnswersAudit, AnswersElection, AnswersPrices, AnswersTidy, AnswersViolation, FilesState, OfAccepted, audit_reply, price_reply, read_reply, tidy_answer, violation_reply}
-use Rattle.pb_audit.specs.Both.{AnswersBoth, GroupAndDemand, beside, both_on, both_reply}
+use Rattle.pb_audit.specs.Answers.{AnswersAudit, AnswersElection, AnswersPrices, AnswersTidy, AnswersViolation, FilesState, audit_reply, price_reply, read_reply, tidy_answer, violation_reply}
+use Rattle.pb_audit.specs.Both.{AnswersBoth, Both, BothPromises, GroupAndDemand, StatesBoth, both_reply}
 use Rattle.pb_reply.specs.Inputs.{Stated, StatesElection, StatesOutcome, StatesPrices, StatesViolation, audited}
 use Rattle.pb_audit.specs.Margins.{AlwaysYes, AnswersMargins, margins_reply}
 use Rattle.pb_audit.specs.OneAnswer.{JustOne}
@@ -18,8 +17,7 @@ use Rattle.pb_audit.specs.Inside.Certificates.{Promised}
 use Rattle.pb_reply.specs.declared.input.InputName.TheVariants as name
 use Rattle.pb_reply.specs.declared.status.Status.{Status}
 use Rattle.pb_audit.proofs.Audits.{certificate_answered, election_refused, outcome_refused}
-use Rattle.pb_audit.proofs.Boths as boths
-use Rattle.pb_audit.proofs.Boths.{both_answered, prices_refused}
+use Rattle.pb_audit.proofs.Boths.{both_promises}
 use Rattle.pb_audit.proofs.OneStated.{election-one, file-one, outcome-one, prices-one, violation-one}
 use Rattle.pb_audit.proofs.Promises.{prices_promise, violation_promises}
 
@@ -119,7 +117,7 @@ outcome-some e outcome = let o = (file-one (StatesOutcome e) (outcome-one e) out
 audit-some : {A : Type 0} (states : Instance → Delivery → Stated A → Type 0)
     → ((e : Instance) (d : Delivery) → JustOne (states e d))
     → (reply : Instance → List Bool → A → Reply) (promise : Status → Instance → List Bool → A → Type 0)
-    → Promised reply promise
+    → Promised states reply promise
     → (election : Delivery) (outcome : Option Delivery) (certificate : Delivery)
     → (r : Reply) × AnswersAudit states reply promise election outcome certificate r
 audit-some {A} states one reply promise each election outcome certificate =
@@ -147,7 +145,7 @@ audit-some {A} states one reply promise each election outcome certificate =
 pub audit-one : {A : Type 0} (states : Instance → Delivery → Stated A → Type 0)
     → ((e : Instance) (d : Delivery) → JustOne (states e d))
     → (reply : Instance → List Bool → A → Reply) (promise : Status → Instance → List Bool → A → Type 0)
-    → Promised reply promise
+    → Promised states reply promise
     → (election : Delivery) (outcome : Option Delivery) (certificate : Delivery)
     → JustOne (AnswersAudit states reply promise election outcome certificate)
 audit-one states one reply promise each election outcome certificate = record {
@@ -159,13 +157,13 @@ pub price-reply-one : (m : Mode) (election : Delivery) (outcome : Option Deliver
     → JustOne (AnswersPrices m election outcome certificate)
 price-reply-one m =
     audit-one (StatesPrices name.Certificate) (prices-one name.Certificate) (price_reply m) (PricesPromise m)
-    (prices_promise m)
+    (λ e w d p given. prices_promise m e w p)
 
 pub violation-reply-one : (election : Delivery) (outcome : Option Delivery) (certificate : Delivery)
     → JustOne (AnswersViolation election outcome certificate)
 violation-reply-one =
     audit-one (StatesViolation name.Certificate) (violation-one name.Certificate) violation_reply ViolationPromises
-    violation_promises
+    (λ e w d claim given. violation_promises e w claim)
 
 -- The table of margins.
 
@@ -179,108 +177,41 @@ pub margins-one : (election : Delivery) (outcome : Option Delivery) (certificate
     → JustOne (AnswersMargins election outcome certificate)
 margins-one election outcome certificate =
     tells-one (AnswersAudit (StatesPrices name.Certificate) margins_reply AlwaysYes election outcome certificate)
-    (audit-one (StatesPrices name.Certificate) (prices-one name.Certificate) margins_reply AlwaysYes (λ e w p. refl)
+    (audit-one (StatesPrices name.Certificate) (prices-one name.Certificate) margins_reply AlwaysYes (λ e w d p given. refl)
     election outcome certificate)
 
 -- Both certificates.
 
-both-some : (m : Mode) (election : Delivery) (outcome : Option Delivery) (prices violation : Delivery)
-    → (r : Reply) × AnswersBoth m election outcome prices violation r
-both-some m election outcome prices violation = by (election-one election).one.0 (election-one election).one.1
-  where
-    Some-reply : Type 0
-    Some-reply = (r : Reply) × AnswersBoth m election outcome prices violation r
+-- what the violation certificate states beside the prices
+beside-stated : Stated GroupAndDemand → Stated Prices → Stated Both
+beside-stated v (Ok p) = Ok (p, v)
+beside-stated v (Err r) = Err r
 
-    with-prices : (e : Instance) (w : List Bool) → StatesElection election (Ok e) → AuditsOutcome e outcome (Ok w)
-        → (p : Stated Prices) → StatesPrices name.Prices e prices p → Some-reply
-    with-prices e w given taken (Ok p) states =
-        let v = (violation-one name.Violation e violation).one in
-        let verdict = verdict_of (First m e w p) in
-        let r = with_input v.0 (λ claim. beside m verdict e w claim) in (
-          r,
-          both_answered m election outcome prices violation e w verdict r given taken (p, (states, refl))
-              (record { c = v.0; given = v.1; out = refl }),
-        )
-    with-prices e w given taken (Err r) states =
-        (refused r, prices_refused m election outcome prices violation e w r given taken states)
+both-stated : (violation : Delivery) (e : Instance) (prices : Delivery) (p : Stated Prices)
+    → StatesPrices name.Prices e prices p → (both : Stated Both) × StatesBoth violation e prices both
+both-stated violation e prices (Ok p) states = let v = (violation-one name.Violation e violation).one in
+    (Ok (p, v.0), (states, v.1))
+both-stated violation e prices (Err r) states = (Err r, states)
 
-    with-outcome : (e : Instance) → StatesElection election (Ok e) → (w : Stated (List Bool))
-        → AuditsOutcome e outcome w → Some-reply
-    with-outcome e given (Ok w) taken = let p = (prices-one name.Prices e prices).one in
-        with-prices e w given taken p.0 p.1
-    with-outcome e given (Err r) taken =
-        (refused r, boths.outcome_refused m election outcome prices violation e r given taken)
-
-    by : (e : Stated Instance) → StatesElection election e → Some-reply
-    by (Ok e) given = let w = outcome-some e outcome in with-outcome e given w.0 w.1
-    by (Err r) given = (refused r, boths.election_refused m election outcome prices violation r given)
-
--- what each of the inputs states, in turn
-record BothState (election : Delivery) (outcome : Option Delivery) (prices violation : Delivery) (e : Stated Instance)
-    (o : Option (Stated (List Bool))) (p : Stated Prices) (v : Stated GroupAndDemand) : Type 0 where
-  files : FilesState (StatesPrices name.Prices) election outcome prices e o p
-  claim : OfAccepted (λ i w q. StatesViolation name.Violation i violation v) e o p
-
-claims-answered : (m : Mode) (violation : Delivery) (e : Instance) (w : List Bool) (p : Stated Prices)
-    (u v : Stated GroupAndDemand) → IfOk p (λ q. StatesViolation name.Violation e violation u)
-    → IfOk p (λ q. StatesViolation name.Violation e violation v)
-    → with_input p (λ q. with_input u (λ claim. both_on m e w q claim))
-    ≡ with_input p (λ q. with_input v (λ claim. both_on m e w q claim))
-claims-answered m violation e w (Ok p) u v h k =
-    ap (λ (x : Stated GroupAndDemand). with_input x (λ claim. both_on m e w p claim))
-    ((violation-one name.Violation e violation).no_other u v h k)
-claims-answered m violation e w (Err r) u v h k = refl
-
-prices-answered : (m : Mode) (prices violation : Delivery) (e : Instance) (w : Stated (List Bool)) (p q : Stated Prices)
-    (u v : Stated GroupAndDemand)
-    → IfOk w (λ marks. StatesPrices name.Prices e prices p) → IfOk w (λ marks. StatesPrices name.Prices e prices q)
-    → IfOk w (λ marks. IfOk p (λ x. StatesViolation name.Violation e violation u))
-    → IfOk w (λ marks. IfOk q (λ x. StatesViolation name.Violation e violation v))
-    → with_input w (λ marks. with_input p (λ x. with_input u (λ claim. both_on m e marks x claim)))
-    ≡ with_input w (λ marks. with_input q (λ x. with_input v (λ claim. both_on m e marks x claim)))
-prices-answered m prices violation e (Err r) p q u v h k i j = refl
-prices-answered m prices violation e (Ok w) p q u v h k i j =
-    let same : q ≡ p = (prices-one name.Prices e prices).no_other q p k h in
-    let given = subst (λ (s : Stated Prices). IfOk s (λ x. StatesViolation name.Violation e violation v)) same j in
-    claims-answered m violation e w p u v i given
-    ∙ ap (λ (s : Stated Prices). with_input s (λ x. with_input v (λ claim. both_on m e w x claim))) (sym same)
-
-both-state-same : (m : Mode) (election : Delivery) (outcome : Option Delivery) (prices violation : Delivery)
-    (e : Stated Instance) (o n : Option (Stated (List Bool))) (p q : Stated Prices) (u v : Stated GroupAndDemand)
-    → BothState election outcome prices violation e o p u → BothState election outcome prices violation e n q v
-    → both_reply m e o p u ≡ both_reply m e n q v
-both-state-same m election outcome prices violation (Err r) o n p q u v f g = refl
-both-state-same m election outcome prices violation (Ok e) o n p q u v f g =
-    let same : n ≡ o =
-    (file-one (StatesOutcome e) (outcome-one e) outcome).no_other n o g.files.outcome_states
-    f.files.outcome_states in
-    let states =
-    subst (λ (x : Option (Stated (List Bool))). IfOk (audited e x) (λ w. StatesPrices name.Prices e prices q)) same
-    g.files.certificate_states in
-    let claim =
-    subst
-    (λ (x : Option (Stated (List Bool))). IfOk (audited e x)
-    (λ w. IfOk q (λ y. StatesViolation name.Violation e violation v))) same g.claim in
-    prices-answered m prices violation e (audited e o) p q u v f.files.certificate_states states f.claim claim
-    ∙ ap (λ (x : Option (Stated (List Bool))). with_input (audited e x)
-    (λ w. with_input q (λ y. with_input v (λ c. both_on m e w y c)))) (sym same)
-
-both-same : (m : Mode) (election : Delivery) (outcome : Option Delivery) (prices violation : Delivery) (r s : Reply)
-    → AnswersBoth m election outcome prices violation r → AnswersBoth m election outcome prices violation s → r ≡ s
-both-same m election outcome prices violation r s a b =
-    let same : b.e ≡ a.e = (election-one election).no_other b.e a.e b.given.election_states a.given.election_states in
-    let own : BothState election outcome prices violation a.e a.o a.p a.v =
-    record { files = a.given; claim = a.violation_states } in
-    let other : BothState election outcome prices violation b.e b.o b.p b.v =
-    record { files = b.given; claim = b.violation_states } in
-    let given = subst (λ (e : Stated Instance). BothState election outcome prices violation e b.o b.p b.v) same other in
-    a.out ∙ both-state-same m election outcome prices violation a.e a.o b.o a.p b.p a.v b.v own given
-    ∙ ap (λ (e : Stated Instance). both_reply m e b.o b.p b.v) (sym same) ∙ sym b.out
+both-same : (violation : Delivery) (e : Instance) (prices : Delivery) (a b : Stated Both)
+    → StatesBoth violation e prices a → StatesBoth violation e prices b → a ≡ b
+unfolding beside-stated
+both-same violation e prices (Ok a) (Ok b) h k =
+    ap (beside-stated a.1) ((prices-one name.Prices e prices).no_other (Ok a.0) (Ok b.0) h.0 k.0)
+    ∙ ap (λ v. beside-stated v (Ok b.0)) ((violation-one name.Violation e violation).no_other a.1 b.1 h.1 k.1)
+both-same violation e prices (Ok a) (Err r) h k =
+    ap (beside-stated a.1) ((prices-one name.Prices e prices).no_other (Ok a.0) (Err r) h.0 k)
+both-same violation e prices (Err r) (Ok b) h k =
+    ap (beside-stated b.1) ((prices-one name.Prices e prices).no_other (Err r) (Ok b.0) h k.0)
+both-same violation e prices (Err r) (Err s) h k =
+    ap (beside-stated (Err r)) ((prices-one name.Prices e prices).no_other (Err r) (Err s) h k)
 
 pub both-one : (m : Mode) (election : Delivery) (outcome : Option Delivery) (prices violation : Delivery)
     → JustOne (AnswersBoth m election outcome prices violation)
 both-one m election outcome prices violation =
-    record {
-      one = both-some m election outcome prices violation;
-      no_other = both-same m election outcome prices violation;
-    }
+    audit-one (StatesBoth violation)
+    (λ e d. (
+    let p = (prices-one name.Prices e d).one in
+    record { one = both-stated violation e d p.0 p.1; no_other = both-same violation e d }
+    ))
+    (both_reply m) (BothPromises m) (both_promises m violation) election outcome prices

@@ -26,7 +26,7 @@ pub(crate) trait Audit {
     ghost Subject: { Type 0 };
 
     // A file states this for an election, or is refused.
-    ghost States: { Instance → Delivery → Stated Subject → Type 0 };
+    ghost States: { Self → Instance → Delivery → Stated Subject → Type 0 };
 
     // The reply on what is stated, for an election and an outcome.
     ghost reply: { Self → Instance → List Bool → Subject → Reply };
@@ -44,8 +44,8 @@ pub(crate) trait Audit {
         certificate: File<'_>,
     ) -> Result<Reply, Stop>
         requires { Fits outcome.now election.now }
-        ensures reply { IfSome (settled result) (AnswersCertificate States (reply self.now) election.now (outcome.now).marks (lent certificate.entry)) }
-        ensures promised { Promised (reply self.now) (Promises self.now) };
+        ensures reply { IfSome (settled result) (AnswersCertificate (States self.now) (reply self.now) election.now (outcome.now).marks (lent certificate.entry)) }
+        ensures promised { Promised (States self.now) (reply self.now) (Promises self.now) };
 }
 
 /// The reply on an election, an outcome file where one is given, and a certificate, all in memory.
@@ -56,7 +56,7 @@ pub(crate) fn audit_reply<A: Audit>(
     outcome: Option<&[u8]>,
     certificate: &[u8],
 ) -> Result<Reply, AllocError>
-    ensures { IfOk result (AnswersAudit A.States (A.reply audit.now) (A.Promises audit.now) (in_memory election.now) (option_map in_memory (option_copied outcome.entry)) (in_memory certificate.now)) }
+    ensures { IfOk result (AnswersAudit (A.States audit.now) (A.reply audit.now) (A.Promises audit.now) (in_memory election.now) (option_map in_memory (option_copied outcome.entry)) (in_memory certificate.now)) }
 {
     let work = audit_files(
         alloc,
@@ -77,7 +77,7 @@ pub(crate) fn run_audit<A: Audit, E: Source, O: Source, C: Source, W: Sink>(
     certificate: &mut C,
     out: &mut W,
 ) -> Result<Status, Fault>
-    ensures { WritesReply W.Sink (ReadsAudit A.States (A.reply audit.now) (A.Promises audit.now) (audit_readings E.Source election.old election.new O.Source outcome.old outcome.new C.Source certificate.old certificate.new)) result out.old out.new }
+    ensures { WritesReply W.Sink (ReadsAudit (A.States audit.now) (A.reply audit.now) (A.Promises audit.now) (audit_readings E.Source election.old election.new O.Source outcome.old outcome.new C.Source certificate.old certificate.new)) result out.old out.new }
 {
     let work = audit_readers(alloc, audit, election, outcome, certificate);
     let reply = settled(alloc, work)?;
@@ -92,7 +92,7 @@ fn audit_files<A: Audit>(
     outcome: Option<File<'_>>,
     certificate: File<'_>,
 ) -> Result<Reply, Stop>
-    ensures { IfSome (settled result) (AnswersAudit A.States (A.reply audit.now) (A.Promises audit.now) (lent election.entry) (option_map lent outcome.entry) (lent certificate.entry)) }
+    ensures { IfSome (settled result) (AnswersAudit (A.States audit.now) (A.reply audit.now) (A.Promises audit.now) (lent election.entry) (option_map lent outcome.entry) (lent certificate.entry)) }
 {
     let election = election_of(alloc, election)?;
     audit_for(alloc, audit, &election, outcome, certificate)
@@ -106,7 +106,7 @@ pub(crate) fn audit_for<A: Audit>(
     outcome: Option<File<'_>>,
     certificate: File<'_>,
 ) -> Result<Reply, Stop>
-    ensures { (file : Delivery) → StatesElection file (Ok election.now) → IfSome (settled result) (AnswersAudit A.States (A.reply audit.now) (A.Promises audit.now) file (option_map lent outcome.entry) (lent certificate.entry)) }
+    ensures { (file : Delivery) → StatesElection file (Ok election.now) → IfSome (settled result) (AnswersAudit (A.States audit.now) (A.reply audit.now) (A.Promises audit.now) file (option_map lent outcome.entry) (lent certificate.entry)) }
 {
     let outcome = outcome_of(alloc, outcome, election)?;
     audit.reply_on(alloc, election, &outcome, certificate)
@@ -120,7 +120,7 @@ fn audit_readers<A: Audit, E: Source, O: Source, C: Source>(
     outcome: &mut Option<O>,
     certificate: &mut C,
 ) -> Result<Reply, Stop>
-    ensures { IfSome (settled result) (ReadsAudit A.States (A.reply audit.now) (A.Promises audit.now) (audit_readings E.Source election.old election.new O.Source outcome.old outcome.new C.Source certificate.old certificate.new)) }
+    ensures { IfSome (settled result) (ReadsAudit (A.States audit.now) (A.reply audit.now) (A.Promises audit.now) (audit_readings E.Source election.old election.new O.Source outcome.old outcome.new C.Source certificate.old certificate.new)) }
 {
     let election = take_election(alloc, election)?;
     let outcome = take_outcome(alloc, outcome, &election)?;

@@ -1,6 +1,6 @@
 //! Auditing prices and a violation for one outcome.
-ghost use Rattle.std.specs.Prelude.{◌≡◌, IfOk, IfSome, option_copied, option_map};
-ghost use Rattle.pb_audit.specs.Both.{AnswersBoth, AnswersBothFiles, ReadsBoth};
+ghost use Rattle.std.specs.Prelude.{◌≡◌, IfOk, IfSome, option_copied};
+ghost use Rattle.pb_audit.specs.Both.{AnswersBothFiles, Both, BothPromises, ReadsBoth, StatesBoth};
 ghost use Rattle.pb_audit.specs.Both as spec;
 ghost use Rattle.pb_reply.specs.Inputs.{StatesViolation};
 ghost use Rattle.pb_reply.specs.Inside.Loaded.{lent};
@@ -12,13 +12,14 @@ ghost use Rattle.pb_reply.specs.Inside.Taking.{Gives, IfTaken, settled};
 ghost use Rattle.pb_reply.specs.Writing.{WritesReply};
 ghost use Rattle.pb_election.specs.Outcome.{Fits};
 
+use crate::auditing::{Audit, audit_reply};
 use crate::price_engine::{price_verdict, verdict_reply};
 use crate::violation_engine::group_reply;
 use pb_election::{Election, Outcome, Sink, Source};
 use pb_price::{Mode, Verdict};
 use pb_reply::{
-    Fault, File, InputName, Loaded, Reply, Status, Stop, election_of, optional_file, outcome_of,
-    settled, take_election, take_outcome, violation_of, write_reply,
+    Fault, File, InputName, Loaded, Reply, Status, Stop, settled, take_election, take_outcome,
+    violation_of, write_reply,
 };
 use std::alloc::{AllocError, Global};
 
@@ -40,15 +41,9 @@ pub fn both_reply(
     // outcome never stand beside a violation by counting.
     ensures { IfOk result (AnswersBothFiles mode election.now (option_copied outcome.entry) prices.now violation.now) }
 {
-    let work = both_work(
-        alloc,
-        File::in_memory(election),
-        optional_file(outcome),
-        File::in_memory(prices),
-        File::in_memory(violation),
-        mode,
-    );
-    settled(alloc, work)
+    let violation = File::in_memory(violation);
+    let audit = BothAudit { mode, violation };
+    audit_reply(alloc, &audit, election, outcome, prices)
 }
 
 /// Reads an election, an outcome file where one is given, a price certificate and a violation certificate, of at most
@@ -73,21 +68,34 @@ pub fn run_both<E: Source, O: Source, P: Source, V: Source, W: Sink>(
     write_reply(alloc, &reply, out)
 }
 
-/// The reply on what files state.
-fn both_work(
-    alloc: Global,
-    election: File<'_>,
-    outcome: Option<File<'_>>,
-    prices: File<'_>,
-    violation: File<'_>,
+/// The audit of prices beside a violation certificate, in a mode.
+#[derive(Drop)]
+struct BothAudit<'a> {
     mode: Mode,
-) -> Result<Reply, Stop>
-    ensures { IfSome (settled result) (AnswersBoth mode (lent election.entry) (option_map lent outcome.entry) (lent prices.entry) (lent violation.entry)) }
-{
-    let election = election_of(alloc, election)?;
-    let outcome = outcome_of(alloc, outcome, &election)?;
-    let verdict = price_verdict(alloc, &election, &outcome, InputName::Prices, prices, mode)?;
-    beside(alloc, &election, &outcome, verdict, violation, mode)
+    violation: File<'a>,
+}
+
+impl<'a> Audit for BothAudit<'a> {
+    ghost Subject = { Both };
+
+    ghost States = { λ audit. StatesBoth (lent audit.violation) };
+
+    ghost reply = { λ audit. spec.both_reply audit.mode };
+
+    ghost Promises = { λ audit. BothPromises audit.mode };
+
+    #[tactic(auto, using(crate::proofs::Boths::both_promises))]
+    fn reply_on(
+        &self,
+        alloc: Global,
+        election: &Election,
+        outcome: &Outcome,
+        certificate: File<'_>,
+    ) -> Result<Reply, Stop> {
+        let input = InputName::Prices;
+        let verdict = price_verdict(alloc, election, outcome, input, certificate, self.mode)?;
+        beside(alloc, election, outcome, verdict, self.violation, self.mode)
+    }
 }
 
 /// The reply on what readers deliver.

@@ -78,7 +78,7 @@ struct ExplainAudit {
 impl Audit for ExplainAudit {
     ghost Subject = { Certificate };
 
-    ghost States = { StatesCertificate };
+    ghost States = { λ _. StatesCertificate };
 
     ghost reply = { λ audit. explained_reply audit.mode };
 

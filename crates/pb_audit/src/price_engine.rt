@@ -70,7 +70,7 @@ pub(crate) struct PriceAudit {
 impl Audit for PriceAudit {
     ghost Subject = { Prices };
 
-    ghost States = { StatesPrices name.Certificate };
+    ghost States = { λ _. StatesPrices name.Certificate };
 
     ghost reply = { λ audit. price_reply audit.mode };
 

@@ -62,7 +62,7 @@ pub(crate) struct ViolationAudit;
 impl Audit for ViolationAudit {
     ghost Subject = { GroupAndDemand };
 
-    ghost States = { StatesViolation name.Certificate };
+    ghost States = { λ _. StatesViolation name.Certificate };
 
     ghost reply = { λ _. violation_reply };
 

@@ -25,31 +25,33 @@ pub record AnswersCertificate {A : Type 0} (states : Instance → Delivery → S
   pub given : states e certificate c
   pub out : r ≡ with_input c (λ a. reply e w a)
 
--- the status of each reply of a kind keeps what it promises
-abbrev pub Promised : {A : Type 0} → (Instance → List Bool → A → Reply) → (Status → Instance → List Bool → A → Type 0)
-    → Type 0
-Promised {A} reply promise = (e : Instance) (w : List Bool) (c : A) → promise (reply e w c).status e w c
+-- the status of each reply on what a certificate of a kind states keeps what it promises
+abbrev pub Promised : {A : Type 0} → (Instance → Delivery → Stated A → Type 0) → (Instance → List Bool → A → Reply)
+    → (Status → Instance → List Bool → A → Type 0) → Type 0
+Promised {A} states reply promise =
+    (e : Instance) (w : List Bool) (d : Delivery) (a : A) → states e d (Ok a) → promise (reply e w a).status e w a
 
--- what the prices of a certificate come to: the first condition that fails, if any
+-- what is made of the prices that a certificate states, as the input of this name
+abbrev pub MadeOfPrices : {A : Type 0} → (Prices → A) → InputName → Instance → Delivery → Stated A → Type 0
+MadeOfPrices make input e certificate (Ok a) = (p : Prices)
+    × (StatesPrices input e certificate (Ok p) × (a ≡ make p))
+MadeOfPrices make input e certificate (Err r) = StatesPrices input e certificate (Err r)
+
+-- what the prices come to: the first condition that fails, if any
 abbrev pub JudgesPrices : InputName → Mode → Instance → List Bool → Delivery → Stated Verdict → Type 0
-JudgesPrices input m e w certificate (Ok v) = (p : Prices)
-    × (StatesPrices input e certificate (Ok p) × (v ≡ verdict_of (First m e w p)))
-JudgesPrices input m e w certificate (Err r) = StatesPrices input e certificate (Err r)
+JudgesPrices input m e w certificate stated =
+    MadeOfPrices (λ p. verdict_of (First m e w p)) input e certificate stated
 
--- the canonical text of the prices of a certificate
+-- their canonical text
 abbrev pub TidiesPrices : Instance → Delivery → Stated Answer → Type 0
-TidiesPrices e certificate (Ok answer) = (p : Prices)
-    × (StatesPrices name.Certificate e certificate (Ok p) × (answer ≡ tidy_answer (Ok e) (Ok p)))
-TidiesPrices e certificate (Err r) = StatesPrices name.Certificate e certificate (Err r)
+TidiesPrices e certificate stated =
+    MadeOfPrices (λ p. tidy_answer (Ok e) (Ok p)) name.Certificate e certificate stated
 
--- the table of margins by the prices of a certificate
+-- the table of margins by them
 abbrev pub TablesMargins : Instance → List Bool → Delivery → Stated Answer → Type 0
-TablesMargins e w certificate (Ok answer) = (p : Prices)
-    × (StatesPrices name.Certificate e certificate (Ok p) × (answer ≡ answer_of (margins_reply e w p)))
-TablesMargins e w certificate (Err r) = StatesPrices name.Certificate e certificate (Err r)
+TablesMargins e w certificate stated =
+    MadeOfPrices (λ p. answer_of (margins_reply e w p)) name.Certificate e certificate stated
 
--- what each condition comes to by the prices of a certificate
+-- what each condition comes to by them
 abbrev pub FindsPrices : Instance → List Bool → Delivery → Stated Findings → Type 0
-FindsPrices e w certificate (Ok f) = (p : Prices)
-    × (StatesPrices name.Certificate e certificate (Ok p) × (f ≡ findings e w p))
-FindsPrices e w certificate (Err r) = StatesPrices name.Certificate e certificate (Err r)
+FindsPrices e w certificate stated = MadeOfPrices (λ p. findings e w p) name.Certificate e certificate stated

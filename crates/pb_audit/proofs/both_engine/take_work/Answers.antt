@@ -8,14 +8,14 @@ use Rattle.pb_reply.specs.Readings.{reading}
 use Rattle.pb_audit.specs.Inside.Certificates.{AnswersCertificate}
 use Rattle.pb_reply.specs.Inside.Taking.{settled}
 use Rattle.pb_reply.specs.declared.input.InputName.TheVariants.{Violation}
-use Rattle.pb_audit.proofs.Boths.{readers_settled, readers_stopped_at_election, readers_stopped_at_outcome, readers_stopped_at_prices}
+use Rattle.pb_audit.proofs.Boths.{both_read_settled, both_stopped_at_election, both_stopped_at_outcome, both_stopped_at_prices}
 use Rattle.pb_audit.proofs.both_engine.take_work.Goals as goal
 
 pub returns-in_err-election : goal.returns-in_err-election
 returns-in_err-election g c =
     let is : c.from_residual.result ≡ Err c.in_err-election.field-0.0 = search rules in
     rw is (
-    readers_stopped_at_election c.args.mode
+    both_stopped_at_election c.args.mode
     (audit_readings g.E.Source c.args.election.now c.take_election.new.source g.O.Source c.args.outcome.now
     c.args.outcome.now g.P.Source c.args.prices.now c.args.prices.now)
     (reading g.V.Source c.args.violation.now c.args.violation.now)
@@ -26,7 +26,7 @@ pub returns-in_err-outcome : goal.returns-in_err-outcome
 returns-in_err-outcome g c =
     let is : c.from_residual-in_err-outcome.result ≡ Err c.in_err-outcome.field-0.0 = search rules in
     rw is (
-    readers_stopped_at_outcome c.args.mode
+    both_stopped_at_outcome c.args.mode
     (audit_readings g.E.Source c.args.election.now c.take_election.new.source g.O.Source c.args.outcome.now
     c.take_outcome.new.source g.P.Source c.args.prices.now c.args.prices.now)
     (reading g.V.Source c.args.violation.now c.args.violation.now)
@@ -38,7 +38,7 @@ pub returns-in_err-verdict : goal.returns-in_err-verdict
 returns-in_err-verdict g c =
     let is : c.from_residual-in_err-verdict.result ≡ Err c.in_err-verdict.field-0.0 = search rules in
     rw is (
-    readers_stopped_at_prices c.args.mode
+    both_stopped_at_prices c.args.mode
     (audit_readings g.E.Source c.args.election.now c.take_election.new.source g.O.Source c.args.outcome.now
     c.take_outcome.new.source g.P.Source c.args.prices.now c.take_verdict.new.prices)
     (reading g.V.Source c.args.violation.now c.args.violation.now)
@@ -48,7 +48,7 @@ returns-in_err-verdict g c =
 
 pub returns : goal.returns
 returns g c =
-    readers_settled c.args.mode _ _ _ _ c.in_ok-verdict.verdict _ _
+    both_read_settled c.args.mode _ _ _ _ c.in_ok-verdict.verdict _ _
     c.in_ok-election.ensures c.in_ok-outcome.ensures.taken c.in_ok-verdict.ensures.verdict c.in_ok-violation.ensures
     (subst
     (λ (d : Delivery). IfSome (settled c.beside.result)
