@@ -145,8 +145,8 @@ abbrev both_read : (m : Mode) (inputs : AuditReadings) (violation : Reading) (e 
 unfolding readers_settled
 both_read m inputs violation e w of_prices of_violation r given taken delivered answered next = record {
   of_violation = of_violation;
-  reads = readers_settled (StatesBoth of_violation) (both_reply m) (BothPromises m) (both_promises m of_violation) inputs
-      e w of_prices (Some r) given taken delivered answered;
+  reads = readers_settled (StatesBoth of_violation) (both_reply m) (BothPromises m) (both_promises m of_violation)
+      inputs e w of_prices (Some r) given taken delivered answered;
   violation_delivered =
       subst
       (λ (o : Stated (List Bool)). InTurn o

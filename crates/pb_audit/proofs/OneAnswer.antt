@@ -177,8 +177,8 @@ pub margins-one : (election : Delivery) (outcome : Option Delivery) (certificate
     → JustOne (AnswersMargins election outcome certificate)
 margins-one election outcome certificate =
     tells-one (AnswersAudit (StatesPrices name.Certificate) margins_reply AlwaysYes election outcome certificate)
-    (audit-one (StatesPrices name.Certificate) (prices-one name.Certificate) margins_reply AlwaysYes (λ e w d p given. refl)
-    election outcome certificate)
+    (audit-one (StatesPrices name.Certificate) (prices-one name.Certificate) margins_reply AlwaysYes
+    (λ e w d p given. refl) election outcome certificate)
 
 -- Both certificates.
 

@@ -54,8 +54,8 @@ pub record BothPromise (m : Mode) (status : Status) (e : Instance) (w : List Boo
   pub never_both : IsTrue m.stable → IsTrue m.cover → claim.0 ≡ ByCount
       → Supports m e w p → Violates (worth_by claim.0 e) e w claim.1 claim.2 → ⊥
 
--- What the violation certificate states counts where the prices are accepted, so both certificates state the prices with
--- it, or why the prices are refused.
+-- What the violation certificate states counts where the prices are accepted. So both certificates state the prices
+-- with it, or why the prices are refused.
 abbrev pub Both : Type 0
 Both = Prices × Stated GroupAndDemand
 

@@ -31,7 +31,8 @@ returns-in_err-outcome g c =
 
 pub returns : goal.returns
 returns g c =
-    readers_settled (g.A.Audit.States c.args.audit.now) (g.A.Audit.reply c.args.audit.now) (g.A.Audit.Promises c.args.audit.now)
+    readers_settled (g.A.Audit.States c.args.audit.now) (g.A.Audit.reply c.args.audit.now)
+    (g.A.Audit.Promises c.args.audit.now)
     c.reply_on.ensures.promised _ _ _ _ _
     c.in_ok-election.ensures c.in_ok-outcome.ensures.taken c.in_ok-certificate.ensures
     (subst
