@@ -207,6 +207,8 @@ def fixed_cases():
         for new in news:
             files = dict(good, **{name: good[name].replace(old, new)})
             yield Case(["prices", "town.pb", "claim.csv"], files, name=f"{new[:40]} for {old}")
+    open_at_vote = ELECTION + b'v2;"a\nv3;a\n'
+    yield Case(["read", "town.pb"], {"town.pb": open_at_vote}, name="a quote that nothing closes")
     yield known(["read", "full.pb"], {"full.pb": Sparse(2**28)}, "refused election 2 NoMeta record 1")
     for count in (20_000, 20_001):
         data = many_projects(count) + b"VOTES\nvote\n"
