@@ -1,4 +1,5 @@
--- The first voter over its budget, and the first payment for a project that is not approved, as they are kept.
+-- The first voter over its budget, the first payment for a project that is not approved, and the first number that
+-- passes a test, as they are kept.
 use Rattle.std.proofs.Common.{◌≡◌, ℕ, ◌+◌, ◌-◌, ◌<◌, ◌≤◌, Bool, true, false, cond, List, [], ◌∷◌, ◌++◌, refl, sym, ◌∙◌, ap, inl, inr, arith}
 use Rattle.std.specs.Prelude.{Option, Some, None, ◌||◌, filter, nat_lt, slice_get}
 use Rattle.std.specs.List.{range_with_len}

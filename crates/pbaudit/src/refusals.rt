@@ -92,7 +92,8 @@ fn input_of<'a>(task: &'a Task, input: &str) -> Option<(Kind, Option<&'a str>)> 
     }
 }
 
-/// The path of a task's election; none for standard input.
+/// The election of a task, by its path, or by none where it is on standard input. The task on a folder has no such
+/// input.
 fn election_of(task: &Task) -> Option<Option<&str>> {
     match task {
         Task::Read(election) => Some(election.as_deref()),
@@ -106,7 +107,7 @@ fn election_of(task: &Task) -> Option<Option<&str>> {
     }
 }
 
-/// The path of the file from which a task takes the outcome.
+/// The path of the file from which a task takes the outcome, where one is given.
 fn outcome_of(task: &Task) -> Option<&str> {
     match task {
         Task::Prices { outcome, .. }
