@@ -1,5 +1,6 @@
 #!/usr/bin/env python3
-"""Finds definitions and lemmas of proofs/ and specs/ that nothing uses, and imports that their file doesn't use.
+"""Finds definitions and lemmas of proofs/ and specs/ that nothing uses, imports that their file doesn't use, and lemmas
+that state the same.
 
     tests/lemmas.py
 
@@ -8,11 +9,16 @@ found. Used is what a source names in its clauses and tactics; what the prover f
 and the invariants; what is there to be computed, in Examples.antt; and what these use in turn. The imports of a source
 that are looked at are those of `ghost use`.
 
+Two lemmas state the same where they differ in the names and types of their variables alone, so that one is the other or
+a case of it, or both are cases of a third.
+
 What it can't see: a variable counts as a use of what its file declares or imports under the same name. Fields,
 constructors and what a `where` declares may be unused, and so may one of two imports of the same name in a source. An
-import that is needed, though nothing names it, would be found.
+import that is needed, though nothing names it, would be found. What a `where` declares may state what a lemma does, and
+so may a lemma that has its premises in another order.
 
-The last line is 'N passed, M failed': a definition or an import that nothing uses has failed.
+The last line is 'N passed, M failed': a definition or an import that nothing uses, and a lemma that states what one
+before it does, has failed.
 """
 import pathlib
 import re
@@ -33,6 +39,10 @@ SECTION = re.compile(r"(?m)^(module _[^\n]*(?:\n    [^\n]*)*? where\n)((?:(?:  [
 BOUND = re.compile(
     rf"[({{]\s*(?:{NAME}\s+)+:\s|[{{;]\s*{NAME}\s+=\s|\b(?:let|pub) {NAME} [:=]\s|λ (?:{NAME} )*{NAME}\. "
 )
+# variables, with their types
+BINDER = re.compile(r"[({]([^(){}:]+) : [^(){}]*[)}]")
+LAMBDA = re.compile(r"λ ([^.()]+)\. ")
+TOKEN = re.compile(r"[^\s(){}\[\],;]+|[(){}\[\],;]")
 TEXTS_AND_COMMENTS = {
     ".antt": re.compile(r'(?m)"(?:\\.|[^"\\\n])*"|--.*$'),
     ".rt": re.compile(r"""(?m)"(?:\\(?s:.)|[^"\\])*"|'(?:\\.|[^'\\])'|//.*$"""),
@@ -62,7 +72,10 @@ class File:
 
     def __init__(self, path):
         self.path = path.relative_to(ROOT)
-        text = TEXTS_AND_COMMENTS[path.suffix].sub(lambda m: '""' if m[0][0] == '"' else "", path.read_text())
+        # a text becomes one word, which is no name
+        text = TEXTS_AND_COMMENTS[path.suffix].sub(
+            lambda m: re.sub(r"[\s(){}\[\],;.]", "_", m[0]) if m[0][0] == '"' else "", path.read_text()
+        )
         crate = f"Rattle.{self.path.parts[1]}"
         self.module = ".".join([crate, *self.path.with_suffix("").parts[2:]]).removesuffix(".Lib")
         # what an imported name means; that of a module ends with a dot
@@ -141,6 +154,40 @@ def uses_of(file, name, files):
     return uses.union(*(meant_by(file.imports[x], files) for x in imports)), imports
 
 
+def statement_of(file, name):
+    """What a lemma states, without the types of its variables, which are called by numbers; None for a definition."""
+    signature = re.match(r"(?:pub )?(\S+) ([:({].*\n(?: .*\n)*)", file.blocks[name])
+    text = signature[2] if signature and signature[1] == name else ""
+    groups = [*BINDER.findall(text), *LAMBDA.findall(text)]
+    if not BINDER.search(text) or re.search(r"Type\s+0\s*$", text):
+        return None
+    variables = {word for group in groups for word in group.split()}
+    numbers, said = {}, []
+    for token in TOKEN.findall(BINDER.sub(" ", text.replace(":", " : ", 1))):
+        head, dot, rest = token.partition(".")
+        if head in variables:
+            head = numbers.setdefault(head, str(len(numbers)))
+        elif head in file.blocks:
+            head = f"{file.module}.{head}"
+        else:
+            head = file.imports.get(head, head)
+        said.append(head + dot + rest)
+    return re.sub(r"^[: →]*|(?<=→)[ →]+", "", " ".join(said))
+
+
+def repeated(files):
+    """The lemmas that state what one before them does."""
+    stated, found = {}, []
+    for file in files.values():
+        for name in filter(None, file.blocks):
+            statement = statement_of(file, name)
+            if statement:
+                first = stated.setdefault(statement, (file, name))
+                if first != (file, name):
+                    found.append(f"{file.path}: {name} states what {first[1]} of {first[0].path} does")
+    return found
+
+
 def main():
     files = {file.module: file for pattern in FILES for file in map(File, sorted(ROOT.glob(pattern)))}
     declared = [(file, name) for file in files.values() for name in file.blocks]
@@ -155,6 +202,7 @@ def main():
     for file in files.values():
         idle = set(file.imports).difference(*(uses[file, name][1] for name in file.blocks))
         failed += [f"{file.path}: it imports {x.removesuffix('.')}, and doesn't use it" for x in sorted(idle)]
+    failed += repeated(files)
     for line in failed:
         print(line)
     tried = sum(1 for _, name in declared if name) + sum(len(file.imports) for file in files.values())

@@ -1,7 +1,8 @@
 -- The projects that verdicts name are those of the election.
-use Rattle.std.proofs.Common.{◌≡◌, ℕ, zero, suc, ◌+◌, ◌<◌, ◌≤◌, Bool, List, [], ◌∷◌, ◌++◌, length, sym, subst, cond, true, false, if◌then◌else◌, arith}
-use Rattle.std.specs.Prelude.{◌==◌, nat_le, nat_lt, ◌*◌, IfSome, Option, Some, None, filter, flat_map, map, slice_get}
-use Rattle.std.specs.List.{AllByRecursion, range_with_len}
+use Rattle.std.proofs.Common.{◌≡◌, ℕ, Bool, List, [], ◌∷◌, ◌++◌, length, sym, subst, if◌then◌else◌, arith}
+use Rattle.std.specs.Prelude.{◌==◌, nat_le, nat_lt, ◌*◌, IfSome, Option, Some, None, filter, map}
+use Rattle.std.specs.List.{AllByRecursion}
+use Rattle.pb_records.proofs.Each.{all-append, all-every, all-filter, all-first, all-flat_map, all-if, all-map, all-range}
 use Rattle.pb_election.specs.Instance.{Instance, IsProject, IsSet, all_projects, all_voters, cost_of_all, projects, voters}
 use Rattle.pb_certificate.specs.Prices.{Prices}
 use Rattle.pb_cohesion.specs.Amounts.{beta, budget_limit}
@@ -11,6 +12,7 @@ use Rattle.pb_cohesion.specs.Outcome.{total}
 use Rattle.pb_cohesion.specs.declared.ViolationFailure.{ViolationFailure}
 use Rattle.pb_cohesion.specs.declared.ViolationFailure.TheVariants as violation_failure
 use Rattle.pb_cohesion.specs.declared.ViolationVerdict.{ViolationVerdict}
+use Rattle.pb_cohesion.proofs.Sets.{set-all}
 use Rattle.pb_price.specs.First.{First, failures_of, failures_of_budgets, failures_of_outcome, failures_of_payments, failures_of_supporters, verdict_of}
 use Rattle.pb_price.specs.declared.Failure.{Failure}
 use Rattle.pb_price.specs.declared.Failure.TheVariants as failure
@@ -18,57 +20,6 @@ use Rattle.pb_price.specs.declared.Mode.{Mode}
 use Rattle.pb_price.specs.declared.Verdict.{Verdict}
 use Rattle.pb_reply.specs.Lines.{price_failed, violation_failed}
 use Rattle.pb_reply.specs.Named.{NamesProject, PricesNameProject, ViolationNamesProject}
-
--- what holds of all elements, through the lists that culprits are made of
-pub all-append : {X : Type 0} (P : X → Type 0) (xs ys : List X) → AllByRecursion P xs → AllByRecursion P ys
-    → AllByRecursion P (xs ++ ys)
-all-append P [] ys p q = q
-all-append P (x ∷ xs) ys p q = (p.0, all-append P xs ys p.1 q)
-
-pub all-map : {X Y : Type 0} (P : Y → Type 0) (f : X → Y) (xs : List X) → AllByRecursion (λ x. P (f x)) xs
-    → AllByRecursion P (map f xs)
-all-map P f [] p = tt
-all-map P f (x ∷ xs) p = (p.0, all-map P f xs p.1)
-
-pub all-filter : (P : ℕ → Type 0) (test : ℕ → Bool) (xs : List ℕ) → AllByRecursion P xs
-    → AllByRecursion P (filter test xs)
-all-filter P test [] p = tt
-all-filter P test (x ∷ xs) p = go (test x) p.0 (all-filter P test xs p.1)
-  where
-    go : (b : Bool) → P x → AllByRecursion P (filter test xs)
-        → AllByRecursion P (cond b (x ∷ filter test xs) (filter test xs))
-    go true here rest = (here, rest)
-    go false here rest = rest
-
-pub all-if : {X : Type 0} (P : X → Type 0) (b : Bool) (xs ys : List X) → AllByRecursion P xs → AllByRecursion P ys
-    → AllByRecursion P (cond b xs ys)
-all-if P true xs ys p q = p
-all-if P false xs ys p q = q
-
-pub all-flat_map : {X Y : Type 0} (P : Y → Type 0) (f : X → List Y) (xs : List X) → ((x : X) → AllByRecursion P (f x))
-    → AllByRecursion P (flat_map f xs)
-all-flat_map P f [] each = tt
-all-flat_map P f (x ∷ xs) each = all-append P (f x) (flat_map f xs) (each x) (all-flat_map P f xs each)
-
-pub all-true : {X : Type 0} (P : X → Type 0) (xs : List X) → ((x : X) → P x) → AllByRecursion P xs
-all-true P [] each = tt
-all-true P (x ∷ xs) each = (each x, all-true P xs each)
-
-pub all-range : (P : ℕ → Type 0) (a n : ℕ) → ((j : ℕ) → a ≤ j → j < a + n → P j) → AllByRecursion P (range_with_len a n)
-all-range P a zero each = tt
-all-range P a (suc n) each =
-    (each a (omega arith) (omega arith), all-range P (a + 1) n (λ j low high. each j (omega arith) (omega arith)))
-
-pub all-set : (P : ℕ → Type 0) (low high : ℕ) (t : List ℕ) → IsSet low high t → ((j : ℕ) → low ≤ j → j ≤ high → P j)
-    → AllByRecursion P t
-all-set P low high [] h each = tt
-all-set P low high (x ∷ xs) h each =
-    let low_is : low ≤ x = h.0 in
-    (each x h.0 h.1, all-set P (x + 1) high xs h.2 (λ j above within. each j (omega arith) within))
-
-pub all-first : {X : Type 0} (P : X → Type 0) (xs : List X) → AllByRecursion P xs → IfSome (slice_get xs 0) P
-all-first P [] p = tt
-all-first P (x ∷ xs) p = p.0
 
 -- projects
 pub projects-are : (e : Instance) → AllByRecursion (IsProject e) (all_projects e)
@@ -101,8 +52,9 @@ budget-names m e p =
 pub unapproved-name : (e : Instance) (p : Prices) → AllByRecursion (λ (q : ℕ × ℕ). IsProject e q.1) (culprits_of_C1 e p)
 unapproved-name e p =
     all-flat_map (λ (q : ℕ × ℕ). IsProject e q.1) _ (all_voters e)
+    (all-every _ (all_voters e)
     (λ i. all-map (λ (q : ℕ × ℕ). IsProject e q.1) (λ c. (i, c)) _
-    (all-filter (IsProject e) _ (all_projects e) (projects-are e)))
+    (all-filter (IsProject e) _ (all_projects e) (projects-are e))))
 
 pub payment-names : (e : Instance) (w : List Bool) (p : Prices) → AllByRecursion (Names e) (failures_of_payments e w p)
 payment-names e w p =
@@ -111,7 +63,7 @@ payment-names e w p =
     (all-append (Names e) _ _
     (all-map (Names e) (λ (q : ℕ × ℕ). failure.C1 q.0 q.1) (culprits_of_C1 e p) (unapproved-name e p))
     (all-map (Names e) failure.C2 (culprits_of_C2 e p)
-    (all-true (λ i. Names e (failure.C2 i)) (culprits_of_C2 e p) (λ i. tt))))
+    (all-every (λ i. Names e (failure.C2 i)) (culprits_of_C2 e p) (λ i. tt))))
     (all-map (Names e) failure.C3 (culprits_of_C3 e w p) (among-projects e _ _)))
     (all-map (Names e) failure.C4 (culprits_of_C4 e w p) (among-projects e _ _))
 
@@ -151,10 +103,11 @@ pub missing-name : (e : Instance) (s t : List ℕ) → IsSet 1 (projects e) t
     → AllByRecursion (λ (q : ℕ × ℕ). IsProject e q.1) (culprits_of_V2 e s t)
 missing-name e s t set =
     all-flat_map (λ (q : ℕ × ℕ). IsProject e q.1) _ s
-    (λ i. all-map (λ (q : ℕ × ℕ). IsProject e q.1) (λ j. (i, j)) _ (all-filter (IsProject e) _ t demanded))
+    (all-every _ s
+    (λ i. all-map (λ (q : ℕ × ℕ). IsProject e q.1) (λ j. (i, j)) _ (all-filter (IsProject e) _ t demanded)))
   where
     demanded : AllByRecursion (IsProject e) t
-    demanded = all-set (IsProject e) 1 (projects e) t set (λ j low high. (low, high))
+    demanded = set-all (IsProject e) 1 (projects e) t set (λ j low high. (low, high))
 
 pub violation-names : (worth : ℕ → ℕ) (e : Instance) (w : List Bool) (s t : List ℕ) → IsSet 1 (projects e) t
     → AllByRecursion (NamesDemanded e) (violation_failures_of worth e w s t)
@@ -168,7 +121,7 @@ violation-names worth e w s t set =
     (all-if (NamesDemanded e) (nat_lt (length s * e.limit) (voters e * cost_of_all e t)) (violation_failure.V3 ∷ []) []
     (tt, tt) tt))
     (all-map (NamesDemanded e) violation_failure.V4 (culprits_of_V4 worth e w s t)
-    (all-true (λ i. NamesDemanded e (violation_failure.V4 i)) (culprits_of_V4 worth e w s t) (λ i. tt)))
+    (all-every (λ i. NamesDemanded e (violation_failure.V4 i)) (culprits_of_V4 worth e w s t) (λ i. tt)))
 
 first-demanded : (e : Instance) (o : Option ViolationFailure) → IfSome o (NamesDemanded e)
     → ViolationNamesProject e (violation_verdict_of o)

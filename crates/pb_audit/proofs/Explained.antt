@@ -5,6 +5,7 @@ use Rattle.std.specs.List.{AllByRecursion, list_all}
 use Rattle.std.specs.Option.{option_or}
 use Rattle.pb_records.specs.Loading.{Delivery}
 use Rattle.pb_records.specs.Loading as delivery
+use Rattle.pb_records.proofs.Each.{all-filter, all-first}
 use Rattle.pb_certificate.specs.Faults.{certificate_records}
 use Rattle.pb_certificate.proofs.Texts.{states-prices}
 use Rattle.pb_election.specs.Instance.{Instance, IsProject, IsSet, all_projects, projects, supporters}
@@ -29,7 +30,7 @@ use Rattle.pb_reply.specs.Inputs.{Stated, StatesPrices, StatesViolation}
 use Rattle.pb_reply.specs.Named.{PricesNameProject}
 use Rattle.pb_audit.specs.Inside.Certificates.{AnswersCertificate, Promised}
 use Rattle.pb_reply.specs.declared.input.InputName.TheVariants.{Certificate}
-use Rattle.pb_audit.proofs.Culprits.{all-filter, all-first, among-projects, missing-name, prices_name_projects, projects-are, unapproved-name}
+use Rattle.pb_audit.proofs.Culprits.{among-projects, missing-name, prices_name_projects, projects-are, unapproved-name}
 use Rattle.pb_audit.proofs.Promises.{prices_promise, violation_promises}
 
 pub explained_promise : (m : Mode) → Promised StatesCertificate (explained_reply m) (ExplainedPromise m)

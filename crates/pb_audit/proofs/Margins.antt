@@ -1,10 +1,12 @@
 -- The table of margins, as far as it has been written, and the answers with it.
+use Rattle.std.proofs.lemmas.List.FromFn.{length-map-range_with_len}
+use Rattle.pb_records.proofs.Lists.{range-push}
+use Rattle.pb_certificate.proofs.Written.{lines-push}
 use mir.Syntax.{w128}
 use Rattle.std.proofs.Common.{◌≡◌, ◌∙◌, ◌<◌, ◌≤◌, ◌+◌, ◌-◌, ◌*◌, ◌^◌, ℕ, zero, suc, List, [], ◌∷◌, ◌++◌, length, map, refl, sym, ap, arith, SFits, append_assoc, append-nil, get_or, Bool, true, false, subst, Option}
 use Rattle.std.specs.Prelude.{IfSome, Result, Ok, Err, Some, codes, decimal, ℤ, pos, negsuc}
 use Rattle.std.specs.Fmt.{signed_decimal}
 use Rattle.std.specs.List.{range_with_len}
-use Rattle.std.proofs.lemmas.Grind.{flat_map-append}
 use Rattle.std.proofs.lemmas.List.{map-append}
 use Rattle.csv.specs.Writing.{default_writer, row_text}
 use Rattle.pb_election.specs.Instance.{Instance, id_of, projects}
@@ -14,7 +16,6 @@ use Rattle.pb_records.specs.Records.{Field, Rec, Text}
 use Rattle.pb_certificate.specs.Canon.{line, lines, line_end}
 use Rattle.pb_certificate.specs.Prices.{Prices}
 use Rattle.pb_certificate.proofs.Lines.{IsPlain, decimal-plain, id-plain, row-line}
-use Rattle.pb_certificate.proofs.Written.{range-push}
 use Rattle.pb_price.specs.Margins.{AreMargins, margins_of_project}
 use Rattle.pb_price.specs.declared.Margins.{Margins}
 use Rattle.pb_price.specs.declared.ProjectMargins.{ProjectMargins}
@@ -95,16 +96,9 @@ at_place f a (suc n) (suc k) d h =
     let here : a + 1 + k ≡ a + suc k = omega arith in
     at_place f (a + 1) n k d (omega arith) ∙ ap f here
 
-lines_push : (rows : List Rec) (r : Rec) → lines (rows ++ (r ∷ [])) ≡ lines rows ++ line r
-lines_push rows r = flat_map-append line rows (r ∷ []) ∙ ap (λ (x : Text). lines rows ++ x) (append-nil (line r))
-
 pub as_many_rows : (e : Instance) (w : List Bool) (p : Prices) (m : Margins) → AreMargins e w p m
     → length m.projects.items ≡ projects e
-as_many_rows e w p m are = ap length are.projects ∙ as_many (margins_of_project e w p) 1 (projects e)
-  where
-    as_many : {A : Type 0} (f : ℕ → A) (a n : ℕ) → length (map f (range_with_len a n)) ≡ n
-    as_many f a zero = refl
-    as_many f a (suc n) = ap suc (as_many f (a + 1) n)
+as_many_rows e w p m are = ap length are.projects ∙ length-map-range_with_len (margins_of_project e w p) 1 (projects e)
 
 -- one more row, that of project c
 pub row_pushed : (e : Instance) (w : List Bool) (p : Prices) (m : Margins) (c : ℕ) (d : ProjectMargins)
@@ -129,7 +123,7 @@ row_pushed e w p m c d before after are low high b a =
     ap (margin_rows e w p) range ∙ map-append row (range_with_len 1 (c - 1)) (c ∷ []) in
     a ∙ (ap (λ (x : Text). x ++ line (row_of (id_of e c) (get_or m.projects.items (c - 1) d))) b
     ∙ (ap (λ (f : ProjectMargins). lines (head ++ others) ++ line (row_of (id_of e c) f)) figures
-    ∙ (sym (lines_push (head ++ others) (row c))
+    ∙ (sym (lines-push (head ++ others) (row c))
     ∙ ap lines (append_assoc head others (row c ∷ []) ∙ ap (λ (x : List Rec). head ++ x) (sym rows)))))
 
 -- all rows

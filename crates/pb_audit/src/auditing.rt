@@ -10,7 +10,7 @@ ghost use Rattle.pb_audit.specs.Readers.{ReadsAudit, audit_readings};
 ghost use Rattle.pb_reply.specs.Writing.{WritesReply};
 ghost use Rattle.pb_reply.specs.declared.status.Status.{Status};
 ghost use Rattle.pb_election.specs.Instance.{Instance};
-ghost use Rattle.pb_election.specs.Outcome.{Fits};
+ghost use Rattle.pb_election.specs.Outcome.{OutcomeFits};
 ghost use Rattle.pb_records.specs.Loading.{Delivery};
 
 use pb_election::{Election, Outcome, Sink, Source};
@@ -43,7 +43,7 @@ pub(crate) trait Audit {
         outcome: &Outcome,
         certificate: File<'_>,
     ) -> Result<Reply, Stop>
-        requires { Fits outcome.now election.now }
+        requires { OutcomeFits outcome.now election.now }
         ensures reply { IfSome (settled result) (AnswersCertificate (States self.now) (reply self.now) election.now (outcome.now).marks (lent certificate.entry)) }
         ensures promised { Promised (States self.now) (reply self.now) (Promises self.now) };
 }

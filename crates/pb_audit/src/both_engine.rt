@@ -10,7 +10,7 @@ ghost use Rattle.pb_reply.specs.Readings.{reading};
 ghost use Rattle.pb_audit.specs.Inside.Certificates.{AnswersCertificate, JudgesPrices};
 ghost use Rattle.pb_reply.specs.Inside.Taking.{Gives, IfTaken, settled};
 ghost use Rattle.pb_reply.specs.Writing.{WritesReply};
-ghost use Rattle.pb_election.specs.Outcome.{Fits};
+ghost use Rattle.pb_election.specs.Outcome.{OutcomeFits};
 
 use crate::auditing::{Audit, audit_reply};
 use crate::price_engine::{price_verdict, verdict_reply};
@@ -124,7 +124,7 @@ fn take_verdict<P: Source>(
     prices: &mut P,
     mode: Mode,
 ) -> Result<Verdict, Stop>
-    requires { Fits outcome.now election.now }
+    requires { OutcomeFits outcome.now election.now }
     ensures verdict { IfTaken result (Gives (JudgesPrices InputName.Prices mode election.now (outcome.now).marks) (reading P.Source prices.old prices.new)) }
     ensures projects { IfOk result (PricesNameProject election.now) }
 {
@@ -148,7 +148,7 @@ fn beside(
     violation: File<'_>,
     mode: Mode,
 ) -> Result<Reply, Stop>
-    requires outcome { Fits outcome.now election.now }
+    requires outcome { OutcomeFits outcome.now election.now }
     requires projects { PricesNameProject election.now verdict }
     ensures { IfSome (settled result) (AnswersCertificate (StatesViolation InputName.Violation) (spec.beside mode verdict) election.now (outcome.now).marks (lent violation.entry)) }
 {

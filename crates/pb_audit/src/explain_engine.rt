@@ -9,9 +9,9 @@ ghost use Rattle.pb_audit.specs.Readers.{audit_readings};
 ghost use Rattle.pb_audit.specs.Inside.Certificates.{AnswersCertificate, FindsPrices};
 ghost use Rattle.pb_reply.specs.Inside.Taking.{IfTaken, settled};
 ghost use Rattle.pb_reply.specs.Writing.{WritesReply};
-ghost use Rattle.pb_certificate.specs.Claim as claims;
+ghost use Rattle.pb_certificate.specs.Claim.{ClaimFits};
 ghost use Rattle.pb_election.specs.Instance.{IsSet, projects};
-ghost use Rattle.pb_election.specs.Outcome.{Fits};
+ghost use Rattle.pb_election.specs.Outcome.{OutcomeFits};
 ghost use Rattle.pb_explain.specs.PriceTable.{NameProjects, price_table};
 ghost use Rattle.pb_price.specs.First.{verdict_of};
 ghost use Rattle.pb_price.specs.Told.{first_told};
@@ -118,7 +118,7 @@ fn prices_on(
     certificate: File<'_>,
     mode: Mode,
 ) -> Result<Reply, Stop>
-    requires { Fits outcome.now election.now }
+    requires { OutcomeFits outcome.now election.now }
     ensures { IfSome (settled result) (AnswersCertificate (StatesPrices InputName.Certificate) (explained_prices mode) election.now (outcome.now).marks (lent certificate.entry)) }
 {
     let findings = price_findings(alloc, election, outcome, certificate)?;
@@ -150,7 +150,7 @@ fn price_findings(
     outcome: &Outcome,
     certificate: File<'_>,
 ) -> Result<Findings, Stop>
-    requires { Fits outcome.now election.now }
+    requires { OutcomeFits outcome.now election.now }
     ensures { IfTaken result (FindsPrices election.now (outcome.now).marks (lent certificate.entry)) }
 {
     let bytes = bytes_of(InputName::Certificate, certificate)?;
@@ -167,7 +167,7 @@ fn violation_on(
     outcome: &Outcome,
     certificate: File<'_>,
 ) -> Result<Reply, Stop>
-    requires { Fits outcome.now election.now }
+    requires { OutcomeFits outcome.now election.now }
     ensures { IfSome (settled result) (AnswersCertificate (StatesViolation InputName.Certificate) explained_violation election.now (outcome.now).marks (lent certificate.entry)) }
 {
     let violation = violation_of(alloc, InputName::Certificate, certificate, election)?;
@@ -181,8 +181,8 @@ fn tests_reply(
     outcome: &Outcome,
     violation: &Violation,
 ) -> Result<Reply, AllocError>
-    requires outcome { Fits outcome.now election.now }
-    requires violation { claims.Fits violation.now election.now }
+    requires outcome { OutcomeFits outcome.now election.now }
+    requires violation { ClaimFits violation.now election.now }
     requires demand { IsSet 1 (projects election.now) (violation.now).demand }
     ensures { IfOk result (λ reply. reply ≡ explained_violation election.now (outcome.now).marks ((violation.now).measure, (violation.now).group, (violation.now).demand)) }
 {

@@ -6,7 +6,7 @@ ghost use Rattle.pb_audit.specs.Readers.{audit_readings};
 ghost use Rattle.pb_reply.specs.Inside.Taking.{IfTaken, settled_answer};
 ghost use Rattle.pb_audit.specs.Inside.Certificates.{TablesMargins};
 ghost use Rattle.pb_reply.specs.Writing.{Writes};
-ghost use Rattle.pb_election.specs.Outcome.{Fits};
+ghost use Rattle.pb_election.specs.Outcome.{OutcomeFits};
 
 use crate::margin_table::table_text;
 use pb_election::{Election, Outcome, Sink, Source};
@@ -94,7 +94,7 @@ fn margins_on(
     outcome: &Outcome,
     certificate: File<'_>,
 ) -> Result<Answer, Stop>
-    requires { Fits outcome.now election.now }
+    requires { OutcomeFits outcome.now election.now }
     ensures { IfTaken result (TablesMargins election.now (outcome.now).marks (lent certificate.entry)) }
 {
     let bytes = bytes_of(InputName::Certificate, certificate)?;

@@ -12,7 +12,7 @@ ghost use Rattle.pb_audit.specs.Inside.Certificates.{JudgesPrices};
 ghost use Rattle.pb_reply.specs.Writing.{WritesReply};
 ghost use Rattle.pb_reply.specs.declared.input.InputName.TheVariants as name;
 ghost use Rattle.pb_certificate.specs.Prices.{Prices};
-ghost use Rattle.pb_election.specs.Outcome.{Fits};
+ghost use Rattle.pb_election.specs.Outcome.{OutcomeFits};
 
 use crate::auditing::{Audit, audit_reply, run_audit};
 use pb_election::{Election, Outcome, Sink, Source};
@@ -114,7 +114,7 @@ pub(crate) fn price_verdict(
     certificate: File<'_>,
     mode: Mode,
 ) -> Result<Verdict, Stop>
-    requires { Fits outcome.now election.now }
+    requires { OutcomeFits outcome.now election.now }
     ensures verdict { IfTaken result (JudgesPrices input mode election.now (outcome.now).marks (lent certificate.entry)) }
     ensures projects { IfOk result (PricesNameProject election.now) }
 {

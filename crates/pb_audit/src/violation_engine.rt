@@ -7,9 +7,9 @@ ghost use Rattle.pb_audit.specs.Promises.{ViolationPromises};
 ghost use Rattle.pb_audit.specs.Readers.{ReadsViolation, audit_readings};
 ghost use Rattle.pb_reply.specs.Writing.{WritesReply};
 ghost use Rattle.pb_reply.specs.declared.input.InputName.TheVariants as name;
-ghost use Rattle.pb_certificate.specs.Claim as claims;
+ghost use Rattle.pb_certificate.specs.Claim.{ClaimFits};
 ghost use Rattle.pb_election.specs.Instance.{IsSet, projects};
-ghost use Rattle.pb_election.specs.Outcome as outcomes;
+ghost use Rattle.pb_election.specs.Outcome.{OutcomeFits};
 
 use crate::auditing::{Audit, audit_reply, run_audit};
 use pb_certificate::Violation;
@@ -89,8 +89,8 @@ pub(crate) fn group_reply(
     outcome: &Outcome,
     violation: &Violation,
 ) -> Result<Reply, AllocError>
-    requires outcome { outcomes.Fits outcome.now election.now }
-    requires violation { claims.Fits violation.now election.now }
+    requires outcome { OutcomeFits outcome.now election.now }
+    requires violation { ClaimFits violation.now election.now }
     requires demand { IsSet 1 (projects election.now) (violation.now).demand }
     ensures { IfOk result (λ reply. reply ≡ violation_reply election.now (outcome.now).marks ((violation.now).measure, (violation.now).group, (violation.now).demand)) }
 {

@@ -1,6 +1,6 @@
 -- What the fields of the records of the canonical text state.
-use Rattle.std.proofs.Common.{◌≡◌, ◌∙◌, ◌≤◌, ◌<◌, ◌+◌, ◌-◌, ◌*◌, ◌^◌, ℕ, zero, suc, Bool, true, false, List, [], ◌∷◌, length, refl, ap, arith, Some, get_or}
-use Rattle.std.specs.Prelude.{◌&&◌, decimal}
+use Rattle.std.proofs.Common.{◌≡◌, ◌∙◌, ◌≤◌, ◌<◌, ◌+◌, ◌-◌, ◌*◌, ◌^◌, ℕ, zero, suc, true, false, List, [], ◌∷◌, length, refl, ap, arith, Some, get_or}
+use Rattle.std.specs.Prelude.{decimal}
 use Rattle.std.specs.List.{AllByRecursion, IsDistinct, fold, position_from}
 use Rattle.std.specs.Str.{all_ascii_digits, byte, bytes_eq, is_utf8}
 use Rattle.std.specs.Str.Parse.{AllDigits}
@@ -10,6 +10,7 @@ use Rattle.std.proofs.lemmas.Fmt.{IsAscii-decimal_wide, decimal_is_IsNumeral_wid
 use Rattle.std.proofs.lemmas.Slice.Eq.{bytes_eq-Decides}
 use Rattle.std.proofs.lemmas.Str.{IsUtf8-from_ascii, is_utf8-from_IsUtf8}
 use Rattle.std.proofs.lemmas.Str.Parse.{IsNumeralModel, digit_from_value, numerals_by_fold, tells_all_ascii_digits}
+use Rattle.std.proofs.Math.Bool.{and-false}
 use Rattle.pb_money.specs.Digits.{drop_back, drop_front, is_empty, number_of}
 use Rattle.pb_election.specs.Instance.{Instance, IsProject, IsVoter, id_of, projects, voters}
 use Rattle.pb_records.specs.Records.{Field, Rec}
@@ -68,10 +69,6 @@ pub decimal-text : (n : ℕ) → n < 10 ^ 64 → is_utf8 (decimal n) ≡ true
 decimal-text n h = is_utf8-from_IsUtf8 (decimal n) (IsUtf8-from_ascii (decimal n) (IsAscii-decimal_wide n h))
 
 -- Records.
-
-and-false : (b : Bool) → (b && false) ≡ false
-and-false true = refl
-and-false false = refl
 
 pub fields-two : (a b : Field) → clean a ≡ a → clean b ≡ b → is_empty b ≡ false → fields (a ∷ b ∷ []) ≡ a ∷ b ∷ []
 fields-two a b ca cb s = rw (ca, cb, s, and-false (is_empty a)) refl

@@ -5,9 +5,9 @@ use Rattle.std.specs.List.{AllByRecursion, range_with_len, sum_by}
 use Rattle.std.specs.Str.{is_utf8}
 use Rattle.std.proofs.lemmas.List.{length-map, map-append}
 use Rattle.std.proofs.lemmas.List.Concat.{length-flat_map}
-use Rattle.std.proofs.lemmas.List.Sums.{sum_by-cons}
 use Rattle.std.proofs.lemmas.Str.{is_utf8-from_IsUtf8}
 use Rattle.pb_money.specs.Digits.{drop_back, drop_front}
+use Rattle.pb_records.proofs.Lists.{sum-mapped, map-same}
 use Rattle.pb_election.specs.Instance.{Instance, all_projects, all_voters, projects, voters}
 use Rattle.pb_records.specs.Records.{Rec}
 use Rattle.pb_records.specs.Cells.{is_text}
@@ -63,14 +63,6 @@ heads-shown d b hd hb = (
 
 -- Lists over a range.
 
-map-range : {A : Type 0} (f g : ℕ → A) (n a : ℕ) → ((i : ℕ) → a ≤ i → i < a + n → f i ≡ g i)
-    → map f (range_with_len a n) ≡ map g (range_with_len a n)
-map-range f g zero a h = refl
-map-range f g (suc n) a h =
-    let first = h a (omega arith) (omega arith) in
-    let rest = map-range f g n (a + 1) (λ i low high. h i (omega arith) (omega arith)) in
-    λ k. first k ∷ rest k
-
 indexed : {A : Type 0} (f : ℕ → A) (d : A) (xs : List A) (a : ℕ) → ((k : ℕ) → k < length xs → f (a + k) ≡ get_or xs k d)
     → xs ≡ map f (range_with_len a (length xs))
 indexed f d [] a h = refl
@@ -91,11 +83,6 @@ stated-range g rows pays (suc n) a h =
     let rest = stated-range g rows pays n (a + 1) (λ i low high. h i (omega arith) (omega arith)) in
     map-append g (rows a) (flat_map rows (range_with_len (a + 1) n)) ∙ (λ k. first k ++ rest k)
     ∙ sym (map-append Some (pays a) (flat_map pays (range_with_len (a + 1) n)))
-
-sum-mapped : {A B : Type 0} (f : B → ℕ) (g : A → B) (xs : List A) → sum_by f (map g xs) ≡ sum_by (λ x. f (g x)) xs
-sum-mapped f g [] = refl
-sum-mapped f g (x ∷ xs) = sum_by-cons f (g x) (map g xs) ∙ ap (λ n. f (g x) + n) (sum-mapped f g xs)
-    ∙ sym (sum_by-cons (λ y. f (g y)) x xs)
 
 -- The payments of some prices for an election.
 
@@ -150,7 +137,7 @@ voter-stated e p i a low high =
 all-stated : (e : Instance) (p : Prices) → ArePrices e p
     → p.payments ≡ map (payments_stated e (paid e p)) (all_voters e)
 all-stated e p a = by-voter e p a
-    ∙ map-range (payments_of p) (payments_stated e (paid e p)) (voters e) 1
+    ∙ map-same (payments_of p) (payments_stated e (paid e p)) (voters e) 1
     (λ i low high. voter-stated e p i a low (omega arith))
 
 -- The law.

@@ -1,17 +1,17 @@
 -- The canonical text with the rows of one more voter.
 use Rattle.std.proofs.Common.{◌≡◌, ◌≤◌, ◌<◌, ◌+◌, ◌-◌, ◌∙◌, ℕ, zero, suc, List, [], ◌∷◌, ◌++◌, length, refl, sym, ap, arith, add-one, append_assoc, append-nil, length-append, get_or}
-use Rattle.std.specs.Prelude.{OnOk, Result, Ok, Err, flat_map}
+use Rattle.std.specs.Prelude.{flat_map}
 use Rattle.std.specs.List.{range_with_len}
 use Rattle.std.proofs.Math.ListN.{get_or-append}
 use Rattle.std.proofs.Math.Seq.{get_or-append_seam}
 use Rattle.std.proofs.lemmas.Grind.{flat_map-append}
+use Rattle.pb_records.proofs.Lists.{range-push}
 use Rattle.pb_election.specs.Instance.{Instance, voters}
 use Rattle.pb_records.specs.Records.{Rec}
 use Rattle.pb_certificate.specs.Canon.{Canon, head_records, line, lines, rows_of_voter}
 use Rattle.pb_certificate.specs.Inside.CanonicalDrafts.{rows_up_to}
 use Rattle.pb_certificate.specs.Inside.Ledgers.{with_voter}
-use Rattle.pb_certificate.specs.Prices.{Fits, Prices, payments_of}
-use Rattle.pb_certificate.proofs.Written.{range-push}
+use Rattle.pb_certificate.specs.Prices.{Prices, PricesFit, payments_of}
 
 -- the head alone
 pub head-alone : (d b : ℕ) (h0 h1 : List ℕ) → h0 ≡ [] → h1 ≡ h0 ++ lines (head_records d b)
@@ -64,7 +64,7 @@ text-next e p run voter old new at before after =
     (sym (flat_map-append line rows (rows_of_voter e voter run)) ∙ ap lines (sym (rows-next e p run voter at)))
 
 -- the rows of all voters
-pub text-whole : (e : Instance) (p : Prices) (text : List ℕ) → Fits p e
+pub text-whole : (e : Instance) (p : Prices) (text : List ℕ) → PricesFit p e
     → text ≡ lines (head_records p.denominator p.budget) ++ lines (rows_up_to e p (length p.payments))
     → text ≡ Canon e p
 text-whole e p text fits is =
@@ -72,6 +72,3 @@ text-whole e p text fits is =
     ∙ sym (flat_map-append line (head_records p.denominator p.budget) (rows_up_to e p (voters e)))
 
 -- two facts of what was done
-pub on-both : {A B : Type 0} {P Q R : Type 0} (r : Result A B) → (P → Q → R) → OnOk r P → OnOk r Q → OnOk r R
-on-both (Ok a) f p q = f p q
-on-both (Err b) f p q = tt

@@ -5,9 +5,10 @@ use Rattle.std.proofs.lemmas.Bool.{cases_lt}
 use Rattle.std.proofs.lemmas.List.{take_all}
 use Rattle.std.proofs.lemmas.Option.{slice_get_past}
 use Rattle.pb_records.specs.Records.{Rec}
-use Rattle.pb_records.specs.Cells.{is_blank, nonblank}
+use Rattle.pb_records.specs.Cells.{is_blank, is_text, nonblank}
 use Rattle.pb_records.specs.FirstFault.{Form, IsFirstFault, NoFault, fault_at}
 use Rattle.pb_certificate.specs.declared.refusal.CertFault.{CertFault}
+use Rattle.pb_certificate.specs.declared.refusal.CertFault.TheVariants as fault
 use Rattle.pb_certificate.proofs.Ends.{fault-last}
 use Rattle.pb_certificate.proofs.PlaceSteps.{form-here, nonblank-joined}
 
@@ -49,6 +50,15 @@ search-from form recs (suc left) n e h =
 
 pub first-or-none : (form : Form CertFault) (recs : List Rec) → NoFault form recs ⊎ HasFirst form recs
 first-or-none form recs = search-from form recs (length recs + 2) 0 (omega arith) (λ k l. absurd (omega arith))
+
+-- a record at which no fault stands is UTF-8
+pub clear-text : (form : Form CertFault) (before : List Rec) (r : Rec)
+    → (is_text r ≡ false → form before (Some r) ≡ Some fault.NotUtf8) → form before (Some r) ≡ None → is_text r ≡ true
+clear-text form before r refused none = by (is_text r) refl
+  where
+    by : (b : Bool) → is_text r ≡ b → is_text r ≡ true
+    by true is = is
+    by false is = let stands = refused is in cc (none, stands)
 
 -- what holds of no record, and goes on holding where a record without a fault is added
 pub record Kept (form : Form CertFault) (Holds : List Rec → Type 0) : Type 0 where

@@ -16,8 +16,7 @@ use Rattle.pb_certificate.specs.declared.measure.Measure.TheVariants.{ByCount}
 use Rattle.pb_certificate.specs.declared.violation_draft.Awaited.{Awaited}
 use Rattle.pb_certificate.specs.declared.violation_draft.Awaited.TheVariants.{Format, Satisfaction, Row}
 use Rattle.pb_certificate.specs.declared.refusal.CertFault.{CertFault}
-use Rattle.pb_certificate.specs.declared.refusal.CertFault.TheVariants as fault
-use Rattle.pb_certificate.proofs.FirstOrNone.{HasFirst, Kept, first-or-none, kept-to-end}
+use Rattle.pb_certificate.proofs.FirstOrNone.{HasFirst, Kept, first-or-none, kept-to-end, clear-text}
 use Rattle.pb_certificate.proofs.ViolationSteps.{format-refused, measure-refused, measure-taken, row-refused, row-taken, version-1-taken, version-2-taken, whole-violation}
 
 -- some head records and rows were taken
@@ -25,11 +24,7 @@ abbrev Taken : Instance → List Rec → Type 0
 Taken e before = (d : TakenSoFar) × ViolationTaken e d before
 
 is-text : (e : Instance) (before : List Rec) (r : Rec) → violation_form e before (Some r) ≡ None → is_text r ≡ true
-is-text e before r none = by (is_text r) refl
-  where
-    by : (b : Bool) → is_text r ≡ b → is_text r ≡ true
-    by true is = is
-    by false is = let refused : violation_form e before (Some r) ≡ Some fault.NotUtf8 = rw is refl in cc (none, refused)
+is-text e before r none = clear-text (violation_form e) before r (λ is. rw is refl) none
 
 after-format : (e : Instance) (before : List Rec) (r : Rec) (d : TakenSoFar) → d.awaited ≡ Format
     → ViolationTaken e d before → violation_form e before (Some r) ≡ None → Taken e (before ++ (r ∷ []))

@@ -2,7 +2,8 @@
 use Rattle.std.proofs.Common.{◌≡◌, ◌∙◌, ℕ, true, false, List, [], ◌∷◌, ◌++◌, length, refl, sym, ap, subst, Some, None}
 use Rattle.std.specs.Prelude.{not, nat_lt, ◌||◌, is_none, codes}
 use Rattle.std.specs.List.{AllByRecursion, list_any}
-use Rattle.std.proofs.lemmas.Bool.{and_left, and_right}
+use Rattle.std.proofs.lemmas.Bool.{and_left, and_right, or_from}
+use Rattle.pb_records.proofs.Each.{all-every, all-back}
 use Rattle.pb_election.specs.Instance.{Instance}
 use Rattle.pb_records.specs.Records.{Rec}
 use Rattle.pb_records.specs.Cells.{is_text}
@@ -16,7 +17,7 @@ use Rattle.pb_certificate.specs.declared.refusal.CertFault.{CertFault}
 use Rattle.pb_certificate.specs.declared.refusal.CertFault.TheVariants as fault
 use Rattle.pb_certificate.proofs.HeadRecords.{not-cut, past}
 use Rattle.pb_certificate.proofs.NamedRows.{Row, project-kind, row-number, row-project, row-voter, rows-clear, two-fields, voter-kind}
-use Rattle.pb_certificate.proofs.Sweep.{ClearFrom, each-nil, no-fault, none-refused, or-false}
+use Rattle.pb_certificate.proofs.Sweep.{ClearFrom, each-nil, no-fault, none-refused}
 use Rattle.pb_certificate.proofs.ViolationHeads.{heads-counted, is-version-2, names-format, names-format-2, names-measure, no-measure, rows-are, some-head}
 
 format-clear : (e : Instance) (head : Rec) → is_text head ≡ true → (is_version_1 head || is_version_2 head) ≡ true
@@ -51,17 +52,17 @@ row-clear : (e : Instance) (m : Measure) (heads : List Rec) → StateMeasure m h
     → (f : CertFault) → violation_fault_stands e (heads ++ done) (Some r) f ≡ false
 row-clear e m heads s done r x text row is new fault.NotUtf8 = rw text refl
 row-clear e m heads s done r x text row is new fault.BadHead =
-    or-false _ _
-    (or-false _ _ (and_left _ _ (past heads done 0 (some-head m heads s)))
+    or_from _ _
+    (or_from _ _ (and_left _ _ (past heads done 0 (some-head m heads s)))
     (no-measure m heads done (Some r) (λ k. not (states_measure k)) s)) (and_right _ _ refl)
 row-clear e m heads s done r (Voter i) text row is new fault.BadRow =
     and_right _ _
-    (or-false _ _ (two-fields e r (Voter i) row)
+    (or_from _ _ (two-fields e r (Voter i) row)
     (ap (λ b. not (b || is_kind (codes "project") r)) (voter-kind e r i row).0))
 row-clear e m heads s done r (Project j) text row is new fault.BadRow =
     let kinds = project-kind e r j row in
     and_right _ _
-    (or-false _ _ (two-fields e r (Project j) row)
+    (or_from _ _ (two-fields e r (Project j) row)
     (ap (λ b. not (b || is_kind (codes "project") r)) kinds.0 ∙ ap not kinds.1))
 row-clear e m heads s done r (Voter i) text row is new fault.BadNumber =
     and_right _ _ (and_right _ _ (ap is_none (row-number e r i row)))
@@ -85,7 +86,7 @@ end-clear : (e : Instance) (m : Measure) (heads : List Rec) → StateMeasure m h
     → violation_fault_stands e (heads ++ done) None f ≡ false
 end-clear e m heads s done fault.NotUtf8 = refl
 end-clear e m heads s done fault.BadHead =
-    or-false _ _ (or-false _ _ (and_right _ _ refl) (no-measure m heads done None (λ k. not (states_measure k)) s))
+    or_from _ _ (or_from _ _ (and_right _ _ refl) (no-measure m heads done None (λ k. not (states_measure k)) s))
     (and_left _ _ (ap (nat_lt (length (heads ++ done))) (heads-counted m heads done s) ∙ not-cut heads done))
 end-clear e m heads s done fault.BadRow = and_right _ _ refl
 end-clear e m heads s done fault.BadNumber = and_right _ _ refl
@@ -113,22 +114,13 @@ with-heads e m (h ∷ k ∷ []) rows s text rest = (
 )
 with-heads e m (h ∷ k ∷ l ∷ ls) rows s text rest = absurd s
 
-rows-text : (heads rows : List Rec) → AllByRecursion (λ r. is_text r ≡ true) (heads ++ rows)
-    → AllByRecursion (λ r. is_text r ≡ true) rows
-rows-text [] rows h = h
-rows-text (k ∷ ks) rows h = rows-text ks rows h.1
-
-of-any : (xs : List Named) → AllByRecursion (λ x. Unit {0}) xs
-of-any [] = tt
-of-any (x ∷ xs) = (tt, of-any xs)
-
 pub group-clear : (recs : List Rec) (e : Instance) (m : Measure) (s t : List ℕ) → IsViolationText recs e m s t
     → (k : ℕ) (f : CertFault) → IsFirstFault (violation_form e) recs k f → ⊥
 group-clear recs e m s t v = none-refused (violation_form e) recs (subst (ClearFrom (violation_form e) []) (sym v.cut) (
     with-heads e m v.heads v.rows v.measure text
     (rows-clear e (violation_fault_stands e) v.heads (λ x. Unit {0}) (row-clear e m v.heads v.measure)
-    (end-clear e m v.heads v.measure) [] v.rows [] v.names (rows-text v.heads v.rows text) (of-any v.names)
-    v.named.each_row refl (each-nil same_named v.names) v.named.once)
+    (end-clear e m v.heads v.measure) [] v.rows [] v.names (all-back (λ r. is_text r ≡ true) v.heads v.rows text)
+    (all-every (λ x. Unit {0}) v.names (λ x. tt)) v.named.each_row refl (each-nil same_named v.names) v.named.once)
     ))
   where
     text : AllByRecursion (λ r. is_text r ≡ true) (v.heads ++ v.rows)

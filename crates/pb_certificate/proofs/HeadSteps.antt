@@ -2,7 +2,7 @@
 use Rattle.std.proofs.Common.{◌≡◌, ◌∙◌, ◌<◌, ◌+◌, ◌-◌, ◌^◌, ℕ, Bool, true, false, cond, List, [], ◌∷◌, length, refl, sym, ap, inl, inr, arith, Some, None, take}
 use Rattle.std.specs.Prelude.{◌⊎◌, ⊤, Ok, Err, codes, is_none}
 use Rattle.pb_election.specs.Instance.{Instance}
-use Rattle.pb_records.specs.Records.{Rec}
+use Rattle.pb_records.specs.Records.{Field, Rec}
 use Rattle.pb_records.specs.Cells.{cell, is_text, nonblank}
 use Rattle.pb_records.specs.FirstFault.{Form}
 use Rattle.pb_records.specs.Inside.Position.{MeetsEnd, MeetsRecord, Position}
@@ -20,102 +20,71 @@ use Rattle.pb_certificate.proofs.RowFaults.{form-at-budget, form-at-columns, for
 
 -- The fault at the place of each head record, by how many stand before it.
 
-name-form : (e : Instance) (before : List Rec) (r : Rec) (a : Bool) → length before ≡ 0 → is_text r ≡ true
-    → same_fields (fields r) name_fields ≡ a → price_form e before (Some r) ≡ cond a None (Some fault.BadHead)
+-- the record behind so many has these fields, or is at fault
+abbrev pub WantsFields : ℕ → List Field → Type 0
+WantsFields n fs = (e : Instance) (before : List Rec) (r : Rec) (a : Bool) → length before ≡ n → is_text r ≡ true
+    → same_fields (fields r) fs ≡ a → price_form e before (Some r) ≡ cond a None (Some fault.BadHead)
+
+-- it states a number of this name and range, or is at fault
+abbrev pub WantsNumber : ℕ → Field → ℕ → ℕ → Type 0
+WantsNumber n name least most = (e : Instance) (before : List Rec) (r : Rec) (v w : Bool) → length before ≡ n
+    → is_text r ≡ true → is_value_of name r ≡ v → is_none (whole_within least most (cell 1 r)) ≡ w
+    → price_form e before (Some r) ≡ number_fault v w
+
+pub name-form : WantsFields 0 name_fields
 name-form e [] r a n text is = form-at-name e r a text is
 name-form e (h ∷ hs) r a n text is = absurd (omega arith)
 
-denominator-form : (e : Instance) (before : List Rec) (r : Rec) (v w : Bool) → length before ≡ 1 → is_text r ≡ true
-    → is_value_of (codes "denominator") r ≡ v → is_none (whole_within 1 (10 ^ 9) (cell 1 r)) ≡ w
-    → price_form e before (Some r) ≡ number_fault v w
+pub denominator-form : WantsNumber 1 (codes "denominator") 1 (10 ^ 9)
 denominator-form e [] r v w n text is bad = absurd (omega arith)
 denominator-form e (h ∷ []) r v w n text is bad = form-at-denominator e h r v w text is bad
 denominator-form e (h ∷ g ∷ hs) r v w n text is bad = absurd (omega arith)
 
-budget-form : (e : Instance) (before : List Rec) (r : Rec) (v w : Bool) → length before ≡ 2 → is_text r ≡ true
-    → is_value_of (codes "voter_budget") r ≡ v → is_none (whole_within 0 (10 ^ 21) (cell 1 r)) ≡ w
-    → price_form e before (Some r) ≡ number_fault v w
+pub budget-form : WantsNumber 2 (codes "voter_budget") 0 (10 ^ 21)
 budget-form e [] r v w n text is bad = absurd (omega arith)
 budget-form e (h ∷ []) r v w n text is bad = absurd (omega arith)
 budget-form e (h ∷ d ∷ []) r v w n text is bad = form-at-budget e h d r v w text is bad
 budget-form e (h ∷ d ∷ g ∷ hs) r v w n text is bad = absurd (omega arith)
 
-columns-form : (e : Instance) (before : List Rec) (r : Rec) (a : Bool) → length before ≡ 3 → is_text r ≡ true
-    → same_fields (fields r) column_fields ≡ a → price_form e before (Some r) ≡ cond a None (Some fault.BadHead)
+pub columns-form : WantsFields 3 column_fields
 columns-form e [] r a n text is = absurd (omega arith)
 columns-form e (h ∷ []) r a n text is = absurd (omega arith)
 columns-form e (h ∷ d ∷ []) r a n text is = absurd (omega arith)
 columns-form e (h ∷ d ∷ b ∷ []) r a n text is = form-at-columns e h d b r a text is
 columns-form e (h ∷ d ∷ b ∷ g ∷ hs) r a n text is = absurd (omega arith)
 
--- What each head record gives.
+-- What a head record gives.
 
-pub name-refused : (old new : Position) → MeetsRecord old new → same_fields (fields new.row) name_fields ≡ false
-    → HeadGives (HasFields name_fields) 0 old new (Err (record { fault = fault.BadHead; place = new.place }))
-name-refused old new m is e recs before n s =
-    inr
-    (refused-at (price_form e) recs old new before fault.BadHead s m (name-form e before new.row false n m.is_utf8 is))
+pub fields-refused : (n : ℕ) (fs : List Field) → WantsFields n fs → (old new : Position) → MeetsRecord old new
+    → same_fields (fields new.row) fs ≡ false
+    → HeadGives (HasFields fs) n old new (Err (record { fault = fault.BadHead; place = new.place }))
+fields-refused n fs wants old new m is e recs before l s =
+    inr (refused-at (price_form e) recs old new before fault.BadHead s m (wants e before new.row false l m.is_utf8 is))
 
-pub name-taken : (old new : Position) (done : ⊤) → MeetsRecord old new → same_fields (fields new.row) name_fields ≡ true
-    → HeadGives (HasFields name_fields) 0 old new (Ok done)
-name-taken old new done m is e recs before n s = (
-  same-is (fields new.row) name_fields is,
-  goes-behind (price_form e) recs old new before s m (name-form e before new.row true n m.is_utf8 is),
+pub fields-taken : (n : ℕ) (fs : List Field) → WantsFields n fs → (old new : Position) (done : ⊤) → MeetsRecord old new
+    → same_fields (fields new.row) fs ≡ true → HeadGives (HasFields fs) n old new (Ok done)
+fields-taken n fs wants old new done m is e recs before l s = (
+  same-is (fields new.row) fs is,
+  goes-behind (price_form e) recs old new before s m (wants e before new.row true l m.is_utf8 is),
 )
 
-pub denominator-refused : (old new : Position) (f : CertFault) → MeetsRecord old new
-    → Err f ≡ head_number (codes "denominator") 1 (10 ^ 9) new.row
-    → HeadGives (StatesNumber (codes "denominator") 1 (10 ^ 9)) 1 old new
-    (Err (record { fault = f; place = new.place }))
-denominator-refused old new f m is e recs before n s =
+pub value-refused : (n : ℕ) (name : Field) (least most : ℕ) → WantsNumber n name least most
+    → (old new : Position) (f : CertFault) → MeetsRecord old new → Err f ≡ head_number name least most new.row
+    → HeadGives (StatesNumber name least most) n old new (Err (record { fault = f; place = new.place }))
+value-refused n name least most wants old new f m is e recs before l s =
     inr (refused-at (price_form e) recs old new before f s m
-    (denominator-form e before new.row (is_value_of (codes "denominator") new.row)
-    (is_none (whole_within 1 (10 ^ 9) (cell 1 new.row))) n m.is_utf8 refl refl
-    ∙ number-refused (codes "denominator") 1 (10 ^ 9) new.row f is))
+    (wants e before new.row (is_value_of name new.row) (is_none (whole_within least most (cell 1 new.row))) l m.is_utf8
+    refl refl ∙ number-refused name least most new.row f is))
 
-pub denominator-taken : (old new : Position) (d : ℕ) → MeetsRecord old new
-    → Ok d ≡ head_number (codes "denominator") 1 (10 ^ 9) new.row
-    → HeadGives (StatesNumber (codes "denominator") 1 (10 ^ 9)) 1 old new (Ok d)
-denominator-taken old new d m is e recs before n s =
-    let taken = number-taken (codes "denominator") 1 (10 ^ 9) d new.row is in (
-      states-number (codes "denominator") 1 (10 ^ 9) d new.row taken.0 taken.1,
+pub value-taken : (n : ℕ) (name : Field) (least most : ℕ) → WantsNumber n name least most
+    → (old new : Position) (x : ℕ) → MeetsRecord old new → Ok x ≡ head_number name least most new.row
+    → HeadGives (StatesNumber name least most) n old new (Ok x)
+value-taken n name least most wants old new x m is e recs before l s =
+    let taken = number-taken name least most x new.row is in (
+      states-number name least most x new.row taken.0 taken.1,
       goes-behind (price_form e) recs old new before s m
-          (denominator-form e before new.row true false n m.is_utf8 taken.0 (ap is_none taken.1)),
+          (wants e before new.row true false l m.is_utf8 taken.0 (ap is_none taken.1)),
     )
-
-pub budget-refused : (old new : Position) (f : CertFault) → MeetsRecord old new
-    → Err f ≡ head_number (codes "voter_budget") 0 (10 ^ 21) new.row
-    → HeadGives (StatesNumber (codes "voter_budget") 0 (10 ^ 21)) 2 old new
-    (Err (record { fault = f; place = new.place }))
-budget-refused old new f m is e recs before n s =
-    inr (refused-at (price_form e) recs old new before f s m
-    (budget-form e before new.row (is_value_of (codes "voter_budget") new.row)
-    (is_none (whole_within 0 (10 ^ 21) (cell 1 new.row))) n m.is_utf8 refl refl
-    ∙ number-refused (codes "voter_budget") 0 (10 ^ 21) new.row f is))
-
-pub budget-taken : (old new : Position) (b : ℕ) → MeetsRecord old new
-    → Ok b ≡ head_number (codes "voter_budget") 0 (10 ^ 21) new.row
-    → HeadGives (StatesNumber (codes "voter_budget") 0 (10 ^ 21)) 2 old new (Ok b)
-budget-taken old new b m is e recs before n s =
-    let taken = number-taken (codes "voter_budget") 0 (10 ^ 21) b new.row is in (
-      states-number (codes "voter_budget") 0 (10 ^ 21) b new.row taken.0 taken.1,
-      goes-behind (price_form e) recs old new before s m
-          (budget-form e before new.row true false n m.is_utf8 taken.0 (ap is_none taken.1)),
-    )
-
-pub columns-refused : (old new : Position) → MeetsRecord old new → same_fields (fields new.row) column_fields ≡ false
-    → HeadGives (HasFields column_fields) 3 old new (Err (record { fault = fault.BadHead; place = new.place }))
-columns-refused old new m is e recs before n s =
-    inr
-    (refused-at (price_form e) recs old new before fault.BadHead s m
-    (columns-form e before new.row false n m.is_utf8 is))
-
-pub columns-taken : (old new : Position) (done : ⊤) → MeetsRecord old new
-    → same_fields (fields new.row) column_fields ≡ true → HeadGives (HasFields column_fields) 3 old new (Ok done)
-columns-taken old new done m is e recs before n s = (
-  same-is (fields new.row) column_fields is,
-  goes-behind (price_form e) recs old new before s m (columns-form e before new.row true n m.is_utf8 is),
-)
 
 -- What stands in place of a head record.
 

@@ -17,7 +17,6 @@ pub mod OutcomeClear
 pub mod PriceClear
 pub mod Heads
 pub mod FirstHead
-pub mod Found
 pub mod PriceRows
 pub mod PlaceSteps
 pub mod HeadSteps

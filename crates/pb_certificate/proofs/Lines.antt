@@ -2,7 +2,7 @@
 use Rattle.std.proofs.Common.{◌≡◌, ◌∙◌, ◌<◌, ◌≤◌, ◌^◌, ℕ, List, [], ◌∷◌, ◌++◌, map, refl, ap, arith, append-nil, Bool, true, false}
 use Rattle.std.specs.Prelude.{◌==◌, ◌||◌, decimal, flat_map, if◌then◌else◌, nat_lt, not}
 use Rattle.std.specs.List.{AllByRecursion, join_with_byte, list_any}
-use Rattle.std.proofs.lemmas.Bool.{and_parts, ne_eqb}
+use Rattle.std.proofs.lemmas.Bool.{and_parts, ne_eqb, or_parts, not-true}
 use Rattle.std.proofs.lemmas.Bool.Decides.{nat_tests}
 use Rattle.std.specs.Str.Parse.{AllDigits}
 use Rattle.std.proofs.lemmas.Str.Parse.{digit_from_value}
@@ -44,12 +44,8 @@ same-row_text (f ∷ g ∷ fs) = rw (same-field f, same-fields (g ∷ fs)) refl
 abbrev pub IsPlain : Field → Type 0
 IsPlain f = list_any is_control f ≡ false
 
-or-false : (a b : Bool) → (a || b) ≡ false → (a ≡ false) × (b ≡ false)
-or-false true b h = cc h
-or-false false b h = (refl, h)
-
 not-control : (b : ℕ) → is_control b ≡ false → 32 ≤ b
-not-control b h = let low = (or-false (nat_lt b 32) (b == 127) h).0 in grind (arith, nat_tests)
+not-control b h = let low = (or_parts (nat_lt b 32) (b == 127) h).0 in grind (arith, nat_tests)
 
 -- a byte that is no control byte calls for quotes where it is a comma or a quote
 same-need : (b : ℕ) → 32 ≤ b → needs_byte default_writer b ≡ ((b == comma) || (b == quote))
@@ -61,7 +57,7 @@ same-need b h =
 same-needs : (f : Field) → IsPlain f → list_any (needs_byte default_writer) f
     ≡ list_any (λ b. (b == comma) || (b == quote)) f
 same-needs [] h = refl
-same-needs (b ∷ bs) h = let parts = or-false (is_control b) (list_any is_control bs) h in
+same-needs (b ∷ bs) h = let parts = or_parts (is_control b) (list_any is_control bs) h in
     rw (same-need b (not-control b parts.0), same-needs bs parts.1) refl
 
 -- a byte between quotes
@@ -97,10 +93,6 @@ digits-plain (b ∷ bs) h =
 
 pub decimal-plain : (n : ℕ) → n < 10 ^ 64 → IsPlain (decimal n)
 decimal-plain n h = digits-plain (decimal n) (decimal_is_IsNumeral_wide n h).0.1
-
-not-true : (b : Bool) → not b ≡ true → b ≡ false
-not-true true h = cc h
-not-true false h = refl
 
 pub id-plain : (id : Field) → IsId id → IsPlain id
 unfolding is_id

@@ -5,6 +5,7 @@ use Rattle.std.specs.List.{AllByRecursion, IsDistinct, range_with_len}
 use Rattle.std.proofs.Math.ListN.{set}
 use Rattle.std.proofs.lemmas.List.Elements.{filter-append}
 use Rattle.std.proofs.lemmas.List.FromFn.{get_or-map-range_with_len, length-map-range_with_len}
+use Rattle.pb_records.proofs.Lists.{range-push, filter-same}
 use Rattle.pb_election.specs.Instance.{IsSet}
 use Rattle.pb_certificate.specs.Inside.Marks.{is_marked, marked, marks_after, marks_of, with_mark}
 use Rattle.pb_certificate.specs.declared.refusal.CertFault.{CertFault}
@@ -77,37 +78,21 @@ distinct-push {A} eq (y ∷ ys) x h k = (apart ys h.0 k.0, distinct-push eq ys x
     apart [] l e = (e, tt)
     apart (z ∷ zs) l e = (l.0, apart zs l.1 e)
 
-pub all-push : {A : Type 0} (P : A → Type 0) (xs : List A) (x : A) → AllByRecursion P xs → P x
-    → AllByRecursion P (xs ++ (x ∷ []))
-all-push P [] x h k = (k, tt)
-all-push P (y ∷ ys) x h k = (h.0, all-push P ys x h.1 k)
-
 -- the numbers that are marked are those that pass the test
-same-filter : (p q : ℕ → Bool) (n a : ℕ) → ((i : ℕ) → a ≤ i → i < a + n → p i ≡ q i)
-    → filter p (range_with_len a n) ≡ filter q (range_with_len a n)
-same-filter p q zero a h = refl
-same-filter p q (suc n) a h =
-    let rest = same-filter p q n (a + 1) (λ i low high. h i (omega arith) (omega arith)) in
-    rw (h a (omega arith) (omega arith), rest) refl
 
 pub marked-are : (f : ℕ → Bool) (n : ℕ) → marked (marks_of f n) ≡ filter f (range_with_len 1 n)
 marked-are f n =
     rw (length-map-range_with_len f 1 n)
-    (same-filter (is_marked (marks_of f n)) f n 1 (λ i low high. mark-is f n i low (omega arith)))
+    (filter-same (is_marked (marks_of f n)) f n 1 (λ i low high. mark-is f n i low (omega arith)))
 
 -- the numbers that are marked, step by step
-range-more : (a n : ℕ) → range_with_len a (suc n) ≡ range_with_len a n ++ ((a + n) ∷ [])
-range-more a zero = let e : a ≡ a + 0 = omega arith in ap (λ b. b ∷ []) e
-range-more a (suc n) =
-    let e : a + 1 + n ≡ a + suc n = omega arith in
-    ap (λ (xs : List ℕ). a ∷ xs) (range-more (a + 1) n ∙ ap (λ b. range_with_len (a + 1) n ++ (b ∷ [])) e)
 
 more-marked : (marks : List Bool) (i : ℕ)
     → filter (is_marked marks) (range_with_len 1 (i + 1))
     ≡ filter (is_marked marks) (range_with_len 1 i) ++ filter (is_marked marks) ((1 + i) ∷ [])
 more-marked marks i =
     rw (add-one i)
-    (ap (filter (is_marked marks)) (range-more 1 i)
+    (ap (filter (is_marked marks)) (range-push 1 i)
     ∙ filter-append (is_marked marks) (range_with_len 1 i) ((1 + i) ∷ []))
 
 mark-at : (marks : List Bool) (i : ℕ) (b : Bool) → get_or marks i true ≡ b → is_marked marks (1 + i) ≡ b

@@ -7,6 +7,7 @@ use Rattle.std.specs.Str.{bytes_eq}
 use Rattle.std.proofs.lemmas.Bool.{eq-eqb, ne_eqb}
 use Rattle.std.proofs.lemmas.List.Folds.{list_any-append}
 use Rattle.std.proofs.lemmas.Slice.Eq.{bytes_eq-Decides}
+use Rattle.std.proofs.Math.Bool.{or-false, or-true}
 use Rattle.pb_election.specs.Instance.{Instance, IsProject, IsVoter, projects, voters}
 use Rattle.pb_records.specs.Records.{Rec}
 use Rattle.pb_records.specs.Cells.{cell}
@@ -108,18 +109,10 @@ voter-fault e r rows names marks named are two voter = by (whole_in (cell 1 r)) 
 
 -- The rows with one more.
 
-plain : (b : Bool) → (b || false) ≡ b
-plain true = refl
-plain false = refl
-
-or-true : (b : Bool) → (b || true) ≡ true
-or-true true = refl
-or-true false = refl
-
 named-more : (names : List Named) (x y : Named)
     → was_named (names ++ (x ∷ [])) y ≡ (was_named names y || same_named y x)
 named-more names x y = list_any-append (same_named y) names (x ∷ [])
-    ∙ ap (λ b. was_named names y || b) (plain (same_named y x))
+    ∙ ap (λ b. was_named names y || b) (or-false (same_named y x))
 
 rows-more : (e : Instance) (r : Rec) (rows : List Rec) (names : List Named) (x : Named) → RowsName e rows names
     → named_of e r ≡ Some x → was_named names x ≡ false → RowsName e (rows ++ (r ∷ [])) (names ++ (x ∷ []))
@@ -135,13 +128,13 @@ voters-more e names i at =
     one-more-mark (λ k. was_named names (Voter k)) (λ k. was_named (names ++ (Voter i ∷ [])) (Voter k)) (voters e) i
     at.0 at.1
     (named-more names (Voter i) (Voter i) ∙ rw (eq-eqb i i refl) (or-true (was_named names (Voter i))))
-    (λ k other. named-more names (Voter i) (Voter k) ∙ rw (ne_eqb k i other) (plain (was_named names (Voter k))))
+    (λ k other. named-more names (Voter i) (Voter k) ∙ rw (ne_eqb k i other) (or-false (was_named names (Voter k))))
 
 pub voters-kept : (e : Instance) (names : List Named) (j : ℕ)
     → voter_marks e names ≡ voter_marks e (names ++ (Project j ∷ []))
 voters-kept e names j =
     same-marks (λ k. was_named names (Voter k)) (λ k. was_named (names ++ (Project j ∷ [])) (Voter k)) (voters e)
-    (λ k. named-more names (Project j) (Voter k) ∙ plain (was_named names (Voter k)))
+    (λ k. named-more names (Project j) (Voter k) ∙ or-false (was_named names (Voter k)))
 
 projects-more : (e : Instance) (names : List Named) (j : ℕ) → IsProject e j
     → with_mark (project_marks e names) j ≡ project_marks e (names ++ (Project j ∷ []))
@@ -149,13 +142,13 @@ projects-more e names j at =
     one-more-mark (λ k. was_named names (Project k)) (λ k. was_named (names ++ (Project j ∷ [])) (Project k))
     (projects e) j at.0 at.1
     (named-more names (Project j) (Project j) ∙ rw (eq-eqb j j refl) (or-true (was_named names (Project j))))
-    (λ k other. named-more names (Project j) (Project k) ∙ rw (ne_eqb k j other) (plain (was_named names (Project k))))
+    (λ k other. named-more names (Project j) (Project k) ∙ rw (ne_eqb k j other) (or-false (was_named names (Project k))))
 
 pub projects-kept : (e : Instance) (names : List Named) (i : ℕ)
     → project_marks e names ≡ project_marks e (names ++ (Voter i ∷ []))
 projects-kept e names i =
     same-marks (λ k. was_named names (Project k)) (λ k. was_named (names ++ (Voter i ∷ [])) (Project k)) (projects e)
-    (λ k. named-more names (Voter i) (Project k) ∙ plain (was_named names (Project k)))
+    (λ k. named-more names (Voter i) (Project k) ∙ or-false (was_named names (Project k)))
 
 -- a row whose project was marked
 pub project-added : (e : Instance) (r : Rec) (rows : List Rec) (names : List Named) (marks new : List Bool)

@@ -4,8 +4,9 @@ use Rattle.std.specs.Prelude.{◌==◌, ◌||◌, not, find, map, unwrap_or, cod
 use Rattle.std.specs.List.{AllByRecursion, IsDistinct, list_any}
 use Rattle.std.specs.Option.{option_map}
 use Rattle.std.specs.Str.{bytes_eq}
-use Rattle.std.proofs.lemmas.Bool.{cases_Bool, cases_eq, eq-eqb, ne_eqb, or_parts}
+use Rattle.std.proofs.lemmas.Bool.{cases_Bool, cases_eq, eq-eqb, ne_eqb, or_parts, or_from}
 use Rattle.std.proofs.lemmas.Slice.Eq.{bytes_eq-Decides}
+use Rattle.std.proofs.Math.Bool.{or-false}
 use Rattle.pb_election.specs.Instance.{Instance, id_of}
 use Rattle.pb_records.specs.Records.{Field, Rec}
 use Rattle.pb_records.specs.Cells.{cell, is_text}
@@ -17,7 +18,7 @@ use Rattle.pb_certificate.specs.declared.refusal.CertFault.{CertFault}
 use Rattle.pb_election.proofs.Elections.{found_is}
 use Rattle.pb_certificate.proofs.Cells.{cell-is}
 use Rattle.pb_certificate.proofs.PriceClear.{whole-is}
-use Rattle.pb_certificate.proofs.Sweep.{ClearFrom, apart-more, joined-by, no-fault, or-false}
+use Rattle.pb_certificate.proofs.Sweep.{ClearFrom, apart-more, joined-by, no-fault}
 use Rattle.pb_certificate.proofs.Texts.{map-some}
 
 -- What a row says.
@@ -85,10 +86,6 @@ row-project e r j row = ap (project_in e) (cell-is r (row.kind ∷ row.f ∷ [])
 
 -- Whether two rows name the same.
 
-plain : (b : Bool) → (b || false) ≡ b
-plain true = refl
-plain false = refl
-
 or-both : (a b c d : Bool) → a ≡ b → c ≡ d → (a || c) ≡ (b || d)
 or-both a b c d first rest = rw (first, rest) refl
 
@@ -117,7 +114,7 @@ ids-same e r d j k a b =
 names-same : (e : Instance) (r d : Rec) (x m : Named) → Row e r x → Row e d m → same_name r d ≡ same_named x m
 names-same e r d (Voter i) (Voter k) a b =
     rw ((voter-kind e r i a).0, (voter-kind e r i a).1, (voter-kind e d k b).0, voter-is e r i a, voter-is e d k b)
-    (plain (i == k))
+    (or-false (i == k))
 names-same e r d (Voter i) (Project k) a b =
     rw ((voter-kind e r i a).0, (voter-kind e r i a).1, (project-kind e d k b).0) refl
 names-same e r d (Project j) (Voter k) a b =
@@ -155,7 +152,7 @@ apart x (m ∷ ms) h = let parts = or_parts (same_named x m) (was_named ms x) h 
 
 not-named : (x : Named) (ms : List Named) → AllByRecursion (λ m. same_named m x ≡ false) ms → was_named ms x ≡ false
 not-named x [] h = refl
-not-named x (m ∷ ms) h = or-false (same_named x m) (was_named ms x) (turn x m ∙ h.0) (not-named x ms h.1)
+not-named x (m ∷ ms) h = or_from (same_named x m) (was_named ms x) (turn x m ∙ h.0) (not-named x ms h.1)
 
 -- Behind any head records, no fault stands among rows that name each thing once: where each such row is clear, and the
 -- end.

@@ -1,7 +1,8 @@
 -- The whole numbers that fields state.
 use Rattle.std.proofs.Common.{◌≡◌, ◌≤◌, ◌<◌, ◌∙◌, ℕ, Bool, true, false, cond, [], ◌∷◌, refl, sym, ap, arith, Option, Some, None}
-use Rattle.std.specs.Prelude.{not, ◌&&◌, nat_le, nat_lt, Result, Ok, Err, is_some}
+use Rattle.std.specs.Prelude.{not, nat_le, nat_lt, Result, Ok, Err, is_some}
 use Rattle.std.proofs.lemmas.Bool.{le-leb, lt-leb, ltb-false, ltb-true}
+use Rattle.std.proofs.Math.Bool.{and-false}
 use Rattle.pb_money.specs.Digits.{are_digits, is_empty, number_of}
 use Rattle.pb_money.specs.Whole.{whole_of}
 use Rattle.pb_money.specs.declared.whole.WholeFault.{WholeFault}
@@ -64,10 +65,6 @@ within-bounds least most n f is low high = rw (is, le-leb least n low, le-leb n 
 
 pub too-low : (least most n : ℕ) (f : Field) → whole_in f ≡ Some n → n < least → whole_within least most f ≡ None
 too-low least most n f is low = rw (is, lt-leb least n low) refl
-
-and-false : (b : Bool) → (b && false) ≡ false
-and-false true = refl
-and-false false = refl
 
 pub too-high : (least most n : ℕ) (f : Field) → whole_in f ≡ Some n → most < n → whole_within least most f ≡ None
 too-high least most n f is high = rw (is, lt-leb n most high, and-false (nat_le least n)) refl

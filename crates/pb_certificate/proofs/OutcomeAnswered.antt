@@ -11,8 +11,7 @@ use Rattle.pb_certificate.specs.Inside.Marks.{project_marks}
 use Rattle.pb_certificate.specs.Inside.OutcomeDrafts.{OutcomeTaken, after_outcome_row}
 use Rattle.pb_certificate.specs.OutcomeText.{IsOutcomeText}
 use Rattle.pb_certificate.specs.declared.refusal.CertFault.{CertFault}
-use Rattle.pb_certificate.specs.declared.refusal.CertFault.TheVariants as fault
-use Rattle.pb_certificate.proofs.FirstOrNone.{HasFirst, Kept, first-or-none, kept-to-end}
+use Rattle.pb_certificate.proofs.FirstOrNone.{HasFirst, Kept, first-or-none, kept-to-end, clear-text}
 use Rattle.pb_certificate.proofs.OutcomeSteps.{head-refused, head-taken, row-refused, row-taken, whole-outcome}
 
 -- some rows, or no record at all, were taken
@@ -20,11 +19,7 @@ abbrev Taken : Instance → List Rec → Type 0
 Taken e before = (begun : Bool) × (marks : List Bool) × OutcomeTaken e begun marks before
 
 is-text : (e : Instance) (before : List Rec) (r : Rec) → outcome_form e before (Some r) ≡ None → is_text r ≡ true
-is-text e before r none = by (is_text r) refl
-  where
-    by : (b : Bool) → is_text r ≡ b → is_text r ≡ true
-    by true is = is
-    by false is = let refused : outcome_form e before (Some r) ≡ Some fault.NotUtf8 = rw is refl in cc (none, refused)
+is-text e before r none = clear-text (outcome_form e) before r (λ is. rw is refl) none
 
 after-nothing : (e : Instance) (before : List Rec) (r : Rec) (marks : List Bool) → OutcomeTaken e false marks before
     → outcome_form e before (Some r) ≡ None → Taken e (before ++ (r ∷ []))

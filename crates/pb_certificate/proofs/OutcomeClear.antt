@@ -2,7 +2,7 @@
 use Rattle.std.proofs.Common.{◌≡◌, ℕ, Bool, true, false, List, [], ◌∷◌, length, refl, sym, ap, subst, arith, Some, None}
 use Rattle.std.specs.Prelude.{◌==◌, ◌||◌, not, is_none, codes}
 use Rattle.std.specs.List.{AllByRecursion, list_any}
-use Rattle.std.proofs.lemmas.Bool.{and_left, and_right}
+use Rattle.std.proofs.lemmas.Bool.{and_left, and_right, or_from}
 use Rattle.pb_election.specs.Instance.{Instance}
 use Rattle.pb_records.specs.Records.{Rec}
 use Rattle.pb_records.specs.Cells.{is_text}
@@ -16,7 +16,7 @@ use Rattle.pb_certificate.specs.declared.refusal.CertFault.{CertFault}
 use Rattle.pb_certificate.specs.declared.refusal.CertFault.TheVariants as fault
 use Rattle.pb_certificate.proofs.HeadRecords.{not-cut, past}
 use Rattle.pb_certificate.proofs.NamedRows.{Row, project-kind, row-project, rows-clear, two-fields}
-use Rattle.pb_certificate.proofs.Sweep.{ClearFrom, each-nil, no-fault, none-refused, or-false}
+use Rattle.pb_certificate.proofs.Sweep.{ClearFrom, each-nil, no-fault, none-refused}
 
 head-clear : (e : Instance) (head : Rec) → is_text head ≡ true → fields head ≡ codes "pb-outcome" ∷ codes "1" ∷ []
     → (f : CertFault) → outcome_fault_stands e [] (Some head) f ≡ false
@@ -34,7 +34,7 @@ head-clear e head text is fault.Memory = refl
 shape-fits : (e : Instance) (r : Rec) (j : ℕ) → Row e r (Project j)
     → (not (length (fields r) == 2) || not (is_kind (codes "project") r)) ≡ false
 shape-fits e r j row =
-    or-false (not (length (fields r) == 2)) (not (is_kind (codes "project") r)) (two-fields e r (Project j) row)
+    or_from (not (length (fields r) == 2)) (not (is_kind (codes "project") r)) (two-fields e r (Project j) row)
     (ap not (project-kind e r j row).1)
 
 row-clear : (e : Instance) (head : Rec) (done : List Rec) (r : Rec) (x : Named) → is_text r ≡ true → Row e r x
@@ -43,7 +43,7 @@ row-clear : (e : Instance) (head : Rec) (done : List Rec) (r : Rec) (x : Named) 
 row-clear e head done r (Voter i) text row is new f = cc
 row-clear e head done r (Project j) text row is new fault.NotUtf8 = rw text refl
 row-clear e head done r (Project j) text row is new fault.BadHead =
-    or-false _ _ (and_left _ _ (past (head ∷ []) done 0 (omega arith))) (and_right _ _ refl)
+    or_from _ _ (and_left _ _ (past (head ∷ []) done 0 (omega arith))) (and_right _ _ refl)
 row-clear e head done r (Project j) text row is new fault.BadRow = and_right _ _ (shape-fits e r j row)
 row-clear e head done r (Project j) text row is new fault.BadNumber = refl
 row-clear e head done r (Project j) text row is new fault.UnknownVoter = refl
@@ -57,7 +57,7 @@ row-clear e head done r (Project j) text row is new fault.Memory = refl
 end-clear : (e : Instance) (head : Rec) (done : List Rec) (f : CertFault)
     → outcome_fault_stands e (head ∷ done) None f ≡ false
 end-clear e head done fault.NotUtf8 = refl
-end-clear e head done fault.BadHead = or-false _ _ (and_right _ _ refl) (and_left _ _ (not-cut (head ∷ []) done))
+end-clear e head done fault.BadHead = or_from _ _ (and_right _ _ refl) (and_left _ _ (not-cut (head ∷ []) done))
 end-clear e head done fault.BadRow = and_right _ _ refl
 end-clear e head done fault.BadNumber = refl
 end-clear e head done fault.UnknownVoter = refl

@@ -2,6 +2,7 @@
 use Rattle.std.proofs.Common.{◌≡◌, ◌∙◌, Bool, true, false, cond, List, [], ◌∷◌, ◌++◌, length, refl, sym, ap, subst, arith, Option, Some, None}
 use Rattle.std.specs.Prelude.{◌==◌, ◌&&◌, ◌||◌, not, Ok, Err, codes, is_none}
 use Rattle.std.specs.List.{AllByRecursion, IsDistinct, list_any}
+use Rattle.pb_records.proofs.Each.{all-push}
 use Rattle.pb_election.specs.Instance.{Instance}
 use Rattle.pb_records.specs.Records.{Rec}
 use Rattle.pb_records.specs.Cells.{cell, is_text, nonblank}
@@ -20,7 +21,6 @@ use Rattle.pb_certificate.specs.declared.refusal.CertFault.TheVariants as fault
 use Rattle.pb_certificate.proofs.Ends.{none-at-end}
 use Rattle.pb_certificate.proofs.HeadRecords.{behind, not-cut, past}
 use Rattle.pb_certificate.proofs.Heads.{same-is}
-use Rattle.pb_certificate.proofs.MarkLemmas.{all-push}
 use Rattle.pb_certificate.proofs.MarkedRows.{fault_of, project-added, project-fault}
 
 -- The faults at each place.

@@ -1,39 +1,22 @@
 -- A cursor that goes on behind records at which no fault stands.
-use Rattle.std.proofs.Common.{◌≡◌, ◌∙◌, ◌≤◌, ◌+◌, ◌-◌, ℕ, zero, suc, Bool, true, false, cond, List, [], ◌∷◌, ◌++◌, length, refl, sym, ap, subst, inl, inr, arith, Some, None, append_assoc, append-nil, add-one, length-append, take, drop}
-use Rattle.std.specs.Prelude.{not, slice_get}
+use Rattle.std.proofs.Common.{◌≡◌, ◌∙◌, ◌≤◌, ◌+◌, ◌-◌, ℕ, suc, Bool, true, false, cond, List, [], ◌∷◌, ◌++◌, length, refl, sym, ap, subst, inl, inr, arith, Some, None, append_assoc, append-nil, add-one, length-append, take, drop}
+use Rattle.std.specs.Prelude.{not}
 use Rattle.std.specs.List.{AllByRecursion}
 use Rattle.std.proofs.lemmas.Bool.{cases_lt}
-use Rattle.std.proofs.lemmas.List.{take_all}
+use Rattle.std.proofs.lemmas.List.{take_all, take-append-drop, length-take-le}
 use Rattle.std.proofs.lemmas.List.Elements.{filter-append}
 use Rattle.std.proofs.lemmas.Option.{slice_get_past}
-use Rattle.std.proofs.Math.Seq.{take-append_seam}
+use Rattle.std.proofs.Math.Seq.{take-append_seam, drop-append_seam}
 use Rattle.pb_records.specs.Records.{Rec}
 use Rattle.pb_records.specs.Cells.{is_blank, is_text, nonblank}
 use Rattle.pb_records.specs.FirstFault.{Form, fault_after, fault_at}
 use Rattle.pb_records.specs.Inside.Position.{MeetsEnd, MeetsNotText, MeetsRecord, Position}
+use Rattle.pb_records.proofs.Each.{all-push}
+use Rattle.pb_records.proofs.Lists.{get-seam}
 use Rattle.pb_certificate.specs.Inside.Places.{RefusedBehind, StandsBehind}
 use Rattle.pb_certificate.specs.declared.refusal.CertFault.{CertFault}
-use Rattle.pb_certificate.proofs.MarkLemmas.{all-push}
 
 -- Lists that are cut in two.
-
-get-seam : (xs ys : List Rec) (y : Rec) → slice_get (xs ++ (y ∷ ys)) (length xs) ≡ Some y
-get-seam [] ys y = refl
-get-seam (x ∷ xs) ys y = get-seam xs ys y
-
-drop-seam : (xs ys : List Rec) → drop (length xs) (xs ++ ys) ≡ ys
-drop-seam [] ys = refl
-drop-seam (x ∷ xs) ys = drop-seam xs ys
-
-whole : (n : ℕ) (xs : List Rec) → take n xs ++ drop n xs ≡ xs
-whole zero xs = refl
-whole (suc n) [] = refl
-whole (suc n) (x ∷ xs) = ap (λ (ys : List Rec). x ∷ ys) (whole n xs)
-
-take-many : (n : ℕ) (xs : List Rec) → n ≤ length xs → length (take n xs) ≡ n
-take-many zero xs h = refl
-take-many (suc n) [] h = absurd (omega arith)
-take-many (suc n) (x ∷ xs) h = omega (arith, take-many n xs (omega arith))
 
 fault-here : (form : Form CertFault) (taken rest : List Rec) (r : Rec)
     → fault_at form (taken ++ (r ∷ rest)) (length taken + 1) ≡ fault_after form taken (Some r)
@@ -88,10 +71,10 @@ record Cut (form : Form CertFault) (recs : List Rec) (c : Position) (before : Li
 cut-of : (form : Form CertFault) (recs : List Rec) (c : Position) (before : List Rec) → StandsBehind form recs c before
     → Cut form recs c before
 cut-of form recs c before s =
-    let many = take-many c.place recs s.within in
+    let many = length-take-le c.place recs s.within in
     record {
       taken = take c.place recs;
-      cut = sym (whole c.place recs) ∙ ap (λ (xs : List Rec). take c.place recs ++ xs) (sym s.left);
+      cut = sym (take-append-drop c.place recs) ∙ ap (λ (xs : List Rec). take c.place recs ++ xs) (sym s.left);
       many = many;
       behind = s.behind;
       clear = λ k le. s.clear k (omega arith);
@@ -106,7 +89,7 @@ stands form recs taken c before cut many behind text clear =
     let whole_many : length recs ≡ length taken + length c.left = ap length cut ∙ length-append taken c.left in
     record {
       within = omega arith;
-      left = sym (ap (drop c.place) cut ∙ ap (λ (n : ℕ). drop n (taken ++ c.left)) (sym many) ∙ drop-seam taken c.left);
+      left = sym (ap (drop c.place) cut ∙ ap (λ (n : ℕ). drop n (taken ++ c.left)) (sym many) ∙ drop-append_seam taken c.left);
       behind = ap (λ (xs : List Rec). nonblank (take c.place xs)) cut
           ∙ ap (λ (n : ℕ). nonblank (take n (taken ++ c.left))) (sym many) ∙ ap nonblank (take-append_seam taken c.left)
           ∙ behind;

@@ -2,6 +2,7 @@
 use Rattle.std.proofs.Common.{◌≡◌, ◌∙◌, ◌<◌, ◌≤◌, ◌^◌, ℕ, Bool, true, false, cond, List, [], ◌∷◌, ◌++◌, length, refl, sym, ap, inl, inr, arith, Option, Some, None, length-append}
 use Rattle.std.specs.Prelude.{◌⊎◌, ◌==◌, ◌||◌, not, codes, is_none, map}
 use Rattle.std.specs.List.{AllByRecursion, IsDistinct}
+use Rattle.pb_records.proofs.Each.{all-push}
 use Rattle.pb_election.specs.Instance.{Instance, all_voters, projects}
 use Rattle.pb_records.specs.Records.{Rec}
 use Rattle.pb_records.specs.Cells.{cell, is_text, nonblank}
@@ -16,11 +17,10 @@ use Rattle.pb_certificate.specs.Inside.PriorRows.{RiseFrom}
 use Rattle.pb_certificate.specs.declared.refusal.CertFault.{CertFault}
 use Rattle.pb_certificate.specs.declared.refusal.CertFault.TheVariants as fault
 use Rattle.pb_certificate.proofs.Ends.{none-at-end}
-use Rattle.pb_certificate.proofs.FirstOrNone.{HasFirst, Kept, first-or-none, kept-to-end}
+use Rattle.pb_certificate.proofs.FirstOrNone.{HasFirst, Kept, first-or-none, kept-to-end, clear-text}
 use Rattle.pb_certificate.proofs.GatherSteps.{may-follow}
 use Rattle.pb_certificate.proofs.Heads.{same-is, states-number, triple-is}
 use Rattle.pb_certificate.proofs.HeadSteps.{end-form}
-use Rattle.pb_certificate.proofs.MarkLemmas.{all-push}
 use Rattle.pb_certificate.proofs.ReaderSteps.{rises}
 use Rattle.pb_certificate.proofs.RowFaults.{form-at-budget, form-at-columns, form-at-denominator, form-at-name, form-at-row, number_fault, or_else, place_fault}
 use Rattle.pb_certificate.proofs.RowPlaces.{place-is}
@@ -55,11 +55,7 @@ abbrev Taken : Instance → List Rec → Type 0
 Taken e before = AllByRecursion (λ r. is_text r ≡ true) before × TakenParts e before
 
 is-text : (e : Instance) (before : List Rec) (r : Rec) → price_form e before (Some r) ≡ None → is_text r ≡ true
-is-text e before r none = by (is_text r) refl
-  where
-    by : (b : Bool) → is_text r ≡ b → is_text r ≡ true
-    by true is = is
-    by false is = let refused : price_form e before (Some r) ≡ Some fault.NotUtf8 = rw is refl in cc (none, refused)
+is-text e before r none = clear-text (price_form e) before r (λ is. rw is refl) none
 
 -- What a record states at which no fault stands.
 

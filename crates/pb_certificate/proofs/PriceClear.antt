@@ -4,7 +4,7 @@ use Rattle.std.specs.Prelude.{not, ◌&&◌, ◌==◌, map, nat_lt, nat_le, is_n
 use Rattle.std.specs.List.{AllByRecursion, IsDistinct, last_or, list_any}
 use Rattle.std.specs.List.Sorted.{IsNonDecreasing}
 use Rattle.std.specs.Str.{bytes_eq}
-use Rattle.std.proofs.lemmas.Bool.{and_from, and_left, and_parts, and_right, cases_Bool, eq-eqb, eqb-true, false≢true, le-ltb, lt-leb, ne_eqb}
+use Rattle.std.proofs.lemmas.Bool.{and_from, and_left, and_parts, and_right, cases_Bool, eq-eqb, eqb-true, false≢true, le-ltb, lt-leb, or_from}
 use Rattle.std.proofs.lemmas.List.Elements.{All-from_recursion}
 use Rattle.std.proofs.lemmas.Option.{option_and_then_some}
 use Rattle.std.proofs.lemmas.Slice.Eq.{bytes_eq-Decides}
@@ -19,8 +19,10 @@ use Rattle.pb_certificate.specs.Faults.{at_record, price_fault_stands, price_for
 use Rattle.pb_certificate.specs.declared.refusal.CertFault.{CertFault}
 use Rattle.pb_certificate.specs.declared.refusal.CertFault.TheVariants as fault
 use Rattle.pb_certificate.proofs.Cells.{cell-is}
-use Rattle.pb_certificate.proofs.Sweep.{ClearFrom, apart-more, each-nil, joined-by, no-fault, none-refused, or-false}
+use Rattle.pb_certificate.proofs.Sweep.{ClearFrom, apart-more, each-nil, joined-by, no-fault, none-refused}
 use Rattle.pb_certificate.proofs.Texts.{payment-parts}
+use Rattle.pb_certificate.proofs.RowFaults.{past}
+use Rattle.pb_certificate.proofs.RowSteps.{voters_of}
 
 -- what a row says: its three fields, and its payment
 pub record Row (e : Instance) (r : Rec) (q : Payment) : Type 0 where
@@ -94,7 +96,7 @@ none-repeated e r q (d ∷ ds) [] row h k = cc
 none-repeated e r q (d ∷ ds) (m ∷ ms) row h k =
     let first : payment_of e d ≡ Some m = cc in
     let rest : map (payment_of e) ds ≡ map Some ms = cc in
-    or-false _ _ (pairs-differ e r d q m row (row-of e d m first) k.0) (none-repeated e r q ds ms row rest k.1)
+    or_from _ _ (pairs-differ e r d q m row (row-of e d m first) k.0) (none-repeated e r q ds ms row rest k.1)
 
 -- no voter from low on is below that of the last row
 abbrev NoneBelow : ℕ → List Rec → Type 0
@@ -104,9 +106,6 @@ NoneBelow low done = (n : ℕ) → low ≤ n → at_record (last_or None done) (
 abbrev VotersFrom : ℕ → List Payment → Type 0
 VotersFrom low [] = ⊤
 VotersFrom low (q ∷ qs) = (low ≤ q.voter) × VotersFrom q.voter qs
-
-abbrev voters_of : List Payment → List ℕ
-voters_of qs = map (λ q. q.voter) qs
 
 rest-rises : (low : ℕ) (qs : List Payment) → IsNonDecreasing (low ∷ voters_of qs) → VotersFrom low qs
 rest-rises low [] h = tt
@@ -153,7 +152,7 @@ denominator-clear e h r v n text is value fault.NotUtf8 = rw text refl
 denominator-clear e h r v n text is value fault.BadHead = rw (is, cell-is r (codes "denominator" ∷ v ∷ []) 0 is) refl
 denominator-clear e h r v n text is value fault.BadRow = refl
 denominator-clear e h r v n text is value fault.BadNumber =
-    or-false _ _ (or-false _ _ (value-fits r (codes "denominator") v 1 (10 ^ 9) n is value) refl) refl
+    or_from _ _ (or_from _ _ (value-fits r (codes "denominator") v 1 (10 ^ 9) n is value) refl) refl
 denominator-clear e h r v n text is value fault.UnknownVoter = refl
 denominator-clear e h r v n text is value fault.UnknownProject = refl
 denominator-clear e h r v n text is value fault.OutOfOrder = refl
@@ -168,7 +167,7 @@ budget-clear e h d r v n text is value fault.NotUtf8 = rw text refl
 budget-clear e h d r v n text is value fault.BadHead = rw (is, cell-is r (codes "voter_budget" ∷ v ∷ []) 0 is) refl
 budget-clear e h d r v n text is value fault.BadRow = refl
 budget-clear e h d r v n text is value fault.BadNumber =
-    or-false _ _ (or-false _ _ refl (value-fits r (codes "voter_budget") v 0 (10 ^ 21) n is value)) refl
+    or_from _ _ (or_from _ _ refl (value-fits r (codes "voter_budget") v 0 (10 ^ 21) n is value)) refl
 budget-clear e h d r v n text is value fault.UnknownVoter = refl
 budget-clear e h d r v n text is value fault.UnknownProject = refl
 budget-clear e h d r v n text is value fault.OutOfOrder = refl
@@ -190,10 +189,6 @@ columns-clear e h d b r text is fault.Repeated = refl
 columns-clear e h d b r text is fault.TooMany = refl
 columns-clear e h d b r text is fault.Memory = refl
 
--- what is past the head is at no place of it
-past : (h d b c : Rec) (done : List Rec) (k : ℕ) → k < 4 → (length (h ∷ d ∷ b ∷ c ∷ done) == k) ≡ false
-past h d b c done k small = ne_eqb (length (h ∷ d ∷ b ∷ c ∷ done)) k (λ z. omega arith)
-
 row-clear : (e : Instance) (h d b c r : Rec) (done : List Rec) (q : Payment) (ms : List Payment) (low : ℕ)
     → is_text r ≡ true → Row e r q → map (payment_of e) done ≡ map Some ms
     → AllByRecursion (λ m. same_pair m q ≡ false) ms
@@ -201,7 +196,7 @@ row-clear : (e : Instance) (h d b c r : Rec) (done : List Rec) (q : Payment) (ms
     → price_fault_stands e (h ∷ d ∷ b ∷ c ∷ done) (Some r) f ≡ false
 row-clear e h d b c r done q ms low text row taken apart below rises few fault.NotUtf8 = rw text refl
 row-clear e h d b c r done q ms low text row taken apart below rises few fault.BadHead =
-    or-false _ _ (or-false _ _ (or-false _ _ (or-false _ _
+    or_from _ _ (or_from _ _ (or_from _ _ (or_from _ _
     (and_left _ _ (past h d b c done 0 (omega arith)))
     (and_left _ _ (past h d b c done 1 (omega arith))))
     (and_left _ _ (past h d b c done 2 (omega arith))))
@@ -215,10 +210,10 @@ row-clear e h d b c r done q ms low text row taken apart below rises few fault.B
     (ap whole_in (cell-is r (row.v ∷ row.c ∷ row.x ∷ []) 0 row.shape) ∙ whole-is _ _ row.v q.voter row.voter) in
     let numerator_fits : is_none (numerator_of (cell 2 r)) ≡ false =
     ap is_none (ap numerator_of (cell-is r (row.v ∷ row.c ∷ row.x ∷ []) 2 row.shape) ∙ row.numerator) in
-    or-false _ _ (or-false _ _
+    or_from _ _ (or_from _ _
     (and_left _ _ (past h d b c done 1 (omega arith)))
     (and_left _ _ (past h d b c done 2 (omega arith))))
-    (and_right _ _ (or-false _ _ voter_fits numerator_fits))
+    (and_right _ _ (or_from _ _ voter_fits numerator_fits))
 row-clear e h d b c r done q ms low text row taken apart below rises few fault.UnknownVoter =
     let known : is_none (voter_in e (cell 0 r)) ≡ false =
     ap is_none (ap (voter_in e) (cell-is r (row.v ∷ row.c ∷ row.x ∷ []) 0 row.shape) ∙ row.voter) in
@@ -241,13 +236,13 @@ end-clear : (e : Instance) (h d b c : Rec) (done : List Rec) (f : CertFault)
     → price_fault_stands e (h ∷ d ∷ b ∷ c ∷ done) None f ≡ false
 end-clear e h d b c done fault.NotUtf8 = refl
 end-clear e h d b c done fault.BadHead =
-    or-false _ _
-    (or-false _ _ (or-false _ _ (or-false _ _ (and_right _ _ refl) (and_right _ _ refl)) (and_right _ _ refl))
+    or_from _ _
+    (or_from _ _ (or_from _ _ (or_from _ _ (and_right _ _ refl) (and_right _ _ refl)) (and_right _ _ refl))
     (and_right _ _ refl))
     (and_left _ _ (le-ltb (length (h ∷ d ∷ b ∷ c ∷ done)) 4 (omega arith)))
 end-clear e h d b c done fault.BadRow = and_right _ _ refl
 end-clear e h d b c done fault.BadNumber =
-    or-false _ _ (or-false _ _ (and_right _ _ refl) (and_right _ _ refl)) (and_right _ _ refl)
+    or_from _ _ (or_from _ _ (and_right _ _ refl) (and_right _ _ refl)) (and_right _ _ refl)
 end-clear e h d b c done fault.UnknownVoter = and_right _ _ refl
 end-clear e h d b c done fault.UnknownProject = and_right _ _ refl
 end-clear e h d b c done fault.OutOfOrder = and_right _ _ refl

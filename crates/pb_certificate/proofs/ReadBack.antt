@@ -1,12 +1,12 @@
 -- The records of the canonical text are those that were written.
 use Rattle.std.proofs.Common.{◌≡◌, ◌∙◌, ◌<◌, ◌≤◌, ◌+◌, ◌^◌, ℕ, zero, suc, List, [], ◌∷◌, ◌++◌, length, map, refl, sym, ap, arith, Some}
-use Rattle.std.specs.Prelude.{flat_map}
 use Rattle.std.specs.List.{AllByRecursion, join_with_byte, range_with_len}
 use Rattle.std.proofs.lemmas.List.{length-append}
 use Rattle.csv.specs.Machine.{next_record}
 use Rattle.csv.specs.Reading.{default_config, records_from}
 use Rattle.csv.specs.declared.parser.State.TheVariants as st
 use Rattle.csv.proofs.RoundTrip.{read-write}
+use Rattle.pb_records.proofs.Each.{all-append, all-flat_map, all-map, all-range, all-weaker}
 use Rattle.pb_election.specs.Instance.{Instance, projects, voters}
 use Rattle.pb_records.specs.Records.{Rec, drop_marks}
 use Rattle.pb_election.specs.Text.{IsElection}
@@ -52,26 +52,6 @@ lines-longer (r ∷ rs) = omega (arith, length-append (line r) (lines rs), line-
 
 -- Each record of the canonical text.
 
-all-append : {A : Type 0} (P : A → Type 0) (xs ys : List A) → AllByRecursion P xs → AllByRecursion P ys
-    → AllByRecursion P (xs ++ ys)
-all-append P [] ys h k = k
-all-append P (x ∷ xs) ys h k = (h.0, all-append P xs ys h.1 k)
-
-pub all-flat : {A B : Type 0} (P : B → Type 0) (f : A → List B) (xs : List A)
-    → AllByRecursion (λ x. AllByRecursion P (f x)) xs → AllByRecursion P (flat_map f xs)
-all-flat P f [] h = tt
-all-flat P f (x ∷ xs) h = all-append P (f x) (flat_map f xs) h.0 (all-flat P f xs h.1)
-
-pub all-range : (P : ℕ → Type 0) (a n : ℕ) → ((i : ℕ) → a ≤ i → i < a + n → P i) → AllByRecursion P (range_with_len a n)
-all-range P a zero h = tt
-all-range P a (suc n) h =
-    (h a (omega arith) (omega arith), all-range P (a + 1) n (λ i low high. h i (omega arith) (omega arith)))
-
-pub all-map : {A B : Type 0} (P : A → Type 0) (Q : B → Type 0) (f : A → B) (xs : List A) → ((x : A) → P x → Q (f x))
-    → AllByRecursion P xs → AllByRecursion Q (map f xs)
-all-map P Q f [] g h = tt
-all-map P Q f (x ∷ xs) g h = (g x h.0, all-map P Q f xs g h.1)
-
 -- what one voter pays is a map over the projects of the election
 pub voter-map : (e : Instance) (p : Prices) (i : ℕ) → ArePrices e p → 1 ≤ i → i ≤ voters e
     → IsPaymentMap (projects e) (payments_of p i)
@@ -84,10 +64,11 @@ pub all-rows : (Q : Rec → Type 0) (e : Instance) (p : Prices) → ArePrices e 
     → ((i : ℕ) (q : ℕ × ℕ) → 1 ≤ i → i ≤ voters e → IsPayment (projects e) q → Q (row_of e i q))
     → AllByRecursion Q (payment_rows e p)
 all-rows Q e p a h =
-    all-flat Q (λ i. rows_of_voter e i (payments_of p i)) (range_with_len 1 (voters e))
+    all-flat_map Q (λ i. rows_of_voter e i (payments_of p i)) (range_with_len 1 (voters e))
     (all-range (λ i. AllByRecursion Q (rows_of_voter e i (payments_of p i))) 1 (voters e)
-    (λ i low high. all-map (IsPayment (projects e)) Q (row_of e i) (payments_of p i) (λ q k. h i q low (omega arith) k)
-    (each-payment (projects e) (payments_of p i) (voter-map e p i a low (omega arith)))))
+    (λ i low high. all-map Q (row_of e i) (payments_of p i)
+    (all-weaker (IsPayment (projects e)) (λ q. Q (row_of e i q)) (payments_of p i) (λ q k. h i q low (omega arith) k)
+    (each-payment (projects e) (payments_of p i) (voter-map e p i a low (omega arith))))))
 
 pub all-records : (Q : Rec → Type 0) (e : Instance) (p : Prices) → ArePrices e p
     → AllByRecursion Q (head_records p.denominator p.budget)

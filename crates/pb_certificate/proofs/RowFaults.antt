@@ -32,7 +32,7 @@ enough h d b c done = by (nat_le 4 (length (h ∷ d ∷ b ∷ c ∷ done))) refl
     by true e = refl
     by false e = grind arith
 
-past : (h d b c : Rec) (done : List Rec) (n : ℕ) → n < 4 → (length (h ∷ d ∷ b ∷ c ∷ done) == n) ≡ false
+pub past : (h d b c : Rec) (done : List Rec) (n : ℕ) → n < 4 → (length (h ∷ d ∷ b ∷ c ∷ done) == n) ≡ false
 past h d b c done n l = ne_eqb (length (h ∷ d ∷ b ∷ c ∷ done)) n (λ e. omega arith)
 
 not-short : (h d b c : Rec) (done : List Rec) → nat_lt (length (h ∷ d ∷ b ∷ c ∷ done)) 4 ≡ false

@@ -5,9 +5,11 @@ use Rattle.std.specs.List.{last_or, list_any}
 use Rattle.std.specs.Str.{bytes_eq}
 use Rattle.std.proofs.lemmas.Bool.{cases_Bool, eq-eqb, false≢true, le-ltb, ne_eqb}
 use Rattle.std.proofs.lemmas.Slice.Eq.{bytes_eq-Decides}
+use Rattle.pb_records.proofs.Lists.{filter_map-all}
 use Rattle.pb_election.specs.Instance.{Instance, id_of}
 use Rattle.pb_records.specs.Records.{Field, Rec}
 use Rattle.pb_records.specs.Cells.{cell, is_text}
+use Rattle.pb_election.proofs.Elections.{found_is}
 use Rattle.pb_certificate.specs.Fields.{number, project_in}
 use Rattle.pb_certificate.specs.PriceText.{Payment, payment_of, same_pair}
 use Rattle.pb_certificate.specs.PriceRows.{last_number, last_voter, payment_fault, row_fault}
@@ -15,7 +17,6 @@ use Rattle.pb_certificate.specs.Faults.{at_record, price_form, same_cells}
 use Rattle.pb_certificate.specs.Inside.PriceHead.{IsHead}
 use Rattle.pb_certificate.specs.declared.refusal.CertFault.{CertFault}
 use Rattle.pb_certificate.proofs.Cells.{cell-is}
-use Rattle.pb_certificate.proofs.Found.{found_is}
 use Rattle.pb_certificate.proofs.PriceClear.{row-number, row-of}
 use Rattle.pb_certificate.proofs.RowFaults.{form-at-row, place_fault}
 use Rattle.pb_certificate.proofs.RowSteps.{voters_of}
@@ -44,7 +45,7 @@ same-ids e a b j k is_a is_b = elim (cases_Bool (bytes_eq a b)) [
       same ∙ sym (eq-eqb j k equal)
   | inr other ↦
       let differ : (j == k) ≡ false = ne_eqb j k (λ equal. (
-      let ids : a ≡ b = sym (found_is e a j is_a) ∙ ap (id_of e) equal ∙ found_is e b k is_b in
+      let ids : a ≡ b = sym (found_is e a j is_a).1 ∙ ap (id_of e) equal ∙ (found_is e b k is_b).1 in
       false≢true (sym other ∙ (bytes_eq-Decides a b).1 ids)
       )) in
       other ∙ sym differ
@@ -100,16 +101,7 @@ form-of-payment e d b heads rows qs r q h each text none is =
     ∙ rw none (place-is e r q rows qs is each))
 
 -- the payments that rows behind a head state
-payments-of : {A : Type 0} (f : Rec → Option A) (rows : List Rec) (qs : List A) → map f rows ≡ map Some qs
-    → filter_map f rows ≡ qs
-payments-of f [] [] h = refl
-payments-of f [] (q ∷ qs) h = cc h
-payments-of f (r ∷ rs) [] h = cc h
-payments-of f (r ∷ rs) (q ∷ qs) h =
-    let first : f r ≡ Some q = cc in
-    let rest : map f rs ≡ map Some qs = cc in
-    rw first (ap (λ (xs : List _). q ∷ xs) (payments-of f rs qs rest))
 
 pub given-behind : (e : Instance) (d b : ℕ) (heads rows : List Rec) (qs : List Payment) → IsHead d b heads
     → map (payment_of e) rows ≡ map Some qs → filter_map (payment_of e) (drop 4 (heads ++ rows)) ≡ qs
-given-behind e d b heads rows qs h each = rw h.cut (payments-of (payment_of e) rows qs each)
+given-behind e d b heads rows qs h each = rw h.cut (filter_map-all (payment_of e) rows qs each)

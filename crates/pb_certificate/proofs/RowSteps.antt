@@ -5,6 +5,7 @@ use Rattle.std.specs.List.{AllByRecursion, IsDistinct, list_any}
 use Rattle.std.proofs.lemmas.Bool.{and_parts, cases_Bool, cases_eq, eq-eqb, eqb-true, false≢true, ne_eqb, or_parts}
 use Rattle.std.proofs.lemmas.List.{append-nil, map-append}
 use Rattle.std.proofs.lemmas.List.Elements.{filter-append}
+use Rattle.std.proofs.Math.Bool.{or-false}
 use Rattle.pb_certificate.specs.PriceText.{Payment, same_pair}
 use Rattle.pb_certificate.specs.PriceRows.{last_number, last_voter}
 use Rattle.pb_certificate.specs.Inside.PriorRows.{RiseFrom, last_payer}
@@ -103,11 +104,7 @@ stood qs q some h most =
     stood-by 0 q.voter q.project q.numerator qs (omega arith) h most ∙ by none
   where
     by : (0 == q.voter) ≡ false → (list_any (same_pair q) qs || (0 == q.voter)) ≡ list_any (same_pair q) qs
-    by e = rw e (plain (list_any (same_pair q) qs))
-      where
-        plain : (b : Bool) → (b || false) ≡ b
-        plain true = refl
-        plain false = refl
+    by e = rw e (or-false (list_any (same_pair q) qs))
 
 -- payments that differ from one of a new pair
 apart : (qs : List Payment) (q : Payment) → list_any (same_pair q) qs ≡ false

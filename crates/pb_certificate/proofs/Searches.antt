@@ -1,5 +1,5 @@
 -- A search among the payments of a voter, which rise by project.
-use Rattle.std.proofs.Common.{◌≡◌, ◌<◌, ◌≤◌, ◌+◌, ℕ, zero, suc, true, eqb, List, [], ◌∷◌, length, get_or, refl, sym, subst, inl, inr, arith}
+use Rattle.std.proofs.Common.{◌≡◌, ◌<◌, ◌≤◌, ◌+◌, ℕ, zero, suc, List, [], ◌∷◌, length, get_or, refl, sym, subst, inl, inr, arith}
 use Rattle.std.specs.Prelude.{◌≢◌, MatchResult, Ok, Err, Result, map}
 use Rattle.std.specs.List.Sorted.{IsBinarySearchResult, IsNonDecreasingBy, IsSearchInRange}
 use Rattle.std.specs.Ordering.{nat_cmp, ordering_index}
@@ -8,6 +8,7 @@ use Rattle.std.proofs.lemmas.Bool.Decides.{nat_tests}
 use Rattle.std.proofs.lemmas.Cmp.{ranked}
 use Rattle.std.proofs.lemmas.List.Sorted.{IsNonDecreasingBy-from_default}
 use Rattle.pb_election.specs.Instance.{IsSet}
+use Rattle.pb_election.proofs.Sets.{is-itself}
 use Rattle.pb_certificate.specs.Prices.{numerator_in}
 
 abbrev Pays : Type 0
@@ -45,8 +46,6 @@ comparisons-rise low high qs j set =
     grind (arith, nat_tests))
 
 -- the payment for a project that is there, and for one that is not
-is-itself : (n : ℕ) → eqb n n ≡ true
-is-itself n = grind (arith, nat_tests)
 
 numerator-at : (low high : ℕ) (qs : Pays) → IsSet low high (map (λ q. q.0) qs) → (k : ℕ) → k < length qs
     → numerator_in qs (project_at qs k) ≡ (get_or qs k (0, 0)).1

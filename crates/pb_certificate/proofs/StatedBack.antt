@@ -1,10 +1,12 @@
 -- The payments that the rows of some prices state are those of the prices, and they stand in order.
-use Rattle.std.proofs.Common.{◌≡◌, ◌∙◌, ◌≤◌, ◌<◌, ◌+◌, ℕ, zero, suc, Bool, true, false, List, [], ◌∷◌, ◌++◌, map, refl, sym, ap, subst, arith, inl, inr, Some}
-use Rattle.std.specs.Prelude.{◌==◌, ◌&&◌, filter_map, flat_map, if◌then◌else◌, nat_lt}
+use Rattle.std.proofs.Common.{◌≡◌, ◌∙◌, ◌≤◌, ◌<◌, ◌+◌, ℕ, zero, suc, true, false, List, [], ◌∷◌, ◌++◌, map, refl, sym, ap, subst, arith, inl, inr, Some}
+use Rattle.std.specs.Prelude.{◌==◌, filter_map, flat_map, if◌then◌else◌, nat_lt}
 use Rattle.std.specs.List.{AllByRecursion, IsDistinct, cons_option, range_with_len}
 use Rattle.std.specs.List.Sorted.{IsNonDecreasing}
 use Rattle.std.proofs.lemmas.Bool.{cases_eq, eq-eqb, lt-ltb, ne_eqb}
+use Rattle.std.proofs.Math.Bool.{and-false}
 use Rattle.pb_election.specs.Instance.{IsSet}
+use Rattle.pb_election.proofs.Sets.{is-itself}
 use Rattle.pb_certificate.specs.Prices.{numerator_in}
 use Rattle.pb_certificate.specs.PriceText.{Payment, above_0, same_pair, stated}
 use Rattle.pb_certificate.proofs.Written.{all-at}
@@ -19,9 +21,6 @@ of_voter i qs = map (payment_at i) qs
 abbrev pub of_voters : (ℕ → List (ℕ × ℕ)) → ℕ → ℕ → List Payment
 of_voters f a n = flat_map (λ i. of_voter i (f i)) (range_with_len a n)
 
-same : (n : ℕ) → (n == n) ≡ true
-same n = eq-eqb n n refl
-
 -- What they state.
 
 stated-other : (s : ℕ) (qs : List (ℕ × ℕ)) (tail : List Payment) (i j : ℕ) → (s == i) ≡ false
@@ -32,7 +31,7 @@ stated-other s (q ∷ qs) tail i j h = rw h (stated-other s qs tail i j h)
 stated-own : (i : ℕ) (qs : List (ℕ × ℕ)) (tail : List Payment) (j : ℕ) → stated tail i j ≡ 0
     → stated (of_voter i qs ++ tail) i j ≡ numerator_in qs j
 stated-own i [] tail j h = h
-stated-own i (q ∷ qs) tail j h = rw (same i) (ap (λ (t : ℕ). if q.0 == j then q.1 else t) (stated-own i qs tail j h))
+stated-own i (q ∷ qs) tail j h = rw (is-itself i) (ap (λ (t : ℕ). if q.0 == j then q.1 else t) (stated-own i qs tail j h))
 
 stated-before : (f : ℕ → List (ℕ × ℕ)) (n a i j : ℕ) → i < a → stated (of_voters f a n) i j ≡ 0
 stated-before f zero a i j h = refl
@@ -128,10 +127,6 @@ rising (q ∷ qs) h zero (suc j) d l m =
     each (p ∷ ps) k = (k.0.0, each ps k.1)
 rising (q ∷ qs) h (suc i) zero d l m = absurd (omega arith)
 rising (q ∷ qs) h (suc i) (suc j) d l m = rising qs h.1 i j d (omega arith) (omega arith)
-
-and-false : (b : Bool) → (b && false) ≡ false
-and-false true = refl
-and-false false = refl
 
 -- a payment may be followed by those of the same voter for higher projects, and then by those of higher voters
 follows-own : (i j : ℕ) (x low high : ℕ) (qs : List (ℕ × ℕ)) (tail : List Payment) → j < low

@@ -1,6 +1,6 @@
 -- Where no fault stands among the records that are not blank, none stands at any place.
 use Rattle.std.proofs.Common.{◌≡◌, ℕ, zero, suc, ◌+◌, ◌≤◌, Bool, true, false, cond, List, [], ◌∷◌, ◌++◌, length, refl, sym, ◌∙◌, subst, arith, Option, Some, None, append_assoc, append-nil}
-use Rattle.std.specs.Prelude.{◌||◌, not, find, map, take, slice_get}
+use Rattle.std.specs.Prelude.{not, find, map, take, slice_get}
 use Rattle.std.specs.List.{AllByRecursion}
 use Rattle.std.proofs.lemmas.List.Elements.{filter-append}
 use Rattle.pb_records.specs.Records.{Rec}
@@ -62,9 +62,6 @@ no-fault stands before o h =
       h fault.Repeated,
       h fault.TooMany,
     ) refl
-
-pub or-false : (x y : Bool) → x ≡ false → y ≡ false → (x || y) ≡ false
-or-false x y h k = rw h k
 
 -- one more row that was taken
 pub joined-by : {A : Type 0} (f : Rec → Option A) (done : List Rec) (r : Rec) (ms : List A) (n : A)

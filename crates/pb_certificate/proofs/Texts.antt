@@ -2,14 +2,17 @@
 use Rattle.std.proofs.Common.{◌≡◌, ℕ, zero, suc, ◌+◌, ◌-◌, ◌^◌, ◌<◌, ◌≤◌, Bool, true, false, cond, List, [], ◌∷◌, length, refl, sym, ◌∙◌, ap, subst, inl, inr, arith, Option, Some, None, get_or}
 use Rattle.std.specs.Prelude.{◌&&◌, ◌==◌, All, map, filter_map, nat_le, nat_lt}
 use Rattle.std.specs.List.{AllByRecursion, cons_option, range_with_len, sum_by}
-use Rattle.std.proofs.lemmas.Bool.{and_parts, cases_eq, cases_lt, eq-eqb, leb-true, lt-ltb, ltb-true, ne_eqb}
+use Rattle.std.proofs.lemmas.Bool.{and_parts, cases_eq, cases_lt, eq-eqb, leb-true, lt-ltb, ltb-true, ne_eqb, both_ways}
 use Rattle.std.proofs.lemmas.List.Elements.{All-from_recursion}
 use Rattle.std.proofs.lemmas.List.Sums.{sum_by-cons}
 use Rattle.std.proofs.lemmas.List.FromFn.{get_or-map-range_with_len, length-map-range_with_len}
 use Rattle.std.specs.Option.{option_map}
 use Rattle.std.proofs.lemmas.Option.{option_and_then_some}
+use Rattle.pb_records.proofs.Lists.{sum-mapped}
+use Rattle.pb_records.proofs.Each.{all-every, all-map}
 use Rattle.pb_election.specs.Instance.{Instance, IsProject, IsSet, IsVoter, all_voters, projects, voters}
 use Rattle.pb_records.specs.Records.{Field, Rec}
+use Rattle.pb_election.proofs.Sets.{set-lower}
 use Rattle.pb_certificate.specs.Prices.{ArePrices, IsPaymentMap, Prices, numerator_in, payment}
 use Rattle.pb_certificate.specs.Fields.{fields, only_if, project_in, voter_in, whole_in, whole_within}
 use Rattle.pb_certificate.specs.PriceText.{IsPriceText, Payment, above_0, numerator_of, payment_by, payment_from, payment_of, payments_stated, stated}
@@ -20,10 +23,6 @@ pairs f a n = filter_map (λ j. above_0 j (f j)) (range_with_len a n)
 
 abbrev pub keys : List (ℕ × ℕ) → List ℕ
 keys qs = map (λ q. q.0) qs
-
-set-lower : (low lower high : ℕ) (t : List ℕ) → lower ≤ low → IsSet low high t → IsSet lower high t
-set-lower low lower high [] l h = tt
-set-lower low lower high (x ∷ xs) l h = let low_is : low ≤ x = h.0 in (omega arith, h.1, h.2)
 
 pairs-rise : (f : ℕ → ℕ) (n a high : ℕ) → a + n ≤ high + 1 → IsSet a high (keys (pairs f a n))
 pairs-rise f zero a high b = tt
@@ -66,11 +65,8 @@ numerator-at f (suc n) a j low high = elim (cases_eq a j) [
     here e true k = rw (eq-eqb a j e) (ap f e)
     here e false k = numerator-past f n (a + 1) j (omega arith)
         ∙ (let none : f a ≤ 0 = elim (cases_lt 0 (f a))
-        [ inl some ↦ absurd (both (nat_lt 0 (f a)) k (lt-ltb 0 (f a) some)) | inr none ↦ none ] in let same : f a
+        [ inl some ↦ absurd (both_ways (nat_lt 0 (f a)) k (lt-ltb 0 (f a) some)) | inr none ↦ none ] in let same : f a
         ≡ f j = ap f e in omega arith)
-      where
-        both : (r : Bool) → r ≡ false → r ≡ true → ⊥
-        both r p q = let contradiction : false ≡ true = sym p ∙ q in cc
 
     later : (a ≡ j → ⊥) → (r : Bool) → numerator_in (pairs f (a + 1) n) j ≡ f j
         → numerator_in (cons_option (cond r (Some (a, f a)) None) (pairs f (a + 1) n)) j ≡ f j
@@ -150,11 +146,6 @@ map-stated m qs i bounded = record {
   none_large = All-from_recursion (λ q. q.1 ≤ 10 ^ 21) (pairs (stated qs i) 1 m)
       (pairs-all (λ q. q.1 ≤ 10 ^ 21) (stated qs i) m 1 (λ j some. stated-bounded qs i j bounded));
 }
-
-all-map-range : {A : Type 0} (P : A → Type 0) (f : ℕ → A) (n a : ℕ) → ((i : ℕ) → P (f i))
-    → AllByRecursion P (map f (range_with_len a n))
-all-map-range P f zero a h = tt
-all-map-range P f (suc n) a h = (h a, all-map-range P f n (a + 1) h)
 
 -- a row raises the number of payments by one at most
 
@@ -254,11 +245,6 @@ few-stated e (q ∷ qs) =
     let rest = few-stated e qs in
     omega arith
 
-sum-mapped : {A B : Type 0} (f : B → ℕ) (g : A → B) (xs : List A) → sum_by f (map g xs) ≡ sum_by (λ x. f (g x)) xs
-sum-mapped f g [] = refl
-sum-mapped f g (x ∷ xs) = sum_by-cons f (g x) (map g xs) ∙ ap (λ n. f (g x) + n) (sum-mapped f g xs)
-    ∙ sym (sum_by-cons (λ y. f (g y)) x xs)
-
 pub stated-length : {A : Type 0} (f : Rec → Option A) (rows : List Rec) (xs : List A) → map f rows ≡ map Some xs
     → length xs ≡ length rows
 stated-length f [] [] h = refl
@@ -274,8 +260,8 @@ states-prices recs e p t =
     rows-bounded e t.rows t.payments t.each_row in
     let maps_stated : All (IsPaymentMap (projects e)) (map (payments_stated e t.payments) (all_voters e)) =
     All-from_recursion (IsPaymentMap (projects e)) (map (payments_stated e t.payments) (all_voters e))
-    (all-map-range (IsPaymentMap (projects e)) (payments_stated e t.payments) (voters e) 1
-    (λ i. map-stated (projects e) t.payments i bounded)) in
+    (all-map (IsPaymentMap (projects e)) (payments_stated e t.payments) (all_voters e)
+    (all-every _ (all_voters e) (λ i. map-stated (projects e) t.payments i bounded))) in
     let count : sum_by length p.payments ≡ sum_by (count_of e t.payments) (all_voters e) =
     ap (sum_by length) t.same_payments ∙ sum-mapped length (payments_stated e t.payments) (all_voters e) in
     let rows : length t.payments ≡ length t.rows = stated-length (payment_of e) t.rows t.payments t.each_row in

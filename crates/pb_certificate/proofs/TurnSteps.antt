@@ -8,6 +8,8 @@ use Rattle.std.proofs.lemmas.Bool.{eq-eqb, le-ltb, lt-ltb, ne_eqb}
 use Rattle.std.proofs.lemmas.List.Elements.{filter_map-append}
 use Rattle.std.proofs.lemmas.List.Sorted.{length_permutation}
 use Rattle.std.proofs.lemmas.List.Sums.{sum_by-append, sum_by-cons}
+use Rattle.pb_records.proofs.Each.{all-push}
+use Rattle.pb_records.proofs.Lists.{map-same}
 use Rattle.pb_certificate.specs.Inside.Gathering.{Holds, payments_made, prices_up_to, stated_by, stated_up_to}
 use Rattle.pb_certificate.specs.Inside.Ledgers.{CanTake, with_voter}
 use Rattle.pb_certificate.specs.Prices.{IsPaymentMap, Prices}
@@ -15,7 +17,6 @@ use Rattle.pb_certificate.specs.Rows.{Rows}
 use Rattle.pb_election.specs.Instance.{Instance, projects}
 use Rattle.pb_certificate.specs.PriceText.{Payment, same_pair, stated}
 use Rattle.pb_certificate.specs.declared.gathering.Turn.{Turn}
-use Rattle.pb_certificate.proofs.MarkLemmas.{all-push}
 use Rattle.pb_certificate.proofs.RowSteps.{once-push}
 use Rattle.pb_certificate.proofs.SortedRuns.{sorted-stated}
 use Rattle.pb_certificate.proofs.Texts.{map-stated, pairs}
@@ -60,11 +61,6 @@ pairs-same f g zero a h = refl
 pairs-same f g (suc n) a h = rw (h a, pairs-same f g n (a + 1) h) refl
 
 -- lists over a range
-map-same : {A : Type 0} (f g : ℕ → A) (n a : ℕ) → ((i : ℕ) → i < a + n → f i ≡ g i)
-    → map f (range_with_len a n) ≡ map g (range_with_len a n)
-map-same f g zero a h = refl
-map-same f g (suc n) a h = rw (h a (omega arith), map-same f g n (a + 1) (λ i l. h i (omega arith))) refl
-
 map-push : {A : Type 0} (f : ℕ → A) (n a : ℕ)
     → map f (range_with_len a (suc n)) ≡ map f (range_with_len a n) ++ (f (a + n) ∷ [])
 map-push f zero a = let e : a + 0 ≡ a = omega arith in rw e refl
@@ -178,7 +174,7 @@ row-done : (s : Rows) (qs : List Payment) (q : Payment) (n : ℕ) → q.voter �
     → stated_up_to (projects s.election) qs n ≡ stated_up_to (projects s.election) (qs ++ (q ∷ [])) n
 row-done s qs q n at =
     map-same (stated_by (projects s.election) qs) (stated_by (projects s.election) (qs ++ (q ∷ []))) n 1
-    (λ i l. pairs-same (stated qs i) (stated (qs ++ (q ∷ [])) i) (projects s.election) 1
+    (λ i low l. pairs-same (stated qs i) (stated (qs ++ (q ∷ [])) i) (projects s.election) 1
     (λ j. sym (stated-other qs q i j (ne_eqb q.voter i (λ e. omega arith)))))
 
 one-row : (has : Instance → Prices → Type 0) (s : Rows) (qs : List Payment) (q : Payment) (old new : Turn)

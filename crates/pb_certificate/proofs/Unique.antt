@@ -6,6 +6,7 @@ use Rattle.std.proofs.lemmas.Bool.{false≢true}
 use Rattle.std.proofs.lemmas.List.FromFn.{length-map-range_with_len}
 use Rattle.pb_election.specs.Instance.{Instance, IsSet, all_projects, all_voters, projects, voters}
 use Rattle.pb_records.specs.Records.{Field, Rec}
+use Rattle.pb_election.proofs.Sets.{set-lower}
 use Rattle.pb_certificate.specs.Prices.{Prices}
 use Rattle.pb_certificate.specs.Fields.{fields, same_fields, whole_within}
 use Rattle.pb_certificate.specs.PriceText.{IsPriceText, payment_of, payments_stated}
@@ -38,16 +39,10 @@ value-same r r' name f f' least most n n' e h h' k k' =
     let some : Some n ≡ Some n' = sym k ∙ ap (whole_within least most) same ∙ k' in
     cc
 
-prices-by : ℕ → ℕ → ℕ → List (List (ℕ × ℕ)) → Prices
-prices-by m d b ps = record { projects = m; denominator = d; budget = b; payments = ps }
-
 prices-same : (p q : Prices) → p.projects ≡ q.projects → p.denominator ≡ q.denominator → p.budget ≡ q.budget
     → p.payments ≡ q.payments → p ≡ q
-unfolding prices-by
-prices-same p q m d b ps = ap (λ x. prices-by x p.denominator p.budget p.payments) m
-    ∙ ap (λ x. prices-by q.projects x p.budget p.payments) d
-    ∙ ap (λ x. prices-by q.projects q.denominator x p.payments) b
-    ∙ ap (λ x. prices-by q.projects q.denominator q.budget x) ps
+prices-same p q m d b ps =
+    λ k. record { projects = m k; denominator = d k; budget = b k; payments = ps k }
 
 pub price-text-same : (recs : List Rec) (e : Instance) (p q : Prices) → IsPriceText recs e p → IsPriceText recs e q
     → p ≡ q
@@ -115,9 +110,6 @@ outcome-text-same recs e w w' a b =
     a.same_outcome ∙ ap (λ ns. map (λ j. was_named ns (Project j)) (all_projects e)) names ∙ sym b.same_outcome
 
 -- the numbers of a range that pass a test are a set
-set-lower : (low lower high : ℕ) (t : List ℕ) → lower ≤ low → IsSet low high t → IsSet lower high t
-set-lower low lower high [] l h = tt
-set-lower low lower high (x ∷ xs) l h = let low_is : low ≤ x = h.0 in (omega arith, h.1, h.2)
 
 pub filter-set : (q : ℕ → Bool) (n a high : ℕ) → a + n ≤ high + 1 → IsSet a high (filter q (range_with_len a n))
 filter-set q zero a high b = tt

@@ -4,6 +4,7 @@ use Rattle.std.specs.Prelude.{◌==◌, ◌&&◌, ◌||◌, ⊤, not, IfErr, OnO
 use Rattle.std.specs.List.{AllByRecursion, IsDistinct, list_any}
 use Rattle.std.proofs.lemmas.Bool.{false≢true}
 use Rattle.std.proofs.lemmas.List.FromFn.{length-map-range_with_len}
+use Rattle.pb_records.proofs.Each.{all-push}
 use Rattle.pb_election.specs.Instance.{Instance, projects, voters}
 use Rattle.pb_records.specs.Records.{Rec}
 use Rattle.pb_records.specs.Cells.{cell, is_text, nonblank}
@@ -26,7 +27,7 @@ use Rattle.pb_certificate.specs.declared.refusal.CertFault.TheVariants as fault
 use Rattle.pb_certificate.proofs.Ends.{none-at-end}
 use Rattle.pb_certificate.proofs.HeadRecords.{behind, not-cut, past}
 use Rattle.pb_certificate.proofs.Heads.{same-is}
-use Rattle.pb_certificate.proofs.MarkLemmas.{all-push, marked-are}
+use Rattle.pb_certificate.proofs.MarkLemmas.{marked-are}
 use Rattle.pb_certificate.proofs.MarkedRows.{fault_of, one-kind, project-added, project-fault, projects-kept, voter-added, voter-fault, voters-kept}
 use Rattle.pb_certificate.proofs.ViolationHeads.{heads-counted, is-version-2, names-format-2, names-measure, no-measure, rows-are, some-head}
 

@@ -6,6 +6,7 @@ use Rattle.std.proofs.Math.Seq.{take-suc}
 use Rattle.std.proofs.lemmas.Grind.{flat_map-append}
 use Rattle.std.proofs.lemmas.List.{map-append, take_all}
 use Rattle.csv.specs.Writing.{default_writer, row_text}
+use Rattle.pb_records.proofs.Lists.{range-push}
 use Rattle.pb_election.specs.Instance.{Instance, IsProject, IsSet, id_of, projects}
 use Rattle.pb_records.specs.Records.{Rec}
 use Rattle.pb_election.specs.Text.{IsElection, IsId}
@@ -105,7 +106,7 @@ row-plain e i q s v h =
     let small : q.1 ≤ 10 ^ 21 = h.small in
     (decimal-plain i v, (id-plain (id_of e q.0) (id-at e q.0 s (h.low, h.high)), (decimal-plain q.1 (omega arith), tt)))
 
-lines-push : (rows : List Rec) (r : Rec) → lines (rows ++ (r ∷ [])) ≡ lines rows ++ line r
+pub lines-push : (rows : List Rec) (r : Rec) → lines (rows ++ (r ∷ [])) ≡ lines rows ++ line r
 lines-push rows r = flat_map-append line rows (r ∷ []) ∙ ap (λ (x : List ℕ). lines rows ++ x) (append-nil (line r))
 
 -- one more row of a voter
@@ -132,12 +133,6 @@ pub rows-written : (e : Instance) (i : ℕ) (qs : List (ℕ × ℕ)) (k : ℕ) (
 rows-written e i qs k old now l h = h ∙ ap (λ (x : List (ℕ × ℕ)). old ++ lines (rows_of_voter e i x)) (take_all k qs l)
 
 -- The rows of all voters.
-
-pub range-push : (a n : ℕ) → range_with_len a (suc n) ≡ range_with_len a n ++ ((a + n) ∷ [])
-range-push a zero = let e : a ≡ a + 0 = omega arith in ap (λ (x : ℕ). x ∷ []) e
-range-push a (suc n) =
-    let e : a + 1 + n ≡ a + suc n = omega arith in
-    ap (λ (xs : List ℕ). a ∷ xs) (range-push (a + 1) n ∙ ap (λ (x : ℕ). range_with_len (a + 1) n ++ (x ∷ [])) e)
 
 -- one more voter
 pub voter-written : (rows : ℕ → List Rec) (i : ℕ) (old before after : List ℕ) → 1 ≤ i

@@ -19,6 +19,6 @@ pub record IsClaim (c : Claim) : Type 0 where
   pub demand : IsSet 1 c.projects c.demand
 
 -- the claim speaks of as many voters and projects as the election has
-pub record Fits (c : Claim) (e : Instance) : Type 0 where
+pub record ClaimFits (c : Claim) (e : Instance) : Type 0 where
   pub each_voter : c.voters ≡ voters e
   pub each_project : c.projects ≡ projects e

@@ -49,11 +49,11 @@ pub record IsPriceSystem (p : Prices) : Type 0 where
   pub few : sum_by length p.payments ≤ most_rows
 
 -- the prices speak of as many voters and projects as the election has
-pub record Fits (p : Prices) (e : Instance) : Type 0 where
+pub record PricesFit (p : Prices) (e : Instance) : Type 0 where
   pub each_voter : length p.payments ≡ voters e
   pub each_project : p.projects ≡ projects e
 
 -- the prices are those of a price system for this election
 pub record ArePrices (e : Instance) (p : Prices) : Type 0 where
   pub system : IsPriceSystem p
-  pub fits : Fits p e
+  pub fits : PricesFit p e

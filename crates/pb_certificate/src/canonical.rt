@@ -6,7 +6,7 @@ ghost use Rattle.pb_certificate.specs.Canon.{Canon, IsCanonOf, lines, payment_ro
 ghost use Rattle.pb_certificate.specs.Faults.{Refuses, certificate_records, no_memory, price_form};
 ghost use Rattle.pb_certificate.specs.PriceText.{IsPriceText};
 ghost use Rattle.pb_certificate.specs.Prices as spec;
-ghost use Rattle.pb_certificate.specs.Prices.{Fits};
+ghost use Rattle.pb_certificate.specs.Prices.{PricesFit};
 ghost use Rattle.pb_certificate.specs.Inside.RecordWriter.{IsOpen, held};
 
 use crate::canonical_draft::CanonicalDraft;
@@ -34,7 +34,7 @@ fn add_rows(
     election: &Election,
 ) -> Result<(), AllocError>
     requires open { IsOpen writer.old }
-    requires fits { Fits prices.now election.now }
+    requires fits { PricesFit prices.now election.now }
     ensures open { OnOk result (IsOpen writer.new) }
     ensures text { OnOk result (held writer.new ≡ held writer.old ++ lines (payment_rows election.now prices.now)) }
 {
@@ -74,7 +74,7 @@ impl Prices {
     /// The canonical text of a price certificate with these prices, as `write` writes it. The prices are to be for as
     /// many voters and projects as the election has. The refusal is want of memory.
     pub fn canonical_text(&self, alloc: Global, election: &Election) -> Result<Vec<u8>, AllocError>
-        requires { Fits self.now election.now }
+        requires { PricesFit self.now election.now }
         ensures { IfOk result (λ text. text.items ≡ Canon election.now self.now) }
     {
         let mut writer = record_writer::open(alloc);
@@ -93,7 +93,7 @@ impl Prices {
         election: &Election,
         sink: &mut W,
     ) -> Result<(), WriteFault>
-        requires { Fits self.now election.now }
+        requires { PricesFit self.now election.now }
         ensures all { OnOk result (Appends (W.holds sink.old) (W.holds sink.new) (Canon election.now self.now)) }
         ensures flushed { OnOk result (IsFlushed (W.counts sink.old) (W.counts sink.new)) }
         ensures calm { OnOk result ((W.counts sink.new).failures ≡ (W.counts sink.old).failures) }

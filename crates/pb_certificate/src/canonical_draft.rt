@@ -20,7 +20,7 @@ impl<'a> CanonicalDraft<'a> {
     ghost use Rattle.pb_election.specs.Text.{IsElection};
     ghost use Rattle.pb_certificate.specs.Canon.{Canon};
     ghost use Rattle.pb_certificate.specs.Inside.CanonicalDrafts.{HasWritten};
-    ghost use Rattle.pb_certificate.specs.Prices.{Fits, Prices};
+    ghost use Rattle.pb_certificate.specs.Prices.{Prices, PricesFit};
 
     /// The head alone.
     pub fn new(
@@ -39,7 +39,7 @@ impl<'a> CanonicalDraft<'a> {
 
     /// The text, which has the rows of all voters.
     pub fn into_text(self) -> Result<Vec<u8>, AllocError>
-        ensures { (e : Instance) (p : Prices) → HasWritten self.entry e p → Fits p e → IfOk result (λ text. text.items ≡ Canon e p) }
+        ensures { (e : Instance) (p : Prices) → HasWritten self.entry e p → PricesFit p e → IfOk result (λ text. text.items ≡ Canon e p) }
     {
         let CanonicalDraft {
             election: _,

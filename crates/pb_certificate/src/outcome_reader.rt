@@ -1,6 +1,6 @@
 //! Outcome files.
 ghost use Rattle.std.specs.Prelude.{◌≡◌, ◌⊎◌, Bool, List, IfOk, IfErr, MatchResult};
-ghost use Rattle.pb_election.specs.Outcome.{Fits, funds};
+ghost use Rattle.pb_election.specs.Outcome.{OutcomeFits, funds};
 ghost use Rattle.pb_certificate.specs.Faults.{Refuses, certificate_records, no_memory, outcome_form};
 ghost use Rattle.pb_certificate.specs.OutcomeText.{IsOutcomeText};
 
@@ -22,7 +22,7 @@ pub fn read_outcome(
 ) -> Result<Outcome, CertRefusal>
     ensures found { IfOk result (λ w. IsOutcomeText (certificate_records bytes.now) election.now w.marks) }
     ensures funds { IfOk result (λ w. w ≡ funds w.marks election.now) }
-    ensures fits { IfOk result (λ w. Fits w election.now) }
+    ensures fits { IfOk result (λ w. OutcomeFits w election.now) }
     ensures refused { IfErr result (λ r. (r ≡ no_memory) ⊎ Refuses (outcome_form election.now) bytes.now r) }
 
     // Where the bytes state an outcome, that one is answered, memory aside.

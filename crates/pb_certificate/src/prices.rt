@@ -2,7 +2,7 @@
 ghost use Rattle.std.specs.Prelude.{◌≡◌, ◌≤◌, ◌↔◌, ◌⊎◌, IsTrue, IfOk, IfErr, MatchResult, length};
 ghost use Rattle.pb_certificate.specs.Faults.{Refuses, certificate_records, no_memory, price_form};
 ghost use Rattle.pb_certificate.specs.Prices as spec;
-ghost use Rattle.pb_certificate.specs.Prices.{ArePrices, Fits, IsPaymentMap, IsPriceSystem, most_denominator, most_numerator};
+ghost use Rattle.pb_certificate.specs.Prices.{ArePrices, IsPaymentMap, IsPriceSystem, PricesFit, most_denominator, most_numerator};
 ghost use Rattle.pb_certificate.specs.PriceText.{IsPriceText};
 
 use crate::gathering::gather;
@@ -134,7 +134,7 @@ impl Prices {
 
     /// Whether these prices are for as many voters and projects as the election has.
     pub fn fits(&self, election: &Election) -> bool
-        ensures { IsTrue result ↔ Fits self.now election.now }
+        ensures { IsTrue result ↔ PricesFit self.now election.now }
     {
         self.payments.len() == election.voters() as usize && self.projects == election.projects()
     }

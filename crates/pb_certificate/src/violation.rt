@@ -1,7 +1,7 @@
 //! Violation certificates.
 ghost use Rattle.std.specs.Prelude.{◌≡◌, ◌↔◌, ◌⊎◌, ℕ, List, IsTrue, IfOk, IfErr, MatchResult, length};
 ghost use Rattle.pb_election.specs.Instance.{IsSet, projects, voters};
-ghost use Rattle.pb_certificate.specs.Claim.{Fits};
+ghost use Rattle.pb_certificate.specs.Claim.{ClaimFits};
 ghost use Rattle.pb_certificate.specs.Faults.{Refuses, certificate_records, no_memory, violation_form};
 ghost use Rattle.pb_certificate.specs.ViolationText.{IsViolationText};
 ghost use Rattle.pb_certificate.specs.Inside.Marks.{marked};
@@ -47,7 +47,7 @@ impl Violation {
     /// number or `project` with a project's id, in any order and none twice.
     pub fn read(alloc: Global, bytes: &[u8], election: &Election) -> Result<Violation, CertRefusal>
         ensures found { IfOk result (λ v. IsViolationText (certificate_records bytes.now) election.now v.measure v.group v.demand) }
-        ensures fits { IfOk result (λ v. Fits v election.now) }
+        ensures fits { IfOk result (λ v. ClaimFits v election.now) }
         ensures refused { IfErr result (λ r. (r ≡ no_memory) ⊎ Refuses (violation_form election.now) bytes.now r) }
 
         // Where the bytes state a measure, a group and a demand, those are answered, memory aside.
@@ -76,7 +76,7 @@ impl Violation {
         ensures measure { IfOk result (λ v. v.measure ≡ draft.now.measure) }
         ensures group { IfOk result (λ v. v.group ≡ marked draft.now.group.items) }
         ensures demand { IfOk result (λ v. v.demand ≡ marked draft.now.demand.items) }
-        ensures fits { IfOk result (λ v. Fits v election.now) }
+        ensures fits { IfOk result (λ v. ClaimFits v election.now) }
     {
         let voters = election.voters();
         let projects = election.projects();
@@ -116,7 +116,7 @@ impl Violation {
 
     /// Whether this is a claim on as many voters and projects as the election has.
     pub fn fits(&self, election: &Election) -> bool
-        ensures { IsTrue result ↔ Fits self.now election.now }
+        ensures { IsTrue result ↔ ClaimFits self.now election.now }
     {
         self.voters == election.voters() && self.projects == election.projects()
     }

@@ -8,6 +8,8 @@ use Rattle.std.proofs.lemmas.List.Concat.{length-flat_map}
 use Rattle.std.proofs.lemmas.List.Elements.{filter-append}
 use Rattle.std.proofs.lemmas.List.Filters.{length-filter_both, length-filter_more}
 use Rattle.std.proofs.lemmas.List.Sums.{sum_by-cons}
+use Rattle.std.proofs.Math.Bool.{and_comm}
+use Rattle.pb_records.proofs.Lists.{filter-same}
 use Rattle.pb_election.specs.Instance.{Instance, IsSet, approves, ballot_of, cost_of_all, projects}
 use Rattle.pb_election.specs.Text.{IsElection}
 use Rattle.pb_cohesion.specs.Amounts.{largest_by}
@@ -17,24 +19,19 @@ use Rattle.pb_cohesion.specs.Groups.{gets, sat}
 use Rattle.pb_cohesion.specs.declared.MissingApprovals.{MissingApprovals}
 use Rattle.pb_cohesion.specs.declared.SatisfiedMembers.{SatisfiedMembers}
 use Rattle.pb_cohesion.specs.declared.ViolationFindings.{ViolationFindings}
-use Rattle.pb_cohesion.proofs.Ballots.{filter-same, set-is}
+use Rattle.pb_cohesion.proofs.Ballots.{set-is}
 use Rattle.pb_cohesion.proofs.Culprits.{filter-filter}
 use Rattle.pb_cohesion.proofs.Loops.{set-length}
 use Rattle.pb_cohesion.proofs.Sums.{among}
 
 -- what two sets have in common
-and-turned : (a b : Bool) → (a && b) ≡ (b && a)
-and-turned true true = refl
-and-turned true false = refl
-and-turned false true = refl
-and-turned false false = refl
 
 common : (n : ℕ) (s t : List ℕ) → IsSet 1 n s → IsSet 1 n t → filter (among t) s ≡ filter (among s) t
 common n s t hs ht =
     ap (filter (among t)) (sym (set-is n 1 n s (omega arith) hs))
     ∙ filter-filter (among t) (among s) (range_with_len 1 n)
     ∙ filter-same (λ j. among s j && among t j) (λ j. among t j && among s j) n 1
-    (λ j low high. and-turned (among s j) (among t j))
+    (λ j low high. and_comm (among s j) (among t j))
     ∙ sym (filter-filter (among s) (among t) (range_with_len 1 n))
     ∙ ap (filter (among s)) (set-is n 1 n t (omega arith) ht)
 
@@ -73,11 +70,9 @@ few-missing e i t n sound set is =
     omega (arith, sound.few_projects, length-filter_both (approves e i) (λ j. not (approves e i j)) (λ j. refl) t)
 
 -- the pairs of a member and a project are as many as the projects of all members
-abbrev pair : ℕ → ℕ → ℕ × ℕ
-pair i j = (i, j)
 
-abbrev with_voter : Instance → List ℕ → ℕ → List (ℕ × ℕ)
-with_voter e t i = map (λ j. pair i j) (filter (λ j. not (approves e i j)) t)
+abbrev pub with_voter : Instance → List ℕ → ℕ → List (ℕ × ℕ)
+with_voter e t i = map (λ j. (i, j)) (filter (λ j. not (approves e i j)) t)
 
 pub pairs-are : (e : Instance) (s t : List ℕ)
     → sum_by (λ i. length (filter (λ j. not (approves e i j)) t)) s ≡ length (culprits_of_V2 e s t)
@@ -90,7 +85,7 @@ pairs-are e s t = sums s ∙ sym (length-flat_map (with_voter e t) s)
         omega (
           arith,
           sums xs,
-          length-map (filter (λ j. not (approves e x j)) t) (λ j. pair x j),
+          length-map {B = ℕ × ℕ} (filter (λ j. not (approves e x j)) t) (λ j. (x, j)),
           sum_by-cons (λ i. length (filter (λ j. not (approves e i j)) t)) x xs,
           sum_by-cons (λ i. length (with_voter e t i)) x xs,
         )

@@ -2,6 +2,7 @@
 use Rattle.std.proofs.Common.{◌≡◌, ℕ, zero, suc, ◌+◌, ◌<◌, ◌≤◌, Bool, true, false, cond, List, [], ◌∷◌, ◌++◌, length, get_or, take, refl, ◌∙◌, ap, arith}
 use Rattle.std.specs.Prelude.{Option, Some, None, filter, flat_map, map, slice_get}
 use Rattle.std.specs.List.{range_with_len}
+use Rattle.pb_records.proofs.Lists.{range-push}
 use Rattle.pb_cohesion.proofs.Culprits.{append-nil, nil-append}
 
 -- the first element of two lists joined is that of the first list, where this is not empty
@@ -91,10 +92,5 @@ take-range (suc k) zero a h = absurd (omega arith)
 take-range (suc k) (suc n) a h = ap (λ xs. a ∷ xs) (take-range k n (a + 1) (omega arith))
 
 -- a range with one more number
-range-suc : (n a : ℕ) → range_with_len a (suc n) ≡ range_with_len a n ++ ((a + n) ∷ [])
-range-suc zero a = let is : a ≡ a + 0 = omega arith in ap (λ k. k ∷ []) is
-range-suc (suc n) a = let is : (a + 1) + n ≡ a + suc n = omega arith in
-    ap (λ xs. a ∷ xs) (range-suc n (a + 1) ∙ ap (λ k. range_with_len (a + 1) n ++ (k ∷ [])) is)
-
 pub range-next : (n a : ℕ) → range_with_len a (n + 1) ≡ range_with_len a n ++ ((a + n) ∷ [])
-range-next n a = let next : n + 1 ≡ suc n = omega arith in ap (λ m. range_with_len a m) next ∙ range-suc n a
+range-next n a = let next : n + 1 ≡ suc n = omega arith in ap (λ m. range_with_len a m) next ∙ range-push a n

@@ -6,6 +6,7 @@ use Rattle.std.proofs.lemmas.Bool.{cases_Bool, cases_lt}
 use Rattle.std.proofs.lemmas.List.Elements.{recursion_from_All}
 use Rattle.std.proofs.lemmas.List.Sums.{sum_by-cons}
 use Rattle.std.proofs.Math.Nat.{lt_of_mul-lt-mul_left, mul-le-mul_right, mul-lt-mul_of_pos_left, mul_assoc, mul_comm, mul_left_comm}
+use Rattle.pb_records.proofs.Each.{all-both, all-every, all-weaker}
 use Rattle.pb_election.specs.Instance.{Approves, Instance, IsProject, IsVoter, all_projects, approves, cost_of, cost_of_all, projects, voters}
 use Rattle.pb_certificate.specs.Prices.{Prices}
 use Rattle.pb_cohesion.specs.Amounts.{beta, cost, paid, pays, spent, top}
@@ -15,7 +16,7 @@ use Rattle.pb_cohesion.specs.Conditions.{C1, C3, C4, Cover, S5}
 use Rattle.pb_cohesion.specs.Groups.{AreProjects, IsGroup, Violates, gets, sat}
 use Rattle.pb_cohesion.specs.Satisfactions.{by_count}
 use Rattle.pb_cohesion.proofs.Sums.{all-among, among, at, range-le, range-same, sum-add, sum-const, sum-exchange, sum-filter, sum-le, sum-mul, sum-same, sum-set, where_passes}
-use Rattle.pb_cohesion.proofs.Sets.{all-both, all-every, all-weaker, largest-at, set-all, set-le-range}
+use Rattle.pb_cohesion.proofs.Sets.{largest-at, set-all, set-le-range}
 use Rattle.pb_cohesion.proofs.Plain.{left_ℕ}
 use Rattle.pb_cohesion.proofs.Stable.{group-offers, most_ℕ}
 use Rattle.pb_cohesion.proofs.Reaches.{pays-none, pays-wasted}

@@ -4,6 +4,7 @@ use Rattle.std.specs.Prelude.{pos, ◌-ℤ◌, ◌≤ℤ◌, Contains, sum_by, i
 use Rattle.std.proofs.lemmas.Int.{ints}
 use Rattle.std.proofs.lemmas.List.Elements.{All-contains, All-filter, All-from_recursion, filter_passes, recursion_from_All}
 use Rattle.std.proofs.lemmas.Bool.{cases_Bool, cases_lt}
+use Rattle.pb_records.proofs.Each.{all-every, all-weaker}
 use Rattle.pb_election.specs.Instance.{Instance, IsProject, IsVoter, all_projects, projects, supporters, voters}
 use Rattle.pb_certificate.specs.Prices.{Prices}
 use Rattle.pb_cohesion.specs.Amounts.{beta, cost, paid, pays, spent, top}
@@ -12,7 +13,7 @@ use Rattle.pb_cohesion.specs.Outcome.{IsUnfunded, unfunded}
 use Rattle.pb_cohesion.specs.Conditions.{C4, S5, culprits_of_S5, most_of, sum_ℤ}
 use Rattle.pb_cohesion.specs.Groups.{Blocks, IsGroupWithin, Offer}
 use Rattle.pb_cohesion.proofs.Sums.{range-le, sum-le, sum-zero}
-use Rattle.pb_cohesion.proofs.Sets.{all-every, all-weaker, largest-at, largest-reached, set-all, term-le}
+use Rattle.pb_cohesion.proofs.Sets.{largest-at, largest-reached, set-all, term-le}
 use Rattle.pb_cohesion.proofs.Amounts.{le-pos, lt-pos, max-is, pos-le, sum_ℤ-is}
 use Rattle.pb_cohesion.proofs.Plain.{group-le, left_ℕ, supporters-group, unfunded-all}
 

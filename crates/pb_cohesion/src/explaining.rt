@@ -3,9 +3,9 @@
 ghost use Rattle.std.specs.Prelude.{◌≡◌, ◌≤◌, ◌+◌, if◌then◌else◌, Some, None, filter, is_some, length, max, not};
 ghost use Rattle.std.specs.Option.{option_or};
 ghost use Rattle.pb_election.specs.Instance.{IsVoter, approves, most_voters};
-ghost use Rattle.pb_election.specs.Outcome.{Fits, most_total};
+ghost use Rattle.pb_election.specs.Outcome.{OutcomeFits, most_total};
 ghost use Rattle.pb_election.specs.Text.{IsElection};
-ghost use Rattle.pb_certificate.specs.Claim as claim;
+ghost use Rattle.pb_certificate.specs.Claim.{ClaimFits};
 ghost use Rattle.pb_cohesion.specs.FirstV.{culprits_of_V2};
 ghost use Rattle.pb_cohesion.specs.Groups.{AreProjects, IsGroup};
 ghost use Rattle.pb_cohesion.specs.ViolationFindings as spec;
@@ -24,8 +24,8 @@ pub fn violation_findings<S: Satisfaction>(
     violation: &Violation,
     satisfaction: &S,
 ) -> ViolationFindings
-    requires outcome { Fits outcome.now election.now }
-    requires violation { claim.Fits violation.now election.now }
+    requires outcome { OutcomeFits outcome.now election.now }
+    requires violation { ClaimFits violation.now election.now }
     ensures value { result ≡ spec.violation_findings (S.meaning satisfaction.now election.now) election.now (outcome.now).marks (violation.now).group (violation.now).demand }
     ensures small { result.cost ≤ most_total }
 {
@@ -88,7 +88,7 @@ fn satisfied_members<S: Satisfaction>(
     demanded: u128,
 ) -> (SatisfiedMembers, u128)
     requires sound { IsElection election.now }
-    requires outcome { Fits outcome.now election.now }
+    requires outcome { OutcomeFits outcome.now election.now }
     requires group { IsGroup election.now group.now }
     ensures members { result.0 ≡ spec.satisfied_members (spec.satisfied_by demanded (spec.worth_to (S.meaning satisfaction.now election.now) election.now (outcome.now).marks) group.now) }
     ensures shown { result.1 ≡ spec.shown_by demanded (spec.worth_to (S.meaning satisfaction.now election.now) election.now (outcome.now).marks) group.now }

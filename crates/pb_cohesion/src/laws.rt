@@ -2,7 +2,7 @@
 
 ghost use Rattle.std.specs.Prelude.{◌≡◌, ◌≤◌, ◌⊎◌, ◌↔◌, ◌≤ℤ◌, [], ℕ, pos, Bool, Contains, List, filter, sum_by, None};
 ghost use Rattle.pb_election.specs.Instance.{Instance, all_projects, all_voters};
-ghost use Rattle.pb_election.specs.Outcome.{Fits, funds};
+ghost use Rattle.pb_election.specs.Outcome.{OutcomeFits, funds};
 ghost use Rattle.pb_election.specs.Text.{IsElection};
 ghost use Rattle.pb_certificate.specs.Prices.{Prices};
 ghost use Rattle.pb_cohesion.specs.Amounts.{paid, spent};
@@ -15,7 +15,7 @@ ghost use Rattle.pb_cohesion.specs.ViolationFindings.{TellWhichTestsHold, violat
 
 /// The total of an outcome is what its funded projects cost, where the instance is an election or the outcome fits it.
 pub fn outcomes_cost_their_projects()
-    ensures { (e : Instance) (w : List Bool) → (IsElection e ⊎ Fits (funds w e) e) → (funds w e).total ≡ total e w }
+    ensures { (e : Instance) (w : List Bool) → (IsElection e ⊎ OutcomeFits (funds w e) e) → (funds w e).total ≡ total e w }
 {}
 
 /// The sum over a part of a list is at most the sum over the list.

@@ -3,8 +3,8 @@
 ghost use Rattle.std.specs.Prelude.{◌≡◌, ◌↔◌, ◌*◌, filter, length, nat_le, nat_lt, not, slice_get};
 ghost use Rattle.pb_election.specs.Instance as spec;
 ghost use Rattle.pb_election.specs.Instance.{IsVoter, approves};
-ghost use Rattle.pb_election.specs.Outcome.{Fits};
-ghost use Rattle.pb_certificate.specs.Claim as claim;
+ghost use Rattle.pb_election.specs.Outcome.{OutcomeFits};
+ghost use Rattle.pb_certificate.specs.Claim.{ClaimFits};
 ghost use Rattle.pb_cohesion.specs.FirstV.{FirstV, culprits_of_V2, violation_verdict_of};
 ghost use Rattle.pb_cohesion.specs.Groups.{AreProjects, IsGroup, Violates, gets, sat};
 
@@ -21,8 +21,8 @@ pub fn check_violation<S: Satisfaction>(
     violation: &Violation,
     satisfaction: &S,
 ) -> ViolationVerdict
-    requires outcome { Fits outcome.now election.now }
-    requires violation { claim.Fits violation.now election.now }
+    requires outcome { OutcomeFits outcome.now election.now }
+    requires violation { ClaimFits violation.now election.now }
     ensures first { result ≡ violation_verdict_of (FirstV (S.meaning satisfaction.now election.now) election.now (outcome.now).marks (violation.now).group (violation.now).demand) }
     ensures violation { (result ≡ ViolationVerdict.Violation) ↔ Violates (S.meaning satisfaction.now election.now) election.now (outcome.now).marks (violation.now).group (violation.now).demand }
 {
@@ -38,8 +38,8 @@ fn first_failure<S: Satisfaction>(
     violation: &Violation,
     satisfaction: &S,
 ) -> Option<ViolationFailure>
-    requires outcome { Fits outcome.now election.now }
-    requires violation { claim.Fits violation.now election.now }
+    requires outcome { OutcomeFits outcome.now election.now }
+    requires violation { ClaimFits violation.now election.now }
     ensures { result ≡ FirstV (S.meaning satisfaction.now election.now) election.now (outcome.now).marks (violation.now).group (violation.now).demand }
 {
     let group = violation.group();
@@ -108,7 +108,7 @@ fn first_satisfied<S: Satisfaction>(
     group: &[u32],
     demanded: u128,
 ) -> Option<u32>
-    requires outcome { Fits outcome.now election.now }
+    requires outcome { OutcomeFits outcome.now election.now }
     requires group { IsGroup election.now group.now }
     ensures { result ≡ slice_get (filter (λ i. nat_le demanded (sat (S.meaning satisfaction.now election.now) (gets election.now (outcome.now).marks i))) group.now) 0 }
 {

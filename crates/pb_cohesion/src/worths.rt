@@ -3,7 +3,7 @@
 ghost use Rattle.std.specs.Prelude.{◌≡◌, ◌≤◌, ◌*◌, filter, length};
 ghost use Rattle.pb_money.specs.Money.{most_money};
 ghost use Rattle.pb_election.specs.Instance as spec;
-ghost use Rattle.pb_election.specs.Outcome.{Fits, has};
+ghost use Rattle.pb_election.specs.Outcome.{OutcomeFits, has};
 ghost use Rattle.pb_cohesion.specs.Groups.{AreProjects, sat};
 
 use crate::Satisfaction;
@@ -46,7 +46,7 @@ pub(crate) fn worth_of_funded<S: Satisfaction>(
     satisfaction: &S,
     projects: &[u32],
 ) -> u128
-    requires outcome { Fits outcome.now election.now }
+    requires outcome { OutcomeFits outcome.now election.now }
     requires projects { AreProjects election.now projects.now }
     ensures value { result ≡ sat (S.meaning satisfaction.now election.now) (filter (has (outcome.now).marks) projects.now) }
     ensures small { result ≤ length projects.now * most_money }

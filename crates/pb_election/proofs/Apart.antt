@@ -1,6 +1,6 @@
 -- In the text of an election no fault stands anywhere.
 use Rattle.std.proofs.Common.{◌≡◌, ◌≤◌, ◌∙◌, ◌+◌, ◌++◌, ℕ, suc, zero, List, [], ◌∷◌, refl, sym, ap, subst, arith, inl, inr, true, false, Option, Some, None, append_assoc, append-nil, length, length-append, take, drop}
-use Rattle.std.specs.Prelude.{IsTrue, IsSomeAnd, count_by, not, slice_get}
+use Rattle.std.specs.Prelude.{IsTrue, IsSomeAnd, not, slice_get}
 use Rattle.std.specs.List.{AllByRecursion, list_any}
 use Rattle.std.specs.Option.{option_map_or}
 use Rattle.std.proofs.lemmas.Bool.{cases_Bool}
@@ -9,6 +9,7 @@ use Rattle.std.proofs.lemmas.List.Elements.{filter-append}
 use Rattle.std.proofs.lemmas.List.Sums.{sum_by-append}
 use Rattle.pb_money.specs.Money.{IsMoney}
 use Rattle.pb_records.specs.Records.{Field, Rec}
+use Rattle.pb_records.proofs.Each.{all-front}
 use Rattle.pb_election.specs.Instance.{Instance, approvals}
 use Rattle.pb_election.specs.declared.refusal.ElectionFault.{ElectionFault}
 use Rattle.pb_election.specs.declared.columns.Columns.{Columns}
@@ -28,15 +29,12 @@ use Rattle.pb_election.proofs.FoundParts.{behind, behind-here, found, past, up-a
 use Rattle.pb_election.proofs.Distinct.{distinct-at}
 use Rattle.pb_election.proofs.KeyLemmas.{key-new, key-there, stated_value-here}
 use Rattle.pb_election.proofs.Clear.{clear-end, clear-first, clear-header, clear-meta-row, clear-project-row, clear-projects, clear-vote-row, clear-votes, is-money}
-use Rattle.pb_election.proofs.Spots.{at_header, at_marker, at_row, at-place, count-append, count-behind, in_rest, past-end, role-header, role-rows, spot}
+use Rattle.pb_election.proofs.Spots.{at_header, at_marker, at_row, at-place, in_rest, past-end, role-header, role-rows, spot}
+use Rattle.pb_election.proofs.BeginningLemmas.{count-part, count-two}
 
 all-at : (P : Rec → Type 0) (xs : List Rec) (r : Rec) (zs : List Rec) → AllByRecursion P (xs ++ r ∷ zs) → P r
 all-at P [] r zs h = h.0
 all-at P (x ∷ xs) r zs h = all-at P xs r zs h.1
-
-all-front : (P : Rec → Type 0) (xs zs : List Rec) → AllByRecursion P (xs ++ zs) → AllByRecursion P xs
-all-front P [] zs h = tt
-all-front P (x ∷ xs) zs h = (h.0, all-front P xs zs h.1)
 
 -- the value of a stated key at its row
 value-at : (key : Key) (P : Field → Type 0) (xs : List Rec) (r : Rec) (zs : List Rec) → EachKeyOnce (xs ++ r ∷ zs)
@@ -44,12 +42,6 @@ value-at : (key : Key) (P : Field → Type 0) (xs : List Rec) (r : Rec) (zs : Li
 value-at key P xs r zs once s has = rw (stated_value-here key xs r zs once has) at s
 
 module _ (a b c : Part) (ha : IsPart Meta a) (hb : IsPart Projects b) (hc : IsPart Votes c) where
-  count-a : (s : Section) (x : Part) → IsPart s x → count_by is_marker (part_records x) ≡ 1
-  count-a s x h = count-behind s x.marker (behind x) h.marker h.others
-
-  count-two : count_by is_marker (part_records a ++ part_records b) ≡ 2
-  count-two = omega (arith, count-append (part_records a) (part_records b), count-a Meta a ha, count-a Projects b hb)
-
   -- among the rows of META
   found-a : (xs zs : List Rec) → a.rows ≡ xs ++ zs → found Meta (a.marker ∷ a.header ∷ xs) ≡ a.header ∷ xs
   found-a xs zs e =
@@ -140,7 +132,7 @@ module _ (a b c : Part) (ha : IsPart Meta a) (hb : IsPart Projects b) (hc : IsPa
       let role : role_of before ≡ Inside Projects =
       role-rows (part_records a) Projects b.marker b.header xs hb.marker
       (hb.others.0, all-front (λ r. marker_of r ≡ None) xs (r ∷ zs) (rw e at hb.others.1))
-      ∙ rw (count-a Meta a ha) refl
+      ∙ rw (count-part Meta a ha) refl
       in
       let cols : columns_of (header_of Projects before) ≡ columns = ap (λ l. columns_of (first_of l)) f in
       let rows : rows_of Projects before ≡ xs = ap rest_of f in
@@ -166,7 +158,7 @@ module _ (a b c : Part) (ha : IsPart Meta a) (hb : IsPart Projects b) (hc : IsPa
   votes-marker t =
       let role : role_of (part_records a ++ part_records b) ≡ Inside Projects =
       role-rows (part_records a) Projects b.marker b.header b.rows hb.marker hb.others
-      ∙ rw (count-a Meta a ha) refl in
+      ∙ rw (count-part Meta a ha) refl in
       clear-votes (before_of (part_records a ++ part_records b)) c.marker role t hc.marker
 
   role-c : (xs zs : List Rec) → c.rows ≡ xs ++ zs
@@ -174,7 +166,7 @@ module _ (a b c : Part) (ha : IsPart Meta a) (hb : IsPart Projects b) (hc : IsPa
   role-c xs zs e =
       rw (← append_assoc (part_records a) (part_records b) (c.marker ∷ c.header ∷ xs))
       (role-rows (part_records a ++ part_records b) Votes c.marker c.header xs hc.marker
-      (hc.others.0, all-front (λ r. marker_of r ≡ None) xs zs (rw e at hc.others.1)) ∙ rw count-two refl)
+      (hc.others.0, all-front (λ r. marker_of r ≡ None) xs zs (rw e at hc.others.1)) ∙ rw (count-two a b ha hb) refl)
 
   -- a row of VOTES
   vote-row : (xs : List Rec) (r : Rec) (zs : List Rec)
@@ -249,7 +241,7 @@ clear-votes-part a b c w more r left h t =
           let role : role_of (part_records a ++ (part_records b ++ (c.marker ∷ []))) ≡ Header Votes =
           rw (← append_assoc (part_records a) (part_records b) (c.marker ∷ []))
           (role-header (part_records a ++ part_records b) Votes c.marker w.votes.marker
-          ∙ rw (count-two a b c w.meta w.projects w.votes) refl)
+          ∙ rw (count-two a b w.meta w.projects) refl)
           in
           rw (e, m)
           (header-place (part_records a ++ (part_records b ++ (c.marker ∷ []))) Votes c.header role (rw m at t)
@@ -273,7 +265,7 @@ clear-projects-part a b c w more r left h t =
       | at_header e m ↦
           let role : role_of (part_records a ++ (b.marker ∷ [])) ≡ Header Projects =
           role-header (part_records a) Projects b.marker w.projects.marker
-          ∙ rw (count-a a b c w.meta w.projects w.votes Meta a w.meta) refl
+          ∙ rw (count-part Meta a w.meta) refl
           in
           rw (e, m)
           (header-place (part_records a ++ (b.marker ∷ [])) Projects b.header role (rw m at t) w.projects.others.0

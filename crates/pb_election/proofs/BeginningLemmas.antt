@@ -63,10 +63,10 @@ found-past s t a rest h d = ap up_to_marker (past s a t rest h d)
 is-mark : (s : Section) (r : Rec) → marker_of r ≡ Some s → is_marker r ≡ true
 is-mark s r e = rw e refl
 
-count-part : (s : Section) (a : Part) → IsPart s a → count_by is_marker (part_records a) ≡ 1
+pub count-part : (s : Section) (a : Part) → IsPart s a → count_by is_marker (part_records a) ≡ 1
 count-part s a h = count-behind s a.marker (behind a) h.marker h.others
 
-count-two : (a b : Part) → IsPart Meta a → IsPart Projects b → count_by is_marker (part_records a ++ part_records b) ≡ 2
+pub count-two : (a b : Part) → IsPart Meta a → IsPart Projects b → count_by is_marker (part_records a ++ part_records b) ≡ 2
 count-two a b h k =
     omega (arith, count-append (part_records a) (part_records b), count-part Meta a h, count-part Projects b k)
 

@@ -1,6 +1,6 @@
 -- Where columns of a name stand, and how many there are.
 use Rattle.std.proofs.Common.{◌≡◌, ◌≤◌, ◌∙◌, ◌+◌, ◌-◌, ℕ, zero, suc, [], ◌∷◌, refl, sym, ap, arith, add-one, inl, inr, Bool, true, false, Some, None, drop}
-use Rattle.std.specs.Prelude.{◌==◌, count_by, if◌then◌else◌, is_none, is_some, nat_lt}
+use Rattle.std.specs.Prelude.{◌==◌, Option, count_by, if◌then◌else◌, is_none, is_some, nat_lt, not}
 use Rattle.std.specs.List.{position_from}
 use Rattle.std.proofs.lemmas.Bool.{cases_Bool}
 use Rattle.std.proofs.lemmas.Bool.Decides.{nat_tests}
@@ -30,26 +30,37 @@ column-behind p fs i f e h = rw (add-one i) (rw (drop-at fs i f e, h, add-one i)
 pub column-none : (p : Field → Bool) (fs : Rec) (i : ℕ) → field_at fs i ≡ None → position_from p i (drop i fs) ≡ None
 column-none p fs i e = rw (field-none fs i e) refl
 
--- a column is missing exactly where none is found
-pub missing-is : (p : Field → Bool) (n : ℕ) (xs : Rec) → is_none (position_from p n xs) ≡ (count_by p xs == 0)
-missing-is p n [] = refl
-missing-is p n (x ∷ xs) =
+-- a column is found exactly where there is one
+some-is : (p : Field → Bool) (n : ℕ) (xs : Rec) → is_some (position_from p n xs) ≡ nat_lt 0 (count_by p xs)
+some-is p n [] = refl
+some-is p n (x ∷ xs) =
     elim (cases_Bool (p x)) [
       | inl e ↦
           let one : count_by p (x ∷ []) ≡ 1 = rw e refl in
-          let some : (count_by p (x ∷ xs) == 0) ≡ false =
+          let some : nat_lt 0 (count_by p (x ∷ xs)) ≡ true =
           positive (count_by p (x ∷ xs)) (count_by p xs) (omega (arith, count-cons p x xs, one)) in
-          let found : is_none (position_from p n (x ∷ xs)) ≡ false = rw e refl in
+          let found : is_some (position_from p n (x ∷ xs)) ≡ true = rw e refl in
           found ∙ sym some
       | inr e ↦
           let none : count_by p (x ∷ []) ≡ 0 = rw e refl in
           let same : count_by p (x ∷ xs) ≡ count_by p xs = omega (arith, count-cons p x xs, none) in
-          let on : is_none (position_from p n (x ∷ xs)) ≡ is_none (position_from p (n + 1) xs) = rw e refl in
-          on ∙ missing-is p (n + 1) xs ∙ ap (λ m. m == 0) (sym same)
+          let on : is_some (position_from p n (x ∷ xs)) ≡ is_some (position_from p (n + 1) xs) = rw e refl in
+          on ∙ some-is p (n + 1) xs ∙ ap (λ m. nat_lt 0 m) (sym same)
     ]
   where
-    positive : (m n : ℕ) → m ≡ 1 + n → (m == 0) ≡ false
+    positive : (m n : ℕ) → m ≡ 1 + n → nat_lt 0 m ≡ true
     positive m n e = grind (arith, nat_tests)
+
+pub missing-is : (p : Field → Bool) (n : ℕ) (xs : Rec) → is_none (position_from p n xs) ≡ (count_by p xs == 0)
+missing-is p n xs = none-is (position_from p n xs) ∙ ap not (some-is p n xs) ∙ zero-is (count_by p xs)
+  where
+    none-is : (o : Option ℕ) → is_none o ≡ not (is_some o)
+    none-is None = refl
+    none-is (Some k) = refl
+
+    zero-is : (m : ℕ) → not (nat_lt 0 m) ≡ (m == 0)
+    zero-is zero = refl
+    zero-is (suc m) = grind (arith, nat_tests)
 
 -- a column is repeated exactly where one is found behind the first
 pub repeated-is : (p : Field → Bool) (n k : ℕ) (xs : Rec) → position_from p n xs ≡ Some k
@@ -77,26 +88,6 @@ repeated-is p n k (x ∷ xs) e =
           (omega (arith, rest.0), on ∙ rest.1 ∙ ap (λ m. nat_lt 1 m) (sym same))
     ]
   where
-    positive : (m n : ℕ) → m ≡ 1 + n → nat_lt 0 m ≡ true
-    positive m n e = grind (arith, nat_tests)
-
-    some-is : (p : Field → Bool) (n : ℕ) (xs : Rec) → is_some (position_from p n xs) ≡ nat_lt 0 (count_by p xs)
-    some-is p n [] = refl
-    some-is p n (x ∷ xs) =
-        elim (cases_Bool (p x)) [
-          | inl e ↦
-              let one : count_by p (x ∷ []) ≡ 1 = rw e refl in
-              let some : nat_lt 0 (count_by p (x ∷ xs)) ≡ true =
-              positive (count_by p (x ∷ xs)) (count_by p xs) (omega (arith, count-cons p x xs, one)) in
-              let found : is_some (position_from p n (x ∷ xs)) ≡ true = rw e refl in
-              found ∙ sym some
-          | inr e ↦
-              let none : count_by p (x ∷ []) ≡ 0 = rw e refl in
-              let same : count_by p (x ∷ xs) ≡ count_by p xs = omega (arith, count-cons p x xs, none) in
-              let on : is_some (position_from p n (x ∷ xs)) ≡ is_some (position_from p (n + 1) xs) = rw e refl in
-              on ∙ some-is p (n + 1) xs ∙ ap (λ m. nat_lt 0 m) (sym same)
-        ]
-
     more : (m n : ℕ) → m ≡ 1 + n → nat_lt 0 n ≡ nat_lt 1 m
     more m n e = grind (arith, nat_tests)
 

@@ -1,10 +1,10 @@
 -- A beginning and one more record, at which no fault stands.
 use Rattle.std.proofs.Common.{◌≡◌, ◌≤◌, ◌∙◌, ◌+◌, ◌++◌, ℕ, List, [], ◌∷◌, refl, sym, arith, inl, inr, Bool, true, false, Option, Some, None, append_assoc, length, length-append, zero-add}
 use Rattle.std.specs.Prelude.{IfSome, IsSomeAnd, IsTrue, ◌||◌, count_by, find, if◌then◌else◌, is_some, Result, Ok, Err}
-use Rattle.std.specs.List.{AllByRecursion, IsDistinct, list_any}
+use Rattle.std.specs.List.{IsDistinct, list_any}
 use Rattle.std.specs.Option.{option_map, option_map_or, option_or}
 use Rattle.std.specs.Str.{bytes_eq}
-use Rattle.std.proofs.lemmas.Bool.{cases_Bool}
+use Rattle.std.proofs.lemmas.Bool.{cases_Bool, or_parts}
 use Rattle.std.proofs.lemmas.Cmp.{nat_list_eq_equiv}
 use Rattle.std.proofs.lemmas.List.{length-map, map-append}
 use Rattle.std.proofs.lemmas.List.Folds.{find-append, list_any-append}
@@ -14,6 +14,7 @@ use Rattle.pb_money.specs.Money.{IsMoney, money_of}
 use Rattle.pb_money.specs.declared.MoneyFault.{MoneyFault}
 use Rattle.pb_money.proofs.Laws.{is-money, money-value}
 use Rattle.pb_records.specs.Records.{Field, Rec}
+use Rattle.pb_records.proofs.Each.{all-push}
 use Rattle.pb_election.specs.Instance.{approvals}
 use Rattle.pb_election.specs.declared.keys.Key.{Key}
 use Rattle.pb_election.specs.declared.keys.Key.TheVariants.{Budget, NumProjects, NumVotes, VoteType}
@@ -27,7 +28,7 @@ use Rattle.pb_election.specs.Faults.{is_no_money, lowest_fault}
 use Rattle.pb_election.specs.Text.{EachKeyOnce, IsPart, Part, part_records}
 use Rattle.pb_election.specs.Inside.SoFar.{before_next, has_stood, keys_in, next}
 use Rattle.pb_election.specs.Inside.Beginnings.{Beginning, AtStart, AfterMeta, InMeta, AfterProjects, InProjects, AfterVotes, InVotes, AllMeta, Good, GoodMeta, GoodProjects, GoodVotes, so_far_of, beginning_records}
-use Rattle.pb_election.proofs.KeyLemmas.{count-append, has_stood-is, none-found, once-at, once-by, or-false}
+use Rattle.pb_election.proofs.KeyLemmas.{count-append, has_stood-is, none-found, once-at, once-by}
 use Rattle.pb_election.proofs.Taken.{taken-first, taken-header, taken-meta-row, taken-project-row, taken-projects-marker, taken-vote-row, taken-votes-marker}
 
 abbrev pub part_of : Rec → Rec → Part
@@ -80,11 +81,6 @@ no-marker r h = by (marker_of r) refl h
     by None e h = e
     by (Some s) e h = cc (rw e at h)
 
-pub all-push : (P : Rec → Type 0) (xs : List Rec) (x : Rec) → AllByRecursion P xs → P x
-    → AllByRecursion P (xs ++ (x ∷ []))
-all-push P [] x h p = (p, tt)
-all-push P (y ∷ ys) x h p = (h.0, all-push P ys x h.1 p)
-
 part-more : (s : Section) (a : Part) (r : Rec) → IsPart s a → marker_of r ≡ None → IsPart s (more a r)
 part-more s a r h e = record { marker = h.marker; others = (h.others.0, all-push _ a.rows r h.others.1 e) }
 
@@ -134,7 +130,7 @@ count-push p xs r h new =
     none-count : (xs : List Rec) → list_any p xs ≡ false → count_by p xs ≡ 0
     none-count [] k = refl
     none-count (y ∷ ys) k =
-        let o = or-false (p y) (list_any p ys) k in
+        let o = or_parts (p y) (list_any p ys) k in
         rw o.0 (none-count ys o.1)
 
 has-it : (r : Rec) (key : Key) (o : Option Key) → key_in r ≡ o → has_key key r ≡ true → o ≡ Some key

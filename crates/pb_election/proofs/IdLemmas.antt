@@ -10,11 +10,11 @@ use Rattle.std.specs.declared.string.String.{String}
 use Rattle.std.proofs.lemmas.Iterator.Adapters.{position_from-zero}
 use Rattle.std.proofs.lemmas.List.{map-append}
 use Rattle.indexmap.specs.IndexSet.{insert_key}
+use Rattle.pb_money.proofs.Numbers.{is-empty}
 use Rattle.pb_records.specs.Records.{Field}
 use Rattle.pb_election.specs.Names.{is_among}
 use Rattle.pb_election.specs.Inside.Ids.{ids_kept}
 use Rattle.pb_election.specs.Rows.{is_control, is_id}
-use Rattle.pb_records.proofs.CellLemmas.{empty-is}
 
 any-map : {A B : Type 0} (p : B → Bool) (f : A → B) (xs : List A) → list_any (λ x. p (f x)) xs ≡ list_any p (map f xs)
 any-map p f [] = refl
@@ -74,8 +74,8 @@ distinct-kept (k ∷ ks) h = (each ks h.0, distinct-kept ks h.1)
 -- whether a text may be an id
 pub id-full : (id : Field) → (length id == 0) ≡ false → is_id id ≡ not (list_any is_control id)
 unfolding is_id
-id-full id e = rw (empty-is id, e) refl
+id-full id e = rw (is-empty id, e) refl
 
 pub id-empty : (id : Field) → (length id == 0) ≡ true → is_id id ≡ false
 unfolding is_id
-id-empty id e = rw (empty-is id, e) refl
+id-empty id e = rw (is-empty id, e) refl

@@ -1,9 +1,9 @@
 -- The keys of META: a row at which no fault stands has a new one, and its value is the one that is stated.
 use Rattle.std.proofs.Common.{◌≡◌, ◌≤◌, ◌∙◌, ◌+◌, ◌++◌, List, [], ◌∷◌, refl, arith, inl, inr, Bool, true, false, Option, Some, None}
-use Rattle.std.specs.Prelude.{IsSomeAnd, ◌||◌, count_by, find, if◌then◌else◌}
+use Rattle.std.specs.Prelude.{IsSomeAnd, count_by, find, if◌then◌else◌}
 use Rattle.std.specs.List.{list_any}
 use Rattle.std.specs.Option.{option_map_or}
-use Rattle.std.proofs.lemmas.Bool.{cases_Bool}
+use Rattle.std.proofs.lemmas.Bool.{cases_Bool, or_parts}
 use Rattle.std.proofs.lemmas.List.Folds.{find-append}
 use Rattle.std.proofs.lemmas.List.Sums.{sum_by-append}
 use Rattle.pb_records.specs.Records.{Field, Rec}
@@ -15,10 +15,6 @@ use Rattle.pb_election.specs.Text.{EachKeyOnce}
 
 pub count-append : (p : Rec → Bool) (xs ys : List Rec) → count_by p (xs ++ ys) ≡ count_by p xs + count_by p ys
 count-append p xs ys = sum_by-append (λ x. if p x then 1 else 0) xs ys
-
-pub or-false : (a b : Bool) → (a || b) ≡ false → (a ≡ false) × (b ≡ false)
-or-false true b h = cc h
-or-false false b h = (refl, h)
 
 -- by the reader's own marks a key stood before exactly where some row has it
 pub has_stood-is : (rows : List Rec) (key : Key) → has_stood (keys_in rows) key ≡ list_any (has_key key) rows
@@ -68,7 +64,7 @@ none-yet p xs r zs h e =
 pub none-found : (p : Rec → Bool) (xs : List Rec) → list_any p xs ≡ false → ◌≡◌ {A = Option Rec} (find p xs) None
 none-found p [] h = refl
 none-found p (x ∷ xs) h =
-    let o = or-false (p x) (list_any p xs) h in
+    let o = or_parts (p x) (list_any p xs) h in
     rw o.0 (none-found p xs o.1)
 
 -- where each read key stands once, each row has a new key

@@ -4,16 +4,16 @@ pub mod FoundParts
 mod Clear
 mod Taken
 mod Spots
-pub mod Apart
 mod BeginningLemmas
+pub mod Apart
 mod Extends
 pub mod Reading
 pub mod Elections
 mod Totals
+pub mod Sets
 mod Sound
 mod IdLemmas
 mod ColumnLemmas
-pub mod Sets
 mod VoteLemmas
 mod Rising
 mod MarkerLemmas

@@ -1,14 +1,16 @@
 -- What has been read of some records, none of them blank and none of them at fault.
-use Rattle.std.proofs.Common.{◌≡◌, ◌≤◌, ◌<◌, ◌∙◌, ◌++◌, ℕ, suc, List, [], ◌∷◌, refl, sym, ap, arith, inl, inr, true, false, Option, Some, None, append_assoc, append-nil, length, length-append, take}
+use Rattle.std.proofs.Common.{◌≡◌, ◌≤◌, ◌<◌, ◌∙◌, ◌++◌, ℕ, suc, List, [], ◌∷◌, refl, sym, ap, arith, inl, inr, false, Option, Some, None, append_assoc, append-nil, length, length-append, take}
 use Rattle.std.proofs.lemmas.Bool.Decides.{nat_tests}
-use Rattle.std.specs.Prelude.{IfErr, IsTrue, OnOk, ◌==◌, ◌⊎◌, not, slice_get, Result, Ok, Err}
+use Rattle.std.specs.Prelude.{IfErr, IsTrue, OnOk, ◌==◌, ◌⊎◌, Result, Ok, Err}
 use Rattle.std.specs.List.{AllByRecursion}
 use Rattle.std.proofs.lemmas.Bool.{cases_Bool}
 use Rattle.std.proofs.lemmas.List.{take_all}
-use Rattle.std.proofs.lemmas.List.Elements.{filter-append}
 use Rattle.std.proofs.lemmas.Option.{slice_get_past}
 use Rattle.std.proofs.Math.Seq.{take-append_seam}
 use Rattle.pb_records.specs.Records.{Rec}
+use Rattle.pb_records.proofs.Each.{all-push}
+use Rattle.pb_records.proofs.Lists.{get-seam}
+use Rattle.pb_records.proofs.DraftProgress.{nonblank-blank, nonblank-more}
 use Rattle.pb_election.specs.Instance.{Instance}
 use Rattle.pb_records.specs.declared.drafts.Stop.{Stop}
 use Rattle.pb_records.specs.declared.drafts.Stop.TheVariants.{Fault, Memory}
@@ -22,7 +24,7 @@ use Rattle.pb_election.specs.Text.{PbText}
 use Rattle.pb_election.specs.Inside.SoFar.{SoFar, Steps, before_next, next}
 use Rattle.pb_election.specs.Inside.Beginnings.{Beginning, AtStart, AfterMeta, InMeta, AfterProjects, InProjects, AfterVotes, InVotes, Good, HasRead, so_far_of, beginning_records}
 use Rattle.pb_election.proofs.BeginningLemmas.{before-text}
-use Rattle.pb_election.proofs.Extends.{all-push, extend, extends, text-extend}
+use Rattle.pb_election.proofs.Extends.{extend, extends, text-extend}
 
 unfoldable pub read-nothing : HasRead (so_far_of AtStart) []
 read-nothing = record { beginning = AtStart; good = tt; same = refl; records = refl; text = tt }
@@ -91,17 +93,6 @@ text-of-all s recs h n =
     rw h.same (whole recs h.beginning h.good h.records h.text (rw h.same at n))
 
 -- Each list of records is the text of an election, or has a first fault.
-
-nonblank-blank : (recs : List Rec) (r : Rec) → is_blank r ≡ true → nonblank (recs ++ (r ∷ [])) ≡ nonblank recs
-nonblank-blank recs r e = filter-append (λ x. not (is_blank x)) recs (r ∷ []) ∙ rw e (append-nil (nonblank recs))
-
-nonblank-more : (recs : List Rec) (r : Rec) → is_blank r ≡ false
-    → nonblank (recs ++ (r ∷ [])) ≡ nonblank recs ++ (r ∷ [])
-nonblank-more recs r e = filter-append (λ x. not (is_blank x)) recs (r ∷ []) ∙ rw e refl
-
-get-seam : (xs ys : List Rec) (y : Rec) → slice_get (xs ++ y ∷ ys) (length xs) ≡ Some y
-get-seam [] ys y = refl
-get-seam (x ∷ xs) ys y = get-seam xs ys y
 
 fault-here : (recs taken rest : List Rec) (r : Rec) → recs ≡ taken ++ r ∷ rest
     → fault_at election_form recs (suc (length taken)) ≡ fault_after election_form taken (Some r)

@@ -1,6 +1,6 @@
 -- Rising lists of numbers, by what they hold.
 use Rattle.std.proofs.Common.{◌≡◌, ◌≢◌, ◌∙◌, ◌<◌, ◌≤◌, ◌+◌, ℕ, suc, List, [], ◌∷◌, refl, sym, ap, arith, add-one, inl, inr, Bool, true, false}
-use Rattle.std.specs.Prelude.{nat_lt, nat_eq, ◌==◌, ◌||◌, cond, filter, if◌then◌else◌, map, Option, Some}
+use Rattle.std.specs.Prelude.{nat_lt, nat_eq, ◌==◌, ◌||◌, cond, filter, if◌then◌else◌, map, Some}
 use Rattle.std.specs.List.{enumerate_from, list_any, position_from, IsDistinct, AllByRecursion}
 use Rattle.std.specs.List.Sorted.{IsStrictlyIncreasing}
 use Rattle.std.specs.Str.{bytes_eq}
@@ -16,10 +16,13 @@ use Rattle.std.proofs.lemmas.List.Kept.{Contains-dedup_nat, Contains-from_dedup}
 use Rattle.std.proofs.lemmas.List.Sorted.{list_any-IsPermutation}
 use Rattle.std.proofs.lemmas.Map.Keys.{IsStrictlyIncreasing-dedup}
 use Rattle.std.proofs.lemmas.Map.Views.{Contains-from_any, list_any-from_Contains}
+use Rattle.std.proofs.Math.Bool.{or_self_left}
 use Rattle.pb_records.specs.Records.{Field}
 use Rattle.pb_election.specs.Names.{is_among}
 use Rattle.pb_election.specs.Inside.Ids.{position_in}
 use Rattle.pb_election.specs.Rows.{positions_of}
+use Rattle.pb_election.proofs.Sets.{is-itself}
+use Rattle.pb_election.proofs.VoteLemmas.{some-is, some-on}
 
 -- whether a list holds a number
 abbrev pub has : List ℕ → ℕ → Bool
@@ -40,17 +43,14 @@ no-less n (x ∷ xs) j a h =
     let e : (j == x) ≡ false = grind (arith, nat_tests, a.0) in
     rw e (no-less (x + 1) xs j a.1 (omega (arith, a.0)))
 
-same : (j : ℕ) → (j == j) ≡ true
-same j = grind (arith, nat_tests)
-
 -- rising lists that hold the same numbers are one
 unique : (n : ℕ) (xs ys : List ℕ) → Above n xs → Above n ys → ((j : ℕ) → has xs j ≡ has ys j) → xs ≡ ys
 unique n [] [] a b h = refl
 unique n [] (y ∷ ys) a b h =
-    let e : false ≡ true = h y ∙ rw (same y) refl in
+    let e : false ≡ true = h y ∙ rw (is-itself y) refl in
     cc e
 unique n (x ∷ xs) [] a b h =
-    let e : true ≡ false = sym (rw (same x) refl) ∙ h x in
+    let e : true ≡ false = sym (rw (is-itself x) refl) ∙ h x in
     cc e
 unique n (x ∷ xs) (y ∷ ys) a b h =
     let f = unique (x + 1) xs ys in
@@ -80,12 +80,12 @@ unique n (x ∷ xs) (y ∷ ys) a b h =
       | inl l ↦
           let less : x < y = grind (arith, nat_tests) in
           let q : (x == y) ≡ false = grind (arith, nat_tests) in
-          let z : true ≡ false = sym (rw (same x) refl) ∙ h x ∙ rw (q, no-less (y + 1) ys x b.1 (omega arith)) refl in
+          let z : true ≡ false = sym (rw (is-itself x) refl) ∙ h x ∙ rw (q, no-less (y + 1) ys x b.1 (omega arith)) refl in
           cc z
       | inr l ↦
           let less : y < x = grind (arith, nat_tests) in
           let q : (y == x) ≡ false = grind (arith, nat_tests) in
-          let z : true ≡ false = sym (rw (same y) refl) ∙ sym (h y)
+          let z : true ≡ false = sym (rw (is-itself y) refl) ∙ sym (h y)
           ∙ rw (q, no-less (x + 1) xs y a.1 (omega arith)) refl in
           cc z
     ]
@@ -159,22 +159,10 @@ swap true false c = refl
 swap false true c = refl
 swap false false c = refl
 
-again : (a c : Bool) → (a || (a || c)) ≡ (a || c)
-again true c = refl
-again false c = refl
-
 all-same : (id name : Field) (ids : List Field) → bytes_eq name id ≡ true
     → AllByRecursion (λ k. bytes_eq id k ≡ false) ids → AllByRecursion (λ k. bytes_eq name k ≡ false) ids
 all-same id name [] e h = tt
 all-same id name (k ∷ ks) e h = (nat_list_eq_equiv.congr name id k e ∙ h.0, all-same id name ks e h.1)
-
-some-first : (n p : ℕ) (b : Bool) (o : Option ℕ) → b ≡ true → cond b (Some n) o ≡ Some p → p ≡ n
-some-first n p true o t e = cc e
-some-first n p false o t e = cc t
-
-some-later : (n p : ℕ) (b : Bool) (o : Option ℕ) → b ≡ false → cond b (Some n) o ≡ Some p → o ≡ Some p
-some-later n p true o t e = cc t
-some-later n p false o t e = e
 
 -- one more name adds its position
 chosen-more : (n : ℕ) (ids names : List Field) (name : Field) (p j : ℕ) → IsDistinct bytes_eq ids
@@ -187,17 +175,17 @@ chosen-more n (id ∷ ids) names name p j d h =
       | inl e ↦
           let f = is-same id name ∙ e in
           let c = chosen-other (n + 1) ids names name (all-same id name ids e d.0) in
-          let q = some-first n p (bytes_eq name id) (position_from (bytes_eq name) (n + 1) ids) e h in
+          let q = some-is n p (bytes_eq name id) (position_from (bytes_eq name) (n + 1) ids) e h in
           rw (f, c, q) (here (is_among names id))
       | inr e ↦
           let f = is-same id name ∙ e in
-          let k = some-later n p (bytes_eq name id) (position_from (bytes_eq name) (n + 1) ids) e h in
+          let k = some-on n p (bytes_eq name id) (position_from (bytes_eq name) (n + 1) ids) e h in
           rw f (there (is_among names id) (chosen-more (n + 1) ids names name p j d.1 k))
     ]
   where
     here : (t : Bool) → ((j == n) || has (chosen_from (n + 1) ids names) j)
         ≡ ((j == n) || has (if t then n ∷ chosen_from (n + 1) ids names else chosen_from (n + 1) ids names) j)
-    here true = sym (again (j == n) (has (chosen_from (n + 1) ids names) j))
+    here true = sym (or_self_left (j == n) (has (chosen_from (n + 1) ids names) j))
     here false = refl
 
     there : (t : Bool) → has (chosen_from (n + 1) ids (name ∷ names)) j

@@ -7,6 +7,7 @@ use Rattle.std.specs.Ordering.{nat_cmp}
 use Rattle.std.proofs.lemmas.List.Elements.{All-from_get_or}
 use Rattle.std.proofs.lemmas.List.Folds.{list_any_at, list_any_none}
 use Rattle.std.proofs.lemmas.List.Sorted.{searched}
+use Rattle.std.proofs.lemmas.Bool.{cases_lt}
 use Rattle.pb_election.specs.Instance.{IsSet}
 
 -- a set rises
@@ -28,15 +29,17 @@ set-rises low high (x ∷ xs) set (suc i) zero le h = omega (arith, le)
 set-rises low high (x ∷ xs) set (suc i) (suc j) le h =
     set-rises (x + 1) high xs set.2 i j (omega (arith, le)) (omega (arith, h))
 
-is-itself : (n : ℕ) → (n == n) ≡ true
+pub is-itself : (n : ℕ) → (n == n) ≡ true
 is-itself n = search (rules, tests)
 
 is-other : (m n : ℕ) → (m < n) ⊎ (n < m) → (m == n) ≡ false
 is-other m n (inl h) = search (rules, tests)
 is-other m n (inr h) = search (rules, tests)
 
-side : (k i : ℕ) → (k < i) ⊎ (i ≤ k)
-side k i = search (rules, tests)
+-- a set of numbers from low on is one of numbers from less on
+pub set-lower : (low lower high : ℕ) (xs : List ℕ) → lower ≤ low → IsSet low high xs → IsSet lower high xs
+set-lower low lower high [] l h = tt
+set-lower low lower high (x ∷ xs) l h = (omega (arith, h.0), h.1, h.2)
 
 -- a binary search tells whether a set has a number
 pub is_ok-searched : (low high : ℕ) (xs : List ℕ) → IsSet low high xs → (x : ℕ) (r : Result ℕ ℕ)
@@ -49,7 +52,7 @@ is_ok-searched low high xs set x (Err i) found =
     let at = searched xs x (Err i) found (set-rises low high xs set) in
     sym (list_any_none (λ k. k == x) xs
     (All-from_get_or (λ k. (k == x) ≡ false) xs 0
-    (λ k h. is-other (get_or xs k 0) x (by k h (side k i) at.1 at.2))))
+    (λ k h. is-other (get_or xs k 0) x (by k h (cases_lt k i) at.1 at.2))))
   where
     by : (k : ℕ) → k < length xs → (k < i) ⊎ (i ≤ k) → ((j : ℕ) → j < i → get_or xs j 0 < x)
         → ((j : ℕ) → i ≤ j → j < length xs → x < get_or xs j 0)

@@ -1,15 +1,17 @@
 -- An election that has a text is within the limits, and its ids and ballots keep their rules.
 use Rattle.std.proofs.Common.{◌≡◌, ◌≤◌, ◌∙◌, ◌+◌, ◌++◌, ℕ, zero, suc, List, [], ◌∷◌, refl, sym, arith, Bool, true, false, Option, Some, None, length}
-use Rattle.std.specs.Prelude.{IfSome, IsSomeAnd, IsTrue, ◌&&◌, filter, if◌then◌else◌, is_some, map, unwrap_or}
+use Rattle.std.specs.Prelude.{IfSome, IsSomeAnd, IsTrue, filter, if◌then◌else◌, is_some, map, unwrap_or}
 use Rattle.std.specs.List.{AllByRecursion, enumerate_from, list_all}
 use Rattle.std.specs.Option.{option_map_or}
 use Rattle.std.specs.Str.{chars, is_utf8}
 use Rattle.std.proofs.lemmas.List.{length-map}
 use Rattle.std.proofs.lemmas.List.Sums.{count_by-le-length}
+use Rattle.std.proofs.lemmas.Bool.{and_parts}
 use Rattle.csv.specs.Records.{field_at}
 use Rattle.pb_money.specs.Digits.{drop_back, drop_front}
 use Rattle.pb_money.specs.Money.{IsMoney, millionths, most_money}
 use Rattle.pb_records.specs.Records.{Field, Rec}
+use Rattle.pb_records.proofs.Each.{all-back, all-front}
 use Rattle.pb_election.specs.Instance.{Instance, IsSet}
 use Rattle.pb_election.specs.declared.columns.Columns.{Columns}
 use Rattle.pb_election.specs.declared.keys.Key.TheVariants.{Budget}
@@ -18,12 +20,9 @@ use Rattle.pb_election.specs.Names.{is_among}
 use Rattle.pb_election.specs.Rows.{ballot_in, ballots_in, columns_of, cost_in, costs_in, funded_in, id_in, ids_in, is_id, names_in, positions_of, says_funded, says_neither, selected_in, stated_value, field_in, vote_column}
 use Rattle.pb_election.specs.Text.{IsElection, IsId, PbText, part_records}
 use Rattle.pb_records.proofs.Cleaning.{clean-clean, is_utf8-clean}
+use Rattle.pb_election.proofs.Sets.{set-lower}
 
 -- Ballots.
-
-set-lower : (low low' high : ℕ) (xs : List ℕ) → low' ≤ low → IsSet low high xs → IsSet low' high xs
-set-lower low low' high [] l h = tt
-set-lower low low' high (x ∷ xs) l h = (omega (arith, h.0), h.1, h.2)
 
 -- the positions of the ids that pass a test are a set
 positions-set : (test : ℕ × Field → Bool) (n m : ℕ) (ids : List Field) → n + length ids ≤ m + 1
@@ -52,10 +51,6 @@ ballots-sets column ids (r ∷ rs) = (ballot-set (names_in (field_in column r)) 
 
 -- Ids.
 
-and-true : (a b : Bool) → (a && b) ≡ true → (a ≡ true) × (b ≡ true)
-and-true true b h = (refl, h)
-and-true false b h = cc h
-
 utf8-nil : is_utf8 [] ≡ true
 unfolding is_utf8 chars
 utf8-nil = refl
@@ -67,8 +62,8 @@ clean-nil = refl
 field-text : (r : Rec) (i : ℕ) → is_text r ≡ true → is_utf8 (unwrap_or (field_at r i) []) ≡ true
 unfolding is_text field_at
 field-text [] i h = utf8-nil
-field-text (f ∷ fs) zero h = (and-true (is_utf8 f) (list_all is_utf8 fs) h).0
-field-text (f ∷ fs) (suc i) h = field-text fs i (and-true (is_utf8 f) (list_all is_utf8 fs) h).1
+field-text (f ∷ fs) zero h = (and_parts (is_utf8 f) (list_all is_utf8 fs) h).0
+field-text (f ∷ fs) (suc i) h = field-text fs i (and_parts (is_utf8 f) (list_all is_utf8 fs) h).1
 
 field_in-id : (o : Option ℕ) (r : Rec) → is_text r ≡ true → IsTrue (is_id (field_in o r)) → IsId (field_in o r)
 field_in-id None r t h = record { text = utf8-nil; clean = clean-nil; bytes = h }
@@ -104,14 +99,6 @@ marks-many columns rows = by (is_some columns.selected)
 limit-small : (o : Option Field) → IsSomeAnd o IsMoney → option_map_or millionths o 0 ≤ most_money
 limit-small None h = absurd h
 limit-small (Some text) h = h.small
-
-all-back : (P : Rec → Type 0) (xs ys : List Rec) → AllByRecursion P (xs ++ ys) → AllByRecursion P ys
-all-back P [] ys h = h
-all-back P (x ∷ xs) ys h = all-back P xs ys h.1
-
-all-front : (P : Rec → Type 0) (xs ys : List Rec) → AllByRecursion P (xs ++ ys) → AllByRecursion P xs
-all-front P [] ys h = tt
-all-front P (x ∷ xs) ys h = (h.0, all-front P xs ys h.1)
 
 pub sound : (recs : List Rec) (e : Instance) → PbText recs e → IsElection e
 sound recs e p =

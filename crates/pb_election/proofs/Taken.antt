@@ -1,9 +1,10 @@
 -- What holds of a record at which no fault stands, by the role of its place: the other way round from Clear.
-use Rattle.std.proofs.Common.{◌≡◌, ◌≤◌, ◌+◌, List, [], ◌∷◌, refl, inl, inr, rules, tests, Bool, true, false, Option, None, length}
-use Rattle.std.specs.Prelude.{IsTrue, ◌&&◌, ◌||◌, ◌==◌, find, nat_lt, not}
+use Rattle.std.specs.Cmp.{first_so, second_so}
+use Rattle.std.proofs.Common.{◌≡◌, ◌≤◌, ◌+◌, List, [], ◌∷◌, inl, inr, rules, tests, Bool, true, false, Option, None, length}
+use Rattle.std.specs.Prelude.{IsTrue, ◌&&◌, ◌==◌, find, nat_lt, not}
 use Rattle.std.specs.List.{AllByRecursion, list_any}
 use Rattle.std.specs.Option.{option_map_or}
-use Rattle.std.proofs.lemmas.Bool.{cases_Bool}
+use Rattle.std.proofs.lemmas.Bool.{cases_Bool, or_parts, not-false}
 use Rattle.pb_records.specs.Records.{Field, Rec}
 use Rattle.pb_election.specs.declared.refusal.ElectionFault.{ElectionFault}
 use Rattle.pb_election.specs.declared.sections.Role.TheVariants.{First, Header, Inside}
@@ -69,14 +70,6 @@ none b r h =
       too_many = m.1.1.1.1.1.1.1.0;
     }
 
-not-false : (b : Bool) → not b ≡ false → b ≡ true
-not-false true h = refl
-not-false false h = cc h
-
-or-false : (a b : Bool) → (a || b) ≡ false → (a ≡ false) × (b ≡ false)
-or-false true b h = cc h
-or-false false b h = (refl, h)
-
 pub taken-first : (b : Before) (r : Rec) → b.role ≡ First → lowest_fault b r ≡ None
     → (is_text r ≡ true) × (marks Meta r ≡ true)
 taken-first b r e h =
@@ -98,23 +91,15 @@ taken-header s b r e h =
         → AllByRecursion (λ name. 1 ≤ occurrences name r) names
     needed [] k = tt
     needed (name ∷ names) k =
-        let o = or-false (occurrences name r == 0) (list_any (λ name. occurrences name r == 0) names) k in
+        let o = or_parts (occurrences name r == 0) (list_any (λ name. occurrences name r == 0) names) k in
         (search (rules, tests, o.0), needed names o.1)
 
     once : (names : List Field) → list_any (λ name. nat_lt 1 (occurrences name r)) names ≡ false
         → AllByRecursion (λ name. occurrences name r ≤ 1) names
     once [] k = tt
     once (name ∷ names) k =
-        let o = or-false (nat_lt 1 (occurrences name r)) (list_any (λ name. nat_lt 1 (occurrences name r)) names) k in
+        let o = or_parts (nat_lt 1 (occurrences name r)) (list_any (λ name. nat_lt 1 (occurrences name r)) names) k in
         (search (rules, tests, o.0), once names o.1)
-
-and-left : (a b : Bool) → (a && b) ≡ true → a ≡ true
-and-left true b h = refl
-and-left false b h = cc h
-
-and-right : (a b : Bool) → (a && b) ≡ true → b ≡ true
-and-right true b h = h
-and-right false b h = cc h
 
 -- what is asked of a row where it has a key
 where-it-has : (has wrong : Bool) → (has && wrong) ≡ false → has ≡ true → wrong ≡ false
@@ -130,8 +115,8 @@ taken-projects-marker b r e m h =
     let keys = not-false (b.has_stood Budget && b.has_stood VoteType) (rw (e, marks_it) at n.missing_key) in (
       not-false (is_text r) n.text,
       marks_it,
-      and-left (b.has_stood Budget) (b.has_stood VoteType) keys,
-      and-right (b.has_stood Budget) (b.has_stood VoteType) keys,
+      first_so (b.has_stood Budget) (b.has_stood VoteType) keys,
+      second_so (b.has_stood Budget) (b.has_stood VoteType) keys,
     )
 
 -- a row of META
@@ -142,7 +127,7 @@ pub taken-meta-row : (b : Before) (r : Rec) → b.role ≡ Inside Meta → is_ma
 taken-meta-row b r e m h =
     let n = none b r h in
     let approval : (has_key VoteType r && not (is_approval (value_in r))) ≡ false = rw (e, m) at n.not_approval in
-    let money = (or-false (has_key Budget r && is_no_money (value_in r)) false (rw (e, m) at n.bad_money)).0 in (
+    let money = (or_parts (has_key Budget r && is_no_money (value_in r)) false (rw (e, m) at n.bad_money)).0 in (
       not-false (is_text r) n.text,
       rw (e, m) at n.repeated_key,
       (λ has. not-false (is_approval (value_in r))
@@ -164,7 +149,7 @@ pub taken-project-row : (b : Before) (r : Rec) → b.role ≡ Inside Projects �
     × (is_among b.ids (id_in b.columns r) ≡ false) × (length b.ids + 1 ≤ most_projects)
 taken-project-row b r e m h =
     let n = none b r h in
-    let few = (or-false (nat_lt most_projects (length b.ids + 1)) false (rw (e, m) at n.too_many)).0 in (
+    let few = (or_parts (nat_lt most_projects (length b.ids + 1)) false (rw (e, m) at n.too_many)).0 in (
       not-false (is_text r) n.text,
       not-false (is_id (id_in b.columns r)) (rw (e, m) at n.bad_id),
       rw (e, m) at n.bad_money,
@@ -179,7 +164,7 @@ pub taken-vote-row : (b : Before) (r : Rec) → b.role ≡ Inside Votes → lowe
 taken-vote-row b r e h =
     let n = none b r h in
     let m : is_marker r ≡ false = rw e at n.unexpected in
-    let few = or-false (nat_lt most_voters (b.voters + 1))
+    let few = or_parts (nat_lt most_voters (b.voters + 1))
     (nat_lt most_approvals (b.approvals + length (ballot_in b.vote_column b.ids r))) (rw (e, m) at n.too_many) in (
       not-false (is_text r) n.text,
       m,

@@ -3,7 +3,7 @@ use Rattle.std.proofs.Common.{inl, inr, ◌≡◌, ◌∙◌, ◌<◌, ◌+◌, 
 use Rattle.std.specs.Prelude.{◌==◌, ◌&&◌, ◌||◌, cond, if◌then◌else◌, filter, map, not, position, MatchOption}
 use Rattle.std.specs.List.{list_all, list_any, position_from}
 use Rattle.std.specs.Str.{byte, bytes_eq, IsCharBoundary, IsUtf8}
-use Rattle.std.proofs.lemmas.Bool.{cases_Bool}
+use Rattle.std.proofs.lemmas.Bool.{cases_Bool, or_parts}
 use Rattle.std.proofs.lemmas.Bool.Decides.{nat_tests}
 use Rattle.std.proofs.lemmas.Iterator.Adapters.{position_from-zero}
 use Rattle.std.proofs.lemmas.List.{map-append, take-append-drop}
@@ -19,16 +19,12 @@ use Rattle.pb_election.specs.Rows.{names_in}
 abbrev pub is_comma : ℕ → Bool
 is_comma b = b == byte ","
 
-or-no : (a b : Bool) → (a || b) ≡ false → (a ≡ false) × (b ≡ false)
-or-no true b e = cc e
-or-no false b e = (refl, e)
-
 -- a text with no comma is one piece, and else the first piece stands before the first comma
 pub cut-whole : (piece : Field) → list_any is_comma piece ≡ false → cut_at is_comma piece ≡ piece ∷ []
 unfolding cut_at
 cut-whole [] e = refl
 cut-whole (b ∷ bs) e =
-    let o = or-no (is_comma b) (list_any is_comma bs) e in
+    let o = or_parts (is_comma b) (list_any is_comma bs) e in
     rw (o.0, cut-whole bs o.1) refl
 
 pub cut-first : (piece rest : Field) → list_any is_comma piece ≡ false
@@ -36,7 +32,7 @@ pub cut-first : (piece rest : Field) → list_any is_comma piece ≡ false
 unfolding cut_at
 cut-first [] rest e = refl
 cut-first (b ∷ bs) rest e =
-    let o = or-no (is_comma b) (list_any is_comma bs) e in
+    let o = or_parts (is_comma b) (list_any is_comma bs) e in
     rw (o.0, cut-first bs rest o.1) refl
 
 -- i is the place of the first comma
@@ -45,11 +41,11 @@ pub record IsFirstComma (text : Field) (i : ℕ) : Type 0 where
   pub comma : get_or text i 0 ≡ byte ","
   pub before : list_any is_comma (take i text) ≡ false
 
-some-is : (n j : ℕ) (b : Bool) (o : Option ℕ) → b ≡ true → cond b (Some n) o ≡ Some j → j ≡ n
+pub some-is : (n j : ℕ) (b : Bool) (o : Option ℕ) → b ≡ true → cond b (Some n) o ≡ Some j → j ≡ n
 some-is n j true o t e = cc e
 some-is n j false o t e = cc t
 
-some-on : (n j : ℕ) (b : Bool) (o : Option ℕ) → b ≡ false → cond b (Some n) o ≡ Some j → o ≡ Some j
+pub some-on : (n j : ℕ) (b : Bool) (o : Option ℕ) → b ≡ false → cond b (Some n) o ≡ Some j → o ≡ Some j
 some-on n j true o t e = cc t
 some-on n j false o t e = e
 

@@ -27,8 +27,8 @@ abbrev pub funds : List Bool → Instance → Funding
 funds marks e = record { marks = marks; total = cost_of_marked marks e.costs }
 
 -- the outcome is one for as many projects as the election has
-abbrev pub Fits : Funding → Instance → Type 0
-Fits w e = length w.marks ≡ projects e
+abbrev pub OutcomeFits : Funding → Instance → Type 0
+OutcomeFits w e = length w.marks ≡ projects e
 
 -- the outcome is the one that the election's file states
 abbrev pub IsSelected : Funding → Instance → Type 0

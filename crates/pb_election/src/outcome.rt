@@ -4,7 +4,7 @@ ghost use Rattle.pb_election.specs.Faults.{no_memory, no_outcome};
 ghost use Rattle.pb_election.specs.Instance as spec;
 ghost use Rattle.pb_election.specs.Instance.{most_projects};
 ghost use Rattle.pb_election.specs.Outcome as funding;
-ghost use Rattle.pb_election.specs.Outcome.{Fits, most_total};
+ghost use Rattle.pb_election.specs.Outcome.{OutcomeFits, most_total};
 
 use crate::{Election, ElectionFault, Refusal};
 use pb_money::Money;
@@ -37,7 +37,7 @@ impl Outcome {
         ensures found { IfOk result (λ w. funding.IsSelected w election.now) }
         ensures refused { IfErr result (λ r. (r ≡ no_memory) ⊎ ((r ≡ no_outcome) × ((election.now).selected ≡ None))) }
         ensures none { (election.now).selected ≡ None → result ≡ Err no_outcome }
-        ensures fits { IfOk result (λ w. Fits w election.now) }
+        ensures fits { IfOk result (λ w. OutcomeFits w election.now) }
     {
         let Some(selected) = election.selected() else {
             return Err(Refusal {
@@ -54,7 +54,7 @@ impl Outcome {
     pub fn of(marks: Vec<bool>, election: &Election) -> Outcome
         requires { length marks.items ≡ spec.projects election.now }
         ensures value { result ≡ funding.funds marks.items election.now }
-        ensures fits { Fits result election.now }
+        ensures fits { OutcomeFits result election.now }
     {
         let total = cost_of_marked(&marks, election.costs());
         Outcome { marks, total }
@@ -80,7 +80,7 @@ impl Outcome {
 
     /// Whether the election has as many projects as the outcome has marks.
     pub fn fits(&self, election: &Election) -> bool
-        ensures { IsTrue result ↔ Fits self.now election.now }
+        ensures { IsTrue result ↔ OutcomeFits self.now election.now }
     {
         self.marks.len() == election.projects() as usize
     }

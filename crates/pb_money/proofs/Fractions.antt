@@ -20,7 +20,7 @@ unfolding drop_back
 zeros-more [] b e = rw e refl
 zeros-more (x ∷ xs) b e = rw (zeros-more xs b e) refl
 
-some-left : (xs : List ℕ) (b : ℕ) → is_empty (xs ++ (b ∷ [])) ≡ false
+pub some-left : (xs : List ℕ) (b : ℕ) → is_empty (xs ++ (b ∷ [])) ≡ false
 some-left [] b = refl
 some-left (x ∷ xs) b = refl
 

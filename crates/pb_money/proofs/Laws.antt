@@ -1,6 +1,6 @@
 -- A text is money exactly where `money_of` gives its amount.
 use Rattle.std.proofs.Common.{◌≡◌, ◌≤◌, ◌∙◌, ℕ, List, [], ◌∷◌, Bool, true, false, refl, length, cond}
-use Rattle.std.proofs.lemmas.Bool.{le-ltb, ltb-false}
+use Rattle.std.proofs.lemmas.Bool.{le-ltb, ltb-false, not-false}
 use Rattle.std.specs.List.{after_first, before_first}
 use Rattle.std.specs.Prelude.{Ok, Err, Result, nat_lt, not}
 use Rattle.pb_money.specs.Digits.{is_empty}
@@ -57,10 +57,6 @@ chosen : (b : Bool) (f : MoneyFault) (r : Result ℕ MoneyFault) (v : ℕ) → c
 chosen true f r v h = cc h
 chosen false f r v h = (refl, h)
 
-is-true : (b : Bool) → not b ≡ false → b ≡ true
-is-true true h = refl
-is-true false h = cc h
-
 pub is-money : (text : List ℕ) (v : ℕ) → money_of text ≡ Ok v → MoneyText text v
 unfolding money_of
 is-money text v h =
@@ -73,5 +69,5 @@ is-money text v h =
     let c = chosen (nat_lt 6 (length (fraction text))) fault.TooFine large v b.1 in
     let d = chosen (nat_lt most_money (millionths text)) fault.TooLarge (Ok (millionths text)) v c.1 in
     let e : v ≡ millionths text = cc d.1 in
-    money-tested text v (is-true (is_number text) b.0) (ltb-false 6 (length (fraction text)) c.0) e
+    money-tested text v (not-false (is_number text) b.0) (ltb-false 6 (length (fraction text)) c.0) e
     (rw e (ltb-false most_money (millionths text) d.0))

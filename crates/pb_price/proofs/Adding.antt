@@ -5,10 +5,10 @@ use Rattle.std.specs.List.{range_with_len}
 use Rattle.std.proofs.lemmas.Bool.{cases_eq}
 use Rattle.std.proofs.lemmas.List.{get_or_default, length-set}
 use Rattle.pb_money.specs.Grains.{payment_grains}
+use Rattle.pb_records.proofs.Lists.{filter-same}
 use Rattle.pb_election.specs.Instance.{Instance, IsProject, IsVoter, approves, projects}
 use Rattle.pb_certificate.specs.declared.price_row.PriceRow.{PriceRow}
 use Rattle.pb_cohesion.specs.Conditions.{sum_ℤ}
-use Rattle.pb_cohesion.proofs.Ballots.{filter-same}
 use Rattle.pb_price.specs.Inside.Tallies.{AreSteps, AreSumsOf, AreTaken, IsFirstPair, Taken, TakesRow, Tallied, first_pair, first_supporters, left_by, most_by, paid_by, pays_wrongly, spent_by, top_by}
 use Rattle.pb_price.specs.declared.tally.ProjectSums.{ProjectSums}
 use Rattle.pb_price.specs.declared.tally.Tally.{Tally}
@@ -16,7 +16,7 @@ use Rattle.pb_price.proofs.Amounts.{lefts-same, offers-same, paid-here, paid-oth
 use Rattle.pb_price.proofs.Ballots.{written}
 use Rattle.pb_price.specs.Inside.Noted.{IsFindingTo}
 use Rattle.pb_price.specs.declared.Finding.{Finding}
-use Rattle.pb_price.proofs.Counting.{count-added, count-few}
+use Rattle.pb_price.proofs.Counting.{count-added, count-few, same-wrong, wrong-here}
 use Rattle.pb_price.proofs.Firsts.{pair-next, pair-same}
 use Rattle.pb_price.proofs.SameSums.{finding-as}
 
@@ -130,8 +130,6 @@ over-kept e a b q closed f r low h =
     })
 
 -- the first payment for a project that is not approved
-wrong-other : (e : Instance) (f g : ℕ → ℕ → ℕ) (i c : ℕ) → g i c ≡ f i c → pays_wrongly e g i c ≡ pays_wrongly e f i c
-wrong-other e f g i c h = ap (λ n. nat_lt 0 n && not (approves e i c)) h
 
 wrong-none : (e : Instance) (f : ℕ → ℕ → ℕ) (i c : ℕ) → f i c ≡ 0 → pays_wrongly e f i c ≡ false
 wrong-none e f i c h = ap (λ n. nat_lt 0 n && not (approves e i c)) h
@@ -141,12 +139,9 @@ pub wrong-added : (e : Instance) (a b : Taken) (q : PriceRow) (approved : Bool) 
     → approved ≡ approves e q.voter q.project → IsFirstPair e (pays_wrongly e a.pays) o
     → IsFirstPair e (pays_wrongly e b.pays)
     (cond (nat_lt 0 q.payment && not approved) (first_pair o q.voter q.project) o)
-wrong-added e a b q approved o r iv ip later is h = go (nat_lt 0 q.payment && not approved) here
+wrong-added e a b q approved o r iv ip later is h =
+    go (nat_lt 0 q.payment && not approved) (wrong-here e a b q approved r is)
   where
-    here : pays_wrongly e b.pays q.voter q.project ≡ (nat_lt 0 q.payment && not approved)
-    here = ap (λ n. nat_lt 0 n && not (approves e q.voter q.project)) r.here
-        ∙ ap (λ y. nat_lt 0 q.payment && not y) (sym is)
-
     go : (w : Bool) → pays_wrongly e b.pays q.voter q.project ≡ w
         → IsFirstPair e (pays_wrongly e b.pays) (cond w (first_pair o q.voter q.project) o)
     go true passes =
@@ -155,8 +150,8 @@ wrong-added e a b q approved o r iv ip later is h = go (nat_lt 0 q.payment && no
           here = passes;
           not_yet = wrong-none e a.pays q.voter q.project r.none_yet;
           later = λ i k late. wrong-none e a.pays i k (later i k late);
-          voters = λ i k ne. wrong-other e a.pays b.pays i k (r.voters i k ne);
-          projects = λ i k ne. wrong-other e a.pays b.pays i k (r.projects i k ne);
+          voters = λ i k ne. same-wrong e a.pays b.pays i k (r.voters i k ne);
+          projects = λ i k ne. same-wrong e a.pays b.pays i k (r.projects i k ne);
         }) h
     go false fails =
         pair-same e (pays_wrongly e a.pays) (pays_wrongly e b.pays) o
@@ -166,9 +161,9 @@ wrong-added e a b q approved o r iv ip later is h = go (nat_lt 0 q.payment && no
                 ap (λ x. pays_wrongly e b.pays x c) i_is ∙ ap (pays_wrongly e b.pays q.voter) c_is ∙ fails
                 ∙ sym (ap (λ x. pays_wrongly e a.pays x c) i_is ∙ ap (pays_wrongly e a.pays q.voter) c_is
                 ∙ wrong-none e a.pays q.voter q.project r.none_yet)
-            | inr c_not ↦ wrong-other e a.pays b.pays i c (r.projects i c c_not)
+            | inr c_not ↦ same-wrong e a.pays b.pays i c (r.projects i c c_not)
           ]
-          | inr i_not ↦ wrong-other e a.pays b.pays i c (r.voters i c i_not)
+          | inr i_not ↦ same-wrong e a.pays b.pays i c (r.voters i c i_not)
         ]) h
 
 pub steps-added : (e : Instance) (rows more closed opened steps : ℕ) → more ≡ rows + 1

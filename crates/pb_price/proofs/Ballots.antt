@@ -1,8 +1,9 @@
 -- The projects of a ballot, one after another: marks and money for each.
-use Rattle.std.proofs.Common.{◌≡◌, ℕ, zero, suc, ◌+◌, ◌-◌, ◌<◌, ◌≤◌, Bool, true, false, cond, List, [], ◌∷◌, length, get_or, set, take, refl, sym, ◌∙◌, ap, subst, inl, inr, arith, get_or-set_other, get_or-set_same}
-use Rattle.std.specs.Prelude.{◌==◌, ◌||◌, pos}
+use Rattle.std.proofs.Common.{◌≡◌, ℕ, zero, suc, ◌+◌, ◌-◌, ◌<◌, ◌≤◌, true, false, cond, List, [], ◌∷◌, length, get_or, set, take, refl, sym, ◌∙◌, ap, subst, inl, inr, arith, get_or-set_other, get_or-set_same}
+use Rattle.std.specs.Prelude.{◌==◌, pos}
 use Rattle.std.proofs.lemmas.Bool.{cases_eq, eq-eqb, ne_eqb}
 use Rattle.std.proofs.lemmas.List.{get_or_default, length-set}
+use Rattle.std.proofs.Math.Bool.{or-true}
 use Rattle.pb_election.specs.Instance.{IsSet}
 use Rattle.pb_cohesion.proofs.Loops.{set-at}
 use Rattle.pb_cohesion.proofs.Sums.{among}
@@ -28,9 +29,6 @@ pub read : (xs : List ProjectSums) (i p : ℕ) (d : ProjectSums) → p < length 
 read xs i p d within e = ap (λ k. get_or xs k nothing) (sym e) ∙ get_or_default xs p nothing d within
 
 -- the front of a ballot with one more project
-or-true : (b : Bool) → (b || true) ≡ true
-or-true true = refl
-or-true false = refl
 
 hit : (b : List ℕ) (k x : ℕ) → k < length b → get_or b k 0 ≡ x → among (take (suc k) b) x ≡ true
 hit [] k x h e = absurd (omega arith)

@@ -6,7 +6,8 @@ use Rattle.std.specs.List.{list_all, range_with_len}
 use Rattle.std.specs.Option.{option_or}
 use Rattle.std.proofs.lemmas.Bool.{and_parts, cases_Bool, cases_eq, false≢true}
 use Rattle.std.proofs.lemmas.Int.{ints}
-use Rattle.pb_cohesion.proofs.Culprits.{filter-filter, nil-filter}
+use Rattle.pb_records.proofs.Lists.{filter-none}
+use Rattle.pb_cohesion.proofs.Culprits.{filter-filter}
 use Rattle.pb_cohesion.proofs.Loops.{range-first}
 use Rattle.pb_price.specs.Findings.{closest, comparison, excess, finding}
 use Rattle.pb_price.specs.Inside.Noted.{IsFindingBy, IsFindingTo, IsFirstGreatest, IsShown, among}
@@ -70,7 +71,7 @@ closest-is r f n x h =
     let high : x ≤ n = h.one.1 in
     ap (λ xs. slice_get xs 0) (filter-filter (at_least_each f (filter r (range_with_len 1 n))) r (range_with_len 1 n))
     ∙ range-first (λ y. r y && at_least_each f (filter r (range_with_len 1 n)) y) n x
-    (nil-filter (λ y. r y && at_least_each f (filter r (range_with_len 1 n)) y) (x - 1) 1
+    (filter-none (λ y. r y && at_least_each f (filter r (range_with_len 1 n)) y) (x - 1) 1
     (λ j from to. before j from (omega arith))) low high here
   where
     here : (r x && at_least_each f (filter r (range_with_len 1 n)) x) ≡ true
@@ -98,7 +99,7 @@ closest-is r f n x h =
 
 none-closest : (r : ℕ → Bool) (f : ℕ → ℤ) (n : ℕ) → ((x : ℕ) → among n r x → ⊥)
     → closest (filter r (range_with_len 1 n)) f ≡ None
-none-closest r f n none = ap (λ xs. closest xs f) (nil-filter r n 1 (λ j low high. fails j low high (r j) refl))
+none-closest r f n none = ap (λ xs. closest xs f) (filter-none r n 1 (λ j low high. fails j low high (r j) refl))
   where
     fails : (j : ℕ) → 1 ≤ j → j < 1 + n → (b : Bool) → r j ≡ b → r j ≡ false
     fails j low high true is = absurd (none j (low, omega arith, is))

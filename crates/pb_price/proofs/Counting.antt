@@ -4,13 +4,13 @@ use Rattle.std.specs.Prelude.{◌&&◌, filter, map, nat_lt, not}
 use Rattle.std.proofs.lemmas.List.{length-map}
 use Rattle.std.proofs.lemmas.List.Concat.{length-flat_map}
 use Rattle.std.proofs.lemmas.List.Sums.{length-filter}
+use Rattle.pb_records.proofs.Lists.{filter-same, filter-none}
 use Rattle.pb_election.specs.Instance.{Instance, IsProject, IsVoter, all_projects, all_voters, approves, projects, voters}
 use Rattle.pb_certificate.specs.Prices.{Prices, payment}
 use Rattle.pb_certificate.specs.declared.price_row.PriceRow.{PriceRow}
 use Rattle.pb_cohesion.specs.Conditions.{culprits_of_C1}
-use Rattle.pb_cohesion.proofs.Ballots.{filter-same}
-use Rattle.pb_cohesion.proofs.Culprits.{nil-filter}
 use Rattle.pb_cohesion.proofs.Sums.{range-same, sum-zero}
+use Rattle.pb_cohesion.proofs.Culprits.{wrong}
 use Rattle.pb_price.specs.Inside.Tallies.{Taken, TakesRow, pays_wrongly, wrong_count}
 use Rattle.pb_price.proofs.Sums.{sum-one-changed, sum-one-more}
 
@@ -22,11 +22,17 @@ wrong_of e f i = length (filter (pays_wrongly e f i) (all_projects e))
 pub wrong-start : (e : Instance) → wrong_count e (λ i c. 0) ≡ 0
 wrong-start e = range-same (wrong_of e (λ i c. 0)) (λ i. 0) 1 (voters e)
     (λ i low high. ap (λ (xs : List ℕ). length xs)
-    (nil-filter (pays_wrongly e (λ i c. 0) i) (projects e) 1 (λ c low' high'. refl))) ∙ sum-zero (all_voters e)
+    (filter-none (pays_wrongly e (λ i c. 0) i) (projects e) 1 (λ c low' high'. refl))) ∙ sum-zero (all_voters e)
 
 -- one more row
-same-wrong : (e : Instance) (f g : ℕ → ℕ → ℕ) (i c : ℕ) → g i c ≡ f i c → pays_wrongly e g i c ≡ pays_wrongly e f i c
+pub same-wrong : (e : Instance) (f g : ℕ → ℕ → ℕ) (i c : ℕ) → g i c ≡ f i c → pays_wrongly e g i c ≡ pays_wrongly e f i c
 same-wrong e f g i c h = ap (λ n. nat_lt 0 n && not (approves e i c)) h
+
+pub wrong-here : (e : Instance) (a b : Taken) (q : PriceRow) (approved : Bool) → TakesRow a b q
+    → approved ≡ approves e q.voter q.project
+    → pays_wrongly e b.pays q.voter q.project ≡ (nat_lt 0 q.payment && not approved)
+wrong-here e a b q approved r is = ap (λ k. nat_lt 0 k && not (approves e q.voter q.project)) r.here
+    ∙ ap (λ y. nat_lt 0 q.payment && not y) (sym is)
 
 of-voter : (e : Instance) (a b : Taken) (q : PriceRow) (w : Bool) → TakesRow a b q → IsProject e q.project
     → pays_wrongly e b.pays q.voter q.project ≡ w → wrong_of e b.pays q.voter ≡ wrong_of e a.pays q.voter + cond w 1 0
@@ -53,12 +59,8 @@ count-added e a b q approved n m r iv ip is before after =
     ∙ ap (λ k. k + cond (nat_lt 0 q.payment && not approved) 1 0) before
     ∙ sym (sum-one-changed (wrong_of e a.pays) (wrong_of e b.pays) (voters e) 1 q.voter
     (cond (nat_lt 0 q.payment && not approved) 1 0) iv.0 (let high : q.voter ≤ voters e = iv.1 in omega arith)
-    (of-voter e a b q (nat_lt 0 q.payment && not approved) r ip here) (λ i ne. of-other e a b q i r ne))
+    (of-voter e a b q (nat_lt 0 q.payment && not approved) r ip (wrong-here e a b q approved r is)) (λ i ne. of-other e a b q i r ne))
   where
-    here : pays_wrongly e b.pays q.voter q.project ≡ (nat_lt 0 q.payment && not approved)
-    here = ap (λ k. nat_lt 0 k && not (approves e q.voter q.project)) r.here
-        ∙ ap (λ y. nat_lt 0 q.payment && not y) (sym is)
-
     turn : (w : Bool) → cond w (n + 1) n ≡ n + cond w 1 0
     turn true = refl
     turn false = omega arith
@@ -68,21 +70,17 @@ count-few true n m rows h is = omega arith
 count-few false n m rows h is = omega arith
 
 -- all payments
-abbrev pair : ℕ → ℕ → ℕ × ℕ
-pair i c = (i, c)
 
-abbrev wrong_pairs : Instance → Prices → ℕ → List (ℕ × ℕ)
-wrong_pairs e p i =
-    map (λ c. pair i c) (filter (λ c. nat_lt 0 (payment p i c) && not (approves e i c)) (all_projects e))
+abbrev pub wrong_pairs : Instance → Prices → ℕ → List (ℕ × ℕ)
+wrong_pairs e p i = map (λ c. (i, c)) (filter (wrong e p i) (all_projects e))
 
 pub count-culprits : (e : Instance) (f : ℕ → ℕ → ℕ) (p : Prices)
     → ((i c : ℕ) → IsVoter e i → IsProject e c → f i c ≡ payment p i c) → wrong_count e f ≡ length (culprits_of_C1 e p)
 count-culprits e f p agree =
     range-same (wrong_of e f) (λ i. length (wrong_pairs e p i)) 1 (voters e) (λ i low high. (
     ap (λ (xs : List ℕ). length xs)
-    (filter-same (pays_wrongly e f i) (λ c. nat_lt 0 (payment p i c) && not (approves e i c)) (projects e) 1
+    (filter-same (pays_wrongly e f i) (wrong e p i) (projects e) 1
     (λ c low' high'. ap (λ n. nat_lt 0 n && not (approves e i c))
     (agree i c (low, omega arith) (low', omega arith))))
-    ∙ sym (length-map (filter (λ c. nat_lt 0 (payment p i c) && not (approves e i c)) (all_projects e))
-    (λ c. pair i c))))
+    ∙ sym (length-map {B = ℕ × ℕ} (filter (wrong e p i) (all_projects e)) (λ c. (i, c)))))
     ∙ sym (length-flat_map (wrong_pairs e p) (all_voters e))

@@ -6,14 +6,13 @@ use Rattle.std.proofs.lemmas.Bool.{cases_lt, le-leb, lt-leb}
 use Rattle.std.proofs.lemmas.Int.{ints}
 use Rattle.std.proofs.lemmas.Nat.{mul-le}
 use Rattle.pb_money.specs.Grains.{cost_grains}
+use Rattle.pb_records.proofs.Lists.{filter-same, filter-none}
 use Rattle.pb_election.specs.Instance.{Instance, all_projects, all_voters, cost_of, projects, supporters, voters}
 use Rattle.pb_election.specs.Outcome.{has}
 use Rattle.pb_certificate.specs.Prices.{Prices}
 use Rattle.pb_cohesion.specs.Amounts.{beta, budget_limit, cost, left, paid, spent}
 use Rattle.pb_cohesion.specs.Conditions.{culprits_of_C1, culprits_of_C2, culprits_of_C3, culprits_of_C4, culprits_of_C5, culprits_of_Exhaustive, culprits_of_S5, most_of, sum_ℤ}
 use Rattle.pb_cohesion.specs.Outcome.{total, unfunded}
-use Rattle.pb_cohesion.proofs.Ballots.{filter-same}
-use Rattle.pb_cohesion.proofs.Culprits.{nil-filter}
 use Rattle.pb_price.specs.Findings.{finding, findings, payment_finding, total_grains}
 use Rattle.pb_price.specs.Inside.Looked.{AreFoundTo, has_room}
 use Rattle.pb_price.specs.Inside.Tallies.{AreSums}
@@ -65,7 +64,7 @@ pub record AreOn (e : Instance) (w : List Bool) (p : Prices) (f : ProjectFinding
   pub s5 : f.s5 ≡ finding (culprits_of_S5 e w p) (unfunded e w) (cost e p) (λ c. sum_ℤ (most_of e p) (supporters e c))
 
 none-among : (n : ℕ) → filter (λ c. false) (range_with_len 1 n) ≡ []
-none-among n = nil-filter (λ c. false) n 1 (λ c low high. refl)
+none-among n = filter-none (λ c. false) n 1 (λ c low high. refl)
 
 pub are-on : (e : Instance) (w : List Bool) (p : Prices) (d : ℕ) (sums : List ProjectSums) (remaining : ℤ)
     (f : ProjectFindings) → p.denominator ≡ d → 1 ≤ d → AreSums e p sums

@@ -4,7 +4,7 @@ use Rattle.std.specs.Prelude.{map, nat_lt}
 use Rattle.std.proofs.lemmas.Bool.{cases_eq, cases_lt, eq-eqb, le-ltb, lt-ltb, ne_eqb}
 use Rattle.std.proofs.lemmas.List.{length-map, take_all}
 use Rattle.pb_election.specs.Instance.{Instance, IsSet, IsVoter, voters}
-use Rattle.pb_certificate.specs.Prices.{Fits, IsPaymentMap, Prices, numerator_in, payment, payments_of}
+use Rattle.pb_certificate.specs.Prices.{IsPaymentMap, Prices, PricesFit, numerator_in, payment, payments_of}
 use Rattle.pb_certificate.specs.declared.price_row.PriceRow.{PriceRow}
 use Rattle.pb_cohesion.proofs.Loops.{set-at, set-length}
 use Rattle.pb_cohesion.specs.Amounts.{beta}
@@ -99,7 +99,7 @@ takes-next e p i k d t u m w =
       ]);
     }
 
-pub can-take : (e : Instance) (p : Prices) (i k : ℕ) (d : ℕ × ℕ) (t : Tally) → TakesUntil e p i k t → Fits p e
+pub can-take : (e : Instance) (p : Prices) (i k : ℕ) (d : ℕ × ℕ) (t : Tally) → TakesUntil e p i k t → PricesFit p e
     → IsPaymentMap p.projects (payments_of p i) → k < length (payments_of p i) → IsVoter e i
     → CanTakeRow e t (row_of i (get_or (payments_of p i) k d))
 can-take e p i k d t u fits m w v =
@@ -165,7 +165,7 @@ all-of-voter p i k a b low end = elim (cases_eq a i) [
       | inr more ↦ le-ltb x y more ∙ sym (le-ltb x (y + 1) (omega arith))
     ]
 
-pub took-voter : (e : Instance) (p : Prices) (i k : ℕ) (t : Tally) → TakesUntil e p i k t → IsVoter e i → Fits p e
+pub took-voter : (e : Instance) (p : Prices) (i k : ℕ) (t : Tally) → TakesUntil e p i k t → IsVoter e i → PricesFit p e
     → IsPaymentMap p.projects (payments_of p i) → k ≡ length (payments_of p i) → TakesUntil e p (i + 1) 0 t
 took-voter e p i k t u v fits m end = record {
   taken = u.taken;

@@ -1,16 +1,16 @@
 -- The conditions as the sums tell them are the conditions on the prices.
-use Rattle.std.proofs.Common.{◌≡◌, ℕ, zero, suc, ◌+◌, ◌*◌, ◌<◌, ◌-◌, ◌≤◌, Bool, true, false, cond, List, [], ◌∷◌, ◌++◌, get_or, refl, sym, ◌∙◌, ap, arith}
+use Rattle.std.proofs.Common.{◌≡◌, ℕ, ◌+◌, ◌*◌, ◌-◌, ◌≤◌, Bool, true, false, cond, List, [], ◌∷◌, ◌++◌, get_or, refl, sym, ◌∙◌, ap, arith}
 use Rattle.std.specs.Prelude.{ℤ, length, Option, None, ◌==◌, ◌&&◌, filter, int_lt, map, not, option_map, pos, slice_get}
 use Rattle.std.specs.Option.{option_or}
 use Rattle.std.specs.List.{range_with_len}
 use Rattle.std.proofs.lemmas.List.{map-append}
 use Rattle.pb_money.specs.Grains.{cost_grains}
+use Rattle.pb_records.proofs.Lists.{filter-same, map-same}
 use Rattle.pb_election.specs.Instance.{Instance, all_projects, cost_of, projects, supporters}
 use Rattle.pb_election.specs.Outcome.{has}
 use Rattle.pb_certificate.specs.Prices.{Prices}
 use Rattle.pb_cohesion.specs.Amounts.{cost, left, paid}
 use Rattle.pb_cohesion.specs.Conditions.{culprits_of_C1, culprits_of_C2, culprits_of_C3, culprits_of_C4, culprits_of_C5, culprits_of_S5, most_of, sum_ℤ}
-use Rattle.pb_cohesion.proofs.Ballots.{filter-same}
 use Rattle.pb_cohesion.proofs.Firsts.{range-next}
 use Rattle.pb_price.specs.First.{failures_of_payments, failures_of_supporters}
 use Rattle.pb_price.specs.Inside.Tallies.{AreSums, figures_of, has_more, in_vain, not_exactly, paid_wrongly, sums_of}
@@ -118,13 +118,6 @@ supporters-of m e w p d sums b o is h form found = rw form (go b (rw form at fou
     go false first = of-mapped failure.C5 (culprits_of_C5 e w p) o
         (first ∙ ap (λ xs. slice_get xs 0) (plain-is e w p d sums is h))
 
--- the figures of the projects
-figures-same : {A : Type 0} (f g : ℕ → A) (a n : ℕ) → ((c : ℕ) → a ≤ c → c < a + n → f c ≡ g c)
-    → map f (range_with_len a n) ≡ map g (range_with_len a n)
-figures-same f g a zero h = refl
-figures-same f g a (suc n) h = ap (λ x. x ∷ map f (range_with_len (a + 1) n)) (h a (omega arith) (omega arith))
-    ∙ ap (λ xs. g a ∷ xs) (figures-same f g (a + 1) n (λ c low high. h c (omega arith) (omega arith)))
-
 figures-at : (e : Instance) (w : List Bool) (p : Prices) (d : ℕ) (sums : List ProjectSums) (c : ℕ) → p.denominator ≡ d
     → AreSums e p sums → 1 ≤ c → c ≤ projects e → figures_of e w d sums c ≡ margins_of_project e w p c
 figures-at e w p d sums c is h low high =
@@ -141,7 +134,7 @@ pub margins-are : (e : Instance) (w : List Bool) (p : Prices) (d : ℕ) (sums : 
     → m.projects.items ≡ map (figures_of e w d sums) (all_projects e) → AreMargins e w p m
 margins-are e w p d sums m is h grains figures = record {
   grains_per_unit = omega arith;
-  projects = figures ∙ figures-same (figures_of e w d sums) (margins_of_project e w p) 1 (projects e)
+  projects = figures ∙ map-same (figures_of e w d sums) (margins_of_project e w p) (projects e) 1
       (λ c low high. figures-at e w p d sums c is h low (omega arith));
 }
 

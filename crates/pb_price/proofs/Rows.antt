@@ -1,11 +1,12 @@
 -- The rows of a certificate, one after another.
 use Rattle.std.proofs.Common.{◌≡◌, ℕ, ◌+◌, ◌-◌, ◌<◌, ◌≤◌, true, false, List, [], ◌∷◌, ◌++◌, length, drop, take, refl, sym, ◌∙◌, ap, subst, inl, inr, arith, length-append, length-drop}
-use Rattle.std.specs.Prelude.{Option, Some, ◌&&◌, ◌==◌, filter_map, map, not}
+use Rattle.std.specs.Prelude.{◌&&◌, ◌==◌, filter_map, map, not}
 use Rattle.std.specs.List.{list_any}
 use Rattle.std.proofs.lemmas.Bool.{and_left, and_right, cases_Bool, cases_eq, eq-eqb, ne_eqb}
-use Rattle.std.proofs.lemmas.List.{length_push, take-append-drop}
+use Rattle.std.proofs.lemmas.List.{length_push, take-append-drop, append-nil}
 use Rattle.std.proofs.lemmas.List.Elements.{filter-append}
 use Rattle.pb_money.specs.Grains.{payment_grains}
+use Rattle.pb_records.proofs.Lists.{filter_map-all}
 use Rattle.pb_election.specs.Instance.{Instance, IsProject, IsVoter}
 use Rattle.pb_records.specs.Records.{Rec}
 use Rattle.pb_records.specs.Cells.{is_blank, nonblank}
@@ -123,28 +124,10 @@ falls old new r n same =
     sym (length-drop old.place old.records) ∙ ap length n.cut ∙ length-append n.blanks (r ∷ n.rest) in
     omega (arith, ap length same, n.at, left)
 
--- what the rows of a whole text state
-some-first : {A : Type 0} (o : Option A) (xs ys : List (Option A)) (a : A) → o ∷ xs ≡ Some a ∷ ys
-    → (o ≡ Some a) × (xs ≡ ys)
-some-first o xs ys a h = (cc, cc)
-
-filter-all : (f : Rec → Option Payment) (rows : List Rec) (qs : List Payment) → map f rows ≡ map Some qs
-    → filter_map f rows ≡ qs
-filter-all f [] [] h = refl
-filter-all f [] (q ∷ qs) h = cc
-filter-all f (r ∷ rows) [] h = cc
-filter-all f (r ∷ rows) (q ∷ qs) h =
-    let parts : (f r ≡ Some q) × (map f rows ≡ map Some qs) = some-first (f r) (map f rows) (map Some qs) q h in
-    rw parts.0 (ap (λ xs. q ∷ xs) (filter-all f rows qs parts.1))
-
 all-behind : (recs : List Rec) (n : ℕ) → nonblank (drop n recs) ≡ [] → nonblank (take n recs) ≡ nonblank recs
 all-behind recs n none =
     sym (ap nonblank (sym (take-append-drop n recs)) ∙ filter-append (λ r. not (is_blank r)) (take n recs) (drop n recs)
-    ∙ ap (λ ys. nonblank (take n recs) ++ ys) none ∙ append-none (nonblank (take n recs)))
-  where
-    append-none : (xs : List Rec) → xs ++ [] ≡ xs
-    append-none [] = refl
-    append-none (x ∷ xs) = ap (λ ys. x ∷ ys) (append-none xs)
+    ∙ ap (λ ys. nonblank (take n recs) ++ ys) none ∙ append-nil (nonblank (take n recs)))
 
 pub rows-are : (s : Rows) (p : Prices) (t : IsPriceText s.records s.election p) → nonblank (drop s.place s.records) ≡ []
     → drop 4 (nonblank (take s.place s.records)) ≡ t.rows
@@ -153,7 +136,7 @@ rows-are s p t none = ap (drop 4) (all-behind s.records s.place none ∙ t.cut)
 pub given-is : (s : Rows) (p : Prices) (t : IsPriceText s.records s.election p) → nonblank (drop s.place s.records) ≡ []
     → given s ≡ t.payments
 given-is s p t none = ap (filter_map (payment_of s.election)) (rows-are s p t none)
-    ∙ filter-all (payment_of s.election) t.rows t.payments t.each_row
+    ∙ filter_map-all (payment_of s.election) t.rows t.payments t.each_row
 
 pub count-is : (s : Rows) (p : Prices) (t : IsPriceText s.records s.election p) → nonblank (drop s.place s.records) ≡ []
     → length (given s) ≡ length (drop 4 (nonblank s.records))

@@ -1,4 +1,5 @@
 -- Sums of integers over the numbers of a range that pass a test, and how many pass.
+use Rattle.std.proofs.lemmas.List.{append-nil}
 use mir.Syntax.{w128}
 use mir.Val.{SFits, of_z, to_z}
 use Rattle.std.proofs.Common.{◌≡◌, ℕ, zero, suc, ◌+◌, ◌*◌, ◌^◌, ◌<◌, ◌≤◌, Bool, true, false, cond, List, [], ◌∷◌, ◌++◌, length, refl, sym, ◌∙◌, ap, arith, length-append}
@@ -44,11 +45,7 @@ passing-next q n is = let same : 1 + n ≡ n + 1 = omega arith in filter-next q 
 failing-next : (q : ℕ → Bool) (n : ℕ) → q (n + 1) ≡ false
     → filter q (range_with_len 1 (n + 1)) ≡ filter q (range_with_len 1 n)
 failing-next q n is = let same : 1 + n ≡ n + 1 = omega arith in
-    filter-next q n ∙ rw (same, is) (append-none (filter q (range_with_len 1 n)))
-  where
-    append-none : (xs : List ℕ) → xs ++ [] ≡ xs
-    append-none [] = refl
-    append-none (x ∷ xs) = ap (λ ys. x ∷ ys) (append-none xs)
+    filter-next q n ∙ rw (same, is) (append-nil (filter q (range_with_len 1 n)))
 
 pub signed-next : (f : ℕ → ℤ) (q : ℕ → Bool) (n : ℕ) (old : ℤ) (b : Bool) → q (n + 1) ≡ b
     → old ≡ sum_ℤ f (filter q (range_with_len 1 n))

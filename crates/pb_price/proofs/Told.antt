@@ -9,6 +9,7 @@ use Rattle.pb_cohesion.specs.Amounts.{beta, budget_limit}
 use Rattle.pb_cohesion.specs.Conditions.{culprits_of_C1, culprits_of_C2, culprits_of_C3, culprits_of_C4, culprits_of_C5, culprits_of_Exhaustive, culprits_of_S5}
 use Rattle.pb_cohesion.specs.Outcome.{total}
 use Rattle.pb_cohesion.proofs.Culprits.{C1-iff, C2-iff, C3-iff, C4-iff, C5-iff, Exhaustive-iff, S5-iff}
+use Rattle.pb_cohesion.proofs.Verdicts.{through}
 use Rattle.pb_price.specs.Findings.{findings}
 use Rattle.pb_price.specs.First.{First, failures_of_budgets, failures_of_outcome, failures_of_supporters}
 use Rattle.pb_price.specs.Told.{TellWhatHolds, first_told, told_of_budgets, told_of_outcome, told_of_supporters}
@@ -20,9 +21,6 @@ use Rattle.pb_price.proofs.Parts.{first-of, of-choice, of-mapped, of-test, of-tw
 none-iff : {A : Type 0} (xs : List A) (n : ℕ) → n ≡ length xs → (n ≡ 0) ↔ (xs ≡ [])
 none-iff [] n is = (λ h. refl, λ h. is)
 none-iff (x ∷ xs) n is = (λ h. absurd (omega (arith, is, h)), λ h. cc)
-
-through : {P Q R : Type 0} → (P ↔ Q) → (Q ↔ R) → P ↔ R
-through f g = (λ x. g.0 (f.0 x), λ z. f.1 (g.1 z))
 
 -- in grains and in millionths
 within : (t l d : ℕ) → 1 ≤ d → t * d ≤ l * d → t ≤ l

@@ -1,16 +1,16 @@
 -- A tally of all payments of a price system.
-use Rattle.std.proofs.Common.{◌≡◌, ℕ, ◌+◌, ◌-◌, ◌*◌, ◌≤◌, Bool, true, false, List, [], length, take, sym, ◌∙◌, ap, subst, arith}
-use Rattle.std.specs.Prelude.{Option, Some, None, pos, ◌-ℤ◌, ◌&&◌, filter, flat_map, map, nat_lt, not, slice_get}
+use Rattle.std.proofs.Common.{◌≡◌, ℕ, ◌+◌, ◌-◌, ◌*◌, ◌≤◌, true, false, [], length, take, sym, ◌∙◌, ap, subst, arith}
+use Rattle.std.specs.Prelude.{Option, Some, None, pos, ◌-ℤ◌, ◌&&◌, filter, flat_map, nat_lt, not, slice_get}
 use Rattle.std.specs.Int.{int_max}
 use Rattle.std.specs.List.{range_with_len}
 use Rattle.std.proofs.lemmas.List.{get_or_past, take_all}
 use Rattle.pb_money.specs.Grains.{payment_grains}
+use Rattle.pb_records.proofs.Lists.{filter-same, filter-none}
 use Rattle.pb_election.specs.Instance.{Instance, IsProject, IsVoter, all_projects, all_voters, approvals, approves, ballot_of, projects, supporters, voters}
 use Rattle.pb_certificate.specs.Prices.{Prices, payment}
 use Rattle.pb_cohesion.specs.Amounts.{beta, left, spent}
 use Rattle.pb_cohesion.specs.Conditions.{culprits_of_C1, culprits_of_C2, most_of, sum_ℤ}
-use Rattle.pb_cohesion.proofs.Ballots.{filter-same}
-use Rattle.pb_cohesion.proofs.Culprits.{nil-filter, nil-flat_map, nil-map}
+use Rattle.pb_cohesion.proofs.Culprits.{nil-flat_map, nil-map, wrong}
 use Rattle.pb_cohesion.proofs.Firsts.{first-mapped}
 use Rattle.pb_cohesion.proofs.Loops.{range-first, range-lists-first}
 use Rattle.pb_cohesion.proofs.Sums.{range-same}
@@ -19,7 +19,7 @@ use Rattle.pb_price.specs.Inside.Tallies.{IsFirstPair, IsTallyOf, Taken, Tallied
 use Rattle.pb_price.specs.declared.PaymentFinding.{PaymentFinding}
 use Rattle.pb_price.specs.declared.tally.Tally.{Tally}
 use Rattle.pb_price.specs.Inside.Noted.{IsFindingTo}
-use Rattle.pb_price.proofs.Counting.{count-culprits}
+use Rattle.pb_price.proofs.Counting.{count-culprits, wrong_pairs}
 use Rattle.pb_price.proofs.Closest.{each-passes, found-as}
 use Rattle.pb_price.proofs.Signed.{signed-same}
 use Rattle.pb_price.proofs.Sums.{largest-same}
@@ -53,47 +53,38 @@ most-agree b e f g i h iv = ap (λ t. int_max (pos t) (left_by b e f i)) (top-ag
     ∙ ap (int_max (pos (top_by e g i))) (left-agree b e f g i h iv)
 
 -- the first payment for a project that is not approved
-abbrev wrong : Instance → Prices → ℕ → ℕ → Bool
-wrong e p i c = nat_lt 0 (payment p i c) && not (approves e i c)
-
-abbrev pair : ℕ → ℕ → ℕ × ℕ
-pair i c = (i, c)
-
-abbrev wrong_of : Instance → Prices → ℕ → List (ℕ × ℕ)
-wrong_of e p i = map (λ c. pair i c) (filter (wrong e p i) (all_projects e))
-
 wrong-agree : (e : Instance) (f : ℕ → ℕ → ℕ) (p : Prices) (i c : ℕ) → Agree e f (payment p) → IsVoter e i
     → IsProject e c → wrong e p i c ≡ pays_wrongly e f i c
 wrong-agree e f p i c h iv ip = ap (λ n. nat_lt 0 n && not (approves e i c)) (sym (h.pays i c iv ip))
 
 none-wrong : (e : Instance) (f : ℕ → ℕ → ℕ) (p : Prices) (i : ℕ) → Agree e f (payment p) → IsVoter e i
-    → ((c : ℕ) → pays_wrongly e f i c ≡ false) → wrong_of e p i ≡ []
+    → ((c : ℕ) → pays_wrongly e f i c ≡ false) → wrong_pairs e p i ≡ []
 none-wrong e f p i h iv none =
-    nil-map (λ c. pair i c) (filter (wrong e p i) (all_projects e))
-    (nil-filter (wrong e p i) (projects e) 1 (λ c low high. (wrong-agree e f p i c h iv (low, omega arith) ∙ none c)))
+    nil-map (λ c. (i, c)) (filter (wrong e p i) (all_projects e))
+    (filter-none (wrong e p i) (projects e) 1 (λ c low high. (wrong-agree e f p i c h iv (low, omega arith) ∙ none c)))
 
 first-wrong : (e : Instance) (f : ℕ → ℕ → ℕ) (p : Prices) (o : Option (ℕ × ℕ)) → Agree e f (payment p)
     → IsFirstPair e (pays_wrongly e f) o → o ≡ slice_get (culprits_of_C1 e p) 0
 first-wrong e f p None h first =
     sym
     (ap (λ xs. slice_get xs 0)
-    (nil-flat_map (wrong_of e p) (voters e) 1 (λ i low high. none-wrong e f p i h (low, omega arith) (first i))))
+    (nil-flat_map (wrong_pairs e p) (voters e) 1 (λ i low high. none-wrong e f p i h (low, omega arith) (first i))))
 first-wrong e f p (Some q) h first =
     let low : 1 ≤ q.0 = first.0.0 in
     let high : q.0 ≤ voters e = first.0.1 in
-    let before : flat_map (wrong_of e p) (range_with_len 1 (q.0 - 1)) ≡ [] =
-    nil-flat_map (wrong_of e p) (q.0 - 1) 1
+    let before : flat_map (wrong_pairs e p) (range_with_len 1 (q.0 - 1)) ≡ [] =
+    nil-flat_map (wrong_pairs e p) (q.0 - 1) 1
     (λ i l u. none-wrong e f p i h (l, omega arith) (λ c. first.3 i c (omega arith))) in
     let low' : 1 ≤ q.1 = first.1.0 in
     let high' : q.1 ≤ projects e = first.1.1 in
     let before' : filter (wrong e p q.0) (range_with_len 1 (q.1 - 1)) ≡ [] =
-    nil-filter (wrong e p q.0) (q.1 - 1) 1
+    filter-none (wrong e p q.0) (q.1 - 1) 1
     (λ c l u. (wrong-agree e f p q.0 c h first.0 (l, omega arith) ∙ first.4 c (omega arith))) in
     let here : slice_get (filter (wrong e p q.0) (all_projects e)) 0 ≡ Some q.1 =
     range-first (wrong e p q.0) (projects e) q.1 before' low' high'
     (wrong-agree e f p q.0 q.1 h first.0 first.1 ∙ first.2) in
-    sym (range-lists-first (wrong_of e p) (voters e) q.0 (pair q.0 q.1) before low high
-    (first-mapped (λ c. pair q.0 c) (filter (wrong e p q.0) (all_projects e)) q.1 here))
+    sym (range-lists-first (wrong_pairs e p) (voters e) q.0 (q.0, q.1) before low high
+    (first-mapped (λ c. (q.0, c)) (filter (wrong e p q.0) (all_projects e)) q.1 here))
 
 abbrev wrongly : Option (ℕ × ℕ) → ℕ → PaymentFinding
 wrongly first count = record { first = first; count = count }

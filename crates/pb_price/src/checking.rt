@@ -2,11 +2,11 @@
 
 ghost use Rattle.std.specs.Prelude.{◌≡◌, ◌≤◌, ◌+◌, ◌*◌, ◌^◌, ◌↔◌, ◌⊎◌, ℕ, length, IfErr, IfOk, IsFalse, IsTrue, MatchResult, Ok};
 ghost use Rattle.pb_election.specs.Instance.{projects};
-ghost use Rattle.pb_election.specs.Outcome as outcomes;
+ghost use Rattle.pb_election.specs.Outcome.{OutcomeFits};
 ghost use Rattle.pb_certificate.specs.Faults.{Refuses, certificate_records, no_memory, price_form};
 ghost use Rattle.pb_certificate.specs.Prices as spec;
 ghost use Rattle.pb_certificate.specs.PriceText.{IsPriceText};
-ghost use Rattle.pb_certificate.specs.Prices.{most_denominator};
+ghost use Rattle.pb_certificate.specs.Prices.{PricesFit, most_denominator};
 ghost use Rattle.pb_cohesion.specs.EveryGroup.{BudgetsAreWithinReach, GroupsGetTheirShare, NoGroupHasMoreLeft, NoViolationByCounting, NothingBlocks, SupportersBlock, SupportersHaveMoreLeft};
 ghost use Rattle.pb_price.specs.Answers.{AreStepsOf, IsVerdictOn, row_count};
 ghost use Rattle.pb_price.specs.Supports.{Supports};
@@ -32,8 +32,8 @@ pub fn check(
     prices: &Prices,
     mode: Mode,
 ) -> Result<Verdict, AllocError>
-    requires outcome { outcomes.Fits outcome.now election.now }
-    requires prices { spec.Fits prices.now election.now }
+    requires outcome { OutcomeFits outcome.now election.now }
+    requires prices { PricesFit prices.now election.now }
     ensures first { IfOk result (λ v. v ≡ verdict_of (First mode election.now (outcome.now).marks prices.now)) }
     ensures supported { IfOk result (λ v. (v ≡ Verdict.Supported) ↔ Supports mode election.now (outcome.now).marks prices.now) }
 
@@ -71,7 +71,7 @@ pub fn check_rows(
     bytes: &[u8],
     mode: Mode,
 ) -> Result<Checked, CertRefusal>
-    requires { outcomes.Fits outcome.now election.now }
+    requires { OutcomeFits outcome.now election.now }
 
     // The bytes state prices, and the verdict is the one on them.
     ensures found { IfOk result (λ a. (p : spec.Prices) × IsPriceText (certificate_records bytes.now) election.now p × IsVerdictOn mode election.now (outcome.now).marks p a.verdict) }
@@ -98,7 +98,7 @@ fn judge(
     denominator: u32,
     tally: &Tally,
 ) -> Checked
-    requires outcome { outcomes.Fits outcome.now election.now }
+    requires outcome { OutcomeFits outcome.now election.now }
     requires low { 1 ≤ denominator }
     requires high { denominator ≤ most_denominator }
     requires sums { length (tally.now).projects.items ≡ projects election.now }

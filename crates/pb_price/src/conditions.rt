@@ -3,8 +3,7 @@
 
 ghost use Rattle.std.specs.Prelude.{◌≡◌, ◌≤◌, ◌+◌, ◌*◌, ◌^◌, ◌&&◌, not, nat_le, filter, length, slice_get};
 ghost use Rattle.pb_election.specs.Instance.{IsProject, all_projects, cost_of, projects};
-ghost use Rattle.pb_election.specs.Outcome as outcomes;
-ghost use Rattle.pb_election.specs.Outcome.{has, most_total};
+ghost use Rattle.pb_election.specs.Outcome.{OutcomeFits, has, most_total};
 ghost use Rattle.pb_certificate.specs.Prices.{Prices, most_denominator};
 ghost use Rattle.pb_cohesion.specs.Amounts.{beta};
 ghost use Rattle.pb_cohesion.specs.Conditions.{culprits_of_Exhaustive};
@@ -27,7 +26,7 @@ pub(crate) fn first_failure(
     tally: &Tally,
     steps: &mut u64,
 ) -> Option<Failure>
-    requires outcome { outcomes.Fits outcome.now election.now }
+    requires outcome { OutcomeFits outcome.now election.now }
     requires low { 1 ≤ denominator }
     requires high { denominator ≤ most_denominator }
     requires sums { length (tally.now).projects.items ≡ projects election.now }
@@ -56,7 +55,7 @@ fn failure_of_outcome(
     mode: Mode,
     steps: &mut u64,
 ) -> Option<Failure>
-    requires outcome { outcomes.Fits outcome.now election.now }
+    requires outcome { OutcomeFits outcome.now election.now }
     requires steps { steps.old ≤ 2 ^ 62 }
     ensures first { result ≡ slice_get (failures_of_outcome mode election.now (outcome.now).marks) 0 }
     ensures fewest { steps.old ≤ steps.new }
@@ -75,7 +74,7 @@ fn failure_of_outcome(
 
 /// What the funded projects cost together, in millionths.
 pub(crate) fn cost_of_funded(election: &Election, outcome: &Outcome, steps: &mut u64) -> u128
-    requires outcome { outcomes.Fits outcome.now election.now }
+    requires outcome { OutcomeFits outcome.now election.now }
     requires steps { steps.old ≤ 2 ^ 62 }
     ensures value { result ≡ total election.now (outcome.now).marks }
     ensures small { result ≤ most_total }
@@ -98,7 +97,7 @@ fn first_affordable(
     cost_of_funded: u128,
     steps: &mut u64,
 ) -> Option<u32>
-    requires outcome { outcomes.Fits outcome.now election.now }
+    requires outcome { OutcomeFits outcome.now election.now }
     requires cost { cost_of_funded ≡ total election.now (outcome.now).marks }
     requires small { cost_of_funded ≤ most_total }
     requires steps { steps.old ≤ 2 ^ 62 + projects election.now }
@@ -117,7 +116,7 @@ fn first_affordable(
 
 // Whether project `j` is unfunded and could be added within the limit.
 fn is_affordable(election: &Election, outcome: &Outcome, cost_of_funded: u128, j: u32) -> bool
-    requires outcome { outcomes.Fits outcome.now election.now }
+    requires outcome { OutcomeFits outcome.now election.now }
     requires project { IsProject election.now j }
     requires cost { cost_of_funded ≡ total election.now (outcome.now).marks }
     requires small { cost_of_funded ≤ most_total }
@@ -156,7 +155,7 @@ fn failure_of_payments(
     tally: &Tally,
     steps: &mut u64,
 ) -> Option<Failure>
-    requires outcome { outcomes.Fits outcome.now election.now }
+    requires outcome { OutcomeFits outcome.now election.now }
     requires low { 1 ≤ denominator }
     requires high { denominator ≤ most_denominator }
     requires sums { length (tally.now).projects.items ≡ projects election.now }
@@ -183,7 +182,7 @@ fn first_paid_wrongly(
     sums: &[ProjectSums],
     steps: &mut u64,
 ) -> Option<Failure>
-    requires outcome { outcomes.Fits outcome.now election.now }
+    requires outcome { OutcomeFits outcome.now election.now }
     requires low { 1 ≤ denominator }
     requires high { denominator ≤ most_denominator }
     requires sums { length sums.now ≡ projects election.now }
@@ -211,7 +210,7 @@ fn is_not_paid_exactly(
     sums: &[ProjectSums],
     j: u32,
 ) -> bool
-    requires outcome { outcomes.Fits outcome.now election.now }
+    requires outcome { OutcomeFits outcome.now election.now }
     requires project { IsProject election.now j }
     requires low { 1 ≤ denominator }
     requires high { denominator ≤ most_denominator }
@@ -223,7 +222,7 @@ fn is_not_paid_exactly(
 
 // Whether project `j` is unfunded and something is paid for it.
 fn is_paid_in_vain(election: &Election, outcome: &Outcome, sums: &[ProjectSums], j: u32) -> bool
-    requires outcome { outcomes.Fits outcome.now election.now }
+    requires outcome { OutcomeFits outcome.now election.now }
     requires project { IsProject election.now j }
     requires sums { length sums.now ≡ projects election.now }
     ensures { result ≡ in_vain (outcome.now).marks sums.now j }
@@ -241,7 +240,7 @@ fn failure_of_supporters(
     sums: &[ProjectSums],
     steps: &mut u64,
 ) -> Option<Failure>
-    requires outcome { outcomes.Fits outcome.now election.now }
+    requires outcome { OutcomeFits outcome.now election.now }
     requires low { 1 ≤ denominator }
     requires high { denominator ≤ most_denominator }
     requires sums { length sums.now ≡ projects election.now }
@@ -267,7 +266,7 @@ fn first_with_more(
     sums: &[ProjectSums],
     steps: &mut u64,
 ) -> Option<u32>
-    requires outcome { outcomes.Fits outcome.now election.now }
+    requires outcome { OutcomeFits outcome.now election.now }
     requires low { 1 ≤ denominator }
     requires high { denominator ≤ most_denominator }
     requires sums { length sums.now ≡ projects election.now }
@@ -295,7 +294,7 @@ fn is_with_more(
     sums: &[ProjectSums],
     j: u32,
 ) -> bool
-    requires outcome { outcomes.Fits outcome.now election.now }
+    requires outcome { OutcomeFits outcome.now election.now }
     requires project { IsProject election.now j }
     requires low { 1 ≤ denominator }
     requires high { denominator ≤ most_denominator }

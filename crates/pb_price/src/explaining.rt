@@ -3,7 +3,7 @@
 
 ghost use Rattle.std.specs.Prelude.{◌≡◌, ◌≤◌, ◌^◌, ◌⊎◌, ℕ, IfErr, IfOk, MatchResult, length};
 ghost use Rattle.pb_election.specs.Instance.{IsProject, most_voters, projects};
-ghost use Rattle.pb_election.specs.Outcome as outcomes;
+ghost use Rattle.pb_election.specs.Outcome.{OutcomeFits};
 ghost use Rattle.pb_certificate.specs.Faults.{Refuses, certificate_records, no_memory, price_form};
 ghost use Rattle.pb_certificate.specs.PriceText.{IsPriceText};
 ghost use Rattle.pb_certificate.specs.Prices as spec;
@@ -31,7 +31,7 @@ pub fn findings_of(
     outcome: &Outcome,
     bytes: &[u8],
 ) -> Result<Findings, CertRefusal>
-    requires { outcomes.Fits outcome.now election.now }
+    requires { OutcomeFits outcome.now election.now }
 
     // The bytes state prices, and the findings are those on them.
     ensures found { IfOk result (λ f. (p : spec.Prices) × IsPriceText (certificate_records bytes.now) election.now p × (f ≡ findings election.now (outcome.now).marks p)) }
@@ -48,7 +48,7 @@ pub fn findings_of(
 
 // The findings by the tally of all payments, which are over this denominator.
 fn findings_by(election: &Election, outcome: &Outcome, denominator: u32, tally: &Tally) -> Findings
-    requires outcome { outcomes.Fits outcome.now election.now }
+    requires outcome { OutcomeFits outcome.now election.now }
     requires low { 1 ≤ denominator }
     requires high { denominator ≤ most_denominator }
     requires budget { (tally.now).budget ≤ most_grains }
@@ -96,7 +96,7 @@ fn project_findings(
     remaining: i128,
     sums: &[ProjectSums],
 ) -> ProjectFindings
-    requires outcome { outcomes.Fits outcome.now election.now }
+    requires outcome { OutcomeFits outcome.now election.now }
     requires low { 1 ≤ denominator }
     requires high { denominator ≤ most_denominator }
     requires remaining { IsWithin (10 ^ 38) remaining }

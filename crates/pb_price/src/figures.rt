@@ -4,7 +4,7 @@
 
 ghost use Rattle.std.specs.Prelude.{◌≡◌, ◌≤◌, ◌⊎◌, IfErr, IfOk, MatchResult, length, map};
 ghost use Rattle.pb_election.specs.Instance.{all_projects, projects};
-ghost use Rattle.pb_election.specs.Outcome as outcomes;
+ghost use Rattle.pb_election.specs.Outcome.{OutcomeFits};
 ghost use Rattle.pb_certificate.specs.Faults.{Refuses, certificate_records, no_memory, price_form};
 ghost use Rattle.pb_certificate.specs.PriceText.{IsPriceText};
 ghost use Rattle.pb_certificate.specs.Prices as spec;
@@ -29,7 +29,7 @@ pub fn margins_of(
     outcome: &Outcome,
     bytes: &[u8],
 ) -> Result<Margins, CertRefusal>
-    requires { outcomes.Fits outcome.now election.now }
+    requires { OutcomeFits outcome.now election.now }
 
     // The bytes state prices, and the figures are those by them.
     ensures found { IfOk result (λ m. (p : spec.Prices) × IsPriceText (certificate_records bytes.now) election.now p × AreMargins election.now (outcome.now).marks p m) }
@@ -60,7 +60,7 @@ fn margins_by(
     denominator: u32,
     sums: &[ProjectSums],
 ) -> Result<Vec<ProjectMargins>, AllocError>
-    requires outcome { outcomes.Fits outcome.now election.now }
+    requires outcome { OutcomeFits outcome.now election.now }
     requires low { 1 ≤ denominator }
     requires high { denominator ≤ most_denominator }
     requires sums { length sums.now ≡ projects election.now }

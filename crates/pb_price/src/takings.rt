@@ -4,7 +4,7 @@ ghost use Rattle.std.specs.Prelude.{◌≡◌, ◌+◌, ◌⊎◌, [], IfErr, If
 ghost use Rattle.pb_election.specs.Instance.{IsVoter, voters};
 ghost use Rattle.pb_records.specs.FirstFault.{IsFirstFault};
 ghost use Rattle.pb_certificate.specs.Faults.{Refuses, no_memory, price_form};
-ghost use Rattle.pb_certificate.specs.Prices as spec;
+ghost use Rattle.pb_certificate.specs.Prices.{PricesFit};
 ghost use Rattle.pb_certificate.specs.Rows.{given};
 ghost use Rattle.pb_price.specs.Inside.Takings.{IsTallied, TakesCertificate, TakesUntil, taken_from};
 ghost use Rattle.pb_price.specs.Inside.Tallies.{Tallied};
@@ -70,7 +70,7 @@ fn take_rows(tally: &mut Tally, election: &Election, rows: Rows) -> Result<(), C
 
 /// Takes all payments of these prices, voter by voter.
 pub(crate) fn take_prices(tally: &mut Tally, election: &Election, prices: &Prices)
-    requires prices { spec.Fits prices.now election.now }
+    requires prices { PricesFit prices.now election.now }
     requires none { TakesUntil election.now prices.now 1 0 tally.old }
     ensures { TakesUntil election.now prices.now (voters election.now + 1) 0 tally.new }
 {
@@ -81,7 +81,7 @@ pub(crate) fn take_prices(tally: &mut Tally, election: &Election, prices: &Price
 
 // Takes the payments of voter i.
 fn take_payments_of(tally: &mut Tally, election: &Election, prices: &Prices, i: u32)
-    requires prices { spec.Fits prices.now election.now }
+    requires prices { PricesFit prices.now election.now }
     requires voter { IsVoter election.now i }
     requires before { TakesUntil election.now prices.now i 0 tally.old }
     ensures { TakesUntil election.now prices.now (i + 1) 0 tally.new }

@@ -1,22 +1,15 @@
 -- A blank record is text: what cleaning drops is ASCII.
-use Rattle.std.proofs.Common.{◌≡◌, ◌<◌, ℕ, suc, zero, List, [], ◌∷◌, refl, arith, Bool, true, false}
+use Rattle.std.proofs.Common.{◌≡◌, [], ◌∷◌, refl, Bool, true, false}
 use Rattle.std.specs.Prelude.{◌&&◌, if◌then◌else◌}
 use Rattle.std.specs.List.{list_all}
 use Rattle.std.specs.Str.{IsAscii, is_utf8}
 use Rattle.std.proofs.lemmas.Bool.{false_from_ne_true}
-use Rattle.std.proofs.lemmas.Bool.Decides.{nat_tests}
 use Rattle.std.proofs.lemmas.Str.{IsUtf8-from_ascii, is_utf8-from_IsUtf8}
-use Rattle.std.proofs.lemmas.Str.Ascii.{IsAscii-nil}
+use Rattle.std.proofs.lemmas.Str.Ascii.{IsAscii-nil, IsAscii-cons}
 use Rattle.pb_money.specs.Digits.{drop_back, drop_front, is_empty}
 use Rattle.pb_records.specs.Records.{Field, Rec}
 use Rattle.pb_records.specs.Cells.{clean, is_blank, is_space, is_text}
-
-space-below : (b : ℕ) → is_space b ≡ true → b < 128
-space-below b h = grind (arith, nat_tests)
-
-ascii-cons : (b : ℕ) (bs : List ℕ) → b < 128 → IsAscii bs → IsAscii (b ∷ bs)
-ascii-cons b bs h a zero = h
-ascii-cons b bs h a (suc i) = a i
+use Rattle.pb_records.proofs.CellLemmas.{space-ascii}
 
 -- where nothing is left, all was space
 ascii-back : (f : Field) → is_empty (drop_back is_space f) ≡ true → IsAscii f
@@ -27,7 +20,7 @@ ascii-back (b ∷ bs) h = by (is_space b) (is_empty (drop_back is_space bs)) ref
     by : (s e : Bool) → is_space b ≡ s → is_empty (drop_back is_space bs) ≡ e
         → is_empty (if s && e then [] else b ∷ drop_back is_space bs) ≡ true
         → (is_empty (drop_back is_space bs) ≡ true → IsAscii bs) → IsAscii (b ∷ bs)
-    by true true s e k more = ascii-cons b bs (space-below b s) (more e)
+    by true true s e k more = IsAscii-cons b bs (space-ascii b s) (more e)
     by true false s e k more = cc k
     by false e s d k more = cc k
 
@@ -39,7 +32,7 @@ ascii-front (b ∷ bs) h = by (is_space b) refl h (ascii-front bs)
     by : (s : Bool) → is_space b ≡ s → is_empty (drop_back is_space (if s then drop_front is_space bs else b ∷ bs))
         ≡ true
         → (is_empty (clean bs) ≡ true → IsAscii bs) → IsAscii (b ∷ bs)
-    by true s k more = ascii-cons b bs (space-below b s) (more k)
+    by true s k more = IsAscii-cons b bs (space-ascii b s) (more k)
     by false s k more = ascii-back (b ∷ bs) k
 
 blank-is-text : (r : Rec) → is_blank r ≡ true → is_text r ≡ true

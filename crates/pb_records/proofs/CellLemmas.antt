@@ -1,21 +1,18 @@
 -- The words on cells, step by step.
 use Rattle.std.proofs.Common.{◌≡◌, ◌∙◌, ◌<◌, ◌≤◌, ◌+◌, ◌-◌, ◌++◌, ℕ, zero, suc, [], ◌∷◌, refl, sym, ap, arith, add-one, Bool, true, false, Some, None, length, drop, take, get_or}
-use Rattle.std.specs.Prelude.{◌&&◌, ◌==◌}
+use Rattle.std.specs.Prelude.{◌&&◌}
 use Rattle.std.specs.List.{list_all, slice_range}
 use Rattle.std.proofs.lemmas.Bool.Decides.{nat_tests}
 use Rattle.std.proofs.lemmas.List.{drop_all}
 use Rattle.std.proofs.lemmas.Str.{IsCharBoundary-after_ascii, IsCharBoundary-before_ascii}
 use Rattle.std.specs.Str.{IsCharBoundary, IsUtf8}
 use Rattle.std.proofs.Math.Seq.{drop-cons, take-suc}
+use Rattle.std.proofs.Math.Bool.{and-false}
 use Rattle.csv.specs.Records.{field_at}
 use Rattle.pb_money.specs.Digits.{drop_back, drop_front, is_empty}
+use Rattle.pb_money.proofs.Fractions.{some-left}
 use Rattle.pb_records.specs.Records.{Field, Rec}
 use Rattle.pb_records.specs.Cells.{clean, is_blank, is_space}
-
--- emptiness by the length
-pub empty-is : (xs : Field) → is_empty xs ≡ (length xs == 0)
-empty-is [] = refl
-empty-is (x ∷ xs) = grind (arith, nat_tests)
 
 -- a space is a byte of ASCII
 pub space-ascii : (b : ℕ) → is_space b ≡ true → b < 128
@@ -58,13 +55,6 @@ front-ends bytes text i same h =
     front-nil is_space text i h'
 
 -- what is dropped at the end
-and-no : (p : Bool) → (p && false) ≡ false
-and-no true = refl
-and-no false = refl
-
-not-empty : (xs : Field) (b : ℕ) → is_empty (xs ++ (b ∷ [])) ≡ false
-not-empty [] b = refl
-not-empty (x ∷ xs) b = refl
 
 back-dropped : (test : ℕ → Bool) (bs : Field) (b : ℕ) → test b ≡ true
     → drop_back test (bs ++ (b ∷ [])) ≡ drop_back test bs
@@ -75,7 +65,7 @@ back-dropped test (x ∷ xs) b e = rw (back-dropped test xs b e) refl
 back-kept : (test : ℕ → Bool) (bs : Field) (b : ℕ) → test b ≡ false → drop_back test (bs ++ (b ∷ [])) ≡ bs ++ (b ∷ [])
 unfolding drop_back
 back-kept test [] b e = rw e refl
-back-kept test (x ∷ xs) b e = rw (back-kept test xs b e, not-empty xs b, and-no (test x)) refl
+back-kept test (x ∷ xs) b e = rw (back-kept test xs b e, some-left xs b, and-false (test x)) refl
 
 pub range-start : (text : Field) (end : ℕ) → slice_range text 0 end ≡ take end text
 range-start text end =

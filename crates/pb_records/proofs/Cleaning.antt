@@ -1,4 +1,5 @@
 -- A field that was cleaned stays as it is, and stays UTF-8.
+use Rattle.std.specs.Cmp.{first_so}
 use Rattle.std.proofs.Common.{◌≡◌, ◌≤◌, ◌<◌, ◌∙◌, ℕ, suc, [], ◌∷◌, refl, ap, arith, inl, inr, Bool, true, false, length, take, get_or}
 use Rattle.std.specs.Prelude.{◌&&◌, if◌then◌else◌, nat_lt}
 use Rattle.std.proofs.lemmas.Bool.Decides.{nat_tests}
@@ -86,17 +87,13 @@ unfolding drop_back
 kept [] = record { count = 0; within = omega arith; is = refl; next = λ h. absurd (omega arith) }
 kept (b ∷ bs) = by (is_space b && is_empty (drop_back is_space bs)) refl (kept bs)
   where
-    first : (x y : Bool) → (x && y) ≡ true → x ≡ true
-    first true y e = refl
-    first false y e = cc e
-
     by : (t : Bool) → (is_space b && is_empty (drop_back is_space bs)) ≡ t → Kept bs → Kept (b ∷ bs)
     by true e k =
         record {
           count = 0;
           within = omega arith;
           is = rw e refl;
-          next = λ h. first (is_space b) (is_empty (drop_back is_space bs)) e;
+          next = λ h. first_so (is_space b) (is_empty (drop_back is_space bs)) e;
         }
     by false e k =
         record {

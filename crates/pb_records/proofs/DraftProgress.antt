@@ -1,6 +1,6 @@
 -- How far the records of a file have been taken into a draft that a cursor feeds.
 use Rattle.std.proofs.Common.{◌≡◌, ◌≤◌, ◌<◌, ◌∙◌, ◌+◌, ◌++◌, ℕ, suc, zero, List, [], ◌∷◌, refl, sym, ap, arith, Bool, true, false, Some, None, append_assoc, append-nil, length, length-append, below_more, add-one}
-use Rattle.std.specs.Prelude.{nat_lt, not, slice_get}
+use Rattle.std.specs.Prelude.{nat_lt, not}
 use Rattle.std.proofs.lemmas.List.{take_all}
 use Rattle.std.proofs.lemmas.Bool.Decides.{nat_tests}
 use Rattle.std.proofs.lemmas.List.Elements.{filter-append}
@@ -12,6 +12,7 @@ use Rattle.pb_records.specs.Inside.Drafts.{Takes, TellsEnd, TellsNotText}
 use Rattle.pb_records.specs.Inside.Position.{MeetsEnd, MeetsNotText, MeetsRecord, Position}
 use Rattle.pb_records.proofs.BlankText.{not-text-is-full}
 use Rattle.pb_records.specs.FirstFault.{Form, IsFirstFault, NoFault, fault_after, fault_at}
+use Rattle.pb_records.proofs.Lists.{get-seam}
 
 -- the records before these are taken, and no fault stands among them; `has` says what they left
 pub record Progress {F : Type 0} (form : Form F) (has : List Rec → Type 0) (recs left : List Rec) (place : ℕ) : Type
@@ -22,10 +23,10 @@ pub record Progress {F : Type 0} (form : Form F) (has : List Rec → Type 0) (re
   pub none : (k : ℕ) → k < place + 1 → fault_at form recs k ≡ None
   pub done : has (nonblank taken)
 
-nonblank-blank : (recs : List Rec) (r : Rec) → is_blank r ≡ true → nonblank (recs ++ (r ∷ [])) ≡ nonblank recs
+pub nonblank-blank : (recs : List Rec) (r : Rec) → is_blank r ≡ true → nonblank (recs ++ (r ∷ [])) ≡ nonblank recs
 nonblank-blank recs r e = filter-append (λ x. not (is_blank x)) recs (r ∷ []) ∙ rw e (append-nil (nonblank recs))
 
-nonblank-more : (recs : List Rec) (r : Rec) → is_blank r ≡ false
+pub nonblank-more : (recs : List Rec) (r : Rec) → is_blank r ≡ false
     → nonblank (recs ++ (r ∷ [])) ≡ nonblank recs ++ (r ∷ [])
 nonblank-more recs r e = filter-append (λ x. not (is_blank x)) recs (r ∷ []) ∙ rw e refl
 
@@ -34,10 +35,6 @@ plus-zero n = omega arith
 
 plus-suc : (n k : ℕ) → n + suc k ≡ n + 1 + k
 plus-suc n k = omega arith
-
-get-seam : (xs ys : List Rec) (y : Rec) → slice_get (xs ++ y ∷ ys) (length xs) ≡ Some y
-get-seam [] ys y = refl
-get-seam (x ∷ xs) ys y = get-seam xs ys y
 
 fault-here : {F : Type 0} (form : Form F) (recs taken rest : List Rec) (r : Rec) → recs ≡ taken ++ r ∷ rest
     → fault_at form recs (length taken + 1) ≡ fault_after form taken (Some r)

@@ -1,9 +1,10 @@
 -- Lists that are kept one behind the other in one list.
-use Rattle.std.proofs.Common.{◌≡◌, ◌∙◌, ◌≤◌, ◌<◌, ◌+◌, ◌-◌, ◌++◌, ℕ, zero, suc, List, [], ◌∷◌, refl, sym, ap, add-one, arith, length, take, drop, get_or, length-append}
+use Rattle.std.proofs.Common.{◌≡◌, ◌∙◌, ◌≤◌, ◌<◌, ◌+◌, ◌++◌, ℕ, zero, suc, List, [], ◌∷◌, refl, sym, ap, add-one, arith, length, drop, get_or, length-append}
 use Rattle.std.specs.List.{between, sum_by}
-use Rattle.std.proofs.lemmas.List.{get_or_read, length-drop, length-take-le, take-append-le, take_all, drop_at}
+use Rattle.std.proofs.lemmas.List.{get_or_read, take-append-le, take_all, drop_at}
 use Rattle.std.proofs.lemmas.List.Sums.{sum_by-cons}
 use Rattle.std.proofs.lemmas.Slice.{between_is}
+use Rattle.std.proofs.lemmas.List.Edits.{length-between}
 use Rattle.pb_records.specs.Flat.{AreStarts, Climb, cut_at_starts, cut_from}
 
 -- a climb
@@ -81,12 +82,6 @@ module _ {A : Type 0} where
   cut-more start high next (x ∷ starts) entries h =
       ap (λ l. between start x entries ∷ l) (cut-more x high next starts entries h.1)
 
-  between-length : (start next : ℕ) (entries : List A) → next ≤ length entries
-      → length (between start next entries) ≡ next - start
-  between-length start next entries l =
-      ap length (between_is entries start next) ∙ length-drop start (take next entries)
-      ∙ ap (λ n. n - start) (length-take-le next entries l)
-
   cut-total : (start high : ℕ) (starts : List ℕ) (entries : List A) → Climb start starts high → high ≤ length entries
       → start + sum_by length (cut_from start starts entries) ≡ high
   unfolding cut_from
@@ -97,7 +92,7 @@ module _ {A : Type 0} where
         arith,
         h.0,
         sum_by-cons length (between start next entries) (cut_from next starts entries),
-        between-length start next entries below,
+        length-between entries start next below,
         cut-total next high starts entries h.1 l,
       )
 

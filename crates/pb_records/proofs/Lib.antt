@@ -2,10 +2,12 @@ mod WrittenParts
 mod RecordSteps
 mod RecordsLeft
 mod ByteOrderMarks
+pub mod Each
+pub mod Lists
 pub mod CellLemmas
 pub mod Cleaning
 pub mod BlankText
 mod CursorSteps
-mod DraftProgress
+pub mod DraftProgress
 pub mod First
 pub mod FlatRuns

@@ -1,8 +1,8 @@
 //! Taking the inputs: what the bytes of each state is handed on.
 ghost use Rattle.std.specs.Prelude.{◌≡◌, IfOk, option_map};
 ghost use Rattle.pb_election.specs.Instance.{IsSet, projects};
-ghost use Rattle.pb_election.specs.Outcome as outcomes;
-ghost use Rattle.pb_certificate.specs.Claim as claims;
+ghost use Rattle.pb_election.specs.Outcome.{OutcomeFits};
+ghost use Rattle.pb_certificate.specs.Claim.{ClaimFits};
 ghost use Rattle.pb_reply.specs.Inputs.{StatesElection, StatesOutcome, StatesViolation, its_outcome};
 ghost use Rattle.pb_reply.specs.Inside.Loaded.{lent};
 ghost use Rattle.pb_reply.specs.Readings.{file_reading, reading};
@@ -34,7 +34,7 @@ pub fn violation_of(
     election: &Election,
 ) -> Result<Violation, Stop>
     ensures taken { IfTaken (claimed result) (StatesViolation input election.now (lent file.entry)) }
-    ensures fits { IfOk result (λ violation. claims.Fits violation election.now) }
+    ensures fits { IfOk result (λ violation. ClaimFits violation election.now) }
     ensures demand { IfOk result (λ violation. IsSet 1 (projects election.now) violation.demand) }
 {
     let bytes = bytes_of(input, file)?;
@@ -51,7 +51,7 @@ pub fn outcome_of(
     election: &Election,
 ) -> Result<Outcome, Stop>
     ensures taken { IfTaken (as_marks result) (AuditsOutcome election.now (option_map lent file.entry)) }
-    ensures fits { IfOk result (λ outcome. outcomes.Fits outcome election.now) }
+    ensures fits { IfOk result (λ outcome. OutcomeFits outcome election.now) }
 {
     match file {
         Some(file) => outcome_in(alloc, file, election),
@@ -62,7 +62,7 @@ pub fn outcome_of(
 /// The outcome that an outcome file states.
 fn outcome_in(alloc: Global, file: File<'_>, election: &Election) -> Result<Outcome, Stop>
     ensures taken { IfTaken (as_marks result) (StatesOutcome election.now (lent file.entry)) }
-    ensures fits { IfOk result (λ outcome. outcomes.Fits outcome election.now) }
+    ensures fits { IfOk result (λ outcome. OutcomeFits outcome election.now) }
 {
     let bytes = bytes_of(InputName::Outcome, file)?;
     match read_outcome(alloc, bytes, election) {
@@ -74,7 +74,7 @@ fn outcome_in(alloc: Global, file: File<'_>, election: &Election) -> Result<Outc
 /// The outcome that the election itself states.
 fn own_outcome(alloc: Global, election: &Election) -> Result<Outcome, Stop>
     ensures taken { IfTaken (as_marks result) (λ stated. stated ≡ its_outcome (election.now).selected) }
-    ensures fits { IfOk result (λ outcome. outcomes.Fits outcome election.now) }
+    ensures fits { IfOk result (λ outcome. OutcomeFits outcome election.now) }
 {
     match Outcome::selected(alloc, election) {
         Ok(outcome) => Ok(outcome),
@@ -97,7 +97,7 @@ pub fn take_outcome<R: Source>(
     election: &Election,
 ) -> Result<Outcome, Stop>
     ensures taken { IfTaken (as_marks result) (ReadsOutcome election.now (file_reading R.Source source.old source.new)) }
-    ensures fits { IfOk result (λ outcome. outcomes.Fits outcome election.now) }
+    ensures fits { IfOk result (λ outcome. OutcomeFits outcome election.now) }
 {
     match source {
         Some(source) => take_outcome_file(alloc, source, election),
@@ -112,7 +112,7 @@ fn take_outcome_file<R: Source>(
     election: &Election,
 ) -> Result<Outcome, Stop>
     ensures taken { IfTaken (as_marks result) (Gives (StatesOutcome election.now) (reading R.Source source.old source.new)) }
-    ensures fits { IfOk result (λ outcome. outcomes.Fits outcome election.now) }
+    ensures fits { IfOk result (λ outcome. OutcomeFits outcome election.now) }
 {
     let loaded = Loaded::load(alloc, source)?;
     outcome_in(alloc, loaded.lend(), election)

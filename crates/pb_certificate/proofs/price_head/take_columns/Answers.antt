@@ -1,7 +1,7 @@
 use Rattle.std.proofs.Common.{◌∙◌, arith, sym}
 use Rattle.std.proofs.lemmas.Result.{err_from_is_err_and}
 use Rattle.pb_certificate.specs.Inside.PriceHead.{HasFields, column_fields}
-use Rattle.pb_certificate.proofs.HeadSteps.{columns-refused, columns-taken, not-met}
+use Rattle.pb_certificate.proofs.HeadSteps.{columns-form, fields-refused, fields-taken, not-met}
 use Rattle.pb_certificate.proofs.price_head.take_columns.Goals as goal
 
 pub returns-in_err-next_head : goal.returns-in_err-next_head
@@ -15,11 +15,11 @@ pub returns-then-not-is_triple : goal.returns-then-not-is_triple
 returns-then-not-is_triple c =
     let is = rw c.row.ensures at c.is_triple.ensures in
     rw c.refused_here.ensures
-    (columns-refused c.args.cursor.now c.next_head.new.cursor c.in_ok-next_head.ensures
+    (fields-refused 3 column_fields columns-form c.args.cursor.now c.next_head.new.cursor c.in_ok-next_head.ensures
     (sym is ∙ c.if-not-is_triple.true))
 
 pub returns : goal.returns
 returns c =
     let is = rw c.row.ensures at c.is_triple.ensures in
-    columns-taken c.args.cursor.now c.next_head.new.cursor tt c.in_ok-next_head.ensures
+    fields-taken 3 column_fields columns-form c.args.cursor.now c.next_head.new.cursor tt c.in_ok-next_head.ensures
     (sym is ∙ c.if-not-is_triple.false)

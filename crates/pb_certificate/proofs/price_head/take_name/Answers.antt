@@ -1,7 +1,7 @@
 use Rattle.std.proofs.Common.{◌∙◌, arith, sym}
 use Rattle.std.proofs.lemmas.Result.{err_from_is_err_and}
 use Rattle.pb_certificate.specs.Inside.PriceHead.{HasFields, name_fields}
-use Rattle.pb_certificate.proofs.HeadSteps.{name-refused, name-taken, not-met}
+use Rattle.pb_certificate.proofs.HeadSteps.{fields-refused, fields-taken, name-form, not-met}
 use Rattle.pb_certificate.proofs.price_head.take_name.Goals as goal
 
 pub returns-in_err-next_head : goal.returns-in_err-next_head
@@ -15,10 +15,11 @@ pub returns-then-not-is_pair : goal.returns-then-not-is_pair
 returns-then-not-is_pair c =
     let is = rw c.row.ensures at c.is_pair.ensures in
     rw c.refused_here.ensures
-    (name-refused c.args.cursor.now c.next_head.new.cursor c.in_ok-next_head.ensures
+    (fields-refused 0 name_fields name-form c.args.cursor.now c.next_head.new.cursor c.in_ok-next_head.ensures
     (sym is ∙ c.if-not-is_pair.true))
 
 pub returns : goal.returns
 returns c =
     let is = rw c.row.ensures at c.is_pair.ensures in
-    name-taken c.args.cursor.now c.next_head.new.cursor tt c.in_ok-next_head.ensures (sym is ∙ c.if-not-is_pair.false)
+    fields-taken 0 name_fields name-form c.args.cursor.now c.next_head.new.cursor tt c.in_ok-next_head.ensures
+    (sym is ∙ c.if-not-is_pair.false)

@@ -1,13 +1,10 @@
-use Rattle.std.proofs.Common.{◌≡◌, ℕ, List, get_or, filter, map, not, sym, ◌∙◌, ap}
+use Rattle.std.proofs.Common.{◌≡◌, ℕ, get_or, filter, map, not, sym, ◌∙◌, ap}
 use Rattle.std.specs.Prelude.{None, Some, slice_get}
-use Rattle.pb_election.specs.Instance.{Instance, approves, voters}
+use Rattle.pb_election.specs.Instance.{approves, voters}
+use Rattle.pb_cohesion.proofs.Counted.{with_voter}
 use Rattle.pb_cohesion.proofs.Firsts.{first-mapped, lists-first, lists-more, none-first, none-found}
 use Rattle.pb_cohesion.proofs.Loops.{set-at}
 use Rattle.pb_cohesion.proofs.violations.first_not_approved.Goals as goal
-
--- the demanded projects that a voter does not approve, each with the voter
-abbrev with_voter : Instance → List ℕ → ℕ → List (ℕ × ℕ)
-with_voter e t i = map (λ j. (i, j)) (filter (λ j. not (approves e i j)) t)
 
 pub first_missing-requires-clause-voter : goal.first_missing-requires-clause-voter
 first_missing-requires-clause-voter c =

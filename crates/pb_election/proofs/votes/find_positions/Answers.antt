@@ -1,15 +1,15 @@
 use Rattle.std.proofs.Common.{◌∙◌, ap, sym}
 use Rattle.std.specs.Option.{option_copied}
 use Rattle.pb_money.specs.Digits.{is_empty}
+use Rattle.pb_money.proofs.Numbers.{is-empty}
 use Rattle.pb_election.specs.Inside.Ids.{ids_kept, position_in}
-use Rattle.pb_records.proofs.CellLemmas.{empty-is}
 use Rattle.pb_election.proofs.VoteLemmas.{lookup-fails, lookup-goes-on, lookup-skips}
 use Rattle.pb_election.proofs.votes.find_positions.Goals as goal
 
 pub returns-in_default-position_of-clause-known : goal.returns-in_default-position_of-clause-known
 returns-in_default-position_of-clause-known c =
     let kept = ids_kept c.args.ids.now.keys in
-    let full = ap is_empty (sym c.clean-name.ensures) ∙ empty-is c.clean-name.result.now ∙ sym c.is_empty.ensures
+    let full = ap is_empty (sym c.clean-name.ensures) ∙ is-empty c.clean-name.result.now ∙ sym c.is_empty.ensures
     ∙ c.if-not-is_empty.true in
     let before = rw c.in-Some.is at c.loop-left.invariant in
     sym
@@ -20,7 +20,7 @@ returns-in_default-position_of-clause-known c =
 pub loop-left-preserved-in-Continue-1 : goal.loop-left-preserved-in-Continue-1
 loop-left-preserved-in-Continue-1 c =
     let kept = ids_kept c.args.ids.now.keys in
-    let full = ap is_empty (sym c.clean-name.ensures) ∙ empty-is c.clean-name.result.now ∙ sym c.is_empty.ensures
+    let full = ap is_empty (sym c.clean-name.ensures) ∙ is-empty c.clean-name.result.now ∙ sym c.is_empty.ensures
     ∙ c.if-not-is_empty.true in
     let before = rw c.in-Some.is at c.loop-left.invariant in
     rw c.in_ok-push.ensures.items
@@ -32,7 +32,7 @@ loop-left-preserved-in-Continue-1 c =
 pub loop-left-preserved : goal.loop-left-preserved
 loop-left-preserved c =
     let kept = ids_kept c.args.ids.now.keys in
-    let none = ap is_empty (sym c.clean-name.ensures) ∙ empty-is c.clean-name.result.now ∙ sym c.is_empty.ensures
+    let none = ap is_empty (sym c.clean-name.ensures) ∙ is-empty c.clean-name.result.now ∙ sym c.is_empty.ensures
     ∙ c.if-not-is_empty.false in
     let before = rw c.in-Some.is at c.loop-left.invariant in
     lookup-skips kept c.args.vote.now c.in-Some.text.now c.cut_first.result.0.now c.loop-left.found.items

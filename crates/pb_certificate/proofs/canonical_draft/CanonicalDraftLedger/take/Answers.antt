@@ -1,10 +1,11 @@
 use Rattle.std.proofs.Common.{◌∙◌, ◌++◌, ℕ, ap, sym, subst}
+use Rattle.csv.proofs.WriteFacts.{on_ok_both}
 use Rattle.pb_election.specs.Instance.{Instance, projects}
 use Rattle.pb_election.specs.Text.{IsElection}
 use Rattle.pb_certificate.specs.Canon.{lines, rows_of_voter}
 use Rattle.pb_certificate.specs.Prices.{IsPaymentMap}
 use Rattle.pb_certificate.specs.Inside.RecordWriter.{held}
-use Rattle.pb_certificate.proofs.CanonSteps.{on-both, text-next}
+use Rattle.pb_certificate.proofs.CanonSteps.{text-next}
 use Rattle.pb_certificate.proofs.canonical_draft.CanonicalDraftLedger.take.Goals as goal
 
 pub add_payments-requires : goal.add_payments-requires
@@ -19,7 +20,7 @@ add_payments-requires c =
 
 pub returns : goal.returns
 returns c = λ e p has next. (
-    on-both c.add_payments.result (λ is_open written. record {
+    on_ok_both c.add_payments.result (λ is_open written. record {
       election = has.election;
       sound = has.sound;
       each_project = has.each_project;

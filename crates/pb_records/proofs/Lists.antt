@@ -1,0 +1,55 @@
+-- Numbers in a row, what passes a test among them, and lists that are cut.
+use Rattle.std.proofs.Common.{◌≡◌, ◌∙◌, ℕ, zero, suc, ◌+◌, ◌<◌, ◌≤◌, Bool, false, List, [], ◌∷◌, ◌++◌, length, Option, Some, refl, sym, ap, arith}
+use Rattle.std.specs.Prelude.{filter, filter_map, map, slice_get, sum_by}
+use Rattle.std.specs.List.{range_with_len}
+use Rattle.std.proofs.lemmas.List.Sums.{sum_by-cons}
+
+-- one more number
+pub range-push : (a n : ℕ) → range_with_len a (suc n) ≡ range_with_len a n ++ ((a + n) ∷ [])
+range-push a zero = let e : a ≡ a + 0 = omega arith in ap (λ k. k ∷ []) e
+range-push a (suc n) =
+    let e : a + 1 + n ≡ a + suc n = omega arith in
+    ap (λ xs. a ∷ xs) (range-push (a + 1) n ∙ ap (λ k. range_with_len (a + 1) n ++ (k ∷ [])) e)
+
+-- two tests that agree on the numbers pass the same ones
+pub filter-same : (p q : ℕ → Bool) (n a : ℕ) → ((j : ℕ) → a ≤ j → j < a + n → p j ≡ q j)
+    → filter p (range_with_len a n) ≡ filter q (range_with_len a n)
+filter-same p q zero a h = refl
+filter-same p q (suc n) a h =
+    rw (h a (omega arith) (omega arith), filter-same p q n (a + 1) (λ j low high. h j (omega arith) (omega arith))) refl
+
+pub filter-none : (q : ℕ → Bool) (n a : ℕ) → ((j : ℕ) → a ≤ j → j < a + n → q j ≡ false)
+    → filter q (range_with_len a n) ≡ []
+filter-none q zero a h = refl
+filter-none q (suc n) a h =
+    rw (h a (omega arith) (omega arith)) (filter-none q n (a + 1) (λ j low high. h j (omega arith) (omega arith)))
+
+-- two functions that agree on the numbers map them to the same
+pub map-same : {A : Type 0} (f g : ℕ → A) (n a : ℕ) → ((j : ℕ) → a ≤ j → j < a + n → f j ≡ g j)
+    → map f (range_with_len a n) ≡ map g (range_with_len a n)
+map-same f g zero a h = refl
+map-same f g (suc n) a h =
+    let first = h a (omega arith) (omega arith) in
+    let rest = map-same f g n (a + 1) (λ j low high. h j (omega arith) (omega arith)) in
+    λ k. first k ∷ rest k
+
+-- where each element states something, that is all that they state
+pub filter_map-all : {A B : Type 0} (f : A → Option B) (xs : List A) (ys : List B) → map f xs ≡ map Some ys
+    → filter_map f xs ≡ ys
+filter_map-all f [] [] h = refl
+filter_map-all f [] (y ∷ ys) h = cc h
+filter_map-all f (x ∷ xs) [] h = cc h
+filter_map-all f (x ∷ xs) (y ∷ ys) h =
+    let first : f x ≡ Some y = cc in
+    let rest : map f xs ≡ map Some ys = cc in
+    rw first (ap (λ (zs : List _). y ∷ zs) (filter_map-all f xs ys rest))
+
+pub sum-mapped : {A B : Type 0} (f : B → ℕ) (g : A → B) (xs : List A) → sum_by f (map g xs) ≡ sum_by (λ x. f (g x)) xs
+sum-mapped f g [] = refl
+sum-mapped f g (x ∷ xs) = sum_by-cons f (g x) (map g xs) ∙ ap (λ n. f (g x) + n) (sum-mapped f g xs)
+    ∙ sym (sum_by-cons (λ y. f (g y)) x xs)
+
+-- the first element behind a cut
+pub get-seam : {A : Type 0} (xs ys : List A) (y : A) → slice_get (xs ++ y ∷ ys) (length xs) ≡ Some y
+get-seam [] ys y = refl
+get-seam (x ∷ xs) ys y = get-seam xs ys y
