@@ -1,15 +1,16 @@
 //! The auditor for C: whole files in memory in, and the answer's text in memory out. `include/pbaudit.h` says the same
-//! in the words of C. That memory runs out only where a growth was refused is tested and not proved.
+//! in the words of C. By its contract a call reports the number, the text and its length of what it answers on these
+//! bytes, or that memory ran out, and then nothing is written. That memory runs out only where a growth was refused is
+//! tested and not proved.
 #![tactic(auto)]
 
-ghost use Rattle.std.specs.Prelude.{◌≡◌, ◌≢◌};
 ghost use Rattle.pb_audit.specs.Answers.{AnswersElectionFile, AnswersPriceFiles, AnswersTidyFiles, AnswersViolationFiles};
 ghost use Rattle.pb_audit.specs.Both.{AnswersBothFiles};
 ghost use Rattle.pb_audit.specs.Explained.{AnswersExplainedFiles};
 ghost use Rattle.pb_audit.specs.Margins.{AnswersMarginFiles};
 ghost use Rattle.pb_reply.specs.Replies.{TellsReply};
 ghost use Rattle.pb_c.specs.Files.{given_file, given_mode};
-ghost use Rattle.pb_c.specs.Reports.{IsReported, memory_code};
+ghost use Rattle.pb_c.specs.Reports.{Reports};
 
 mod answers;
 mod report;
@@ -31,12 +32,7 @@ pub extern "C" fn pbaudit_read(
     out: &mut [u8],
     needed: &mut usize,
 ) -> u8
-    // The number, the text and its length are those of the reply on these bytes.
-    ensures reported { result ≢ memory_code → IsReported (TellsReply (AnswersElectionFile election.now)) result out.old out.new needed.new }
-
-    // Where memory ran out, nothing was written.
-    ensures memory_out { result ≡ memory_code → out.new ≡ out.old }
-    ensures memory_needed { result ≡ memory_code → needed.new ≡ 0 }
+    ensures { Reports (TellsReply (AnswersElectionFile election.now)) result out.old out.new needed.new }
 {
     report(&read_answer(alloc, election), out, needed)
 }
@@ -57,13 +53,7 @@ pub extern "C" fn pbaudit_prices(
     out: &mut [u8],
     needed: &mut usize,
 ) -> u8
-    // The number, the text and its length are those of the reply on these bytes. Where no file is refused, the number
-    // is 0 exactly where the prices support the outcome.
-    ensures reported { result ≢ memory_code → IsReported (TellsReply (AnswersPriceFiles (given_mode stable exhaustive cover) election.now (given_file has_outcome outcome.now) certificate.now)) result out.old out.new needed.new }
-
-    // Where memory ran out, nothing was written.
-    ensures memory_out { result ≡ memory_code → out.new ≡ out.old }
-    ensures memory_needed { result ≡ memory_code → needed.new ≡ 0 }
+    ensures { Reports (TellsReply (AnswersPriceFiles (given_mode stable exhaustive cover) election.now (given_file has_outcome outcome.now) certificate.now)) result out.old out.new needed.new }
 {
     let mode = Mode {
         stable,
@@ -87,13 +77,7 @@ pub extern "C" fn pbaudit_violation(
     out: &mut [u8],
     needed: &mut usize,
 ) -> u8
-    // The number, the text and its length are those of the reply on these bytes. Where no file is refused, the number
-    // is 0 exactly where the group and its demand are a violation.
-    ensures reported { result ≢ memory_code → IsReported (TellsReply (AnswersViolationFiles election.now (given_file has_outcome outcome.now) certificate.now)) result out.old out.new needed.new }
-
-    // Where memory ran out, nothing was written.
-    ensures memory_out { result ≡ memory_code → out.new ≡ out.old }
-    ensures memory_needed { result ≡ memory_code → needed.new ≡ 0 }
+    ensures { Reports (TellsReply (AnswersViolationFiles election.now (given_file has_outcome outcome.now) certificate.now)) result out.old out.new needed.new }
 {
     let answer = violation_answer(alloc, election, outcome, has_outcome, certificate);
     report(&answer, out, needed)
@@ -116,13 +100,7 @@ pub extern "C" fn pbaudit_both(
     out: &mut [u8],
     needed: &mut usize,
 ) -> u8
-    // The number, the text and its length are those of the reply on these bytes. Where no file is refused, the number
-    // is 0 exactly where the prices support the outcome and the group and its demand are a violation.
-    ensures reported { result ≢ memory_code → IsReported (TellsReply (AnswersBothFiles (given_mode stable exhaustive cover) election.now (given_file has_outcome outcome.now) prices.now violation.now)) result out.old out.new needed.new }
-
-    // Where memory ran out, nothing was written.
-    ensures memory_out { result ≡ memory_code → out.new ≡ out.old }
-    ensures memory_needed { result ≡ memory_code → needed.new ≡ 0 }
+    ensures { Reports (TellsReply (AnswersBothFiles (given_mode stable exhaustive cover) election.now (given_file has_outcome outcome.now) prices.now violation.now)) result out.old out.new needed.new }
 {
     let mode = Mode {
         stable,
@@ -160,13 +138,7 @@ pub extern "C" fn pbaudit_explain(
     out: &mut [u8],
     needed: &mut usize,
 ) -> u8
-    // The number, the text and its length are those of the reply on these bytes. Where no file is refused, the number
-    // is 0 exactly where the prices support the outcome, or the group and its demand are a violation.
-    ensures reported { result ≢ memory_code → IsReported (TellsReply (AnswersExplainedFiles (given_mode stable exhaustive cover) election.now (given_file has_outcome outcome.now) certificate.now)) result out.old out.new needed.new }
-
-    // Where memory ran out, nothing was written.
-    ensures memory_out { result ≡ memory_code → out.new ≡ out.old }
-    ensures memory_needed { result ≡ memory_code → needed.new ≡ 0 }
+    ensures { Reports (TellsReply (AnswersExplainedFiles (given_mode stable exhaustive cover) election.now (given_file has_outcome outcome.now) certificate.now)) result out.old out.new needed.new }
 {
     let mode = Mode {
         stable,
@@ -190,12 +162,7 @@ pub extern "C" fn pbaudit_margins(
     out: &mut [u8],
     needed: &mut usize,
 ) -> u8
-    // The number, the text and its length are those of the answer on these bytes.
-    ensures reported { result ≢ memory_code → IsReported (AnswersMarginFiles election.now (given_file has_outcome outcome.now) certificate.now) result out.old out.new needed.new }
-
-    // Where memory ran out, nothing was written.
-    ensures memory_out { result ≡ memory_code → out.new ≡ out.old }
-    ensures memory_needed { result ≡ memory_code → needed.new ≡ 0 }
+    ensures { Reports (AnswersMarginFiles election.now (given_file has_outcome outcome.now) certificate.now) result out.old out.new needed.new }
 {
     let answer = figures_answer(alloc, election, outcome, has_outcome, certificate);
     report(&answer, out, needed)
@@ -211,12 +178,7 @@ pub extern "C" fn pbaudit_tidy(
     out: &mut [u8],
     needed: &mut usize,
 ) -> u8
-    // The number, the text and its length are those of the answer on these bytes.
-    ensures reported { result ≢ memory_code → IsReported (AnswersTidyFiles election.now certificate.now) result out.old out.new needed.new }
-
-    // Where memory ran out, nothing was written.
-    ensures memory_out { result ≡ memory_code → out.new ≡ out.old }
-    ensures memory_needed { result ≡ memory_code → needed.new ≡ 0 }
+    ensures { Reports (AnswersTidyFiles election.now certificate.now) result out.old out.new needed.new }
 {
     report(&tidy_answer(alloc, election, certificate), out, needed)
 }

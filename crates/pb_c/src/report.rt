@@ -1,6 +1,6 @@
 //! How an answer is reported to C: a number, and the text in the caller's memory.
 ghost use Rattle.std.specs.Prelude.{◌≡◌, IfErr, IfOk};
-ghost use Rattle.pb_c.specs.Reports.{IsReported, memory_code, status_code};
+ghost use Rattle.pb_c.specs.Reports.{IsOutOfMemory, IsReported, status_code};
 
 use pb_audit::{Answer, Status};
 use std::alloc::AllocError;
@@ -11,9 +11,7 @@ const MEMORY_CODE: u8 = 4;
 /// Reports an answer, or that memory ran out.
 pub(crate) fn report(answer: &Result<Answer, AllocError>, out: &mut [u8], needed: &mut usize) -> u8
     ensures reported { IfOk answer.now (λ own. IsReported (λ a. a ≡ own) result out.old out.new needed.new) }
-    ensures memory { IfErr answer.now (λ _. result ≡ memory_code) }
-    ensures memory_out { IfErr answer.now (λ _. out.new ≡ out.old) }
-    ensures memory_needed { IfErr answer.now (λ _. needed.new ≡ 0) }
+    ensures memory_out { IfErr answer.now (λ _. IsOutOfMemory result out.old out.new needed.new) }
 {
     let Ok(answer) = answer else {
         *needed = 0;
