@@ -63,12 +63,18 @@ WAYS = [
     ("read", "one"), ("list", str(errno.EIO)), ("list", str(errno.ENOMEM)), ("look", str(errno.EACCES)),
     ("write", str(errno.ENOSPC)), ("write", str(errno.EINTR)), ("write", "none"), ("write", "one"),
 ]  # fmt: skip
-# What the names of the tests in crates/pb_tests begin with whose allocations are made to fail.
-TESTS = (
-    "tests::certificate::canonical::", "tests::cohesion::", "tests::command::", "tests::election::", "tests::explain::",
-    "tests::price::telling::", "tests::price::verdicts::prices_support_the_outcome_of_a_file", "tests::replies::",
-    "tests::reply::answers::", "tests::reply::lines::", "tests::reply::taking::",
-)  # fmt: skip
+# By their crate, what the names of the tests begin with whose allocations are made to fail.
+TESTS = {
+    "pb_certificate_tests": ("tests::certificate::canonical::", "tests::election::"),
+    "pb_price_tests": (
+        "tests::cohesion::", "tests::command::", "tests::price::telling::",
+        "tests::price::verdicts::prices_support_the_outcome_of_a_file",
+    ),
+    "pb_reply_tests": (
+        "tests::explain::", "tests::replies::", "tests::reply::answers::", "tests::reply::lines::",
+        "tests::reply::taking::",
+    ),
+}  # fmt: skip
 # How such a test ends where memory is wanted: by the call, or by the writer into memory that the test gives it.
 WANTS = (
     rb"error: (AllocError|AllocFailed \{ \.\. \}|Memory|Write|(Cert)?Refusal \{ fault: Memory, place: 0 \})\n",
@@ -266,22 +272,30 @@ def try_outputs(shim, program, counts):
 
 def try_library(shim, program, counts):
     """Makes each allocation fail in the tests of the library's calls."""
-    crates, made, wants = os.path.dirname(os.path.dirname(os.path.dirname(program))), 0, 0
-    tests = os.path.join(crates, "pb_tests", "out", "pb_tests_tests")
-    if not os.path.exists(tests):
-        counts.count(False, f"{tests} isn't there: rt test or rt ci builds it")
-        return
+    crates = os.path.dirname(os.path.dirname(os.path.dirname(program)))
+    for crate, begins in TESTS.items():
+        tests = os.path.join(crates, crate, "out", crate + "_tests")
+        if os.path.exists(tests):
+            try_tests(shim, tests, begins, counts)
+        else:
+            counts.count(False, f"{tests} isn't there: rt test or rt ci builds it")
+
+
+def try_tests(shim, tests, begins, counts):
+    """Makes each allocation fail in the tests of a crate whose names begin so."""
+    made, wants = 0, 0
     listed = shim.run(tests, ["--list"]).text.decode().splitlines()
-    names = [line.removesuffix(": test") for line in listed if line.startswith(TESTS) and line.endswith(": test")]
+    names = [line.removesuffix(": test") for line in listed if line.startswith(begins) and line.endswith(": test")]
     for name in names:
         for at, said, told in shim.fail_each(tests, [name], "memory", str(errno.ENOMEM)):
             passes = said.status == 0 and said.text.endswith(b"test result: ok\n")
             wanted = told.failed and said.status != 0 and any(re.match(want, said.errors) for want in WANTS)
             made, wants = made + told.failed, wants + wanted
             counts.count(passes or wanted, f"{name}: memory {at}, {told}", f"  said: {said}")
-    print(f"{made:6} times memory failed in {len(names)} tests of the library's calls, {wants} ended with want of it")
+    name = os.path.basename(tests)
+    print(f"{made:6} times memory failed in {len(names)} tests of {name}, {wants} ended with want of it")
     if not wants:
-        counts.count(False, "none was made: the library isn't loaded, or no test was found")
+        counts.count(False, f"none was made: the library isn't loaded, or no test of {name} was found")
 
 
 def main(program):

@@ -1,0 +1,5 @@
+//! Samples whose answers were worked out by hand, and what no contract says. `NAME` tries the calls of `pb_NAME`.
+mod certificate;
+mod election;
+mod money;
+mod records;

@@ -1,0 +1,213 @@
+//! What is taken of files and of readers.
+use pb_election::{Election, Input, Outcome};
+use pb_reply::{
+    File, InputName, Loaded, Stop, bytes_of, election_of, optional_file, outcome_of, take_election,
+    take_outcome, violation_of,
+};
+use pb_samples::fakes::InterruptedReader;
+use pb_samples::files::{
+    ELECTION, OUTCOME, POOL_OUTCOME, UNFAIR_ELECTION, VIOLATION, without_outcome,
+};
+use std::alloc::{AllocError, Global};
+use std::process::Abort;
+use std::test::Fail;
+
+/// An input, and the number, the name and the record of what it is refused for.
+type Why = (&'static str, u32, &'static str, u64);
+
+/// What an input is refused for, where it is. The error is want of memory.
+fn why<T>(taken: &Result<T, Stop>) -> Result<Option<Why>, AllocError> {
+    match taken {
+        Ok(_) => Ok(None),
+        Err(Stop::Refused { input, fault }) => {
+            Ok(Some((input.name(), fault.number(), fault.name(), fault.place())))
+        }
+        Err(Stop::Memory) => Err(AllocError {}),
+    }
+}
+
+#[test]
+fn each_input_is_refused_by_its_name(rt: HostRuntime) -> Result<(), Fail> {
+    for (input, name) in [
+        (InputName::Election, "election"),
+        (InputName::Outcome, "outcome"),
+        (InputName::Certificate, "certificate"),
+        (InputName::Prices, "prices"),
+        (InputName::Violation, "violation"),
+    ] {
+        let bytes = bytes_of(input, File::in_memory(b"abc"));
+        assert!(rt; matches!(bytes, Ok(b"abc")), "{name}");
+        let unread = bytes_of(input, File::Unread);
+        assert_eq!(rt; why(&unread)?, Some((name, 18, "Read", 0)));
+        let too_long = bytes_of(input, File::TooLong);
+        assert_eq!(rt; why(&too_long)?, Some((name, 19, "TooLong", 0)));
+    }
+    Ok(())
+}
+
+#[test]
+fn file_that_is_not_given_is_none(rt: HostRuntime) {
+    assert!(rt; matches!(optional_file(None), None));
+    assert!(rt; matches!(optional_file(Some(b"")), Some(File::Bytes(b""))));
+}
+
+#[test]
+fn election_is_taken_or_refused(rt: HostRuntime) -> Result<(), Fail> {
+    for (file, want) in [
+        (File::in_memory(ELECTION.as_bytes()), None),
+        (File::in_memory(b""), Some(("election", 2, "NoMeta", 1))),
+        (File::Unread, Some(("election", 18, "Read", 0))),
+        (File::TooLong, Some(("election", 19, "TooLong", 0))),
+    ] {
+        assert_eq!(rt; why(&election_of(rt.alloc(), file))?, want);
+    }
+    Ok(())
+}
+
+#[test]
+fn violation_is_taken_or_refused_by_the_name_it_has(rt: HostRuntime) -> Result<(), Fail> {
+    let election = Election::read(rt.alloc(), UNFAIR_ELECTION.as_bytes())?;
+    for (input, file, want) in [
+        (
+            InputName::Certificate,
+            File::in_memory(VIOLATION.as_bytes()),
+            None,
+        ),
+        (
+            InputName::Certificate,
+            File::in_memory(b"pb-violation,1\nvoter,5\n"),
+            Some(("certificate", 24, "UnknownVoter", 2)),
+        ),
+        (
+            InputName::Violation,
+            File::in_memory(b""),
+            Some(("violation", 21, "BadHead", 1)),
+        ),
+        (
+            InputName::Violation,
+            File::Unread,
+            Some(("violation", 18, "Read", 0)),
+        ),
+    ] {
+        let taken = violation_of(rt.alloc(), input, file, &election);
+        assert_eq!(rt; why(&taken)?, want);
+    }
+    Ok(())
+}
+
+/// An outcome is to fund these of the three sample projects; or it is refused for this.
+fn expect_outcome(
+    rt: &impl Abort,
+    election: &Election,
+    taken: &Result<Outcome, Stop>,
+    want: Result<[bool; 3], Why>,
+) -> Result<(), Fail> {
+    let refusal = why(taken)?;
+    assert_eq!(rt; refusal, want.err());
+    if let (Ok(outcome), Ok(marks)) = (taken, want) {
+        assert!(rt; outcome.fits(election) && election.projects() == 3);
+        let found = [outcome.has(1), outcome.has(2), outcome.has(3)];
+        assert_eq!(rt; found, marks);
+    }
+    Ok(())
+}
+
+#[test]
+fn outcome_is_that_of_the_file_and_else_the_elections_own(rt: HostRuntime) -> Result<(), Fail> {
+    let alloc = rt.alloc();
+    let without = without_outcome(alloc)?;
+    let (own, pool) = (Ok([true, true, false]), Ok([false, false, true]));
+    for (election, file, want) in [
+        (ELECTION, None, own),
+        (
+            ELECTION,
+            Some(File::in_memory(POOL_OUTCOME.as_bytes())),
+            pool,
+        ),
+        (&without, Some(File::in_memory(OUTCOME.as_bytes())), own),
+        (&without, None, Err(("election", 17, "NoOutcome", 0))),
+        (
+            ELECTION,
+            Some(File::in_memory(b"pb-outcome,1\nproject,d\n")),
+            Err(("outcome", 25, "UnknownProject", 2)),
+        ),
+        (
+            ELECTION,
+            Some(File::Unread),
+            Err(("outcome", 18, "Read", 0)),
+        ),
+        (
+            ELECTION,
+            Some(File::TooLong),
+            Err(("outcome", 19, "TooLong", 0)),
+        ),
+    ] {
+        let election = Election::read(alloc, election.as_bytes())?;
+        let taken = outcome_of(alloc, file, &election);
+        expect_outcome(&rt, &election, &taken, want)?;
+    }
+    Ok(())
+}
+
+/// A reader that fails once is not read again, though it would go on.
+#[test]
+fn file_is_loaded_whole_or_not_at_all(rt: HostRuntime) -> Result<(), Fail> {
+    for (interrupted_at, reads, whole) in [
+        (0, 4, true),
+        (1, 1, false),
+        (3, 3, false),
+        (4, 4, false),
+    ] {
+        let mut reader = InterruptedReader::new("abcdef", 2, interrupted_at);
+        let loaded = Loaded::load(rt.alloc(), &mut Input::new(&mut reader))?;
+        let is_whole = matches!(loaded.lend(), File::Bytes(b"abcdef"));
+        let is_unread = matches!(loaded.lend(), File::Unread);
+        assert_eq!(rt; (is_whole, is_unread), (whole, !whole));
+        assert_eq!(rt; reader.reads, reads);
+    }
+    Ok(())
+}
+
+#[test]
+fn election_of_a_reader_is_taken_or_refused(rt: HostRuntime) -> Result<(), Fail> {
+    let unread = Some(("election", 18, "Read", 0));
+    for (text, interrupted_at, want) in [
+        (ELECTION, 0, None),
+        ("MET\n", 0, Some(("election", 2, "NoMeta", 1))),
+        (ELECTION, 1, unread),
+        (ELECTION, 2, unread),
+    ] {
+        let mut reader = InterruptedReader::new(text, 100, interrupted_at);
+        let taken = take_election(rt.alloc(), &mut Input::new(&mut reader));
+        assert_eq!(rt; why(&taken)?, want);
+    }
+    Ok(())
+}
+
+/// What is taken of an outcome file whose reader is interrupted at the read of this number.
+fn taken(
+    alloc: Global,
+    election: &Election,
+    text: Option<&str>,
+    interrupted_at: usize,
+) -> Result<Outcome, Stop> {
+    let mut file = text.map(|text| Input::new(InterruptedReader::new(text, 20, interrupted_at)));
+    take_outcome(alloc, &mut file, election)
+}
+
+#[test]
+fn outcome_of_a_reader_is_taken_or_refused(rt: HostRuntime) -> Result<(), Fail> {
+    let alloc = rt.alloc();
+    let election = Election::read(alloc, ELECTION.as_bytes())?;
+    for (text, interrupted_at, want) in [
+        (None, 0, Ok([true, true, false])),
+        (Some(POOL_OUTCOME), 0, Ok([false, false, true])),
+        (Some(""), 0, Err(("outcome", 21, "BadHead", 1))),
+        (Some(POOL_OUTCOME), 1, Err(("outcome", 18, "Read", 0))),
+        (Some(POOL_OUTCOME), 2, Err(("outcome", 18, "Read", 0))),
+    ] {
+        let taken = taken(alloc, &election, text, interrupted_at);
+        expect_outcome(&rt, &election, &taken, want)?;
+    }
+    Ok(())
+}
