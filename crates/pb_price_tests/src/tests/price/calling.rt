@@ -12,7 +12,6 @@ ghost use Rattle.pb_price.specs.Supports.{Supports};
 use pb_certificate::Prices;
 use pb_election::{Election, Outcome};
 use pb_price::{Mode, Verdict, check};
-use pb_samples::files::{ELECTION, PRICES};
 use std::alloc::Global;
 use std::test::Fail;
 
@@ -45,7 +44,8 @@ fn is_supported(alloc: Global, election: &[u8], certificate: &[u8]) -> Option<bo
 
 #[test]
 fn the_sample_is_supported_and_a_row_less_is_not(rt: HostRuntime) -> Result<(), Fail> {
-    let (election, prices) = (ELECTION.as_bytes(), PRICES.as_bytes());
+    let election = pb_samples::files::ELECTION.as_bytes();
+    let prices = pb_samples::files::PRICES.as_bytes();
     let cut = &prices[..prices.len() - 6];
     assert_eq!(rt; is_supported(rt.alloc(), election, prices), Some(true));
     assert_eq!(rt; is_supported(rt.alloc(), election, cut), Some(false));
