@@ -1,6 +1,7 @@
 -- What an input states is one thing.
 use Rattle.std.proofs.Common.{◌≡◌, ◌∙◌, ℕ, List, Option, Some, None, ap, inl, inr, refl, sym}
 use Rattle.std.specs.Prelude.{◌⊎◌, Ok, Err}
+use Rattle.pb_records.proofs.FirstOrNone.{HasFirst}
 use Rattle.pb_election.specs.Faults as elections
 use Rattle.pb_election.specs.Instance.{Instance}
 use Rattle.pb_election.specs.Text.{IsTextOf}
@@ -18,7 +19,6 @@ use Rattle.pb_certificate.specs.OutcomeText.{IsOutcomeText}
 use Rattle.pb_certificate.specs.PriceText.{IsPriceText}
 use Rattle.pb_certificate.specs.ViolationText.{IsViolationText}
 use Rattle.pb_certificate.specs.declared.refusal.CertFault.{CertFault}
-use Rattle.pb_certificate.proofs.FirstOrNone.{HasFirst}
 use Rattle.pb_certificate.proofs.GroupAnswered.{group-answered}
 use Rattle.pb_certificate.proofs.GroupClear.{group-clear}
 use Rattle.pb_certificate.proofs.OutcomeAnswered.{outcome-answered}

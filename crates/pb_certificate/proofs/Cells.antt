@@ -2,14 +2,11 @@
 use Rattle.std.proofs.Common.{◌≡◌, ℕ, zero, suc, cond, List, [], ◌∷◌, refl, sym, ◌∙◌, ap}
 use Rattle.std.specs.Prelude.{◌&&◌, slice_index_or}
 use Rattle.csv.specs.Records.{field_at}
-use Rattle.pb_money.specs.Digits.{drop_back, drop_front, is_empty}
+use Rattle.pb_money.specs.Digits.{is_empty}
 use Rattle.pb_records.specs.Records.{Field, Rec}
 use Rattle.pb_records.specs.Cells.{cell, clean}
+use Rattle.pb_records.proofs.Cleaning.{clean-nil}
 use Rattle.pb_certificate.specs.Fields.{fields}
-
-nothing-cleaned : clean [] ≡ []
-unfolding drop_back drop_front
-nothing-cleaned = refl
 
 -- the fields that count, of a first field and of those of the others that count
 with_first : Field → List Field → List Field
@@ -29,7 +26,7 @@ later-at (b ∷ bs) ys k = refl
 
 pub field-cell : (r : Rec) (k : ℕ) → slice_index_or (fields r) k [] ≡ cell k r
 unfolding field_at with_first
-field-cell [] k = sym nothing-cleaned
+field-cell [] k = sym clean-nil
 field-cell (f ∷ fs) zero = first-at (clean f) (fields fs)
 field-cell (f ∷ fs) (suc k) = later-at (clean f) (fields fs) k ∙ field-cell fs k
 

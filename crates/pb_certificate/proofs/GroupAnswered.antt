@@ -2,6 +2,7 @@
 use Rattle.std.proofs.Common.{◌≡◌, ℕ, Bool, true, false, List, [], ◌∷◌, ◌++◌, refl, inl, inr, Some, None}
 use Rattle.std.specs.Prelude.{◌⊎◌, Result, Ok, Err}
 use Rattle.std.proofs.lemmas.List.Folds.{Any-from_list_any}
+use Rattle.pb_records.proofs.FirstOrNone.{HasFirst, Kept, first-or-none, kept-to-end}
 use Rattle.pb_election.specs.Instance.{Instance}
 use Rattle.pb_records.specs.Records.{Rec}
 use Rattle.pb_records.specs.Cells.{is_text, nonblank}
@@ -16,8 +17,8 @@ use Rattle.pb_certificate.specs.declared.measure.Measure.TheVariants.{ByCount}
 use Rattle.pb_certificate.specs.declared.violation_draft.Awaited.{Awaited}
 use Rattle.pb_certificate.specs.declared.violation_draft.Awaited.TheVariants.{Format, Satisfaction, Row}
 use Rattle.pb_certificate.specs.declared.refusal.CertFault.{CertFault}
-use Rattle.pb_certificate.proofs.FirstOrNone.{HasFirst, Kept, first-or-none, kept-to-end, clear-text}
 use Rattle.pb_certificate.proofs.ViolationSteps.{format-refused, measure-refused, measure-taken, row-refused, row-taken, version-1-taken, version-2-taken, whole-violation}
+use Rattle.pb_certificate.proofs.Ends.{clear-text}
 
 -- some head records and rows were taken
 abbrev Taken : Instance → List Rec → Type 0

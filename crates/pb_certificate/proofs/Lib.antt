@@ -37,7 +37,6 @@ pub mod MarkLemmas
 pub mod Ends
 pub mod OutcomeSteps
 pub mod ViolationSteps
-pub mod FirstOrNone
 pub mod OutcomeAnswered
 pub mod GroupAnswered
 pub mod PriceAnswered

@@ -9,11 +9,11 @@ use Rattle.std.proofs.lemmas.Str.Parse.{digit_from_value}
 use Rattle.std.proofs.lemmas.Fmt.{decimal_is_IsNumeral_wide}
 use Rattle.csv.specs.Writing.{default_writer, escaped, field_text, fields_text, is_blank, needs_byte, row_text, with_flexible}
 use Rattle.csv.specs.declared.writer.WriterBuilder.{WriterBuilder}
-use Rattle.pb_records.specs.Records.{Field, Rec}
+use Rattle.pb_records.specs.Records.{Field, Rec, quote_byte}
 use Rattle.pb_money.specs.Digits.{is_empty}
 use Rattle.pb_election.specs.Rows.{is_control, is_id}
 use Rattle.pb_election.specs.Text.{IsId}
-use Rattle.pb_certificate.specs.Canon.{comma, in_quotes, line, quote, written}
+use Rattle.pb_certificate.specs.Canon.{comma, in_quotes, line, written}
 
 -- A writer of records of any lengths writes each as the default writer does.
 
@@ -48,21 +48,21 @@ not-control : (b : ℕ) → is_control b ≡ false → 32 ≤ b
 not-control b h = let low = (or_parts (nat_lt b 32) (b == 127) h).0 in grind (arith, nat_tests)
 
 -- a byte that is no control byte calls for quotes where it is a comma or a quote
-same-need : (b : ℕ) → 32 ≤ b → needs_byte default_writer b ≡ ((b == comma) || (b == quote))
+same-need : (b : ℕ) → 32 ≤ b → needs_byte default_writer b ≡ ((b == comma) || (b == quote_byte))
 same-need b h =
     let r : (b == 13) ≡ false = ne_eqb b 13 (λ e. absurd (omega arith)) in
     let n : (b == 10) ≡ false = ne_eqb b 10 (λ e. absurd (omega arith)) in
     rw (r, n) (grind arith)
 
 same-needs : (f : Field) → IsPlain f → list_any (needs_byte default_writer) f
-    ≡ list_any (λ b. (b == comma) || (b == quote)) f
+    ≡ list_any (λ b. (b == comma) || (b == quote_byte)) f
 same-needs [] h = refl
 same-needs (b ∷ bs) h = let parts = or_parts (is_control b) (list_any is_control bs) h in
     rw (same-need b (not-control b parts.0), same-needs bs parts.1) refl
 
 -- a byte between quotes
 abbrev doubled_byte : ℕ → List ℕ
-doubled_byte b = if b == quote then quote ∷ quote ∷ [] else b ∷ []
+doubled_byte b = if b == quote_byte then quote_byte ∷ quote_byte ∷ [] else b ∷ []
 
 quote-is : (b : ℕ) → (b == 34) ≡ true → b ≡ 34
 quote-is b h = grind (arith, nat_tests)
@@ -73,7 +73,7 @@ same-escaped-text [] = refl
 same-escaped-text (b ∷ bs) = rw (same-escaped-text bs) (by (b == 34) refl)
   where
     by : (t : Bool) → (b == 34) ≡ t → (if t then 34 ∷ b ∷ flat_map doubled_byte bs else b ∷ flat_map doubled_byte bs)
-        ≡ (if t then quote ∷ quote ∷ [] else b ∷ []) ++ flat_map doubled_byte bs
+        ≡ (if t then quote_byte ∷ quote_byte ∷ [] else b ∷ []) ++ flat_map doubled_byte bs
     by true e = ap (λ (x : ℕ). 34 ∷ x ∷ flat_map doubled_byte bs) (quote-is b e)
     by false e = refl
 

@@ -1,6 +1,7 @@
 -- Records without a fault are the text of an outcome.
 use Rattle.std.proofs.Common.{◌≡◌, Bool, true, false, List, [], ◌∷◌, ◌++◌, refl, inl, inr, Some, None}
 use Rattle.std.specs.Prelude.{◌⊎◌, Result, Ok, Err, codes}
+use Rattle.pb_records.proofs.FirstOrNone.{HasFirst, Kept, first-or-none, kept-to-end}
 use Rattle.pb_election.specs.Instance.{Instance}
 use Rattle.pb_records.specs.Records.{Rec}
 use Rattle.pb_records.specs.Cells.{is_text, nonblank}
@@ -11,8 +12,8 @@ use Rattle.pb_certificate.specs.Inside.Marks.{project_marks}
 use Rattle.pb_certificate.specs.Inside.OutcomeDrafts.{OutcomeTaken, after_outcome_row}
 use Rattle.pb_certificate.specs.OutcomeText.{IsOutcomeText}
 use Rattle.pb_certificate.specs.declared.refusal.CertFault.{CertFault}
-use Rattle.pb_certificate.proofs.FirstOrNone.{HasFirst, Kept, first-or-none, kept-to-end, clear-text}
 use Rattle.pb_certificate.proofs.OutcomeSteps.{head-refused, head-taken, row-refused, row-taken, whole-outcome}
+use Rattle.pb_certificate.proofs.Ends.{clear-text}
 
 -- some rows, or no record at all, were taken
 abbrev Taken : Instance → List Rec → Type 0

@@ -1,5 +1,5 @@
 -- A cursor that goes on behind records at which no fault stands.
-use Rattle.std.proofs.Common.{◌≡◌, ◌∙◌, ◌≤◌, ◌+◌, ◌-◌, ℕ, suc, Bool, true, false, cond, List, [], ◌∷◌, ◌++◌, length, refl, sym, ap, subst, inl, inr, arith, Some, None, append_assoc, append-nil, add-one, length-append, take, drop}
+use Rattle.std.proofs.Common.{◌≡◌, ◌∙◌, ◌≤◌, ◌+◌, ◌-◌, ℕ, suc, Bool, true, false, cond, List, [], ◌∷◌, ◌++◌, length, refl, sym, ap, subst, inl, inr, arith, Some, None, append_assoc, append-nil, length-append, take, drop}
 use Rattle.std.specs.Prelude.{not}
 use Rattle.std.specs.List.{AllByRecursion}
 use Rattle.std.proofs.lemmas.Bool.{cases_lt}
@@ -9,19 +9,13 @@ use Rattle.std.proofs.lemmas.Option.{slice_get_past}
 use Rattle.std.proofs.Math.Seq.{take-append_seam, drop-append_seam}
 use Rattle.pb_records.specs.Records.{Rec}
 use Rattle.pb_records.specs.Cells.{is_blank, is_text, nonblank}
-use Rattle.pb_records.specs.FirstFault.{Form, fault_after, fault_at}
+use Rattle.pb_records.specs.FirstFault.{Form, fault_at}
 use Rattle.pb_records.specs.Inside.Position.{MeetsEnd, MeetsNotText, MeetsRecord, Position}
 use Rattle.pb_records.proofs.Each.{all-push}
-use Rattle.pb_records.proofs.Lists.{get-seam}
+use Rattle.pb_records.proofs.FirstOrNone.{form-here}
+use Rattle.pb_records.proofs.DraftProgress.{fault-here}
 use Rattle.pb_certificate.specs.Inside.Places.{RefusedBehind, StandsBehind}
 use Rattle.pb_certificate.specs.declared.refusal.CertFault.{CertFault}
-
--- Lists that are cut in two.
-
-fault-here : (form : Form CertFault) (taken rest : List Rec) (r : Rec)
-    → fault_at form (taken ++ (r ∷ rest)) (length taken + 1) ≡ fault_after form taken (Some r)
-fault-here form taken rest r =
-    rw (add-one (length taken), get-seam taken rest r, take-append_seam taken (r ∷ rest)) refl
 
 -- Clear places.
 
@@ -48,7 +42,7 @@ clear-blanks form taken [] tail none h k le = h k (omega arith)
 clear-blanks form taken (b ∷ bs) tail none h k le =
     let parts = blank-first b bs none in
     let here : fault_at form (taken ++ (b ∷ (bs ++ tail))) (length taken + 1) ≡ None =
-    fault-here form taken (bs ++ tail) b ∙ rw parts.0 refl in
+    fault-here form (taken ++ (b ∷ (bs ++ tail))) taken (bs ++ tail) b refl ∙ rw parts.0 refl in
     let joined : (taken ++ (b ∷ [])) ++ (bs ++ tail) ≡ taken ++ (b ∷ (bs ++ tail)) =
     append_assoc taken (b ∷ []) (bs ++ tail) in
     let many : length (taken ++ (b ∷ [])) ≡ length taken + 1 = length-append taken (b ∷ []) in
@@ -126,12 +120,6 @@ before-of form recs old blanks tail before s none next =
           ∙ append-nil (nonblank c.taken) ∙ c.behind;
       clear = λ k le. subst (λ (xs : List Rec). fault_at form xs k ≡ None) (sym long) (clear k (omega arith));
     }
-
-pub form-here : (form : Form CertFault) (recs taken rest before : List Rec) (r : Rec) → recs ≡ taken ++ (r ∷ rest)
-    → nonblank taken ≡ before → is_blank r ≡ false → fault_at form recs (length taken + 1) ≡ form before (Some r)
-form-here form recs taken rest before r cut behind full =
-    ap (λ (xs : List Rec). fault_at form xs (length taken + 1)) cut ∙ fault-here form taken rest r
-    ∙ rw full (ap (λ (xs : List Rec). form xs (Some r)) behind)
 
 -- behind a record that has no fault
 pub goes-behind : (form : Form CertFault) (recs : List Rec) (old new : Position) (before : List Rec)

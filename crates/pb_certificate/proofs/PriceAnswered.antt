@@ -3,6 +3,7 @@ use Rattle.std.proofs.Common.{◌≡◌, ◌∙◌, ◌<◌, ◌≤◌, ◌^◌,
 use Rattle.std.specs.Prelude.{◌⊎◌, ◌==◌, ◌||◌, not, codes, is_none, map}
 use Rattle.std.specs.List.{AllByRecursion, IsDistinct}
 use Rattle.pb_records.proofs.Each.{all-push}
+use Rattle.pb_records.proofs.FirstOrNone.{HasFirst, Kept, first-or-none, kept-to-end}
 use Rattle.pb_election.specs.Instance.{Instance, all_voters, projects}
 use Rattle.pb_records.specs.Records.{Rec}
 use Rattle.pb_records.specs.Cells.{cell, is_text, nonblank}
@@ -16,8 +17,7 @@ use Rattle.pb_certificate.specs.PriceText.{IsPriceText, Payment, numerator_of, p
 use Rattle.pb_certificate.specs.Inside.PriorRows.{RiseFrom}
 use Rattle.pb_certificate.specs.declared.refusal.CertFault.{CertFault}
 use Rattle.pb_certificate.specs.declared.refusal.CertFault.TheVariants as fault
-use Rattle.pb_certificate.proofs.Ends.{none-at-end}
-use Rattle.pb_certificate.proofs.FirstOrNone.{HasFirst, Kept, first-or-none, kept-to-end, clear-text}
+use Rattle.pb_certificate.proofs.Ends.{none-at-end, clear-text}
 use Rattle.pb_certificate.proofs.GatherSteps.{may-follow}
 use Rattle.pb_certificate.proofs.Heads.{same-is, states-number, triple-is}
 use Rattle.pb_certificate.proofs.HeadSteps.{end-form}

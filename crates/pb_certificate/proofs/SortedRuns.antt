@@ -12,16 +12,16 @@ use Rattle.pb_certificate.specs.Prices.{numerator_in}
 use Rattle.pb_certificate.specs.PriceText.{Payment, same_pair, stated}
 use Rattle.pb_certificate.specs.Inside.Gathering.{payments_made, stated_by}
 use Rattle.pb_certificate.proofs.Payments.{each-of}
-use Rattle.pb_certificate.proofs.Texts.{keys, pairs}
+use Rattle.pb_certificate.proofs.Texts.{paid_projects, pairs}
 
 -- projects that rise, each with the numerator that f gives it, are the pairs of f
-numerator-low : (low high j : ℕ) (qs : List (ℕ × ℕ)) → IsSet low high (keys qs) → j < low → numerator_in qs j ≡ 0
+numerator-low : (low high j : ℕ) (qs : List (ℕ × ℕ)) → IsSet low high (paid_projects qs) → j < low → numerator_in qs j ≡ 0
 numerator-low low high j [] s l = refl
 numerator-low low high j (q ∷ qs) s l =
     let first : low ≤ q.0 = s.0 in
     rw (ne_eqb q.0 j (λ e. omega arith)) (numerator-low (q.0 + 1) high j qs s.2 (omega arith))
 
-pairs-are : (f : ℕ → ℕ) (n a high : ℕ) (ys : List (ℕ × ℕ)) → a + n ≡ high + 1 → IsSet a high (keys ys)
+pairs-are : (f : ℕ → ℕ) (n a high : ℕ) (ys : List (ℕ × ℕ)) → a + n ≡ high + 1 → IsSet a high (paid_projects ys)
     → AllByRecursion (λ q. 0 < q.1) ys → ((j : ℕ) → a ≤ j → numerator_in ys j ≡ f j) → ys ≡ pairs f a n
 pairs-are f zero a high [] e s some h = refl
 pairs-are f zero a high (q ∷ qs) e s some h = let low : a ≤ q.0 = s.0 in let top : q.0 ≤ high = s.1 in
@@ -34,7 +34,7 @@ pairs-are f (suc n) a high (q ∷ qs) e s some h = elim (cases_eq q.0 a) [
       let is : q.1 ≡ f a = sym (ap (λ b. cond b q.1 (numerator_in qs a)) (eq-eqb q.0 a here)) ∙ h a (omega arith) in
       let positive : 0 < f a = subst (λ x. 0 < x) is some.0 in
       let rest : qs ≡ pairs f (a + 1) n =
-      pairs-are f n (a + 1) high qs (omega arith) (subst (λ x. IsSet (x + 1) high (keys qs)) here s.2) some.1
+      pairs-are f n (a + 1) high qs (omega arith) (subst (λ x. IsSet (x + 1) high (paid_projects qs)) here s.2) some.1
       (λ j l. sym (ap (λ b. cond b q.1 (numerator_in qs j)) (ne_eqb q.0 j (λ k. omega arith)))
       ∙ h j (omega arith)) in
       rw (lt-ltb 0 (f a) positive) (λ i. (here i, is i) ∷ rest i)
@@ -61,7 +61,7 @@ total x p r w a b c = omega arith
 past : (p r w : ℕ) → p ≡ 0 → w ≡ p + r → r ≡ w
 past p r w a c = omega arith
 
-numerator-sum : (low high j : ℕ) (ys : List (ℕ × ℕ)) → IsSet low high (keys ys) → numerator_in ys j ≡ sum_by (pick j) ys
+numerator-sum : (low high j : ℕ) (ys : List (ℕ × ℕ)) → IsSet low high (paid_projects ys) → numerator_in ys j ≡ sum_by (pick j) ys
 unfolding pick
 numerator-sum low high j [] s = refl
 numerator-sum low high j (q ∷ qs) s = by (q.0 == j) refl (numerator-sum (q.0 + 1) high j qs s.2)
@@ -198,7 +198,7 @@ tops low high [] h = tt
 tops low high (r ∷ rs) h = (h.0.1, tops low high rs h.1)
 
 keys-rise : (low high : ℕ) (ys : List (ℕ × ℕ)) → IsNonDecreasingBy (λ p. p.0) ys → ((j : ℕ) → sum_by (count j) ys ≤ 1)
-    → AllByRecursion (λ q. (low ≤ q.0) × (q.0 ≤ high)) ys → IsSet low high (keys ys)
+    → AllByRecursion (λ q. (low ≤ q.0) × (q.0 ≤ high)) ys → IsSet low high (paid_projects ys)
 unfolding count
 keys-rise low high [] nd once bounds = tt
 keys-rise low high (q ∷ qs) nd once bounds =

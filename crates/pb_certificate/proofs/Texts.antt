@@ -21,17 +21,17 @@ use Rattle.pb_certificate.specs.PriceText.{IsPriceText, Payment, above_0, numera
 abbrev pub pairs : (ℕ → ℕ) → ℕ → ℕ → List (ℕ × ℕ)
 pairs f a n = filter_map (λ j. above_0 j (f j)) (range_with_len a n)
 
-abbrev pub keys : List (ℕ × ℕ) → List ℕ
-keys qs = map (λ q. q.0) qs
+abbrev pub paid_projects : List (ℕ × ℕ) → List ℕ
+paid_projects qs = map (λ q. q.0) qs
 
-pairs-rise : (f : ℕ → ℕ) (n a high : ℕ) → a + n ≤ high + 1 → IsSet a high (keys (pairs f a n))
+pairs-rise : (f : ℕ → ℕ) (n a high : ℕ) → a + n ≤ high + 1 → IsSet a high (paid_projects (pairs f a n))
 pairs-rise f zero a high b = tt
 pairs-rise f (suc n) a high b = go (nat_lt 0 (f a)) (pairs-rise f n (a + 1) high (omega arith))
   where
-    go : (r : Bool) → IsSet (a + 1) high (keys (pairs f (a + 1) n))
-        → IsSet a high (keys (cons_option (cond r (Some (a, f a)) None) (pairs f (a + 1) n)))
+    go : (r : Bool) → IsSet (a + 1) high (paid_projects (pairs f (a + 1) n))
+        → IsSet a high (paid_projects (cons_option (cond r (Some (a, f a)) None) (pairs f (a + 1) n)))
     go true rest = (omega arith, omega arith, rest)
-    go false rest = set-lower (a + 1) a high (keys (pairs f (a + 1) n)) (omega arith) rest
+    go false rest = set-lower (a + 1) a high (paid_projects (pairs f (a + 1) n)) (omega arith) rest
 
 pairs-all : (P : ℕ × ℕ → Type 0) (f : ℕ → ℕ) (n a : ℕ) → ((j : ℕ) → 0 < f j → P (j, f j))
     → AllByRecursion P (pairs f a n)

@@ -3,26 +3,23 @@ use Rattle.std.specs.Prelude.{◌≡◌, ◌==◌, ◌||◌, if◌then◌else◌
 use Rattle.std.specs.List.{join_with_byte, list_any}
 use Rattle.std.specs.Str.{byte}
 use Rattle.pb_election.specs.Instance.{Instance, all_voters, id_of}
-use Rattle.pb_records.specs.Records.{Field, Rec}
+use Rattle.pb_records.specs.Records.{Field, Rec, quote_byte}
 use Rattle.pb_certificate.specs.Prices.{Prices, payments_of}
 use Rattle.pb_certificate.specs.PriceText.{IsPriceText}
 
 abbrev pub comma : ℕ
 comma = byte ","
 
-abbrev pub quote : ℕ
-quote = 34
-
 abbrev pub line_end : ℕ
 line_end = 10
 
 -- a field in quotes, with each quote doubled
 abbrev pub in_quotes : Field → List ℕ
-in_quotes f = quote ∷ (flat_map (λ b. if b == quote then quote ∷ quote ∷ [] else b ∷ []) f ++ (quote ∷ []))
+in_quotes f = quote_byte ∷ (flat_map (λ b. if b == quote_byte then quote_byte ∷ quote_byte ∷ [] else b ∷ []) f ++ (quote_byte ∷ []))
 
 -- a field as it is written: in quotes where it has a comma or a quote, and as it is where it has none
 abbrev pub written : Field → List ℕ
-written f = if list_any (λ b. (b == comma) || (b == quote)) f then in_quotes f else f
+written f = if list_any (λ b. (b == comma) || (b == quote_byte)) f then in_quotes f else f
 
 -- a record as it is written
 unfoldable pub line : Rec → List ℕ

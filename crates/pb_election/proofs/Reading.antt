@@ -1,25 +1,19 @@
 -- What has been read of some records, none of them blank and none of them at fault.
-use Rattle.std.proofs.Common.{◌≡◌, ◌≤◌, ◌<◌, ◌∙◌, ◌++◌, ℕ, suc, List, [], ◌∷◌, refl, sym, ap, arith, inl, inr, false, Option, Some, None, append_assoc, append-nil, length, length-append, take}
-use Rattle.std.proofs.lemmas.Bool.Decides.{nat_tests}
-use Rattle.std.specs.Prelude.{IfErr, IsTrue, OnOk, ◌==◌, ◌⊎◌, Result, Ok, Err}
+use Rattle.std.proofs.Common.{◌≡◌, ◌∙◌, ◌++◌, suc, List, [], ◌∷◌, refl, sym, ap, inl, inr, false, Some, None, length}
+use Rattle.std.specs.Prelude.{IfErr, IsTrue, OnOk, ◌⊎◌, Result, Ok, Err}
 use Rattle.std.specs.List.{AllByRecursion}
-use Rattle.std.proofs.lemmas.Bool.{cases_Bool}
-use Rattle.std.proofs.lemmas.List.{take_all}
-use Rattle.std.proofs.lemmas.Option.{slice_get_past}
-use Rattle.std.proofs.Math.Seq.{take-append_seam}
 use Rattle.pb_records.specs.Records.{Rec}
 use Rattle.pb_records.proofs.Each.{all-push}
-use Rattle.pb_records.proofs.Lists.{get-seam}
-use Rattle.pb_records.proofs.DraftProgress.{nonblank-blank, nonblank-more}
+use Rattle.pb_records.proofs.FirstOrNone.{HasFirst, Kept, fault-last, first-or-none, kept-to-end}
 use Rattle.pb_election.specs.Instance.{Instance}
 use Rattle.pb_records.specs.declared.drafts.Stop.{Stop}
 use Rattle.pb_records.specs.declared.drafts.Stop.TheVariants.{Fault, Memory}
 use Rattle.pb_election.specs.declared.refusal.ElectionFault.{ElectionFault}
 use Rattle.pb_election.specs.declared.refusal.ElectionFault.TheVariants.{NotUtf8}
 use Rattle.pb_records.specs.Inside.Drafts.{StopsAt, Takes}
-use Rattle.pb_records.specs.Cells.{is_blank, is_text, nonblank}
-use Rattle.pb_records.specs.FirstFault.{NoFault, fault_after, fault_at}
-use Rattle.pb_election.specs.Faults.{PbFault, before_of, election_form, lowest_fault, lowest_fault_at_end}
+use Rattle.pb_records.specs.Cells.{is_text, nonblank}
+use Rattle.pb_records.specs.FirstFault.{NoFault}
+use Rattle.pb_election.specs.Faults.{before_of, election_form, lowest_fault, lowest_fault_at_end}
 use Rattle.pb_election.specs.Text.{PbText}
 use Rattle.pb_election.specs.Inside.SoFar.{SoFar, Steps, before_next, next}
 use Rattle.pb_election.specs.Inside.Beginnings.{Beginning, AtStart, AfterMeta, InMeta, AfterProjects, InProjects, AfterVotes, InVotes, Good, HasRead, so_far_of, beginning_records}
@@ -92,83 +86,6 @@ pub text-of-all : (s : SoFar) (recs : List Rec) → HasRead s (nonblank recs) �
 text-of-all s recs h n =
     rw h.same (whole recs h.beginning h.good h.records h.text (rw h.same at n))
 
--- Each list of records is the text of an election, or has a first fault.
-
-fault-here : (recs taken rest : List Rec) (r : Rec) → recs ≡ taken ++ r ∷ rest
-    → fault_at election_form recs (suc (length taken)) ≡ fault_after election_form taken (Some r)
-fault-here recs taken rest r e = rw (e, get-seam taken rest r, take-append_seam taken (r ∷ rest)) refl
-
-fault-last : (recs : List Rec) → fault_at election_form recs (suc (length recs)) ≡ fault_after election_form recs None
-fault-last recs =
-    let same : take (length recs) recs ≡ recs = take_all (length recs) recs (omega arith) in
-    rw (slice_get_past recs (length recs) (omega arith), same) refl
-
--- no fault stands up to a place
-abbrev UpTo : List Rec → ℕ → Type 0
-UpTo recs place = (k : ℕ) → k < place → fault_at election_form recs k ≡ None
-
-abbrev Answer : List Rec → Type 0
-Answer recs = ((e : Instance) × PbText recs e) ⊎ ((place : ℕ) × (f : ElectionFault) × PbFault recs place f)
-
-at-fault : (recs : List Rec) (place : ℕ) (f : ElectionFault) → place ≤ length recs → UpTo recs (suc place)
-    → fault_at election_form recs (suc place) ≡ Some f → Answer recs
-at-fault recs place f within before here =
-    inr (suc place, f, record { within = omega arith; here = here; none_before = before })
-
-answered-from : (recs taken left : List Rec) (s : SoFar) → recs ≡ taken ++ left → HasRead s (nonblank taken)
-    → UpTo recs (suc (length taken)) → Answer recs
-answered-from recs taken [] s e h n = by (lowest_fault_at_end (before_next s)) refl
-  where
-    by : (o : Option ElectionFault) → lowest_fault_at_end (before_next s) ≡ o → Answer recs
-    by None l = let all : taken ≡ recs = sym (e ∙ append-nil taken) in
-        inl (s.election, text-of-all s recs (rw all at h) l)
-    by (Some f) l =
-        let all : recs ≡ taken = e ∙ append-nil taken in
-        let here : fault_at election_form taken (suc (length taken)) ≡ Some f =
-        fault-last taken ∙ fault-end s (nonblank taken) h ∙ l in
-        at-fault recs (length taken) f (rw all (omega arith)) n (rw all here)
-answered-from recs taken (r ∷ rest) s e h n =
-    let split : recs ≡ (taken ++ (r ∷ [])) ++ rest = e ∙ sym (append_assoc taken (r ∷ []) rest) in
-    let size : length (taken ++ (r ∷ [])) ≡ suc (length taken) = omega (arith, length-append taken (r ∷ [])) in
-    elim (cases_Bool (is_blank r)) [
-      | inl blank ↦
-          let here : fault_at election_form recs (suc (length taken)) ≡ None =
-          fault-here recs taken rest r e ∙ rw blank refl in
-          let left = nonblank-blank taken r blank in
-          answered-from recs (taken ++ (r ∷ [])) rest s split (rw left h) (rw size (on here))
-      | inr full ↦
-          by (lowest_fault (before_next s) r) refl full split size (answered-from recs (taken ++ (r ∷ [])) rest)
-    ]
-  where
-    less : (k : ℕ) → k < suc (suc (length taken)) → (k == suc (length taken)) ≡ false → k < suc (length taken)
-    less k l other = grind (arith, nat_tests)
-
-    on : fault_at election_form recs (suc (length taken)) ≡ None → UpTo recs (suc (suc (length taken)))
-    on here = λ k l.
-        elim (cases_Bool (k == suc (length taken))) [
-          | inl same ↦ let e : k ≡ suc (length taken) = grind (arith, nat_tests) in rw e here
-          | inr other ↦ n k (less k l other)
-        ]
-
-    by : (o : Option ElectionFault) → lowest_fault (before_next s) r ≡ o → is_blank r ≡ false
-        → recs ≡ (taken ++ (r ∷ [])) ++ rest → length (taken ++ (r ∷ [])) ≡ suc (length taken)
-        → ((t : SoFar) → recs ≡ (taken ++ (r ∷ [])) ++ rest → HasRead t (nonblank (taken ++ (r ∷ [])))
-        → UpTo recs (suc (length (taken ++ (r ∷ [])))) → Answer recs) → Answer recs
-    by None l full split size go =
-        let here : fault_at election_form recs (suc (length taken)) ≡ None =
-        fault-here recs taken rest r e ∙ rw full (fault-next s (nonblank taken) r h ∙ l) in
-        go (next s r) split (rw (nonblank-more taken r full) (read-next s (nonblank taken) r h l)) (rw size (on here))
-    by (Some f) l full split size go =
-        let here : fault_at election_form recs (suc (length taken)) ≡ Some f =
-        fault-here recs taken rest r e ∙ rw full (fault-next s (nonblank taken) r h ∙ l) in
-        at-fault recs (length taken) f (rw e (omega (arith, length-append taken (r ∷ rest)))) n here
-
-pub answered : (recs : List Rec) → Answer recs
-answered recs = answered-from recs [] recs (so_far_of AtStart) refl read-nothing first
-  where
-    first : UpTo recs (suc 0)
-    first = λ k l. let z : k ≡ 0 = omega arith in rw z refl
-
 -- What the calls that take records answer.
 
 pub taken : {T : Type 0} (answer : Result T (Stop ElectionFault)) (s t : SoFar) (r : Rec) → Steps answer s t r
@@ -191,4 +108,24 @@ not-text before r e = rw e refl
 pub finished : (s : SoFar) (recs : List Rec) → HasRead s (nonblank recs) → NoFault election_form recs
     → PbText recs s.election
 finished s recs h none =
-    text-of-all s recs h (sym (fault-end s (nonblank recs) h) ∙ sym (fault-last recs) ∙ none (suc (length recs)))
+    text-of-all s recs h (sym (fault-end s (nonblank recs) h) ∙ sym (fault-last election_form recs) ∙ none (suc (length recs)))
+
+-- Each list of records is the text of an election, or has a first fault.
+
+abbrev Read : List Rec → Type 0
+Read before = (s : SoFar) × HasRead s before
+
+kept : Kept election_form Read
+kept = record {
+  start = (so_far_of AtStart, read-nothing);
+  more = λ before r h none.
+      (next h.0 r, read-next h.0 before r h.1 (sym (fault-next h.0 before r h.1) ∙ none));
+}
+
+pub answered : (recs : List Rec) → ((e : Instance) × PbText recs e) ⊎ HasFirst election_form recs
+answered recs = elim (first-or-none election_form recs) [
+  | inl none ↦
+      let read = kept-to-end election_form Read recs kept none in
+      inl (read.0.election, finished read.0 recs read.1 none)
+  | inr first ↦ inr first
+]

@@ -8,18 +8,17 @@ use Rattle.std.proofs.lemmas.List.{length-map}
 use Rattle.std.proofs.lemmas.List.Sums.{count_by-le-length}
 use Rattle.std.proofs.lemmas.Bool.{and_parts}
 use Rattle.csv.specs.Records.{field_at}
-use Rattle.pb_money.specs.Digits.{drop_back, drop_front}
 use Rattle.pb_money.specs.Money.{IsMoney, millionths, most_money}
 use Rattle.pb_records.specs.Records.{Field, Rec}
 use Rattle.pb_records.proofs.Each.{all-back, all-front}
 use Rattle.pb_election.specs.Instance.{Instance, IsSet}
 use Rattle.pb_election.specs.declared.columns.Columns.{Columns}
 use Rattle.pb_election.specs.declared.keys.Key.TheVariants.{Budget}
-use Rattle.pb_records.specs.Cells.{clean, is_text}
+use Rattle.pb_records.specs.Cells.{is_text}
 use Rattle.pb_election.specs.Names.{is_among}
 use Rattle.pb_election.specs.Rows.{ballot_in, ballots_in, columns_of, cost_in, costs_in, funded_in, id_in, ids_in, is_id, names_in, positions_of, says_funded, says_neither, selected_in, stated_value, field_in, vote_column}
 use Rattle.pb_election.specs.Text.{IsElection, IsId, PbText, part_records}
-use Rattle.pb_records.proofs.Cleaning.{clean-clean, is_utf8-clean}
+use Rattle.pb_records.proofs.Cleaning.{clean-clean, is_utf8-clean, clean-nil}
 use Rattle.pb_election.proofs.Sets.{set-lower}
 
 -- Ballots.
@@ -54,10 +53,6 @@ ballots-sets column ids (r ∷ rs) = (ballot-set (names_in (field_in column r)) 
 utf8-nil : is_utf8 [] ≡ true
 unfolding is_utf8 chars
 utf8-nil = refl
-
-clean-nil : clean [] ≡ []
-unfolding drop_back drop_front
-clean-nil = refl
 
 field-text : (r : Rec) (i : ℕ) → is_text r ≡ true → is_utf8 (unwrap_or (field_at r i) []) ≡ true
 unfolding is_text field_at

@@ -1,11 +1,12 @@
 -- The payments of a voter, one after another.
 use Rattle.std.proofs.Common.{◌≡◌, ℕ, zero, suc, ◌+◌, ◌-◌, ◌^◌, ◌<◌, ◌≤◌, List, [], ◌∷◌, length, get_or, take, refl, sym, ◌∙◌, ap, inl, inr, arith}
-use Rattle.std.specs.Prelude.{map, nat_lt}
+use Rattle.std.specs.Prelude.{nat_lt}
 use Rattle.std.proofs.lemmas.Bool.{cases_eq, cases_lt, eq-eqb, le-ltb, lt-ltb, ne_eqb}
 use Rattle.std.proofs.lemmas.List.{length-map, take_all}
 use Rattle.pb_election.specs.Instance.{Instance, IsSet, IsVoter, voters}
 use Rattle.pb_certificate.specs.Prices.{IsPaymentMap, Prices, PricesFit, numerator_in, payment, payments_of}
 use Rattle.pb_certificate.specs.declared.price_row.PriceRow.{PriceRow}
+use Rattle.pb_certificate.proofs.Texts.{paid_projects}
 use Rattle.pb_cohesion.proofs.Loops.{set-at, set-length}
 use Rattle.pb_cohesion.specs.Amounts.{beta}
 use Rattle.pb_price.specs.Inside.Tallies.{CanTakeRow, IsTallyOf, Taken, TakesRow, Tallied}
@@ -15,8 +16,6 @@ use Rattle.pb_price.specs.Inside.Takings.{TakesUntil, pays_until}
 use Rattle.pb_price.specs.declared.tally.Tally.{Tally}
 
 -- the projects that are paid for
-abbrev paid_projects : List (ℕ × ℕ) → List ℕ
-paid_projects qs = map (λ q. q.0) qs
 
 project-at : (qs : List (ℕ × ℕ)) (k : ℕ) (d : ℕ × ℕ) → k < length qs → get_or (paid_projects qs) k 0 ≡ (get_or qs k d).0
 project-at [] k d h = absurd (omega arith)

@@ -12,6 +12,10 @@ use Rattle.pb_records.specs.Records.{Field}
 use Rattle.pb_records.specs.Cells.{clean, is_space}
 use Rattle.pb_records.proofs.CellLemmas.{space-ascii}
 
+pub clean-nil : clean [] ≡ []
+unfolding drop_back drop_front
+clean-nil = refl
+
 StartsPlain : Field → Type 0
 StartsPlain [] = Unit {0}
 StartsPlain (b ∷ bs) = is_space b ≡ false

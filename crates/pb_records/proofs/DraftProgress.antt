@@ -36,7 +36,7 @@ plus-zero n = omega arith
 plus-suc : (n k : ℕ) → n + suc k ≡ n + 1 + k
 plus-suc n k = omega arith
 
-fault-here : {F : Type 0} (form : Form F) (recs taken rest : List Rec) (r : Rec) → recs ≡ taken ++ r ∷ rest
+pub fault-here : {F : Type 0} (form : Form F) (recs taken rest : List Rec) (r : Rec) → recs ≡ taken ++ r ∷ rest
     → fault_at form recs (length taken + 1) ≡ fault_after form taken (Some r)
 fault-here form recs taken rest r e =
     rw (e, add-one (length taken), get-seam taken rest r, take-append_seam taken (r ∷ rest)) refl

@@ -9,5 +9,6 @@ pub mod Cleaning
 pub mod BlankText
 mod CursorSteps
 pub mod DraftProgress
+pub mod FirstOrNone
 pub mod First
 pub mod FlatRuns
