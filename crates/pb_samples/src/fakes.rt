@@ -100,6 +100,7 @@ pub struct LapsingWriter {
 }
 
 impl LapsingWriter {
+    /// One that has taken nothing yet.
     pub fn new(alloc: Global, most: usize, lapse: Lapse) -> LapsingWriter {
         LapsingWriter {
             written: Vec::new(alloc),

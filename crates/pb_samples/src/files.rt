@@ -71,9 +71,10 @@ voter,project,payment
 /// An outcome file that funds what the sample election funds.
 pub const OUTCOME: &str = "pb-outcome,1\nproject,a\nproject,b\n";
 
-/// An outcome file for the sample election that funds c alone, and a price certificate by which voter 3 pays for it.
+/// An outcome file for the sample election that funds c alone.
 pub const POOL_OUTCOME: &str = "pb-outcome,1\nproject,c\n";
 
+/// A price certificate for that outcome, by which voter 3 pays for c.
 pub const POOL_PRICES: &str = "\
 pb-prices,1
 denominator,1
@@ -151,7 +152,7 @@ b,1,2,4000000,4000000,2000000,4000000
 c,0,1,9000000,0,2000000,2000000
 ";
 
-/// The sample election and its price certificate where a is named a"1.
+/// The sample election, where a is named a"1.
 pub const QUOTED_ELECTION: &str = "\
 META
 key;value
@@ -172,6 +173,7 @@ voter_id;vote
 3;b,c
 ";
 
+/// The price certificate of the sample election, where a is named a"1.
 pub const QUOTED_PRICES: &str = "\
 pb-prices,1
 denominator,1
@@ -199,8 +201,7 @@ voter_id;vote
 3;x
 ";
 
-/// An election of two projects, each with one supporter, and a price certificate for it by which the funded one is paid
-/// for. The other would fit too.
+/// An election of two projects, each with one supporter, of which one is funded. The other would fit too.
 pub const SPLIT_ELECTION: &str = "\
 META
 key;value
@@ -216,6 +217,7 @@ voter_id;vote
 2;c
 ";
 
+/// A price certificate for it, by which the funded project is paid for.
 pub const SPLIT_PRICES: &str = "\
 pb-prices,1
 denominator,1
@@ -252,8 +254,7 @@ voter,1
 voter,2
 ";
 
-/// The same election where voters 1 and 2 approve y too, and so get something, but less than they deserve; and a price
-/// certificate for it by which all four voters pay for y.
+/// The same election where voters 1 and 2 approve y too, and so get something, but less than they deserve.
 pub const SMALL_SHARE_ELECTION: &str = "\
 META
 key;value
@@ -272,6 +273,7 @@ voter_id;vote
 4;y
 ";
 
+/// A price certificate for it, by which all four voters pay for y.
 pub const EVEN_PRICES: &str = "\
 pb-prices,1
 denominator,1
