@@ -161,9 +161,11 @@ def statement_of(file, name):
     groups = [*BINDER.findall(text), *LAMBDA.findall(text)]
     if not BINDER.search(text) or re.search(r"Type\s+0\s*$", text):
         return None
+    # variables may stand before the colon too
+    text = BINDER.sub(" ", text.replace(":", " : ", 1))
     variables = {word for group in groups for word in group.split()}
     numbers, said = {}, []
-    for token in TOKEN.findall(BINDER.sub(" ", text.replace(":", " : ", 1))):
+    for token in TOKEN.findall(text):
         head, dot, rest = token.partition(".")
         if head in variables:
             head = numbers.setdefault(head, str(len(numbers)))

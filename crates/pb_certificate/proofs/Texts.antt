@@ -43,7 +43,7 @@ pairs-all P f (suc n) a h = go (nat_lt 0 (f a)) refl (pairs-all P f n (a + 1) h)
     go true e rest = (h a (ltb-true 0 (f a) e), rest)
     go false e rest = rest
 
--- a number before a range isn't among the keys
+-- a project before a range isn't among those that are paid for
 numerator-past : (f : ℕ → ℕ) (n a j : ℕ) → j < a → numerator_in (pairs f a n) j ≡ 0
 numerator-past f zero a j h = refl
 numerator-past f (suc n) a j h = go (nat_lt 0 (f a)) (numerator-past f n (a + 1) j (omega arith))

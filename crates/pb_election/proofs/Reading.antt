@@ -112,6 +112,7 @@ finished s recs h none =
 
 -- Each list of records is the text of an election, or has a first fault.
 
+-- these records were read, and no fault was met
 abbrev Read : List Rec → Type 0
 Read before = (s : SoFar) × HasRead s before
 

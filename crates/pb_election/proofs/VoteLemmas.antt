@@ -41,6 +41,7 @@ pub record IsFirstComma (text : Field) (i : ℕ) : Type 0 where
   pub comma : get_or text i 0 ≡ byte ","
   pub before : list_any is_comma (take i text) ≡ false
 
+-- a search stops at a place that passes, and else goes on behind it
 pub some-is : (n j : ℕ) (b : Bool) (o : Option ℕ) → b ≡ true → cond b (Some n) o ≡ Some j → j ≡ n
 some-is n j true o t e = cc e
 some-is n j false o t e = cc t
