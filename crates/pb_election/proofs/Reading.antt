@@ -108,7 +108,8 @@ not-text before r e = rw e refl
 pub finished : (s : SoFar) (recs : List Rec) → HasRead s (nonblank recs) → NoFault election_form recs
     → PbText recs s.election
 finished s recs h none =
-    text-of-all s recs h (sym (fault-end s (nonblank recs) h) ∙ sym (fault-last election_form recs) ∙ none (suc (length recs)))
+    text-of-all s recs h
+    (sym (fault-end s (nonblank recs) h) ∙ sym (fault-last election_form recs) ∙ none (suc (length recs)))
 
 -- Each list of records is the text of an election, or has a first fault.
 
