@@ -135,7 +135,8 @@ violation-one input e =
       ];
       apart = λ bytes v r text refused. group-clear (certificate_records bytes) e v.0 v.1 v.2 text refused.0.place
           refused.0.fault refused.1;
-      alone = λ bytes v w t u. claims-same v w (group-text-same (certificate_records bytes) e v.0 w.0 v.1 v.2 w.1 w.2 t u);
+      alone = λ bytes v w t u. claims-same v w
+          (group-text-same (certificate_records bytes) e v.0 w.0 v.1 v.2 w.1 w.2 t u);
       first = refusals-same input (violation_form e);
     })
 
@@ -144,8 +145,8 @@ outcome-one e = states-one name.Outcome (λ bytes marks. IsOutcomeText (certific
     (IsRefusedFile name.Outcome (outcome_form e)) (record {
       answered = λ bytes. elim (outcome-answered (certificate_records bytes) e)
           [ inl text ↦ inl text | inr why ↦ inr (file-refused name.Outcome (outcome_form e) bytes why) ];
-      apart = λ bytes w r text refused. outcome-clear (certificate_records bytes) e w text refused.0.place refused.0.fault
-          refused.1;
+      apart = λ bytes w r text refused. outcome-clear (certificate_records bytes) e w text refused.0.place
+          refused.0.fault refused.1;
       alone = λ bytes w v t u. outcome-text-same (certificate_records bytes) e w v t u;
       first = refusals-same name.Outcome (outcome_form e);
     })

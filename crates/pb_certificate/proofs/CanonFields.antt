@@ -21,6 +21,7 @@ use Rattle.pb_certificate.specs.PriceText.{numerator_of, payment_of}
 use Rattle.pb_certificate.proofs.Numbers.{within-bounds}
 use Rattle.pb_certificate.proofs.StatedBack.{payment_at}
 use Rattle.pb_certificate.proofs.Written.{IsPayment, all-at, id-at, row_of}
+use Rattle.pb_records.proofs.Each.{all-weaker}
 
 -- Numerals.
 
@@ -97,8 +98,7 @@ nonblank-all [] h = refl
 nonblank-all (r ∷ rs) h = rw h.0.some (ap (λ (t : List Rec). r ∷ t) (nonblank-all rs h.1))
 
 pub text-all : (rs : List Rec) → AllByRecursion IsShown rs → AllByRecursion (λ r. is_text r ≡ true) rs
-text-all [] h = tt
-text-all (r ∷ rs) h = (h.0.text, text-all rs h.1)
+text-all rs = all-weaker IsShown (λ r. is_text r ≡ true) rs (λ r h. h.text)
 
 -- The project of an id.
 

@@ -53,8 +53,8 @@ heads-shown d b hd hb = (
     (
       two-shown (codes "voter_budget") (decimal b) head-text.3 (decimal-text b hb) refl refl,
       (
-        three-shown (codes "voter") (codes "project") (codes "payment") columns-text.0 columns-text.1 columns-text.2 refl
-            refl,
+        three-shown (codes "voter") (codes "project") (codes "payment") columns-text.0 columns-text.1
+            columns-text.2 refl refl,
         tt,
       ),
     ),

@@ -1,8 +1,8 @@
 -- How the reading of a file ends.
-use Rattle.std.proofs.Common.{◌≡◌, ◌∙◌, suc, Bool, true, false, List, length, refl, sym, inl, inr, Some, None}
+use Rattle.std.proofs.Common.{◌≡◌, ◌∙◌, suc, List, length, refl, sym, inl, inr, None}
 use Rattle.std.specs.Prelude.{◌⊎◌}
 use Rattle.pb_records.specs.Records.{Rec}
-use Rattle.pb_records.specs.Cells.{is_text, nonblank}
+use Rattle.pb_records.specs.Cells.{nonblank}
 use Rattle.pb_records.specs.Inside.Drafts.{StopsFirst}
 use Rattle.pb_records.specs.FirstFault.{Form, IsFirstFault, NoFault}
 use Rattle.pb_records.specs.declared.drafts.FaultAt.{FaultAt}
@@ -11,7 +11,6 @@ use Rattle.pb_records.specs.declared.drafts.Stop.TheVariants.{Fault, Memory}
 use Rattle.pb_records.proofs.FirstOrNone.{fault-last}
 use Rattle.pb_certificate.specs.Faults.{no_memory, refusal_where_stopped}
 use Rattle.pb_certificate.specs.declared.refusal.CertFault.{CertFault}
-use Rattle.pb_certificate.specs.declared.refusal.CertFault.TheVariants as fault
 
 -- where no fault stands anywhere, none stands at the end
 pub none-at-end : {F : Type 0} (form : Form F) (recs : List Rec) → NoFault form recs → form (nonblank recs) None ≡ None
@@ -31,12 +30,3 @@ pub stop-is-memory : (form : Form CertFault) (recs : List Rec) (stop : Stop (Fau
     → ((f : FaultAt CertFault) → IsFirstFault form recs f.place f.fault → ⊥) → refusal_where_stopped stop ≡ no_memory
 stop-is-memory form recs (Fault f) first none = absurd (none f first)
 stop-is-memory form recs Memory first none = refl
-
--- a record at which no fault stands is UTF-8
-pub clear-text : (form : Form CertFault) (before : List Rec) (r : Rec)
-    → (is_text r ≡ false → form before (Some r) ≡ Some fault.NotUtf8) → form before (Some r) ≡ None → is_text r ≡ true
-clear-text form before r refused none = by (is_text r) refl
-  where
-    by : (b : Bool) → is_text r ≡ b → is_text r ≡ true
-    by true is = is
-    by false is = let stands = refused is in cc (none, stands)

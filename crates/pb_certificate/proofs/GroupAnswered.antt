@@ -18,7 +18,7 @@ use Rattle.pb_certificate.specs.declared.violation_draft.Awaited.{Awaited}
 use Rattle.pb_certificate.specs.declared.violation_draft.Awaited.TheVariants.{Format, Satisfaction, Row}
 use Rattle.pb_certificate.specs.declared.refusal.CertFault.{CertFault}
 use Rattle.pb_certificate.proofs.ViolationSteps.{format-refused, measure-refused, measure-taken, row-refused, row-taken, version-1-taken, version-2-taken, whole-violation}
-use Rattle.pb_certificate.proofs.Ends.{clear-text}
+use Rattle.pb_certificate.proofs.NoFaults.{clear-text}
 
 -- some head records and rows were taken
 abbrev Taken : Instance → List Rec → Type 0

@@ -17,7 +17,7 @@ use Rattle.pb_certificate.specs.declared.refusal.CertFault.{CertFault}
 use Rattle.pb_certificate.specs.declared.refusal.CertFault.TheVariants as fault
 use Rattle.pb_certificate.proofs.HeadRecords.{not-cut, past}
 use Rattle.pb_certificate.proofs.NamedRows.{Row, project-kind, row-number, row-project, row-voter, rows-clear, two-fields, voter-kind}
-use Rattle.pb_certificate.proofs.Sweep.{ClearFrom, each-nil, no-fault, none-refused}
+use Rattle.pb_certificate.proofs.NoFaults.{ClearFrom, each-nil, no-fault, none-refused}
 use Rattle.pb_certificate.proofs.ViolationHeads.{heads-counted, is-version-2, names-format, names-format-2, names-measure, no-measure, rows-are, some-head}
 
 format-clear : (e : Instance) (head : Rec) → is_text head ≡ true → (is_version_1 head || is_version_2 head) ≡ true

@@ -8,7 +8,7 @@ pub mod Admitting
 pub mod RowFaults
 pub mod Texts
 pub mod Unique
-pub mod Sweep
+pub mod NoFaults
 pub mod HeadRecords
 pub mod ViolationHeads
 pub mod NamedRows

@@ -22,8 +22,8 @@ use Rattle.pb_election.proofs.Elections.{found_is}
 use Rattle.pb_certificate.proofs.Heads.{pair-is}
 use Rattle.pb_certificate.proofs.MarkLemmas.{distinct-push, mark-is, one-more-mark, same-marks, was-marked}
 use Rattle.pb_certificate.proofs.NamedRows.{apart, row-of, stood-before}
-use Rattle.pb_certificate.proofs.Sweep.{joined-by}
 use Rattle.pb_certificate.proofs.Texts.{within-some}
+use Rattle.pb_records.proofs.Lists.{map-push}
 
 -- rows of these cells
 voter-states : (e : Instance) (r : Rec) (i : ℕ) → (length (fields r) == 2) ≡ true → is_kind (codes "voter") r ≡ true
@@ -117,7 +117,7 @@ named-more names x y = list_any-append (same_named y) names (x ∷ [])
 rows-more : (e : Instance) (r : Rec) (rows : List Rec) (names : List Named) (x : Named) → RowsName e rows names
     → named_of e r ≡ Some x → was_named names x ≡ false → RowsName e (rows ++ (r ∷ [])) (names ++ (x ∷ []))
 rows-more e r rows names x named is free = record {
-  each_row = joined-by (named_of e) rows r names x named.each_row is;
+  each_row = map-push (named_of e) rows r names x named.each_row is;
   once = distinct-push same_named names x named.once (apart x names free);
 }
 
@@ -142,7 +142,8 @@ projects-more e names j at =
     one-more-mark (λ k. was_named names (Project k)) (λ k. was_named (names ++ (Project j ∷ [])) (Project k))
     (projects e) j at.0 at.1
     (named-more names (Project j) (Project j) ∙ rw (eq-eqb j j refl) (or-true (was_named names (Project j))))
-    (λ k other. named-more names (Project j) (Project k) ∙ rw (ne_eqb k j other) (or-false (was_named names (Project k))))
+    (λ k other. named-more names (Project j) (Project k)
+    ∙ rw (ne_eqb k j other) (or-false (was_named names (Project k))))
 
 pub projects-kept : (e : Instance) (names : List Named) (i : ℕ)
     → project_marks e names ≡ project_marks e (names ++ (Voter i ∷ []))

@@ -4,7 +4,7 @@ use Rattle.std.specs.Prelude.{◌==◌, ◌||◌, not, find, map, unwrap_or, cod
 use Rattle.std.specs.List.{AllByRecursion, IsDistinct, list_any}
 use Rattle.std.specs.Option.{option_map}
 use Rattle.std.specs.Str.{bytes_eq}
-use Rattle.std.proofs.lemmas.Bool.{cases_Bool, cases_eq, eq-eqb, ne_eqb, or_parts, or_from}
+use Rattle.std.proofs.lemmas.Bool.{cases_Bool, cases_eq, eq-eqb, ne_eqb, or_from}
 use Rattle.std.proofs.lemmas.Slice.Eq.{bytes_eq-Decides}
 use Rattle.std.proofs.Math.Bool.{or-false}
 use Rattle.pb_election.specs.Instance.{Instance, id_of}
@@ -18,8 +18,10 @@ use Rattle.pb_certificate.specs.declared.refusal.CertFault.{CertFault}
 use Rattle.pb_election.proofs.Elections.{found_is}
 use Rattle.pb_certificate.proofs.Cells.{cell-is}
 use Rattle.pb_certificate.proofs.PriceClear.{whole-is}
-use Rattle.pb_certificate.proofs.Sweep.{ClearFrom, apart-more, joined-by, no-fault}
+use Rattle.pb_certificate.proofs.NoFaults.{ClearFrom, apart-more, no-fault}
 use Rattle.pb_certificate.proofs.Texts.{map-some}
+use Rattle.pb_records.proofs.Lists.{map-push}
+use Rattle.pb_records.proofs.Each.{all-fail, all-weaker}
 
 -- What a row says.
 
@@ -146,9 +148,9 @@ turn (Project j) (Project k) =
 
 -- what was not named is apart from all that were, and what is apart was not named
 pub apart : (x : Named) (ms : List Named) → was_named ms x ≡ false → AllByRecursion (λ m. same_named m x ≡ false) ms
-apart x [] h = tt
-apart x (m ∷ ms) h = let parts = or_parts (same_named x m) (was_named ms x) h in
-    (turn m x ∙ parts.0, apart x ms parts.1)
+apart x ms h =
+    all-weaker (λ m. same_named x m ≡ false) (λ m. same_named m x ≡ false) ms (λ m other. turn m x ∙ other)
+    (all-fail (same_named x) ms h)
 
 not-named : (x : Named) (ms : List Named) → AllByRecursion (λ m. same_named m x ≡ false) ms → was_named ms x ≡ false
 not-named x [] h = refl
@@ -174,7 +176,7 @@ rows-clear e stands heads IsNamed row end done (r ∷ rs) ms (x ∷ xs) text are
     let rest : map (named_of e) rs ≡ map Some xs = cc in
     let this = row-of e r x first in
     let more = rows-clear e stands heads IsNamed row end (done ++ (r ∷ [])) rs (ms ++ (x ∷ [])) xs text.1 are.1 rest
-    (joined-by (named_of e) done r ms x k first) (apart-more same_named ms x xs apart_all.1 once.0) once.1 in (
+    (map-push (named_of e) done r ms x k first) (apart-more same_named ms x xs apart_all.1 once.0) once.1 in (
       no-fault stands (heads ++ done) (Some r)
           (row done r x text.0 this are.0 (stood-before e r x done ms this k ∙ not-named x ms apart_all.0)),
       subst (λ (before : List Rec). ClearFrom (λ b here. find (stands b here) in_order) before rs)

@@ -13,7 +13,7 @@ use Rattle.pb_certificate.specs.Inside.OutcomeDrafts.{OutcomeTaken, after_outcom
 use Rattle.pb_certificate.specs.OutcomeText.{IsOutcomeText}
 use Rattle.pb_certificate.specs.declared.refusal.CertFault.{CertFault}
 use Rattle.pb_certificate.proofs.OutcomeSteps.{head-refused, head-taken, row-refused, row-taken, whole-outcome}
-use Rattle.pb_certificate.proofs.Ends.{clear-text}
+use Rattle.pb_certificate.proofs.NoFaults.{clear-text}
 
 -- some rows, or no record at all, were taken
 abbrev Taken : Instance → List Rec → Type 0

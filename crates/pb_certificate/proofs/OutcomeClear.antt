@@ -16,7 +16,7 @@ use Rattle.pb_certificate.specs.declared.refusal.CertFault.{CertFault}
 use Rattle.pb_certificate.specs.declared.refusal.CertFault.TheVariants as fault
 use Rattle.pb_certificate.proofs.HeadRecords.{not-cut, past}
 use Rattle.pb_certificate.proofs.NamedRows.{Row, project-kind, row-project, rows-clear, two-fields}
-use Rattle.pb_certificate.proofs.Sweep.{ClearFrom, each-nil, no-fault, none-refused}
+use Rattle.pb_certificate.proofs.NoFaults.{ClearFrom, each-nil, no-fault, none-refused}
 
 head-clear : (e : Instance) (head : Rec) → is_text head ≡ true → fields head ≡ codes "pb-outcome" ∷ codes "1" ∷ []
     → (f : CertFault) → outcome_fault_stands e [] (Some head) f ≡ false

@@ -83,7 +83,8 @@ stands form recs taken c before cut many behind text clear =
     let whole_many : length recs ≡ length taken + length c.left = ap length cut ∙ length-append taken c.left in
     record {
       within = omega arith;
-      left = sym (ap (drop c.place) cut ∙ ap (λ (n : ℕ). drop n (taken ++ c.left)) (sym many) ∙ drop-append_seam taken c.left);
+      left = sym (ap (drop c.place) cut ∙ ap (λ (n : ℕ). drop n (taken ++ c.left)) (sym many)
+          ∙ drop-append_seam taken c.left);
       behind = ap (λ (xs : List Rec). nonblank (take c.place xs)) cut
           ∙ ap (λ (n : ℕ). nonblank (take n (taken ++ c.left))) (sym many) ∙ ap nonblank (take-append_seam taken c.left)
           ∙ behind;

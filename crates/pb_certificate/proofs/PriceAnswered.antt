@@ -17,7 +17,7 @@ use Rattle.pb_certificate.specs.PriceText.{IsPriceText, Payment, numerator_of, p
 use Rattle.pb_certificate.specs.Inside.PriorRows.{RiseFrom}
 use Rattle.pb_certificate.specs.declared.refusal.CertFault.{CertFault}
 use Rattle.pb_certificate.specs.declared.refusal.CertFault.TheVariants as fault
-use Rattle.pb_certificate.proofs.Ends.{none-at-end, clear-text}
+use Rattle.pb_certificate.proofs.Ends.{none-at-end}
 use Rattle.pb_certificate.proofs.GatherSteps.{may-follow}
 use Rattle.pb_certificate.proofs.Heads.{same-is, states-number, triple-is}
 use Rattle.pb_certificate.proofs.HeadSteps.{end-form}
@@ -25,8 +25,9 @@ use Rattle.pb_certificate.proofs.ReaderSteps.{rises}
 use Rattle.pb_certificate.proofs.RowFaults.{form-at-budget, form-at-columns, form-at-denominator, form-at-name, form-at-row, number_fault, or_else, place_fault}
 use Rattle.pb_certificate.proofs.RowPlaces.{place-is}
 use Rattle.pb_certificate.proofs.RowSteps.{in-order-push, once-push, voters_of}
-use Rattle.pb_certificate.proofs.Sweep.{joined-by}
 use Rattle.pb_certificate.proofs.Texts.{stated-length}
+use Rattle.pb_records.proofs.Lists.{map-push}
+use Rattle.pb_certificate.proofs.NoFaults.{clear-text}
 
 -- The rows that were taken.
 record TakenRows (e : Instance) (rows : List Rec) : Type 0 where
@@ -111,7 +112,7 @@ row-more e h d b c rows r text taken none =
     let after = may-follow qs q (sym (place-is e r q rows qs states.1 taken.each_row) ∙ parts.1) in
     record {
       payments = qs ++ (q ∷ []);
-      each_row = joined-by (payment_of e) rows r qs q taken.each_row states.1;
+      each_row = map-push (payment_of e) rows r qs q taken.each_row states.1;
       few = omega (arith, after.few, length-append qs (q ∷ []));
       in_order = in-order-push qs q taken.in_order after.not_lower;
       once = once-push qs q taken.once after.fresh;

@@ -19,10 +19,11 @@ use Rattle.pb_certificate.specs.Faults.{at_record, price_fault_stands, price_for
 use Rattle.pb_certificate.specs.declared.refusal.CertFault.{CertFault}
 use Rattle.pb_certificate.specs.declared.refusal.CertFault.TheVariants as fault
 use Rattle.pb_certificate.proofs.Cells.{cell-is}
-use Rattle.pb_certificate.proofs.Sweep.{ClearFrom, apart-more, each-nil, joined-by, no-fault, none-refused}
+use Rattle.pb_certificate.proofs.NoFaults.{ClearFrom, apart-more, each-nil, no-fault, none-refused}
 use Rattle.pb_certificate.proofs.Texts.{payment-parts}
 use Rattle.pb_certificate.proofs.RowFaults.{past}
 use Rattle.pb_certificate.proofs.RowSteps.{voters_of}
+use Rattle.pb_records.proofs.Lists.{map-push}
 
 -- what a row says: its three fields, and its payment
 pub record Row (e : Instance) (r : Rec) (q : Payment) : Type 0 where
@@ -270,7 +271,7 @@ rows-clear e h d b c done (r ∷ rs) ms (q ∷ qs) low text states taken apart o
       no-fault (price_fault_stands e) (h ∷ d ∷ b ∷ c ∷ done) (Some r)
           (row-clear e h d b c r done q ms low text.0 (row-of e r q first) taken apart.0 below rises.0 (omega arith)),
       rows-clear e h d b c (done ++ (r ∷ [])) rs (ms ++ (q ∷ [])) qs q.voter text.1 rest
-          (joined-by (payment_of e) done r ms q taken first) (apart-more same_pair ms q qs apart.1 once.0) once.1
+          (map-push (payment_of e) done r ms q taken first) (apart-more same_pair ms q qs apart.1 once.0) once.1
           (below-push e done r q (row-of e r q first)) rises.1 (omega (arith, length-push done r)),
     )
 

@@ -25,12 +25,13 @@ use Rattle.pb_certificate.specs.declared.row_reader.RowReader.{RowReader}
 use Rattle.pb_certificate.specs.declared.refusal.CertFault.{CertFault}
 use Rattle.pb_certificate.specs.declared.refusal.CertRefusal.{CertRefusal}
 use Rattle.pb_certificate.proofs.HeadSteps.{bytes-refused}
-use Rattle.pb_certificate.proofs.Sweep.{joined-by}
 use Rattle.pb_certificate.proofs.PlaceSteps.{at-end, goes-behind, refused-at}
 use Rattle.pb_certificate.proofs.PriceClear.{cons-rises, nil-rises}
 use Rattle.pb_certificate.proofs.RowPlaces.{form-of-payment, form-of-row, given-behind}
 use Rattle.pb_certificate.proofs.RowSteps.{voters_of}
 use Rattle.pb_certificate.proofs.Texts.{stated-length}
+use Rattle.pb_records.proofs.Lists.{map-push}
+use Rattle.pb_records.proofs.Each.{all-weaker}
 
 -- whether a record comes, where that is known
 pub comes-record : (old from new : Position) (b : Bool) → Comes from new (Ok b) → from ≡ old → b ≡ true
@@ -69,7 +70,7 @@ row-taken old cursor prior q h m t many =
       rows = h.rows ++ (r ∷ []);
       payments = h.payments ++ (as_payment q ∷ []);
       is_head = h.is_head;
-      each_row = joined-by (payment_of e) h.rows r h.payments (as_payment q) h.each_row t.states;
+      each_row = map-push (payment_of e) h.rows r h.payments (as_payment q) h.each_row t.states;
       stands = stands;
       remembers = admitted.1;
       each_project = many ∙ h.each_project;
@@ -158,11 +159,9 @@ next-refused old new r h comes = elim comes [
 -- numbers that rise from one on do not fall
 rise-low : (low : ℕ) (xs : List ℕ) → RiseFrom low xs → AllByRecursion (λ y. low ≤ y) xs
 rise-low low [] h = tt
-rise-low low (x ∷ xs) h = let first : low ≤ x = h.0 in (h.0, below low x xs first (rise-low x xs h.1))
-  where
-    below : (a b : ℕ) (ys : List ℕ) → a ≤ b → AllByRecursion (λ y. b ≤ y) ys → AllByRecursion (λ y. a ≤ y) ys
-    below a b [] l h = tt
-    below a b (y ∷ ys) l h = (let here : b ≤ y = h.0 in omega arith, below a b ys l h.1)
+rise-low low (x ∷ xs) h =
+    let first : low ≤ x = h.0 in
+    (first, all-weaker (λ y. x ≤ y) (λ y. low ≤ y) xs (λ y above. omega arith) (rise-low x xs h.1))
 
 pub rises : (low : ℕ) (xs : List ℕ) → RiseFrom low xs → IsNonDecreasing xs
 rises low [] h = nil-rises

@@ -2,7 +2,7 @@
 use Rattle.std.proofs.Common.{◌≡◌, ◌≢◌, ◌≤◌, ◌∙◌, ℕ, Bool, true, false, List, [], ◌∷◌, ◌++◌, refl, sym, ap, subst, inl, inr, arith}
 use Rattle.std.specs.Prelude.{◌==◌, ◌&&◌, ◌||◌, filter, map}
 use Rattle.std.specs.List.{AllByRecursion, IsDistinct, list_any}
-use Rattle.std.proofs.lemmas.Bool.{and_parts, cases_Bool, cases_eq, eq-eqb, eqb-true, false≢true, ne_eqb, or_parts}
+use Rattle.std.proofs.lemmas.Bool.{and_parts, cases_Bool, cases_eq, eq-eqb, eqb-true, false≢true, ne_eqb}
 use Rattle.std.proofs.lemmas.List.{append-nil, map-append}
 use Rattle.std.proofs.lemmas.List.Elements.{filter-append}
 use Rattle.std.proofs.Math.Bool.{or-false}
@@ -10,6 +10,7 @@ use Rattle.pb_certificate.specs.PriceText.{Payment, same_pair}
 use Rattle.pb_certificate.specs.PriceRows.{last_number, last_voter}
 use Rattle.pb_certificate.specs.Inside.PriorRows.{RiseFrom, last_payer}
 use Rattle.pb_certificate.proofs.MarkLemmas.{distinct-push}
+use Rattle.pb_records.proofs.Each.{all-fail, all-weaker}
 
 abbrev pub voters_of : List Payment → List ℕ
 voters_of qs = map (λ q. q.voter) qs
@@ -109,9 +110,8 @@ stood qs q some h most =
 -- payments that differ from one of a new pair
 apart : (qs : List Payment) (q : Payment) → list_any (same_pair q) qs ≡ false
     → AllByRecursion (λ p. same_pair p q ≡ false) qs
-apart [] q h = tt
-apart (p ∷ ps) q h =
-    let parts = or_parts (same_pair q p) (list_any (same_pair q) ps) h in (turned q p parts.0, apart ps q parts.1)
+apart qs q h =
+    all-weaker (λ p. same_pair q p ≡ false) (λ p. same_pair p q ≡ false) qs (turned q) (all-fail (same_pair q) qs h)
   where
     turned : (a b : Payment) → same_pair a b ≡ false → same_pair b a ≡ false
     turned a b e = elim (cases_Bool (same_pair b a)) [

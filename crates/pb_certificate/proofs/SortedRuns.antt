@@ -13,9 +13,11 @@ use Rattle.pb_certificate.specs.PriceText.{Payment, same_pair, stated}
 use Rattle.pb_certificate.specs.Inside.Gathering.{payments_made, stated_by}
 use Rattle.pb_certificate.proofs.Payments.{each-of}
 use Rattle.pb_certificate.proofs.Texts.{paid_projects, pairs}
+use Rattle.pb_records.proofs.Each.{all-both}
 
 -- projects that rise, each with the numerator that f gives it, are the pairs of f
-numerator-low : (low high j : ℕ) (qs : List (ℕ × ℕ)) → IsSet low high (paid_projects qs) → j < low → numerator_in qs j ≡ 0
+numerator-low : (low high j : ℕ) (qs : List (ℕ × ℕ)) → IsSet low high (paid_projects qs) → j < low
+    → numerator_in qs j ≡ 0
 numerator-low low high j [] s l = refl
 numerator-low low high j (q ∷ qs) s l =
     let first : low ≤ q.0 = s.0 in
@@ -61,7 +63,8 @@ total x p r w a b c = omega arith
 past : (p r w : ℕ) → p ≡ 0 → w ≡ p + r → r ≡ w
 past p r w a c = omega arith
 
-numerator-sum : (low high j : ℕ) (ys : List (ℕ × ℕ)) → IsSet low high (paid_projects ys) → numerator_in ys j ≡ sum_by (pick j) ys
+numerator-sum : (low high j : ℕ) (ys : List (ℕ × ℕ)) → IsSet low high (paid_projects ys)
+    → numerator_in ys j ≡ sum_by (pick j) ys
 unfolding pick
 numerator-sum low high j [] s = refl
 numerator-sum low high j (q ∷ qs) s = by (q.0 == j) refl (numerator-sum (q.0 + 1) high j qs s.2)
@@ -186,32 +189,25 @@ none-there k (r ∷ rs) h =
     left : (a b : ℕ) → a + b ≡ 0 → b ≡ 0
     left a b e = omega arith
 
-above : (k high : ℕ) (rs : List (ℕ × ℕ)) → AllByRecursion (λ r. r.0 ≢ k) rs → AllByRecursion (λ r. k ≤ r.0) rs
-    → AllByRecursion (λ r. r.0 ≤ high) rs → AllByRecursion (λ r. (k + 1 ≤ r.0) × (r.0 ≤ high)) rs
-above k high [] h l m = tt
-above k high (r ∷ rs) h l m =
-    ((let ne : r.0 ≢ k = h.0 in let le : k ≤ r.0 = l.0 in omega arith, m.0), above k high rs h.1 l.1 m.1)
-
-tops : (low high : ℕ) (rs : List (ℕ × ℕ)) → AllByRecursion (λ r. (low ≤ r.0) × (r.0 ≤ high)) rs
-    → AllByRecursion (λ r. r.0 ≤ high) rs
-tops low high [] h = tt
-tops low high (r ∷ rs) h = (h.0.1, tops low high rs h.1)
-
-keys-rise : (low high : ℕ) (ys : List (ℕ × ℕ)) → IsNonDecreasingBy (λ p. p.0) ys → ((j : ℕ) → sum_by (count j) ys ≤ 1)
-    → AllByRecursion (λ q. (low ≤ q.0) × (q.0 ≤ high)) ys → IsSet low high (paid_projects ys)
+paid-projects-rise : (low high : ℕ) (ys : List (ℕ × ℕ)) → IsNonDecreasingBy (λ p. p.0) ys
+    → ((j : ℕ) → sum_by (count j) ys ≤ 1) → AllByRecursion (λ q. (low ≤ q.0) × (q.0 ≤ high)) ys → IsSet low high (paid_projects ys)
 unfolding count
-keys-rise low high [] nd once bounds = tt
-keys-rise low high (q ∷ qs) nd once bounds =
+paid-projects-rise low high [] nd once bounds = tt
+paid-projects-rise low high (q ∷ qs) nd once bounds =
     let whole = sum_by-cons (count q.0) q qs in
     let one : count q.0 q ≡ 1 = rw (eq-eqb q.0 q.0 refl) refl in
     let at_most = once q.0 in
     let none : sum_by (count q.0) qs ≡ 0 = omega arith in
     let least : All (λ r. q.0 ≤ r.0) qs = λ k d within. nd 0 (suc k) d (omega arith) (omega arith) in
-    let rest = above q.0 high qs (none-there q.0 qs none) (each-of (λ r. q.0 ≤ r.0) qs least)
-    (tops low high qs bounds.1) in (
+    let later : AllByRecursion (λ r. q.0 + 1 ≤ r.0) qs =
+    all-both (λ r. r.0 ≢ q.0) (λ r. q.0 ≤ r.0) (λ r. q.0 + 1 ≤ r.0) qs (λ r other above. omega arith)
+    (none-there q.0 qs none) (each-of (λ r. q.0 ≤ r.0) qs least) in
+    let rest =
+    all-both (λ r. q.0 + 1 ≤ r.0) (λ r. (low ≤ r.0) × (r.0 ≤ high)) (λ r. (q.0 + 1 ≤ r.0) × (r.0 ≤ high)) qs
+    (λ r above within. (above, within.1)) later bounds.1 in (
       bounds.0.0,
       bounds.0.1,
-      keys-rise (q.0 + 1) high qs (λ i j d le within. nd (suc i) (suc j) d (omega arith) (omega arith))
+      paid-projects-rise (q.0 + 1) high qs (λ i j d le within. nd (suc i) (suc j) d (omega arith) (omega arith))
           (λ j. (let more = sum_by-cons (count j) q qs in let most = once j in omega arith)) rest,
     )
 
@@ -249,7 +245,7 @@ sorted-stated qs m i ys once within nd perm =
     λ j. subst (λ n. n ≤ 1) (sym (sum_by-IsPermutation (count j) (payments_made qs i) ys perm))
     (counted-once qs i j once) in
     let rise =
-    keys-rise 1 m ys nd counts
+    paid-projects-rise 1 m ys nd counts
     (moved (λ p. (1 ≤ p.0) × (p.0 ≤ m)) (payments_made qs i) ys perm (paid-bounds qs m i within)) in
     pairs-are (stated qs i) m 1 m ys (omega arith) rise
     (moved (λ p. 0 < p.1) (payments_made qs i) ys perm (paid-some qs i))

@@ -31,7 +31,8 @@ stated-other s (q ∷ qs) tail i j h = rw h (stated-other s qs tail i j h)
 stated-own : (i : ℕ) (qs : List (ℕ × ℕ)) (tail : List Payment) (j : ℕ) → stated tail i j ≡ 0
     → stated (of_voter i qs ++ tail) i j ≡ numerator_in qs j
 stated-own i [] tail j h = h
-stated-own i (q ∷ qs) tail j h = rw (is-itself i) (ap (λ (t : ℕ). if q.0 == j then q.1 else t) (stated-own i qs tail j h))
+stated-own i (q ∷ qs) tail j h =
+    rw (is-itself i) (ap (λ (t : ℕ). if q.0 == j then q.1 else t) (stated-own i qs tail j h))
 
 stated-before : (f : ℕ → List (ℕ × ℕ)) (n a i j : ℕ) → i < a → stated (of_voters f a n) i j ≡ 0
 stated-before f zero a i j h = refl

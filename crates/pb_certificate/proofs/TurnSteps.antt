@@ -8,7 +8,7 @@ use Rattle.std.proofs.lemmas.Bool.{eq-eqb, le-ltb, lt-ltb, ne_eqb}
 use Rattle.std.proofs.lemmas.List.Elements.{filter_map-append}
 use Rattle.std.proofs.lemmas.List.Sorted.{length_permutation}
 use Rattle.std.proofs.lemmas.List.Sums.{sum_by-append, sum_by-cons}
-use Rattle.pb_records.proofs.Each.{all-push}
+use Rattle.pb_records.proofs.Each.{all-push, all-weaker}
 use Rattle.pb_records.proofs.Lists.{map-same}
 use Rattle.pb_certificate.specs.Inside.Gathering.{Holds, payments_made, prices_up_to, stated_by, stated_up_to}
 use Rattle.pb_certificate.specs.Inside.Ledgers.{CanTake, with_voter}
@@ -89,8 +89,7 @@ no-rows has s t empty start none =
 -- One more voter that is done.
 
 later : (n : ℕ) (qs : List Payment) → AllByRecursion (λ q. q.voter ≤ n) qs → AllByRecursion (λ q. q.voter ≤ n + 1) qs
-later n [] h = tt
-later n (q ∷ qs) h = (let first : q.voter ≤ n = h.0 in omega arith, later n qs h.1)
+later n qs = all-weaker (λ q. q.voter ≤ n) (λ q. q.voter ≤ n + 1) qs (λ q before. omega arith)
 
 -- the payments at hand in order
 pub run-stated : (has : Instance → Prices → Type 0) (s : Rows) (qs : List Payment) (t : Turn) (run : List (ℕ × ℕ))

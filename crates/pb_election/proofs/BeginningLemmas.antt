@@ -66,7 +66,8 @@ is-mark s r e = rw e refl
 pub count-part : (s : Section) (a : Part) → IsPart s a → count_by is_marker (part_records a) ≡ 1
 count-part s a h = count-behind s a.marker (behind a) h.marker h.others
 
-pub count-two : (a b : Part) → IsPart Meta a → IsPart Projects b → count_by is_marker (part_records a ++ part_records b) ≡ 2
+pub count-two : (a b : Part) → IsPart Meta a → IsPart Projects b
+    → count_by is_marker (part_records a ++ part_records b) ≡ 2
 count-two a b h k =
     omega (arith, count-append (part_records a) (part_records b), count-part Meta a h, count-part Projects b k)
 
@@ -81,7 +82,8 @@ seen-found : (recs : List Rec) (role : Role) (a b c : Part) (A B C : List Rec) �
     → before_of recs ≡ before_next (so_far_in role a b c)
 unfolding before_of
 seen-found recs role a b c A B C r fa fb fc am bh bm ch cm =
-    let with_keys : (Key → Bool) → Before = λ stood. record (before_next (so_far_in role a b c)) { has_stood = stood } in
+    let with_keys : (Key → Bool) → Before =
+    λ stood. record (before_next (so_far_in role a b c)) { has_stood = stood } in
     let found : before_of recs ≡ with_keys (λ key. list_any (has_key key) a.rows) =
     rw (r, fa, fb, fc, am, bh, bm, ch, cm, length-map) refl in
     found ∙ ap with_keys (fun_ext (λ key. sym (has_stood-is a.rows key)))

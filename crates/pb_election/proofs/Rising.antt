@@ -23,6 +23,7 @@ use Rattle.pb_election.specs.Inside.Ids.{position_in}
 use Rattle.pb_election.specs.Rows.{positions_of}
 use Rattle.pb_election.proofs.Sets.{is-itself}
 use Rattle.pb_election.proofs.VoteLemmas.{some-is, some-on}
+use Rattle.pb_records.proofs.Each.{all-weaker}
 
 -- whether a list holds a number
 abbrev pub has : List ℕ → ℕ → Bool
@@ -80,7 +81,8 @@ unique n (x ∷ xs) (y ∷ ys) a b h =
       | inl l ↦
           let less : x < y = grind (arith, nat_tests) in
           let q : (x == y) ≡ false = grind (arith, nat_tests) in
-          let z : true ≡ false = sym (rw (is-itself x) refl) ∙ h x ∙ rw (q, no-less (y + 1) ys x b.1 (omega arith)) refl in
+          let z : true ≡ false = sym (rw (is-itself x) refl) ∙ h x
+          ∙ rw (q, no-less (y + 1) ys x b.1 (omega arith)) refl in
           cc z
       | inr l ↦
           let less : y < x = grind (arith, nat_tests) in
@@ -161,8 +163,9 @@ swap false false c = refl
 
 all-same : (id name : Field) (ids : List Field) → bytes_eq name id ≡ true
     → AllByRecursion (λ k. bytes_eq id k ≡ false) ids → AllByRecursion (λ k. bytes_eq name k ≡ false) ids
-all-same id name [] e h = tt
-all-same id name (k ∷ ks) e h = (nat_list_eq_equiv.congr name id k e ∙ h.0, all-same id name ks e h.1)
+all-same id name ids e =
+    all-weaker (λ k. bytes_eq id k ≡ false) (λ k. bytes_eq name k ≡ false) ids
+    (λ k other. nat_list_eq_equiv.congr name id k e ∙ other)
 
 -- one more name adds its position
 chosen-more : (n : ℕ) (ids names : List Field) (name : Field) (p j : ℕ) → IsDistinct bytes_eq ids

@@ -10,7 +10,7 @@ use Rattle.std.proofs.lemmas.Bool.{and_parts}
 use Rattle.csv.specs.Records.{field_at}
 use Rattle.pb_money.specs.Money.{IsMoney, millionths, most_money}
 use Rattle.pb_records.specs.Records.{Field, Rec}
-use Rattle.pb_records.proofs.Each.{all-back, all-front}
+use Rattle.pb_records.proofs.Each.{all-back, all-both, all-every, all-front, all-map, all-weaker}
 use Rattle.pb_election.specs.Instance.{Instance, IsSet}
 use Rattle.pb_election.specs.declared.columns.Columns.{Columns}
 use Rattle.pb_election.specs.declared.keys.Key.TheVariants.{Budget}
@@ -45,8 +45,10 @@ ballot-set names ids = positions-set (λ p. is_among names p.1) 1 (length ids) i
 
 ballots-sets : (column : Option ℕ) (ids : List Field) (rows : List Rec)
     → AllByRecursion (IsSet 1 (length ids)) (ballots_in column ids rows)
-ballots-sets column ids [] = tt
-ballots-sets column ids (r ∷ rs) = (ballot-set (names_in (field_in column r)) ids, ballots-sets column ids rs)
+ballots-sets column ids rows =
+    all-map (IsSet 1 (length ids)) (ballot_in column ids) rows
+    (all-every (λ r. IsSet 1 (length ids) (ballot_in column ids r)) rows
+    (λ r. ballot-set (names_in (field_in column r)) ids))
 
 -- Ids.
 
@@ -71,15 +73,19 @@ field_in-id (Some i) r t h =
 
 ids-are : (columns : Columns) (rows : List Rec) → AllByRecursion (λ r. IsTrue (is_text r)) rows
     → AllByRecursion (λ row. IsTrue (is_id (id_in columns row))) rows → AllByRecursion IsId (ids_in columns rows)
-ids-are columns [] t h = tt
-ids-are columns (r ∷ rs) t h = (field_in-id columns.id r t.0 h.0, ids-are columns rs t.1 h.1)
+ids-are columns rows text is =
+    all-map IsId (id_in columns) rows
+    (all-both (λ r. IsTrue (is_text r)) (λ r. IsTrue (is_id (id_in columns r))) (λ r. IsId (id_in columns r)) rows
+    (λ r. field_in-id columns.id r) text is)
 
 -- Costs, marks and counts.
 
 costs-small : (columns : Columns) (rows : List Rec) → AllByRecursion (λ row. IsMoney (cost_in columns row)) rows
     → AllByRecursion (λ c. c ≤ most_money) (costs_in columns rows)
-costs-small columns [] h = tt
-costs-small columns (r ∷ rs) h = (h.0.small, costs-small columns rs h.1)
+costs-small columns rows h =
+    all-map (λ c. c ≤ most_money) (λ r. millionths (cost_in columns r)) rows
+    (all-weaker (λ r. IsMoney (cost_in columns r)) (λ r. millionths (cost_in columns r) ≤ most_money) rows
+    (λ r money. money.small) h)
 
 marks-many : (columns : Columns) (rows : List Rec)
     → IfSome (funded_in columns rows) (λ marks. length marks ≡ length (ids_in columns rows))

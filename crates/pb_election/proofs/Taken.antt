@@ -81,7 +81,8 @@ pub taken-header : (s : Section) (b : Before) (r : Rec) → b.role ≡ Header s 
 taken-header s b r e h =
     let n = none b r h in
     let misses : list_any (λ name. occurrences name r == 0) (needed_columns s) ≡ false = rw e at n.missing_column in
-    let repeats : list_any (λ name. nat_lt 1 (occurrences name r)) (read_columns s) ≡ false = rw e at n.repeated_column in (
+    let repeats : list_any (λ name. nat_lt 1 (occurrences name r)) (read_columns s) ≡ false =
+    rw e at n.repeated_column in (
       not-false (is_text r) n.text,
       rw e at n.no_header,
       record { needed = needed (needed_columns s) misses; once = once (read_columns s) repeats },

@@ -25,7 +25,8 @@ wrong-start e = range-same (wrong_of e (λ i c. 0)) (λ i. 0) 1 (voters e)
     (filter-none (pays_wrongly e (λ i c. 0) i) (projects e) 1 (λ c low' high'. refl))) ∙ sum-zero (all_voters e)
 
 -- one more row
-pub same-wrong : (e : Instance) (f g : ℕ → ℕ → ℕ) (i c : ℕ) → g i c ≡ f i c → pays_wrongly e g i c ≡ pays_wrongly e f i c
+pub same-wrong : (e : Instance) (f g : ℕ → ℕ → ℕ) (i c : ℕ) → g i c ≡ f i c
+    → pays_wrongly e g i c ≡ pays_wrongly e f i c
 same-wrong e f g i c h = ap (λ n. nat_lt 0 n && not (approves e i c)) h
 
 pub wrong-here : (e : Instance) (a b : Taken) (q : PriceRow) (approved : Bool) → TakesRow a b q
@@ -59,7 +60,8 @@ count-added e a b q approved n m r iv ip is before after =
     ∙ ap (λ k. k + cond (nat_lt 0 q.payment && not approved) 1 0) before
     ∙ sym (sum-one-changed (wrong_of e a.pays) (wrong_of e b.pays) (voters e) 1 q.voter
     (cond (nat_lt 0 q.payment && not approved) 1 0) iv.0 (let high : q.voter ≤ voters e = iv.1 in omega arith)
-    (of-voter e a b q (nat_lt 0 q.payment && not approved) r ip (wrong-here e a b q approved r is)) (λ i ne. of-other e a b q i r ne))
+    (of-voter e a b q (nat_lt 0 q.payment && not approved) r ip (wrong-here e a b q approved r is))
+    (λ i ne. of-other e a b q i r ne))
   where
     turn : (w : Bool) → cond w (n + 1) n ≡ n + cond w 1 0
     turn true = refl

@@ -1,7 +1,8 @@
 -- What holds of each element of a list.
-use Rattle.std.proofs.Common.{ℕ, zero, suc, ◌+◌, ◌<◌, ◌≤◌, Bool, true, false, cond, List, [], ◌∷◌, ◌++◌, arith}
+use Rattle.std.proofs.Common.{◌≡◌, ℕ, zero, suc, ◌+◌, ◌<◌, ◌≤◌, Bool, true, false, cond, List, [], ◌∷◌, ◌++◌, arith}
 use Rattle.std.specs.Prelude.{IfSome, filter, flat_map, map, slice_get}
-use Rattle.std.specs.List.{AllByRecursion, range_with_len}
+use Rattle.std.specs.List.{AllByRecursion, list_any, range_with_len}
+use Rattle.std.proofs.lemmas.Bool.{or_parts}
 
 pub all-every : {A : Type 0} (P : A → Type 0) (xs : List A) → ((x : A) → P x) → AllByRecursion P xs
 all-every P [] each = tt
@@ -58,6 +59,12 @@ pub all-flat_map : {A B : Type 0} (P : B → Type 0) (f : A → List B) (xs : Li
     → AllByRecursion (λ x. AllByRecursion P (f x)) xs → AllByRecursion P (flat_map f xs)
 all-flat_map P f [] p = tt
 all-flat_map P f (x ∷ xs) p = all-append P (f x) (flat_map f xs) p.0 (all-flat_map P f xs p.1)
+
+-- where no element passes the test, each fails it
+pub all-fail : {A : Type 0} (test : A → Bool) (xs : List A) → list_any test xs ≡ false
+    → AllByRecursion (λ x. test x ≡ false) xs
+all-fail test [] h = tt
+all-fail test (x ∷ xs) h = let parts = or_parts (test x) (list_any test xs) h in (parts.0, all-fail test xs parts.1)
 
 -- what holds of each number of a range
 pub all-range : (P : ℕ → Type 0) (a n : ℕ) → ((j : ℕ) → a ≤ j → j < a + n → P j) → AllByRecursion P (range_with_len a n)

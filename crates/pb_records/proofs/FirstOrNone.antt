@@ -46,8 +46,8 @@ none-behind form recs h (suc k) = elim (cases_lt k (length recs + 1)) [
       rw (slice_get_past recs k (omega arith), all) (sym (fault-last form recs) ∙ end)
 ]
 
-search-from : {F : Type 0} (form : Form F) (recs : List Rec) (left n : ℕ) → n + left ≡ length recs + 2 → Clear form recs n
-    → NoFault form recs ⊎ HasFirst form recs
+search-from : {F : Type 0} (form : Form F) (recs : List Rec) (left n : ℕ) → n + left ≡ length recs + 2
+    → Clear form recs n → NoFault form recs ⊎ HasFirst form recs
 search-from form recs zero n e h = inl (none-behind form recs (λ k l. h k (omega arith)))
 search-from {F} form recs (suc left) n e h =
     by (fault_at form recs n) refl (λ more. search-from form recs left (suc n) (omega arith) more)

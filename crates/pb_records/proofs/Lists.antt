@@ -2,6 +2,7 @@
 use Rattle.std.proofs.Common.{◌≡◌, ◌∙◌, ℕ, zero, suc, ◌+◌, ◌<◌, ◌≤◌, Bool, false, List, [], ◌∷◌, ◌++◌, length, Option, Some, refl, sym, ap, arith}
 use Rattle.std.specs.Prelude.{filter, filter_map, map, slice_get, sum_by}
 use Rattle.std.specs.List.{range_with_len}
+use Rattle.std.proofs.lemmas.List.{map-append}
 use Rattle.std.proofs.lemmas.List.Sums.{sum_by-cons}
 
 -- one more number
@@ -32,6 +33,12 @@ map-same f g (suc n) a h =
     let first = h a (omega arith) (omega arith) in
     let rest = map-same f g n (a + 1) (λ j low high. h j (omega arith) (omega arith)) in
     λ k. first k ∷ rest k
+
+-- what one more element states
+pub map-push : {A B : Type 0} (f : A → Option B) (xs : List A) (x : A) (ys : List B) (y : B) → map f xs ≡ map Some ys
+    → f x ≡ Some y → map f (xs ++ (x ∷ [])) ≡ map Some (ys ++ (y ∷ []))
+map-push f xs x ys y h k =
+    map-append f xs (x ∷ []) ∙ rw (h, k) refl ∙ sym (map-append Some ys (y ∷ []))
 
 -- where each element states something, that is all that they state
 pub filter_map-all : {A B : Type 0} (f : A → Option B) (xs : List A) (ys : List B) → map f xs ≡ map Some ys

@@ -15,8 +15,8 @@ returns-in_err-next_head c =
 pub returns-in-Ok : goal.returns-in-Ok
 returns-in-Ok c =
     let is = rw c.row.ensures at (sym c.in-Ok.is ∙ c.head_number.ensures.value) in
-    value-taken 1 (codes "denominator") 1 (10 ^ 9) denominator-form c.args.cursor.now c.next_head.new.cursor c.in-Ok.number
-    c.in_ok-next_head.ensures is
+    value-taken 1 (codes "denominator") 1 (10 ^ 9) denominator-form c.args.cursor.now c.next_head.new.cursor
+    c.in-Ok.number c.in_ok-next_head.ensures is
 
 pub returns-in-Err : goal.returns-in-Err
 returns-in-Err c =

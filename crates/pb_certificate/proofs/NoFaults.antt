@@ -1,11 +1,12 @@
 -- Where no fault stands among the records that are not blank, none stands at any place.
 use Rattle.std.proofs.Common.{◌≡◌, ℕ, zero, suc, ◌+◌, ◌≤◌, Bool, true, false, cond, List, [], ◌∷◌, ◌++◌, length, refl, sym, ◌∙◌, subst, arith, Option, Some, None, append_assoc, append-nil}
-use Rattle.std.specs.Prelude.{not, find, map, take, slice_get}
+use Rattle.std.specs.Prelude.{not, find, take, slice_get}
 use Rattle.std.specs.List.{AllByRecursion}
 use Rattle.std.proofs.lemmas.List.Elements.{filter-append}
 use Rattle.pb_records.specs.Records.{Rec}
-use Rattle.pb_records.specs.Cells.{is_blank, nonblank}
+use Rattle.pb_records.specs.Cells.{is_blank, is_text, nonblank}
 use Rattle.pb_records.specs.FirstFault.{Form, IsFirstFault, fault_after, fault_at}
+use Rattle.pb_records.proofs.Each.{all-both, all-every, all-push}
 use Rattle.pb_certificate.specs.Faults.{in_order}
 use Rattle.pb_certificate.specs.declared.refusal.CertFault.{CertFault}
 use Rattle.pb_certificate.specs.declared.refusal.CertFault.TheVariants as fault
@@ -47,6 +48,15 @@ none-refused form recs h (suc k) f r =
     let some : Some f ≡ None = sym r.here ∙ none in
     cc
 
+-- a record at which no fault stands is UTF-8
+pub clear-text : (form : Form CertFault) (before : List Rec) (r : Rec)
+    → (is_text r ≡ false → form before (Some r) ≡ Some fault.NotUtf8) → form before (Some r) ≡ None → is_text r ≡ true
+clear-text form before r refused none = by (is_text r) refl
+  where
+    by : (b : Bool) → is_text r ≡ b → is_text r ≡ true
+    by true is = is
+    by false is = let stands = refused is in cc (none, stands)
+
 -- nothing is found where each fault fails
 pub no-fault : (stands : List Rec → Option Rec → CertFault → Bool) (before : List Rec) (o : Option Rec)
     → ((f : CertFault) → stands before o f ≡ false) → find (stands before o) in_order ≡ None
@@ -63,31 +73,14 @@ no-fault stands before o h =
       h fault.TooMany,
     ) refl
 
--- one more row that was taken
-pub joined-by : {A : Type 0} (f : Rec → Option A) (done : List Rec) (r : Rec) (ms : List A) (n : A)
-    → map f done ≡ map Some ms → f r ≡ Some n → map f (done ++ (r ∷ [])) ≡ map Some (ms ++ (n ∷ []))
-joined-by f [] r [] n h k = cc
-joined-by f [] r (m ∷ ms) n h k = cc
-joined-by f (d ∷ ds) r [] n h k = cc
-joined-by f (d ∷ ds) r (m ∷ ms) n h k =
-    let first : f d ≡ Some m = cc in
-    let rest : map f ds ≡ map Some ms = cc in
-    let more : map f (ds ++ (r ∷ [])) ≡ map Some (ms ++ (n ∷ [])) = joined-by f ds r ms n rest k in
-    cc
-
 -- what comes is apart from one more that was taken
-pub push-apart : {A : Type 0} (eq : A → A → Bool) (ms : List A) (n x : A) → AllByRecursion (λ m. eq m x ≡ false) ms
-    → eq n x ≡ false → AllByRecursion (λ m. eq m x ≡ false) (ms ++ (n ∷ []))
-push-apart eq [] n x h k = (k, tt)
-push-apart eq (m ∷ ms) n x h k = (h.0, push-apart eq ms n x h.1 k)
-
 pub apart-more : {A : Type 0} (eq : A → A → Bool) (ms : List A) (n : A) (ns : List A)
     → AllByRecursion (λ x. AllByRecursion (λ m. eq m x ≡ false) ms) ns → AllByRecursion (λ y. eq n y ≡ false) ns
     → AllByRecursion (λ x. AllByRecursion (λ m. eq m x ≡ false) (ms ++ (n ∷ []))) ns
-apart-more eq ms n [] h k = tt
-apart-more eq ms n (x ∷ xs) h k = (push-apart eq ms n x h.0 k.0, apart-more eq ms n xs h.1 k.1)
+apart-more eq ms n ns h k =
+    all-both (λ x. AllByRecursion (λ m. eq m x ≡ false) ms) (λ y. eq n y ≡ false)
+    (λ x. AllByRecursion (λ m. eq m x ≡ false) (ms ++ (n ∷ []))) ns (λ x. all-push (λ m. eq m x ≡ false) ms n) h k
 
 pub each-nil : {A : Type 0} (eq : A → A → Bool) (ns : List A)
     → AllByRecursion (λ x. AllByRecursion (λ m. eq m x ≡ false) []) ns
-each-nil eq [] = tt
-each-nil eq (x ∷ xs) = (tt, each-nil eq xs)
+each-nil eq ns = all-every (λ x. AllByRecursion (λ m. eq m x ≡ false) []) ns (λ x. tt)
