@@ -5,7 +5,7 @@ use Rattle.pb_election.specs.Instance.{Instance}
 use Rattle.pb_records.specs.Loading.{Delivery}
 use Rattle.pb_records.specs.Loading as delivery
 use Rattle.pb_reply.specs.Replies.{Answer, Reply, refused, with_input}
-use Rattle.pb_audit.specs.Answers.{AnswersAudit, AnswersTidy}
+use Rattle.pb_audit.specs.Answers.{AnswersAudit, AnswersTidy, AuditRules}
 use Rattle.pb_reply.specs.Inputs.{InTurn, Stated, StatesElection, refusal_of}
 use Rattle.pb_reply.specs.Lines.{Refusal}
 use Rattle.pb_audit.specs.Readers.{AuditReadings, ReadsAudit, ReadsTidy}
@@ -20,11 +20,10 @@ abbrev pub status_of : Reply → Status
 status_of r = r.status
 
 -- An audit of an election, an outcome and a certificate. Where the election is refused, the others may state anything.
-abbrev pub election_refused : {A : Type 0} (states : Instance → Delivery → Stated A → Type 0)
-    (reply : Instance → List Bool → A → Reply) (promise : Status → Instance → List Bool → A → Type 0)
+abbrev pub election_refused : {A : Type 0} (rules : AuditRules A)
     (election : Delivery) (outcome : Option Delivery) (certificate : Delivery) (r : Refusal)
-    → StatesElection election (Err r) → AnswersAudit states reply promise election outcome certificate (refused r)
-election_refused states reply promise election outcome certificate r given = record {
+    → StatesElection election (Err r) → AnswersAudit rules election outcome certificate (refused r)
+election_refused rules election outcome certificate r given = record {
   e = Err r;
   o = None;
   c = Err r;
@@ -34,44 +33,41 @@ election_refused states reply promise election outcome certificate r given = rec
 }
 
 -- where the outcome is, the certificate may
-abbrev pub outcome_refused : {A : Type 0} (states : Instance → Delivery → Stated A → Type 0)
-    (reply : Instance → List Bool → A → Reply) (promise : Status → Instance → List Bool → A → Type 0)
+abbrev pub outcome_refused : {A : Type 0} (rules : AuditRules A)
     (election : Delivery) (outcome : Option Delivery) (certificate : Delivery) (e : Instance) (r : Refusal)
     → StatesElection election (Ok e) → AuditsOutcome e outcome (Err r)
-    → AnswersAudit states reply promise election outcome certificate (refused r)
-outcome_refused {A} states reply promise election outcome certificate e r given taken = record {
+    → AnswersAudit rules election outcome certificate (refused r)
+outcome_refused {A} rules election outcome certificate e r given taken = record {
   e = Ok e;
   o = taken.file;
   c = Err r;
   given = record {
     election_states = given;
     outcome_states = taken.given;
-    certificate_states = subst (λ (o : Stated (List Bool)). IfOk o (λ w. states e certificate (Err r))) taken.is tt;
+    certificate_states = subst (λ (o : Stated (List Bool)). IfOk o (λ w. rules.states e certificate (Err r))) taken.is tt;
   };
-  out = ap (λ (o : Stated (List Bool)). with_input o (λ w. with_input {A = A} (Err r) (λ c. reply e w c))) taken.is;
+  out = ap (λ (o : Stated (List Bool)). with_input o (λ w. with_input {A = A} (Err r) (λ c. rules.reply e w c))) taken.is;
   promised = subst (λ (o : Stated (List Bool)). IfOk o (λ w. Unit {0})) taken.is tt;
 }
 
 -- a reply on a certificate keeps what its status promises
-pub promised_of : {A : Type 0} (states : Instance → Delivery → Stated A → Type 0)
-    (reply : Instance → List Bool → A → Reply) (promise : Status → Instance → List Bool → A → Type 0)
-    → Promised states reply promise
-    → (e : Instance) (w : List Bool) (d : Delivery) (c : Stated A) (r : Reply) → states e d c
-    → r ≡ with_input c (λ a. reply e w a) → IfOk c (λ a. promise r.status e w a)
-promised_of states reply promise each e w d (Ok a) r given is =
-    subst (λ (s : Status). promise s e w a) (sym (ap status_of is)) (each e w d a given)
-promised_of states reply promise each e w d (Err why) r given is = tt
+pub promised_of : {A : Type 0} (rules : AuditRules A)
+    → Promised rules
+    → (e : Instance) (w : List Bool) (d : Delivery) (c : Stated A) (r : Reply) → rules.states e d c
+    → r ≡ with_input c (λ a. rules.reply e w a) → IfOk c (λ a. rules.promises r.status e w a)
+promised_of rules each e w d (Ok a) r given is =
+    subst (λ (s : Status). rules.promises s e w a) (sym (ap status_of is)) (each e w d a given)
+promised_of rules each e w d (Err why) r given is = tt
 
 -- the election and the outcome are accepted
-abbrev pub certificate_answered : {A : Type 0} (states : Instance → Delivery → Stated A → Type 0)
-    (reply : Instance → List Bool → A → Reply) (promise : Status → Instance → List Bool → A → Type 0)
-    → Promised states reply promise
+abbrev pub certificate_answered : {A : Type 0} (rules : AuditRules A)
+    → Promised rules
     → (election : Delivery) (outcome : Option Delivery) (certificate : Delivery) (e : Instance) (w : List Bool)
     (r : Reply)
     → StatesElection election (Ok e) → AuditsOutcome e outcome (Ok w)
-    → AnswersCertificate states reply e w certificate r
-    → AnswersAudit states reply promise election outcome certificate r
-certificate_answered {A} states reply promise each election outcome certificate e w r given taken answered = record {
+    → AnswersCertificate rules.states rules.reply e w certificate r
+    → AnswersAudit rules election outcome certificate r
+certificate_answered {A} rules each election outcome certificate e w r given taken answered = record {
   e = Ok e;
   o = taken.file;
   c = answered.c;
@@ -79,74 +75,69 @@ certificate_answered {A} states reply promise each election outcome certificate 
     election_states = given;
     outcome_states = taken.given;
     certificate_states =
-        subst (λ (o : Stated (List Bool)). IfOk o (λ marks. states e certificate answered.c)) taken.is answered.given;
+        subst (λ (o : Stated (List Bool)). IfOk o (λ marks. rules.states e certificate answered.c)) taken.is answered.given;
   };
   out = answered.out
-      ∙ ap (λ (o : Stated (List Bool)). with_input o (λ marks. with_input answered.c (λ a. reply e marks a))) taken.is;
-  promised = subst (λ (o : Stated (List Bool)). IfOk o (λ marks. IfOk answered.c (λ a. promise r.status e marks a)))
-      taken.is (promised_of states reply promise each e w certificate answered.c r answered.given answered.out);
+      ∙ ap (λ (o : Stated (List Bool)). with_input o (λ marks. with_input answered.c (λ a. rules.reply e marks a))) taken.is;
+  promised = subst (λ (o : Stated (List Bool)). IfOk o (λ marks. IfOk answered.c (λ a. rules.promises r.status e marks a)))
+      taken.is (promised_of rules each e w certificate answered.c r answered.given answered.out);
 }
 
 -- The same where the work stopped.
-pub stopped_at_election : {A : Type 0} (states : Instance → Delivery → Stated A → Type 0)
-    (reply : Instance → List Bool → A → Reply) (promise : Status → Instance → List Bool → A → Type 0)
+pub stopped_at_election : {A : Type 0} (rules : AuditRules A)
     (election : Delivery) (outcome : Option Delivery) (certificate : Delivery) (why : Stop)
     → IfTaken {A = Instance} (Err why) (StatesElection election)
-    → IfSome (stopped why) (AnswersAudit states reply promise election outcome certificate)
-stopped_at_election states reply promise election outcome certificate (stop.Refused input fault) given =
-    election_refused states reply promise election outcome certificate (refusal_of input fault) given
-stopped_at_election states reply promise election outcome certificate stop.Memory given = tt
+    → IfSome (stopped why) (AnswersAudit rules election outcome certificate)
+stopped_at_election rules election outcome certificate (stop.Refused input fault) given =
+    election_refused rules election outcome certificate (refusal_of input fault) given
+stopped_at_election rules election outcome certificate stop.Memory given = tt
 
-pub stopped_at_outcome : {A : Type 0} (states : Instance → Delivery → Stated A → Type 0)
-    (reply : Instance → List Bool → A → Reply) (promise : Status → Instance → List Bool → A → Type 0)
+pub stopped_at_outcome : {A : Type 0} (rules : AuditRules A)
     (election : Delivery) (outcome : Option Delivery) (certificate : Delivery) (e : Instance) (why : Stop)
     → StatesElection election (Ok e) → IfTaken {A = List Bool} (Err why) (AuditsOutcome e outcome)
-    → IfSome (stopped why) (AnswersAudit states reply promise election outcome certificate)
-stopped_at_outcome states reply promise election outcome certificate e (stop.Refused input fault) given taken =
-    outcome_refused states reply promise election outcome certificate e (refusal_of input fault) given taken
-stopped_at_outcome states reply promise election outcome certificate e stop.Memory given taken = tt
+    → IfSome (stopped why) (AnswersAudit rules election outcome certificate)
+stopped_at_outcome rules election outcome certificate e (stop.Refused input fault) given taken =
+    outcome_refused rules election outcome certificate e (refusal_of input fault) given taken
+stopped_at_outcome rules election outcome certificate e stop.Memory given taken = tt
 
-pub certificate_settled : {A : Type 0} (states : Instance → Delivery → Stated A → Type 0)
-    (reply : Instance → List Bool → A → Reply) (promise : Status → Instance → List Bool → A → Type 0)
-    → Promised states reply promise
+pub certificate_settled : {A : Type 0} (rules : AuditRules A)
+    → Promised rules
     → (election : Delivery) (outcome : Option Delivery) (certificate : Delivery) (e : Instance) (w : List Bool)
     (work : Option Reply)
     → StatesElection election (Ok e) → AuditsOutcome e outcome (Ok w)
-    → IfSome work (AnswersCertificate states reply e w certificate)
-    → IfSome work (AnswersAudit states reply promise election outcome certificate)
-certificate_settled states reply promise each election outcome certificate e w None given taken answered = tt
-certificate_settled states reply promise each election outcome certificate e w (Some r) given taken answered =
-    certificate_answered states reply promise each election outcome certificate e w r given taken answered
+    → IfSome work (AnswersCertificate rules.states rules.reply e w certificate)
+    → IfSome work (AnswersAudit rules election outcome certificate)
+certificate_settled rules each election outcome certificate e w None given taken answered = tt
+certificate_settled rules each election outcome certificate e w (Some r) given taken answered =
+    certificate_answered rules each election outcome certificate e w r given taken answered
 
 -- The same over readers.
-unfoldable pub readers_stopped_at_election : {A : Type 0} (states : Instance → Delivery → Stated A → Type 0)
-    (reply : Instance → List Bool → A → Reply) (promise : Status → Instance → List Bool → A → Type 0)
+unfoldable pub readers_stopped_at_election : {A : Type 0} (rules : AuditRules A)
     (inputs : AuditReadings) (why : Stop)
     → IfTaken {A = Instance} (Err why) (Gives StatesElection inputs.election)
     → inputs.outcome.after ≡ inputs.outcome.before → IsUntouched inputs.certificate
-    → IfSome (stopped why) (ReadsAudit states reply promise inputs)
-readers_stopped_at_election states reply promise inputs (stop.Refused input fault) given same untouched = record {
+    → IfSome (stopped why) (ReadsAudit rules inputs)
+readers_stopped_at_election rules inputs (stop.Refused input fault) given same untouched = record {
   of_election = given.delivery;
   of_outcome = None;
   of_certificate = delivery.Read;
-  answers = election_refused states reply promise given.delivery None delivery.Read (refusal_of input fault)
+  answers = election_refused rules given.delivery None delivery.Read (refusal_of input fault)
       given.stating;
   election_delivered = given.delivered;
   outcome_delivered = same;
   certificate_delivered = untouched;
 }
-readers_stopped_at_election states reply promise inputs stop.Memory given same untouched = tt
+readers_stopped_at_election rules inputs stop.Memory given same untouched = tt
 
-unfoldable pub readers_stopped_at_outcome : {A : Type 0} (states : Instance → Delivery → Stated A → Type 0)
-    (reply : Instance → List Bool → A → Reply) (promise : Status → Instance → List Bool → A → Type 0)
+unfoldable pub readers_stopped_at_outcome : {A : Type 0} (rules : AuditRules A)
     (inputs : AuditReadings) (e : Instance) (why : Stop)
     → Gives StatesElection inputs.election (Ok e) → IfTaken {A = List Bool} (Err why) (ReadsOutcome e inputs.outcome)
-    → IsUntouched inputs.certificate → IfSome (stopped why) (ReadsAudit states reply promise inputs)
-readers_stopped_at_outcome states reply promise inputs e (stop.Refused input fault) given taken untouched = record {
+    → IsUntouched inputs.certificate → IfSome (stopped why) (ReadsAudit rules inputs)
+readers_stopped_at_outcome rules inputs e (stop.Refused input fault) given taken untouched = record {
   of_election = given.delivery;
   of_outcome = taken.delivery;
   of_certificate = delivery.Read;
-  answers = outcome_refused states reply promise given.delivery taken.delivery delivery.Read e (refusal_of input fault)
+  answers = outcome_refused rules given.delivery taken.delivery delivery.Read e (refusal_of input fault)
       given.stating taken.audits;
   election_delivered = given.delivered;
   outcome_delivered = taken.delivered;
@@ -155,20 +146,19 @@ readers_stopped_at_outcome states reply promise inputs e (stop.Refused input fau
       (λ (o : Stated (List Bool)). InTurn o (λ w. Delivers inputs.certificate delivery.Read)
       (IsUntouched inputs.certificate)) taken.audits.is untouched;
 }
-readers_stopped_at_outcome states reply promise inputs e stop.Memory given taken untouched = tt
+readers_stopped_at_outcome rules inputs e stop.Memory given taken untouched = tt
 
-unfoldable pub readers_settled : {A : Type 0} (states : Instance → Delivery → Stated A → Type 0)
-    (reply : Instance → List Bool → A → Reply) (promise : Status → Instance → List Bool → A → Type 0)
-    → Promised states reply promise
+unfoldable pub readers_settled : {A : Type 0} (rules : AuditRules A)
+    → Promised rules
     → (inputs : AuditReadings) (e : Instance) (w : List Bool) (d : Delivery) (work : Option Reply)
     → Gives StatesElection inputs.election (Ok e) → ReadsOutcome e inputs.outcome (Ok w) → Delivers inputs.certificate d
-    → IfSome work (AnswersCertificate states reply e w d) → IfSome work (ReadsAudit states reply promise inputs)
-readers_settled states reply promise each inputs e w d None given taken delivered answered = tt
-readers_settled states reply promise each inputs e w d (Some r) given taken delivered answered = record {
+    → IfSome work (AnswersCertificate rules.states rules.reply e w d) → IfSome work (ReadsAudit rules inputs)
+readers_settled rules each inputs e w d None given taken delivered answered = tt
+readers_settled rules each inputs e w d (Some r) given taken delivered answered = record {
   of_election = given.delivery;
   of_outcome = taken.delivery;
   of_certificate = d;
-  answers = certificate_answered states reply promise each given.delivery taken.delivery d e w r given.stating
+  answers = certificate_answered rules each given.delivery taken.delivery d e w r given.stating
       taken.audits answered;
   election_delivered = given.delivered;
   outcome_delivered = taken.delivered;

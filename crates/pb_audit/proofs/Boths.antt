@@ -14,7 +14,7 @@ use Rattle.pb_price.specs.declared.Mode.{Mode}
 use Rattle.pb_price.specs.declared.Verdict.{Verdict}
 use Rattle.pb_reply.specs.Replies.{Reply, refused, with_input}
 use Rattle.pb_audit.specs.Answers.{price_reply, violation_reply}
-use Rattle.pb_audit.specs.Both.{BothPromise, BothPromises, GroupAndDemand, ReadsBoth, StatesBoth, beside, both_on, both_reply, yes_where_both}
+use Rattle.pb_audit.specs.Both.{BothPromise, GroupAndDemand, ReadsBoth, StatesBoth, beside, both_on, both_reply, both_rules, yes_where_both}
 use Rattle.pb_reply.specs.Inputs.{InTurn, Stated, StatesElection, StatesPrices, StatesViolation, refusal_of}
 use Rattle.pb_reply.specs.Lines.{Refusal}
 use Rattle.pb_audit.specs.Readers.{AuditReadings}
@@ -63,7 +63,7 @@ claim_sets e (delivery.Bytes bytes) claim states =
 claim_sets e delivery.Read claim states = cc
 claim_sets e delivery.TooLong claim states = cc
 
-pub both_promises : (m : Mode) (violation : Delivery) → Promised (StatesBoth violation) (both_reply m) (BothPromises m)
+pub both_promises : (m : Mode) (violation : Delivery) → Promised (both_rules m violation)
 both_promises m violation e w prices (p, Ok claim) states =
     let sets = claim_sets e violation claim states.1 in
     both_promise m e w p claim sets.0 sets.1
@@ -113,7 +113,7 @@ pub both_stopped_at_election : (m : Mode) (inputs : AuditReadings) (violation : 
 unfolding readers_stopped_at_election
 both_stopped_at_election m inputs violation (stop.Refused input fault) given same untouched violation_same = record {
   of_violation = delivery.Read;
-  reads = readers_stopped_at_election (StatesBoth delivery.Read) (both_reply m) (BothPromises m) inputs
+  reads = readers_stopped_at_election (both_rules m delivery.Read) inputs
       (stop.Refused input fault) given same untouched;
   violation_delivered = violation_same;
 }
@@ -126,7 +126,7 @@ pub both_stopped_at_outcome : (m : Mode) (inputs : AuditReadings) (violation : R
 unfolding readers_stopped_at_outcome
 both_stopped_at_outcome m inputs violation e (stop.Refused input fault) given taken untouched violation_same = record {
   of_violation = delivery.Read;
-  reads = readers_stopped_at_outcome (StatesBoth delivery.Read) (both_reply m) (BothPromises m) inputs e
+  reads = readers_stopped_at_outcome (both_rules m delivery.Read) inputs e
       (stop.Refused input fault) given taken untouched;
   violation_delivered =
       subst (λ (o : Stated (List Bool)). InTurn o (λ w. IsUntouched violation) (IsUntouched violation)) taken.audits.is
@@ -145,7 +145,7 @@ abbrev both_read : (m : Mode) (inputs : AuditReadings) (violation : Reading) (e 
 unfolding readers_settled
 both_read m inputs violation e w of_prices of_violation r given taken delivered answered next = record {
   of_violation = of_violation;
-  reads = readers_settled (StatesBoth of_violation) (both_reply m) (BothPromises m) (both_promises m of_violation)
+  reads = readers_settled (both_rules m of_violation) (both_promises m of_violation)
       inputs e w of_prices (Some r) given taken delivered answered;
   violation_delivered =
       subst

@@ -25,7 +25,7 @@ use Rattle.pb_price.proofs.Told.{tell-first}
 use Rattle.pb_explain.specs.PriceTable.{NameProjects, ShowsProject, price_table}
 use Rattle.pb_reply.specs.Replies.{Reply, with_input}
 use Rattle.pb_audit.specs.Answers.{verdict_reply}
-use Rattle.pb_audit.specs.Explained.{ExplainedPromise, OfPrices, OfViolation, StatesCertificate, explained_prices, explained_reply, explained_violation, is_violation, with_table}
+use Rattle.pb_audit.specs.Explained.{OfPrices, OfViolation, StatesCertificate, explained_prices, explained_reply, explained_rules, explained_violation, is_violation, with_table}
 use Rattle.pb_reply.specs.Inputs.{Stated, StatesPrices, StatesViolation}
 use Rattle.pb_reply.specs.Named.{PricesNameProject}
 use Rattle.pb_audit.specs.Inside.Certificates.{AnswersCertificate, Promised}
@@ -33,7 +33,7 @@ use Rattle.pb_reply.specs.declared.input.InputName.TheVariants.{Certificate}
 use Rattle.pb_audit.proofs.Culprits.{among-projects, missing-name, prices_name_projects, projects-are, unapproved-name}
 use Rattle.pb_audit.proofs.Promises.{prices_promise, violation_promises}
 
-pub explained_promise : (m : Mode) → Promised StatesCertificate (explained_reply m) (ExplainedPromise m)
+pub explained_promise : (m : Mode) → Promised (explained_rules m)
 explained_promise m e w d (OfPrices p) given = prices_promise m e w p
 explained_promise m e w d (OfViolation v) given = violation_promises e w v
 

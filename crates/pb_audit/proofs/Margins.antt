@@ -21,7 +21,7 @@ use Rattle.pb_price.specs.declared.Margins.{Margins}
 use Rattle.pb_price.specs.declared.ProjectMargins.{ProjectMargins}
 use Rattle.pb_reply.specs.Replies.{Answer, Reply, answer_of, refused, text_of, TellsReply}
 use Rattle.pb_reply.specs.Inputs.{StatesElection, StatesPrices, refusal_of}
-use Rattle.pb_audit.specs.Margins.{AlwaysYes, AnswersMargins, ReadsMargins, flag_of, margin_head, margin_rows, margins_reply, record_line, row_of, table_of}
+use Rattle.pb_audit.specs.Margins.{margin_rules, AnswersMargins, ReadsMargins, flag_of, margin_head, margin_rows, margins_reply, record_line, row_of, table_of}
 use Rattle.pb_audit.specs.Readers.{AuditReadings}
 use Rattle.pb_reply.specs.Readings.{Delivers}
 use Rattle.pb_audit.specs.Inside.Certificates.{AnswersCertificate, Promised, TablesMargins}
@@ -168,7 +168,7 @@ pub stop_told : (is_reply : Reply → Type 0) (why : Stop) → IfSome (stopped w
 stop_told is_reply (stop.Refused input why) of = told is_reply (refused (refusal_of input why)) of
 stop_told is_reply stop.Memory of = tt
 
-always_yes : Promised (StatesPrices Certificate) margins_reply AlwaysYes
+always_yes : Promised margin_rules
 always_yes e w d p given = refl
 
 pub margins_answered : (election : Delivery) (outcome : Option Delivery) (certificate : Delivery) (e : Instance)
@@ -177,7 +177,7 @@ pub margins_answered : (election : Delivery) (outcome : Option Delivery) (certif
     → IfSome (settled_answer work) (AnswersMargins election outcome certificate)
 margins_answered election outcome certificate e w work given taken tables =
     work_told _ e w certificate work tables
-    (λ r answered. certificate_answered (StatesPrices Certificate) margins_reply AlwaysYes always_yes election
+    (λ r answered. certificate_answered margin_rules always_yes election
     outcome certificate e w r given taken answered)
 
 pub margins_read : (inputs : AuditReadings) (e : Instance) (w : List Bool) (d : Delivery) (work : Result Answer Stop)
@@ -185,5 +185,5 @@ pub margins_read : (inputs : AuditReadings) (e : Instance) (w : List Bool) (d : 
     → IfTaken work (TablesMargins e w d) → IfSome (settled_answer work) (ReadsMargins inputs)
 margins_read inputs e w d work given taken delivered tables =
     work_told _ e w d work tables
-    (λ r answered. readers_settled (StatesPrices Certificate) margins_reply AlwaysYes always_yes inputs e w d
+    (λ r answered. readers_settled margin_rules always_yes inputs e w d
     (Some r) given taken delivered answered)

@@ -6,16 +6,14 @@ use Rattle.pb_records.specs.Loading.{Delivery}
 use Rattle.pb_certificate.specs.Prices.{Prices}
 use Rattle.pb_price.specs.declared.Mode.{Mode}
 use Rattle.pb_reply.specs.Replies.{Answer, Reply, answer_of, refused, with_input, TellsReply}
-use Rattle.pb_audit.specs.Answers.{AnswersAudit, AnswersElection, AnswersPrices, AnswersTidy, AnswersViolation, FilesState, audit_reply, price_reply, read_reply, tidy_answer, violation_reply}
-use Rattle.pb_audit.specs.Both.{AnswersBoth, Both, BothPromises, GroupAndDemand, StatesBoth, both_reply}
-use Rattle.pb_reply.specs.Inputs.{Stated, StatesElection, StatesOutcome, StatesPrices, StatesViolation, audited}
-use Rattle.pb_audit.specs.Margins.{AlwaysYes, AnswersMargins, margins_reply}
+use Rattle.pb_audit.specs.Answers.{AnswersAudit, AnswersElection, AnswersPrices, AnswersTidy, AnswersViolation, AuditRules, FilesState, audit_reply, price_rules, read_reply, tidy_answer, violation_rules}
+use Rattle.pb_audit.specs.Both.{AnswersBoth, Both, GroupAndDemand, StatesBoth, both_rules}
+use Rattle.pb_reply.specs.Inputs.{Stated, StatesElection, StatesOutcome, StatesPrices, audited}
+use Rattle.pb_audit.specs.Margins.{AnswersMargins, margin_rules}
 use Rattle.pb_audit.specs.OneAnswer.{JustOne}
-use Rattle.pb_audit.specs.Promises.{PricesPromise, ViolationPromises}
 use Rattle.pb_reply.specs.Inside.Taking.{AuditsOutcome}
 use Rattle.pb_audit.specs.Inside.Certificates.{Promised}
 use Rattle.pb_reply.specs.declared.input.InputName.TheVariants as name
-use Rattle.pb_reply.specs.declared.status.Status.{Status}
 use Rattle.pb_audit.proofs.Audits.{certificate_answered, election_refused, outcome_refused}
 use Rattle.pb_audit.proofs.Boths.{both_promises}
 use Rattle.pb_audit.proofs.OneStated.{election-one, file-one, outcome-one, prices-one, violation-one}
@@ -95,18 +93,16 @@ files-same {A} states one reply election outcome certificate (Ok e) o p c d f g 
     ∙ ap (λ (x : Option (Stated (List Bool))). with_input (audited e x) (λ w. with_input d (λ a. reply e w a)))
     (sym same)
 
-audit-same : {A : Type 0} (states : Instance → Delivery → Stated A → Type 0)
-    → ((e : Instance) (d : Delivery) → JustOne (states e d))
-    → (reply : Instance → List Bool → A → Reply) (promise : Status → Instance → List Bool → A → Type 0)
-    (election : Delivery) (outcome : Option Delivery) (certificate : Delivery) (r s : Reply)
-    → AnswersAudit states reply promise election outcome certificate r
-    → AnswersAudit states reply promise election outcome certificate s → r ≡ s
-audit-same states one reply promise election outcome certificate r s a b =
+audit-same : {A : Type 0} (rules : AuditRules A) → ((e : Instance) (d : Delivery) → JustOne (rules.states e d))
+    → (election : Delivery) (outcome : Option Delivery) (certificate : Delivery) (r s : Reply)
+    → AnswersAudit rules election outcome certificate r
+    → AnswersAudit rules election outcome certificate s → r ≡ s
+audit-same rules one election outcome certificate r s a b =
     let same : b.e ≡ a.e = (election-one election).no_other b.e a.e b.given.election_states a.given.election_states in
-    let given = subst (λ (e : Stated Instance). FilesState states election outcome certificate e b.o b.c) same
+    let given = subst (λ (e : Stated Instance). FilesState rules.states election outcome certificate e b.o b.c) same
     b.given in
-    a.out ∙ files-same states one reply election outcome certificate a.e a.o b.o a.c b.c a.given given
-    ∙ ap (λ (e : Stated Instance). audit_reply reply e b.o b.c) (sym same) ∙ sym b.out
+    a.out ∙ files-same rules.states one rules.reply election outcome certificate a.e a.o b.o a.c b.c a.given given
+    ∙ ap (λ (e : Stated Instance). audit_reply rules.reply e b.o b.c) (sym same) ∙ sym b.out
 
 -- the outcome of an accepted election
 outcome-some : (e : Instance) (outcome : Option Delivery)
@@ -114,56 +110,47 @@ outcome-some : (e : Instance) (outcome : Option Delivery)
 outcome-some e outcome = let o = (file-one (StatesOutcome e) (outcome-one e) outcome).one in
     (audited e o.0, record { file = o.0; given = o.1; is = refl })
 
-audit-some : {A : Type 0} (states : Instance → Delivery → Stated A → Type 0)
-    → ((e : Instance) (d : Delivery) → JustOne (states e d))
-    → (reply : Instance → List Bool → A → Reply) (promise : Status → Instance → List Bool → A → Type 0)
-    → Promised states reply promise
-    → (election : Delivery) (outcome : Option Delivery) (certificate : Delivery)
-    → (r : Reply) × AnswersAudit states reply promise election outcome certificate r
-audit-some {A} states one reply promise each election outcome certificate =
+audit-some : {A : Type 0} (rules : AuditRules A) → ((e : Instance) (d : Delivery) → JustOne (rules.states e d))
+    → Promised rules → (election : Delivery) (outcome : Option Delivery) (certificate : Delivery)
+    → (r : Reply) × AnswersAudit rules election outcome certificate r
+audit-some {A} rules one each election outcome certificate =
     by (election-one election).one.0 (election-one election).one.1
   where
     Some-reply : Type 0
-    Some-reply = (r : Reply) × AnswersAudit states reply promise election outcome certificate r
+    Some-reply = (r : Reply) × AnswersAudit rules election outcome certificate r
 
     with-outcome : (e : Instance) → StatesElection election (Ok e) → (w : Stated (List Bool))
         → AuditsOutcome e outcome w → Some-reply
     with-outcome e given (Ok w) taken =
         let c = (one e certificate).one in
-        let r = with_input c.0 (λ a. reply e w a) in (
+        let r = with_input c.0 (λ a. rules.reply e w a) in (
           r,
-          certificate_answered states reply promise each election outcome certificate e w r given taken
+          certificate_answered rules each election outcome certificate e w r given taken
               (record { c = c.0; given = c.1; out = refl }),
         )
     with-outcome e given (Err r) taken =
-        (refused r, outcome_refused states reply promise election outcome certificate e r given taken)
+        (refused r, outcome_refused rules election outcome certificate e r given taken)
 
     by : (e : Stated Instance) → StatesElection election e → Some-reply
     by (Ok e) given = let w = outcome-some e outcome in with-outcome e given w.0 w.1
-    by (Err r) given = (refused r, election_refused states reply promise election outcome certificate r given)
+    by (Err r) given = (refused r, election_refused rules election outcome certificate r given)
 
-pub audit-one : {A : Type 0} (states : Instance → Delivery → Stated A → Type 0)
-    → ((e : Instance) (d : Delivery) → JustOne (states e d))
-    → (reply : Instance → List Bool → A → Reply) (promise : Status → Instance → List Bool → A → Type 0)
-    → Promised states reply promise
-    → (election : Delivery) (outcome : Option Delivery) (certificate : Delivery)
-    → JustOne (AnswersAudit states reply promise election outcome certificate)
-audit-one states one reply promise each election outcome certificate = record {
-  one = audit-some states one reply promise each election outcome certificate;
-  no_other = audit-same states one reply promise election outcome certificate;
+pub audit-one : {A : Type 0} (rules : AuditRules A) → ((e : Instance) (d : Delivery) → JustOne (rules.states e d))
+    → Promised rules → (election : Delivery) (outcome : Option Delivery) (certificate : Delivery)
+    → JustOne (AnswersAudit rules election outcome certificate)
+audit-one rules one each election outcome certificate = record {
+  one = audit-some rules one each election outcome certificate;
+  no_other = audit-same rules one election outcome certificate;
 }
 
 pub price-reply-one : (m : Mode) (election : Delivery) (outcome : Option Delivery) (certificate : Delivery)
     → JustOne (AnswersPrices m election outcome certificate)
-price-reply-one m =
-    audit-one (StatesPrices name.Certificate) (prices-one name.Certificate) (price_reply m) (PricesPromise m)
-    (λ e w d p given. prices_promise m e w p)
+price-reply-one m = audit-one (price_rules m) (prices-one name.Certificate) (λ e w d p given. prices_promise m e w p)
 
 pub violation-reply-one : (election : Delivery) (outcome : Option Delivery) (certificate : Delivery)
     → JustOne (AnswersViolation election outcome certificate)
 violation-reply-one =
-    audit-one (StatesViolation name.Certificate) (violation-one name.Certificate) violation_reply ViolationPromises
-    (λ e w d claim given. violation_promises e w claim)
+    audit-one violation_rules (violation-one name.Certificate) (λ e w d claim given. violation_promises e w claim)
 
 -- The table of margins.
 
@@ -176,9 +163,8 @@ tells-one is_reply h = record {
 pub margins-one : (election : Delivery) (outcome : Option Delivery) (certificate : Delivery)
     → JustOne (AnswersMargins election outcome certificate)
 margins-one election outcome certificate =
-    tells-one (AnswersAudit (StatesPrices name.Certificate) margins_reply AlwaysYes election outcome certificate)
-    (audit-one (StatesPrices name.Certificate) (prices-one name.Certificate) margins_reply AlwaysYes
-    (λ e w d p given. refl) election outcome certificate)
+    tells-one (AnswersAudit margin_rules election outcome certificate)
+    (audit-one margin_rules (prices-one name.Certificate) (λ e w d p given. refl) election outcome certificate)
 
 -- Both certificates.
 
@@ -209,9 +195,9 @@ both-same violation e prices (Err r) (Err s) h k =
 pub both-one : (m : Mode) (election : Delivery) (outcome : Option Delivery) (prices violation : Delivery)
     → JustOne (AnswersBoth m election outcome prices violation)
 both-one m election outcome prices violation =
-    audit-one (StatesBoth violation)
+    audit-one (both_rules m violation)
     (λ e d. (
     let p = (prices-one name.Prices e d).one in
     record { one = both-stated violation e d p.0 p.1; no_other = both-same violation e d }
     ))
-    (both_reply m) (BothPromises m) (both_promises m violation) election outcome prices
+    (both_promises m violation) election outcome prices

@@ -6,7 +6,7 @@ use Rattle.pb_records.specs.Loading.{Delivery}
 use Rattle.pb_certificate.specs.Prices.{Prices}
 use Rattle.pb_price.specs.declared.Mode.{Mode}
 use Rattle.pb_audit.specs.Both.{GroupAndDemand}
-use Rattle.pb_audit.specs.Explained.{AnswersExplained, Certificate, ExplainedPromise, OfPrices, OfViolation, StatesCertificate, explained_reply, is_violation}
+use Rattle.pb_audit.specs.Explained.{AnswersExplained, Certificate, OfPrices, OfViolation, StatesCertificate, explained_rules, is_violation}
 use Rattle.pb_reply.specs.Inputs.{Stated, StatesPrices, StatesViolation}
 use Rattle.pb_audit.specs.OneAnswer.{JustOne}
 use Rattle.pb_reply.specs.declared.input.InputName.TheVariants as name
@@ -73,5 +73,4 @@ certificate-one e d =
 
 pub explained-one : (m : Mode) (election : Delivery) (outcome : Option Delivery) (certificate : Delivery)
     → JustOne (AnswersExplained m election outcome certificate)
-explained-one m =
-    audit-one StatesCertificate certificate-one (explained_reply m) (ExplainedPromise m) (explained_promise m)
+explained-one m = audit-one (explained_rules m) certificate-one (explained_promise m)

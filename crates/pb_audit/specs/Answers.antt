@@ -29,6 +29,13 @@ tidy_answer (Ok e) (Ok p) = record { text = Canon e p; status = Yes }
 tidy_answer (Ok e) (Err r) = answer_of (refused r)
 tidy_answer (Err r) certificate = answer_of (refused r)
 
+-- How certificates of a kind are audited: what a file of them states for an election, the reply on that for an outcome,
+-- and what the status of a reply promises of them.
+pub record AuditRules (A : Type 0) : Type 1 where
+  pub states : Instance → Delivery → Stated A → Type 0
+  pub reply : Instance → List Bool → A → Reply
+  pub promises : Status → Instance → List Bool → A → Type 0
+
 -- the verdict on prices
 abbrev pub verdict_reply : Mode → Instance → Verdict → Reply
 verdict_reply m e v = record { lines = price_line m.stable e v ∷ []; status = price_status v }
@@ -36,10 +43,17 @@ verdict_reply m e v = record { lines = price_line m.stable e v ∷ []; status = 
 abbrev pub price_reply : Mode → Instance → List Bool → Prices → Reply
 price_reply m e w p = verdict_reply m e (verdict_of (First m e w p))
 
+abbrev pub price_rules : Mode → AuditRules Prices
+price_rules m = record { states = StatesPrices name.Certificate; reply = price_reply m; promises = PricesPromise m }
+
 -- the verdict on a group and its demand, by the measure that the certificate states
 abbrev pub violation_reply : Instance → List Bool → Measure × List ℕ × List ℕ → Reply
 violation_reply e w v = let found = violation_verdict_of (FirstV (worth_by v.0 e) e w v.1 v.2) in
     record { lines = violation_line e found ∷ []; status = violation_status found }
+
+abbrev pub violation_rules : AuditRules (Measure × List ℕ × List ℕ)
+violation_rules =
+    record { states = StatesViolation name.Certificate; reply = violation_reply; promises = ViolationPromises }
 
 -- the reply on an election, an outcome and a certificate
 abbrev pub audit_reply : {A : Type 0} → (Instance → List Bool → A → Reply) → Stated Instance
@@ -78,23 +92,20 @@ OfAccepted holds election outcome certificate =
     IfOk election (λ e. IfOk (audited e outcome) (λ w. IfOk certificate (λ c. holds e w c)))
 
 -- The reply on them, and what its status promises where all are accepted.
-pub record AnswersAudit {A : Type 0} (states : Instance → Delivery → Stated A → Type 0)
-    (reply : Instance → List Bool → A → Reply) (promise : Status → Instance → List Bool → A → Type 0)
-    (election : Delivery) (outcome : Option Delivery) (certificate : Delivery) (r : Reply) : Type 0 where
+pub record AnswersAudit {A : Type 0} (rules : AuditRules A) (election : Delivery) (outcome : Option Delivery)
+    (certificate : Delivery) (r : Reply) : Type 0 where
   pub e : Stated Instance
   pub o : Option (Stated (List Bool))
   pub c : Stated A
-  pub given : FilesState states election outcome certificate e o c
-  pub out : r ≡ audit_reply reply e o c
-  pub promised : OfAccepted (promise r.status) e o c
+  pub given : FilesState rules.states election outcome certificate e o c
+  pub out : r ≡ audit_reply rules.reply e o c
+  pub promised : OfAccepted (rules.promises r.status) e o c
 
 abbrev pub AnswersPrices : Mode → Delivery → Option Delivery → Delivery → Reply → Type 0
-AnswersPrices m election outcome certificate r =
-    AnswersAudit (StatesPrices name.Certificate) (price_reply m) (PricesPromise m) election outcome certificate r
+AnswersPrices m election outcome certificate r = AnswersAudit (price_rules m) election outcome certificate r
 
 abbrev pub AnswersViolation : Delivery → Option Delivery → Delivery → Reply → Type 0
-AnswersViolation election outcome certificate r =
-    AnswersAudit (StatesViolation name.Certificate) violation_reply ViolationPromises election outcome certificate r
+AnswersViolation election outcome certificate r = AnswersAudit violation_rules election outcome certificate r
 
 -- The same over files in memory, by their bytes alone.
 abbrev pub AnswersElectionFile : List ℕ → Reply → Type 0

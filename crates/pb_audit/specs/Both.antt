@@ -11,7 +11,7 @@ use Rattle.pb_cohesion.specs.Satisfactions.{worth_by}
 use Rattle.pb_price.specs.Supports.{Supports}
 use Rattle.pb_price.specs.declared.Mode.{Mode}
 use Rattle.pb_price.specs.declared.Verdict.{Verdict}
-use Rattle.pb_audit.specs.Answers.{AnswersAudit, price_reply, verdict_reply, violation_reply}
+use Rattle.pb_audit.specs.Answers.{AnswersAudit, AuditRules, price_reply, verdict_reply, violation_reply}
 use Rattle.pb_reply.specs.Replies.{Reply, with_input}
 use Rattle.pb_reply.specs.Inputs.{InTurn, Stated, StatesPrices, StatesViolation, in_memory}
 use Rattle.pb_audit.specs.Promises.{PricesPromise, ViolationPromises}
@@ -71,10 +71,14 @@ both_reply m e w both = with_input both.1 (λ claim. both_on m e w both.0 claim)
 abbrev pub BothPromises : Mode → Status → Instance → List Bool → Both → Type 0
 BothPromises m status e w both = IfOk both.1 (λ claim. BothPromise m status e w both.0 claim)
 
+abbrev pub both_rules : Mode → Delivery → AuditRules Both
+both_rules m violation =
+    record { states = StatesBoth violation; reply = both_reply m; promises = BothPromises m }
+
 -- the reply on an election, an outcome file where one is given, and both certificates
 abbrev pub AnswersBoth : Mode → Delivery → Option Delivery → Delivery → Delivery → Reply → Type 0
 AnswersBoth m election outcome prices violation r =
-    AnswersAudit (StatesBoth violation) (both_reply m) (BothPromises m) election outcome prices r
+    AnswersAudit (both_rules m violation) election outcome prices r
 
 -- the same over files in memory, by their bytes alone
 abbrev pub AnswersBothFiles : Mode → List ℕ → Option (List ℕ) → List ℕ → List ℕ → Reply → Type 0
@@ -85,6 +89,6 @@ AnswersBothFiles m election outcome prices violation r =
 -- violation certificate, which is taken where the prices are accepted.
 pub record ReadsBoth (m : Mode) (inputs : AuditReadings) (violation : Reading) (r : Reply) : Type 0 where
   pub of_violation : Delivery
-  pub reads : ReadsAudit (StatesBoth of_violation) (both_reply m) (BothPromises m) inputs r
+  pub reads : ReadsAudit (both_rules m of_violation) inputs r
   pub violation_delivered : AfterOutcome reads.answers.e reads.answers.o
       (InTurn reads.answers.c (λ both. Delivers violation of_violation) (IsUntouched violation)) (IsUntouched violation)

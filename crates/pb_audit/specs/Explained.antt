@@ -15,7 +15,7 @@ use Rattle.pb_price.specs.declared.Mode.{Mode}
 use Rattle.pb_explain.specs.PriceTable.{price_table}
 use Rattle.pb_explain.specs.ViolationTable.{violation_table}
 use Rattle.pb_records.specs.Records.{Text}
-use Rattle.pb_audit.specs.Answers.{AnswersAudit, price_reply, violation_reply}
+use Rattle.pb_audit.specs.Answers.{AnswersAudit, AuditRules, price_reply, violation_reply}
 use Rattle.pb_reply.specs.Replies.{Reply}
 use Rattle.pb_reply.specs.Inputs.{Stated, StatesPrices, StatesViolation, in_memory}
 use Rattle.pb_audit.specs.Promises.{PricesPromise, ViolationPromises}
@@ -63,10 +63,14 @@ abbrev pub ExplainedPromise : Mode → Status → Instance → List Bool → Cer
 ExplainedPromise m status e w (OfPrices p) = PricesPromise m status e w p
 ExplainedPromise m status e w (OfViolation v) = ViolationPromises status e w v
 
+abbrev pub explained_rules : Mode → AuditRules Certificate
+explained_rules m =
+    record { states = StatesCertificate; reply = explained_reply m; promises = ExplainedPromise m }
+
 -- the reply on an election, an outcome file where one is given, and a certificate of either kind
 abbrev pub AnswersExplained : Mode → Delivery → Option Delivery → Delivery → Reply → Type 0
 AnswersExplained m election outcome certificate r =
-    AnswersAudit StatesCertificate (explained_reply m) (ExplainedPromise m) election outcome certificate r
+    AnswersAudit (explained_rules m) election outcome certificate r
 
 -- the same over files in memory, by their bytes alone
 abbrev pub AnswersExplainedFiles : Mode → List ℕ → Option (List ℕ) → List ℕ → Reply → Type 0
@@ -75,4 +79,4 @@ AnswersExplainedFiles m election outcome certificate r =
 
 -- the same on what readers delivered
 abbrev pub ReadsExplained : Mode → AuditReadings → Reply → Type 0
-ReadsExplained m inputs r = ReadsAudit StatesCertificate (explained_reply m) (ExplainedPromise m) inputs r
+ReadsExplained m inputs r = ReadsAudit (explained_rules m) inputs r

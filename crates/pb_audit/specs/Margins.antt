@@ -11,7 +11,7 @@ use Rattle.pb_certificate.specs.Prices.{Prices}
 use Rattle.pb_price.specs.Margins.{margins_of_project}
 use Rattle.pb_price.specs.declared.ProjectMargins.{ProjectMargins}
 use Rattle.pb_reply.specs.Replies.{Answer, Reply, TellsReply}
-use Rattle.pb_audit.specs.Answers.{AnswersAudit}
+use Rattle.pb_audit.specs.Answers.{AnswersAudit, AuditRules}
 use Rattle.pb_reply.specs.Inputs.{StatesPrices, in_memory}
 use Rattle.pb_audit.specs.Readers.{AuditReadings, ReadsAudit}
 use Rattle.pb_reply.specs.declared.input.InputName.TheVariants as name
@@ -56,12 +56,14 @@ margins_reply e w p = record { lines = map record_line (table_of e w p); status 
 abbrev pub AlwaysYes : Status → Instance → List Bool → Prices → Type 0
 AlwaysYes status e w p = status ≡ Yes
 
+abbrev pub margin_rules : AuditRules Prices
+margin_rules = record { states = StatesPrices name.Certificate; reply = margins_reply; promises = AlwaysYes }
+
 -- The answer on an election, an outcome file where one is given, and a price certificate: the text of the table, or of
 -- the line of the input that is refused.
 abbrev pub AnswersMargins : Delivery → Option Delivery → Delivery → Answer → Type 0
 AnswersMargins election outcome certificate answer =
-    TellsReply (AnswersAudit (StatesPrices name.Certificate) margins_reply AlwaysYes election outcome certificate)
-    answer
+    TellsReply (AnswersAudit margin_rules election outcome certificate) answer
 
 -- the same over files in memory, by their bytes alone
 abbrev pub AnswersMarginFiles : List ℕ → Option (List ℕ) → List ℕ → Answer → Type 0
@@ -70,5 +72,4 @@ AnswersMarginFiles election outcome certificate answer =
 
 -- the same on what readers delivered
 abbrev pub ReadsMargins : AuditReadings → Answer → Type 0
-ReadsMargins inputs answer =
-    TellsReply (ReadsAudit (StatesPrices name.Certificate) margins_reply AlwaysYes inputs) answer
+ReadsMargins inputs answer = TellsReply (ReadsAudit margin_rules inputs) answer

@@ -6,11 +6,8 @@ use Rattle.pb_records.specs.declared.loading.Source.{Ghosts as Source}
 use Rattle.pb_price.specs.declared.Mode.{Mode}
 use Rattle.pb_reply.specs.Readings.{Delivers, DeliversFile, FileReading, IsUntouched, Reading, file_reading, reading}
 use Rattle.pb_reply.specs.Replies.{Answer, Reply}
-use Rattle.pb_audit.specs.Answers.{AnswersAudit, AnswersElection, AnswersTidy, price_reply, violation_reply}
-use Rattle.pb_reply.specs.Inputs.{InTurn, Stated, StatesPrices, StatesViolation, audited}
-use Rattle.pb_audit.specs.Promises.{PricesPromise, ViolationPromises}
-use Rattle.pb_reply.specs.declared.input.InputName.TheVariants as name
-use Rattle.pb_reply.specs.declared.status.Status.{Status}
+use Rattle.pb_audit.specs.Answers.{AnswersAudit, AnswersElection, AnswersTidy, AuditRules, price_rules, violation_rules}
+use Rattle.pb_reply.specs.Inputs.{InTurn, Stated, audited}
 
 -- the readers of an audit, before and after: of the election, of the outcome file where one is given, and of the
 -- certificate
@@ -51,13 +48,11 @@ AfterOutcome election outcome taken untouched =
 
 -- The reply on the election, the outcome file where one is given, and the certificate that readers delivered. Each is
 -- taken where those before it are accepted, and else it is as it was.
-pub record ReadsAudit {A : Type 0} (states : Instance → Delivery → Stated A → Type 0)
-    (reply : Instance → List Bool → A → Reply) (promise : Status → Instance → List Bool → A → Type 0)
-    (inputs : AuditReadings) (r : Reply) : Type 0 where
+pub record ReadsAudit {A : Type 0} (rules : AuditRules A) (inputs : AuditReadings) (r : Reply) : Type 0 where
   pub of_election : Delivery
   pub of_outcome : Option Delivery
   pub of_certificate : Delivery
-  pub answers : AnswersAudit states reply promise of_election of_outcome of_certificate r
+  pub answers : AnswersAudit rules of_election of_outcome of_certificate r
   pub election_delivered : Delivers inputs.election of_election
   pub outcome_delivered : InTurn answers.e
       (λ instance. DeliversFile inputs.outcome.before inputs.outcome.after of_outcome)
@@ -66,7 +61,7 @@ pub record ReadsAudit {A : Type 0} (states : Instance → Delivery → Stated A 
       (IsUntouched inputs.certificate)
 
 abbrev pub ReadsPrices : Mode → AuditReadings → Reply → Type 0
-ReadsPrices m inputs r = ReadsAudit (StatesPrices name.Certificate) (price_reply m) (PricesPromise m) inputs r
+ReadsPrices m inputs r = ReadsAudit (price_rules m) inputs r
 
 abbrev pub ReadsViolation : AuditReadings → Reply → Type 0
-ReadsViolation inputs r = ReadsAudit (StatesViolation name.Certificate) violation_reply ViolationPromises inputs r
+ReadsViolation inputs r = ReadsAudit violation_rules inputs r

@@ -1,15 +1,12 @@
 //! Auditing an election, an outcome and a certificate, whatever kind of certificate it is.
-ghost use Rattle.std.specs.Prelude.{Bool, IfOk, IfSome, List, Ok, option_copied, option_map};
-ghost use Rattle.pb_audit.specs.Answers.{AnswersAudit};
-ghost use Rattle.pb_reply.specs.Replies.{Reply};
-ghost use Rattle.pb_reply.specs.Inputs.{Stated, StatesElection, in_memory};
+ghost use Rattle.std.specs.Prelude.{IfOk, IfSome, Ok, option_copied, option_map};
+ghost use Rattle.pb_audit.specs.Answers.{AnswersAudit, AuditRules};
+ghost use Rattle.pb_reply.specs.Inputs.{StatesElection, in_memory};
 ghost use Rattle.pb_reply.specs.Inside.Loaded.{lent};
 ghost use Rattle.pb_audit.specs.Inside.Certificates.{AnswersCertificate, Promised};
 ghost use Rattle.pb_reply.specs.Inside.Taking.{settled};
 ghost use Rattle.pb_audit.specs.Readers.{ReadsAudit, audit_readings};
 ghost use Rattle.pb_reply.specs.Writing.{WritesReply};
-ghost use Rattle.pb_reply.specs.declared.status.Status.{Status};
-ghost use Rattle.pb_election.specs.Instance.{Instance};
 ghost use Rattle.pb_election.specs.Outcome.{OutcomeFits};
 ghost use Rattle.pb_records.specs.Loading.{Delivery};
 
@@ -25,14 +22,8 @@ pub(crate) trait Audit {
     // What a certificate of this kind states, such as prices.
     ghost Subject: { Type 0 };
 
-    // A file states this for an election, or is refused.
-    ghost States: { Self → Instance → Delivery → Stated Subject → Type 0 };
-
-    // The reply on what is stated, for an election and an outcome.
-    ghost reply: { Self → Instance → List Bool → Subject → Reply };
-
-    // What the status of a reply promises of them.
-    ghost Promises: { Self → Status → Instance → List Bool → Subject → Type 0 };
+    // What a file states of it, the reply on that, and what the status of a reply promises.
+    ghost rules: { Self → AuditRules Subject };
 
     /// The reply on a certificate, for an election and an outcome that were accepted. The status of each reply of this
     /// kind keeps its promise.
@@ -44,8 +35,8 @@ pub(crate) trait Audit {
         certificate: File<'_>,
     ) -> Result<Reply, Stop>
         requires { OutcomeFits outcome.now election.now }
-        ensures reply { IfSome (settled result) (AnswersCertificate (States self.now) (reply self.now) election.now (outcome.now).marks (lent certificate.entry)) }
-        ensures promised { Promised (States self.now) (reply self.now) (Promises self.now) };
+        ensures reply { IfSome (settled result) (AnswersCertificate (rules self.now).states (rules self.now).reply election.now (outcome.now).marks (lent certificate.entry)) }
+        ensures promised { Promised (rules self.now) };
 }
 
 /// The reply on an election, an outcome file where one is given, and a certificate, all in memory.
@@ -56,7 +47,7 @@ pub(crate) fn audit_reply<A: Audit>(
     outcome: Option<&[u8]>,
     certificate: &[u8],
 ) -> Result<Reply, AllocError>
-    ensures { IfOk result (AnswersAudit (A.States audit.now) (A.reply audit.now) (A.Promises audit.now) (in_memory election.now) (option_map in_memory (option_copied outcome.entry)) (in_memory certificate.now)) }
+    ensures { IfOk result (AnswersAudit (A.rules audit.now) (in_memory election.now) (option_map in_memory (option_copied outcome.entry)) (in_memory certificate.now)) }
 {
     let work = audit_files(
         alloc,
@@ -77,7 +68,7 @@ pub(crate) fn run_audit<A: Audit, E: Source, O: Source, C: Source, W: Sink>(
     certificate: &mut C,
     out: &mut W,
 ) -> Result<Status, Fault>
-    ensures { WritesReply W.Sink (ReadsAudit (A.States audit.now) (A.reply audit.now) (A.Promises audit.now) (audit_readings E.Source election.old election.new O.Source outcome.old outcome.new C.Source certificate.old certificate.new)) result out.old out.new }
+    ensures { WritesReply W.Sink (ReadsAudit (A.rules audit.now) (audit_readings E.Source election.old election.new O.Source outcome.old outcome.new C.Source certificate.old certificate.new)) result out.old out.new }
 {
     let work = audit_readers(alloc, audit, election, outcome, certificate);
     let reply = settled(alloc, work)?;
@@ -92,7 +83,7 @@ fn audit_files<A: Audit>(
     outcome: Option<File<'_>>,
     certificate: File<'_>,
 ) -> Result<Reply, Stop>
-    ensures { IfSome (settled result) (AnswersAudit (A.States audit.now) (A.reply audit.now) (A.Promises audit.now) (lent election.entry) (option_map lent outcome.entry) (lent certificate.entry)) }
+    ensures { IfSome (settled result) (AnswersAudit (A.rules audit.now) (lent election.entry) (option_map lent outcome.entry) (lent certificate.entry)) }
 {
     let election = election_of(alloc, election)?;
     audit_for(alloc, audit, &election, outcome, certificate)
@@ -106,7 +97,7 @@ pub(crate) fn audit_for<A: Audit>(
     outcome: Option<File<'_>>,
     certificate: File<'_>,
 ) -> Result<Reply, Stop>
-    ensures { (file : Delivery) → StatesElection file (Ok election.now) → IfSome (settled result) (AnswersAudit (A.States audit.now) (A.reply audit.now) (A.Promises audit.now) file (option_map lent outcome.entry) (lent certificate.entry)) }
+    ensures { (file : Delivery) → StatesElection file (Ok election.now) → IfSome (settled result) (AnswersAudit (A.rules audit.now) file (option_map lent outcome.entry) (lent certificate.entry)) }
 {
     let outcome = outcome_of(alloc, outcome, election)?;
     audit.reply_on(alloc, election, &outcome, certificate)
@@ -120,7 +111,7 @@ fn audit_readers<A: Audit, E: Source, O: Source, C: Source>(
     outcome: &mut Option<O>,
     certificate: &mut C,
 ) -> Result<Reply, Stop>
-    ensures { IfSome (settled result) (ReadsAudit (A.States audit.now) (A.reply audit.now) (A.Promises audit.now) (audit_readings E.Source election.old election.new O.Source outcome.old outcome.new C.Source certificate.old certificate.new)) }
+    ensures { IfSome (settled result) (ReadsAudit (A.rules audit.now) (audit_readings E.Source election.old election.new O.Source outcome.old outcome.new C.Source certificate.old certificate.new)) }
 {
     let election = take_election(alloc, election)?;
     let outcome = take_outcome(alloc, outcome, &election)?;

@@ -1,6 +1,6 @@
 //! Auditing prices and a violation for one outcome.
 ghost use Rattle.std.specs.Prelude.{◌≡◌, IfOk, IfSome, option_copied};
-ghost use Rattle.pb_audit.specs.Both.{AnswersBothFiles, Both, BothPromises, ReadsBoth, StatesBoth};
+ghost use Rattle.pb_audit.specs.Both.{AnswersBothFiles, Both, ReadsBoth, both_rules};
 ghost use Rattle.pb_audit.specs.Both as spec;
 ghost use Rattle.pb_reply.specs.Inputs.{StatesViolation};
 ghost use Rattle.pb_reply.specs.Inside.Loaded.{lent};
@@ -78,11 +78,7 @@ struct BothAudit<'a> {
 impl<'a> Audit for BothAudit<'a> {
     ghost Subject = { Both };
 
-    ghost States = { λ audit. StatesBoth (lent audit.violation) };
-
-    ghost reply = { λ audit. spec.both_reply audit.mode };
-
-    ghost Promises = { λ audit. BothPromises audit.mode };
+    ghost rules = { λ audit. both_rules audit.mode (lent audit.violation) };
 
     #[tactic(auto, using(crate::proofs::Boths::both_promises))]
     fn reply_on(

@@ -1,7 +1,7 @@
 //! Explaining verdicts: what each condition on prices, or each test of a violation, comes to.
 ghost use Rattle.std.specs.Prelude.{◌≡◌, ◌≤◌, ◌^◌, IfOk, IfSome, option_copied};
 ghost use Rattle.pb_audit.specs.Answers.{verdict_reply};
-ghost use Rattle.pb_audit.specs.Explained.{AnswersExplainedFiles, Certificate, ExplainedPromise, ReadsExplained, StatesCertificate, explained_prices, explained_reply, explained_violation, is_violation, with_table};
+ghost use Rattle.pb_audit.specs.Explained.{AnswersExplainedFiles, Certificate, ReadsExplained, explained_prices, explained_rules, explained_violation, is_violation, with_table};
 ghost use Rattle.pb_reply.specs.Inputs.{StatesPrices, StatesViolation};
 ghost use Rattle.pb_reply.specs.Inside.Loaded.{lent};
 ghost use Rattle.pb_reply.specs.Named.{PricesNameProject};
@@ -78,11 +78,7 @@ struct ExplainAudit {
 impl Audit for ExplainAudit {
     ghost Subject = { Certificate };
 
-    ghost States = { λ _. StatesCertificate };
-
-    ghost reply = { λ audit. explained_reply audit.mode };
-
-    ghost Promises = { λ audit. ExplainedPromise audit.mode };
+    ghost rules = { λ audit. explained_rules audit.mode };
 
     #[tactic(auto, using(crate::proofs::Explained::explained_promise))]
     fn reply_on(

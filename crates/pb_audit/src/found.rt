@@ -65,7 +65,7 @@ fn certificate_found<A: Audit>(
     election: &Election,
     certificate: &Option<Loaded>,
 ) -> Result<Option<Reply>, AllocError>
-    ensures { (file : Delivery) → StatesElection file (Ok election.now) → IfOk result (FindsCertificate (AnswersAudit (A.States audit.now) (A.reply audit.now) (A.Promises audit.now) file None) (option_map delivery_of certificate.now)) }
+    ensures { (file : Delivery) → StatesElection file (Ok election.now) → IfOk result (FindsCertificate (AnswersAudit (A.rules audit.now) file None) (option_map delivery_of certificate.now)) }
 {
     let Some(certificate) = certificate else {
         return Ok(None);

@@ -1,11 +1,10 @@
 //! Auditing prices: whether they support an outcome.
 ghost use Rattle.std.specs.Prelude.{◌≡◌, IfOk, option_copied};
-ghost use Rattle.pb_audit.specs.Answers.{AnswersPriceFiles, price_reply};
+ghost use Rattle.pb_audit.specs.Answers.{AnswersPriceFiles, price_reply, price_rules};
 ghost use Rattle.pb_audit.specs.Answers as spec;
 ghost use Rattle.pb_reply.specs.Inputs.{StatesPrices};
 ghost use Rattle.pb_reply.specs.Inside.Loaded.{lent};
 ghost use Rattle.pb_reply.specs.Named.{PricesNameProject};
-ghost use Rattle.pb_audit.specs.Promises.{PricesPromise};
 ghost use Rattle.pb_audit.specs.Readers.{ReadsPrices, audit_readings};
 ghost use Rattle.pb_reply.specs.Inside.Taking.{IfTaken};
 ghost use Rattle.pb_audit.specs.Inside.Certificates.{JudgesPrices};
@@ -70,11 +69,7 @@ pub(crate) struct PriceAudit {
 impl Audit for PriceAudit {
     ghost Subject = { Prices };
 
-    ghost States = { λ _. StatesPrices name.Certificate };
-
-    ghost reply = { λ audit. price_reply audit.mode };
-
-    ghost Promises = { λ audit. PricesPromise audit.mode };
+    ghost rules = { λ audit. price_rules audit.mode };
 
     #[tactic(auto, using(crate::proofs::Promises::prices_promise))]
     fn reply_on(

@@ -1,9 +1,8 @@
 //! Auditing violations: whether a group was treated worse than it deserves.
 ghost use Rattle.std.specs.Prelude.{◌≡◌, IfOk, option_copied};
-ghost use Rattle.pb_audit.specs.Answers.{AnswersViolationFiles, violation_reply};
+ghost use Rattle.pb_audit.specs.Answers.{AnswersViolationFiles, violation_reply, violation_rules};
 ghost use Rattle.pb_audit.specs.Both.{GroupAndDemand};
 ghost use Rattle.pb_reply.specs.Inputs.{StatesViolation};
-ghost use Rattle.pb_audit.specs.Promises.{ViolationPromises};
 ghost use Rattle.pb_audit.specs.Readers.{ReadsViolation, audit_readings};
 ghost use Rattle.pb_reply.specs.Writing.{WritesReply};
 ghost use Rattle.pb_reply.specs.declared.input.InputName.TheVariants as name;
@@ -62,11 +61,7 @@ pub(crate) struct ViolationAudit;
 impl Audit for ViolationAudit {
     ghost Subject = { GroupAndDemand };
 
-    ghost States = { λ _. StatesViolation name.Certificate };
-
-    ghost reply = { λ _. violation_reply };
-
-    ghost Promises = { λ _. ViolationPromises };
+    ghost rules = { λ _. violation_rules };
 
     #[tactic(auto, using(crate::proofs::Promises::violation_promises))]
     fn reply_on(

@@ -13,8 +13,7 @@ use Rattle.pb_reply.specs.Inputs.{Stated, StatesPrices}
 use Rattle.pb_reply.specs.Replies.{Answer, Reply, answer_of, with_input}
 use Rattle.pb_reply.specs.declared.input.InputName.{InputName}
 use Rattle.pb_reply.specs.declared.input.InputName.TheVariants as name
-use Rattle.pb_reply.specs.declared.status.Status.{Status}
-use Rattle.pb_audit.specs.Answers.{tidy_answer}
+use Rattle.pb_audit.specs.Answers.{AuditRules, tidy_answer}
 use Rattle.pb_audit.specs.Margins.{margins_reply}
 
 -- the reply on a certificate of a kind, for an election and an outcome that were accepted
@@ -26,10 +25,9 @@ pub record AnswersCertificate {A : Type 0} (states : Instance → Delivery → S
   pub out : r ≡ with_input c (λ a. reply e w a)
 
 -- the status of each reply on what a certificate of a kind states keeps what it promises
-abbrev pub Promised : {A : Type 0} → (Instance → Delivery → Stated A → Type 0) → (Instance → List Bool → A → Reply)
-    → (Status → Instance → List Bool → A → Type 0) → Type 0
-Promised {A} states reply promise =
-    (e : Instance) (w : List Bool) (d : Delivery) (a : A) → states e d (Ok a) → promise (reply e w a).status e w a
+abbrev pub Promised : {A : Type 0} → AuditRules A → Type 0
+Promised {A} rules = (e : Instance) (w : List Bool) (d : Delivery) (a : A) → rules.states e d (Ok a)
+    → rules.promises (rules.reply e w a).status e w a
 
 -- what is made of the prices that a certificate states, as the input of this name
 abbrev pub MadeOfPrices : {A : Type 0} → (Prices → A) → InputName → Instance → Delivery → Stated A → Type 0

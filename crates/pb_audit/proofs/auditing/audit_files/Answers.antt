@@ -8,8 +8,7 @@ pub returns-in_err-election : goal.returns-in_err-election
 returns-in_err-election g c =
     let is : c.from_residual.result ≡ Err c.in_err-election.field-0.0 = search rules in
     rw is (
-    stopped_at_election (g.A.Audit.States c.args.audit.now) (g.A.Audit.reply c.args.audit.now)
-    (g.A.Audit.Promises c.args.audit.now)
+    stopped_at_election (g.A.Audit.rules c.args.audit.now)
     (lent c.args.election) (option_map lent c.args.outcome) (lent c.args.certificate)
     c.in_err-election.field-0.0 c.in_err-election.ensures
     )

@@ -11,8 +11,7 @@ pub returns-in_err-election : goal.returns-in_err-election
 returns-in_err-election g c =
     let is : c.from_residual.result ≡ Err c.in_err-election.field-0.0 = search rules in
     rw is (
-    readers_stopped_at_election (g.A.Audit.States c.args.audit.now) (g.A.Audit.reply c.args.audit.now)
-    (g.A.Audit.Promises c.args.audit.now)
+    readers_stopped_at_election (g.A.Audit.rules c.args.audit.now)
     (audit_readings g.E.Source c.args.election.now c.take_election.new.source g.O.Source c.args.outcome.now
     c.args.outcome.now g.C.Source c.args.certificate.now c.args.certificate.now)
     c.in_err-election.field-0.0 c.in_err-election.ensures refl refl
@@ -22,8 +21,7 @@ pub returns-in_err-outcome : goal.returns-in_err-outcome
 returns-in_err-outcome g c =
     let is : c.from_residual-in_err-outcome.result ≡ Err c.in_err-outcome.field-0.0 = search rules in
     rw is (
-    readers_stopped_at_outcome (g.A.Audit.States c.args.audit.now) (g.A.Audit.reply c.args.audit.now)
-    (g.A.Audit.Promises c.args.audit.now)
+    readers_stopped_at_outcome (g.A.Audit.rules c.args.audit.now)
     (audit_readings g.E.Source c.args.election.now c.take_election.new.source g.O.Source c.args.outcome.now
     c.take_outcome.new.source g.C.Source c.args.certificate.now c.args.certificate.now)
     c.in_ok-election.election c.in_err-outcome.field-0.0 c.in_ok-election.ensures c.in_err-outcome.ensures.taken refl
@@ -31,11 +29,10 @@ returns-in_err-outcome g c =
 
 pub returns : goal.returns
 returns g c =
-    readers_settled (g.A.Audit.States c.args.audit.now) (g.A.Audit.reply c.args.audit.now)
-    (g.A.Audit.Promises c.args.audit.now)
+    readers_settled (g.A.Audit.rules c.args.audit.now)
     c.reply_on.ensures.promised _ _ _ _ _
     c.in_ok-election.ensures c.in_ok-outcome.ensures.taken c.in_ok-certificate.ensures
     (subst
     (λ (d : Delivery). IfSome (settled c.reply_on.result)
-    (AnswersCertificate (g.A.Audit.States c.args.audit.now) (g.A.Audit.reply c.args.audit.now) c.in_ok-election.election
+    (AnswersCertificate (g.A.Audit.rules c.args.audit.now).states (g.A.Audit.rules c.args.audit.now).reply c.in_ok-election.election
     c.in_ok-outcome.outcome.marks d)) c.lend.ensures c.reply_on.ensures.reply)

@@ -1,9 +1,7 @@
 use Rattle.std.proofs.Common.{◌≡◌, rules}
 use Rattle.std.specs.Prelude.{Err, option_map}
 use Rattle.pb_reply.specs.Inside.Loaded.{lent}
-use Rattle.pb_reply.specs.Inputs.{StatesPrices}
-use Rattle.pb_audit.specs.Margins.{AlwaysYes, margins_reply}
-use Rattle.pb_reply.specs.declared.input.InputName.TheVariants.{Certificate}
+use Rattle.pb_audit.specs.Margins.{margin_rules}
 use Rattle.pb_audit.proofs.Audits.{stopped_at_election, stopped_at_outcome}
 use Rattle.pb_audit.proofs.Margins.{margins_answered, stop_told}
 use Rattle.pb_audit.proofs.margin_engine.margins_work.Goals as goal
@@ -13,7 +11,7 @@ returns-in_err-election c =
     let is : c.from_residual.result ≡ Err c.in_err-election.field-0.0 = search rules in
     rw is (
     stop_told _ c.in_err-election.field-0.0
-    (stopped_at_election (StatesPrices Certificate) margins_reply AlwaysYes (lent c.args.election)
+    (stopped_at_election margin_rules (lent c.args.election)
     (option_map lent c.args.outcome) (lent c.args.certificate)
     c.in_err-election.field-0.0 c.in_err-election.ensures)
     )
@@ -23,7 +21,7 @@ returns-in_err-outcome c =
     let is : c.from_residual-in_err-outcome.result ≡ Err c.in_err-outcome.field-0.0 = search rules in
     rw is (
     stop_told _ c.in_err-outcome.field-0.0
-    (stopped_at_outcome (StatesPrices Certificate) margins_reply AlwaysYes (lent c.args.election)
+    (stopped_at_outcome margin_rules (lent c.args.election)
     (option_map lent c.args.outcome) (lent c.args.certificate) c.in_ok-election.election
     c.in_err-outcome.field-0.0 c.in_ok-election.ensures c.in_err-outcome.ensures.taken)
     )
