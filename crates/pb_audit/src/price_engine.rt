@@ -1,15 +1,13 @@
 //! Auditing prices: whether they support an outcome.
 ghost use Rattle.std.specs.Prelude.{◌≡◌, IfOk, option_copied};
-ghost use Rattle.pb_audit.specs.Answers.{AnswersPriceFiles, price_reply, price_rules};
+ghost use Rattle.pb_audit.specs.Answers.{AnswersPriceFiles, price_rules};
 ghost use Rattle.pb_audit.specs.Answers as spec;
-ghost use Rattle.pb_reply.specs.Inputs.{StatesPrices};
 ghost use Rattle.pb_reply.specs.Inside.Loaded.{lent};
 ghost use Rattle.pb_reply.specs.Named.{PricesNameProject};
 ghost use Rattle.pb_audit.specs.Readers.{ReadsPrices, audit_readings};
 ghost use Rattle.pb_reply.specs.Inside.Taking.{IfTaken};
 ghost use Rattle.pb_audit.specs.Inside.Certificates.{JudgesPrices};
 ghost use Rattle.pb_reply.specs.Writing.{WritesReply};
-ghost use Rattle.pb_reply.specs.declared.input.InputName.TheVariants as name;
 ghost use Rattle.pb_certificate.specs.Prices.{Prices};
 ghost use Rattle.pb_election.specs.Outcome.{OutcomeFits};
 

@@ -2,10 +2,8 @@
 ghost use Rattle.std.specs.Prelude.{◌≡◌, IfOk, option_copied};
 ghost use Rattle.pb_audit.specs.Answers.{AnswersViolationFiles, violation_reply, violation_rules};
 ghost use Rattle.pb_audit.specs.Both.{GroupAndDemand};
-ghost use Rattle.pb_reply.specs.Inputs.{StatesViolation};
 ghost use Rattle.pb_audit.specs.Readers.{ReadsViolation, audit_readings};
 ghost use Rattle.pb_reply.specs.Writing.{WritesReply};
-ghost use Rattle.pb_reply.specs.declared.input.InputName.TheVariants as name;
 ghost use Rattle.pb_certificate.specs.Claim.{ClaimFits};
 ghost use Rattle.pb_election.specs.Instance.{IsSet, projects};
 ghost use Rattle.pb_election.specs.Outcome.{OutcomeFits};
