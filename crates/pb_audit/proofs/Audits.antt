@@ -44,9 +44,11 @@ outcome_refused {A} rules election outcome certificate e r given taken = record 
   given = record {
     election_states = given;
     outcome_states = taken.given;
-    certificate_states = subst (λ (o : Stated (List Bool)). IfOk o (λ w. rules.states e certificate (Err r))) taken.is tt;
+    certificate_states =
+        subst (λ (o : Stated (List Bool)). IfOk o (λ w. rules.states e certificate (Err r))) taken.is tt;
   };
-  out = ap (λ (o : Stated (List Bool)). with_input o (λ w. with_input {A = A} (Err r) (λ c. rules.reply e w c))) taken.is;
+  out =
+      ap (λ (o : Stated (List Bool)). with_input o (λ w. with_input {A = A} (Err r) (λ c. rules.reply e w c))) taken.is;
   promised = subst (λ (o : Stated (List Bool)). IfOk o (λ w. Unit {0})) taken.is tt;
 }
 
@@ -75,11 +77,14 @@ certificate_answered {A} rules each election outcome certificate e w r given tak
     election_states = given;
     outcome_states = taken.given;
     certificate_states =
-        subst (λ (o : Stated (List Bool)). IfOk o (λ marks. rules.states e certificate answered.c)) taken.is answered.given;
+        subst (λ (o : Stated (List Bool)). IfOk o (λ marks. rules.states e certificate answered.c)) taken.is
+        answered.given;
   };
   out = answered.out
-      ∙ ap (λ (o : Stated (List Bool)). with_input o (λ marks. with_input answered.c (λ a. rules.reply e marks a))) taken.is;
-  promised = subst (λ (o : Stated (List Bool)). IfOk o (λ marks. IfOk answered.c (λ a. rules.promises r.status e marks a)))
+      ∙ ap (λ (o : Stated (List Bool)). with_input o (λ marks. with_input answered.c (λ a. rules.reply e marks a)))
+      taken.is;
+  promised =
+      subst (λ (o : Stated (List Bool)). IfOk o (λ marks. IfOk answered.c (λ a. rules.promises r.status e marks a)))
       taken.is (promised_of rules each e w certificate answered.c r answered.given answered.out);
 }
 

@@ -72,13 +72,11 @@ abbrev pub BothPromises : Mode → Status → Instance → List Bool → Both �
 BothPromises m status e w both = IfOk both.1 (λ claim. BothPromise m status e w both.0 claim)
 
 abbrev pub both_rules : Mode → Delivery → AuditRules Both
-both_rules m violation =
-    record { states = StatesBoth violation; reply = both_reply m; promises = BothPromises m }
+both_rules m violation = record { states = StatesBoth violation; reply = both_reply m; promises = BothPromises m }
 
 -- the reply on an election, an outcome file where one is given, and both certificates
 abbrev pub AnswersBoth : Mode → Delivery → Option Delivery → Delivery → Delivery → Reply → Type 0
-AnswersBoth m election outcome prices violation r =
-    AnswersAudit (both_rules m violation) election outcome prices r
+AnswersBoth m election outcome prices violation r = AnswersAudit (both_rules m violation) election outcome prices r
 
 -- the same over files in memory, by their bytes alone
 abbrev pub AnswersBothFiles : Mode → List ℕ → Option (List ℕ) → List ℕ → List ℕ → Reply → Type 0

@@ -64,13 +64,11 @@ ExplainedPromise m status e w (OfPrices p) = PricesPromise m status e w p
 ExplainedPromise m status e w (OfViolation v) = ViolationPromises status e w v
 
 abbrev pub explained_rules : Mode → AuditRules Certificate
-explained_rules m =
-    record { states = StatesCertificate; reply = explained_reply m; promises = ExplainedPromise m }
+explained_rules m = record { states = StatesCertificate; reply = explained_reply m; promises = ExplainedPromise m }
 
 -- the reply on an election, an outcome file where one is given, and a certificate of either kind
 abbrev pub AnswersExplained : Mode → Delivery → Option Delivery → Delivery → Reply → Type 0
-AnswersExplained m election outcome certificate r =
-    AnswersAudit (explained_rules m) election outcome certificate r
+AnswersExplained m election outcome certificate r = AnswersAudit (explained_rules m) election outcome certificate r
 
 -- the same over files in memory, by their bytes alone
 abbrev pub AnswersExplainedFiles : Mode → List ℕ → Option (List ℕ) → List ℕ → Reply → Type 0

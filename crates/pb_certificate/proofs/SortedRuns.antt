@@ -190,7 +190,8 @@ none-there k (r ∷ rs) h =
     left a b e = omega arith
 
 paid-projects-rise : (low high : ℕ) (ys : List (ℕ × ℕ)) → IsNonDecreasingBy (λ p. p.0) ys
-    → ((j : ℕ) → sum_by (count j) ys ≤ 1) → AllByRecursion (λ q. (low ≤ q.0) × (q.0 ≤ high)) ys → IsSet low high (paid_projects ys)
+    → ((j : ℕ) → sum_by (count j) ys ≤ 1) → AllByRecursion (λ q. (low ≤ q.0) × (q.0 ≤ high)) ys
+    → IsSet low high (paid_projects ys)
 unfolding count
 paid-projects-rise low high [] nd once bounds = tt
 paid-projects-rise low high (q ∷ qs) nd once bounds =

@@ -16,7 +16,8 @@ line_end = 10
 -- a field in quotes, with each quote doubled
 abbrev pub in_quotes : Field → List ℕ
 in_quotes f =
-    quote_byte ∷ (flat_map (λ b. if b == quote_byte then quote_byte ∷ quote_byte ∷ [] else b ∷ []) f ++ (quote_byte ∷ []))
+    quote_byte
+    ∷ (flat_map (λ b. if b == quote_byte then quote_byte ∷ quote_byte ∷ [] else b ∷ []) f ++ (quote_byte ∷ []))
 
 -- a field as it is written: in quotes where it has a comma or a quote, and as it is where it has none
 abbrev pub written : Field → List ℕ

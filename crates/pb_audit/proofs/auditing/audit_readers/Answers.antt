@@ -34,5 +34,6 @@ returns g c =
     c.in_ok-election.ensures c.in_ok-outcome.ensures.taken c.in_ok-certificate.ensures
     (subst
     (λ (d : Delivery). IfSome (settled c.reply_on.result)
-    (AnswersCertificate (g.A.Audit.rules c.args.audit.now).states (g.A.Audit.rules c.args.audit.now).reply c.in_ok-election.election
+    (AnswersCertificate (g.A.Audit.rules c.args.audit.now).states (g.A.Audit.rules c.args.audit.now).reply
+    c.in_ok-election.election
     c.in_ok-outcome.outcome.marks d)) c.lend.ensures c.reply_on.ensures.reply)
