@@ -1,17 +1,15 @@
 //! Sentences on certificates and outcome files that are refused.
-use crate::causes::{divider_cause, encoding_cause, first_record_cause};
-use crate::elections::bad_field;
+use crate::causes::{encoding_cause, first_record_cause};
 use crate::excerpt::quoted;
 use crate::head::{Behind, wanted_record, wanted_row};
-use crate::lines::{last_line, line_at, rest_of_line};
+use crate::lines::line_at;
 use crate::prior::first_like;
-use crate::quotes::quote_remark;
 use crate::refused_file::{Kind, RefusedFile};
-use crate::remark::{Remark, text};
+use crate::remark::{Remark, text, with_cause};
+use crate::scene::Scene;
 use crate::voters::{Voters, voters_of};
-use crate::walk::{Walk, without_marks};
 use pb_certificate::CertFault;
-use pb_records::{Next, cell};
+use pb_records::cell;
 use std::alloc::{AllocError, Global};
 
 /// What divides the fields of a certificate.
@@ -22,20 +20,14 @@ const WHOLE: &str = "amounts are whole numbers over the denominator, without a d
 const BY_ROWS: &str =
     "voters are named by their rows in VOTES, counted from 1, and not by voter_id";
 
-/// Where a file is refused.
+/// The record at which a certificate or an outcome file is refused.
 #[derive(Drop)]
-struct Scene<'a> {
-    alloc: Global,
+struct RefusedRecord<'a> {
+    at: Scene<'a, Behind>,
     kind: Kind,
-    place: u64,
-    /// The file without byte order marks.
-    file: &'a [u8],
+    /// Its number, from 1.
+    number: u64,
     election: Option<&'a [u8]>,
-    /// What stands before.
-    behind: Behind,
-    /// Behind the record, or at the end.
-    walk: Walk<'a>,
-    met: Next,
 }
 
 /// What is wrong with such a file, where its bytes can't be had.
@@ -62,52 +54,31 @@ pub(crate) fn remarks(
     refused: &RefusedFile<'_>,
     bytes: &[u8],
 ) -> Result<Option<Vec<Remark>>, AllocError> {
-    let file = without_marks(bytes);
-    let mut behind = Behind::nothing();
-    let mut walk = Walk::open(alloc, file, DIVIDER)?;
-    let Some(met) = walk.go_to(place, &mut behind)? else {
+    let Some(at) = Scene::open(alloc, bytes, DIVIDER, place, Behind::nothing())? else {
         return Ok(None);
     };
-    let election = refused.election.as_deref();
-    let scene = Scene {
-        alloc,
+    let record = RefusedRecord {
+        at,
         kind: refused.kind,
-        place,
-        file,
-        election,
-        behind,
-        walk,
-        met,
+        number: place,
+        election: refused.election.as_deref(),
     };
-    let mut remarks = Vec::new(alloc);
-    remarks.push(scene.remark(fault)?)?;
-    if let Some(cause) = scene.cause(fault)? {
-        remarks.push(cause)?;
-    }
+    let remarks = with_cause(alloc, record.remark(fault)?, record.cause(fault)?)?;
     Ok(Some(remarks))
 }
 
-impl Scene<'_> {
-    /// The line at which the record begins, from 1.
-    fn line(&self) -> u64 {
-        line_at(self.file, self.walk.start())
-    }
-
+impl RefusedRecord<'_> {
     /// A field of the record, cleaned, from 0.
     fn field(&self, place: usize) -> &str {
-        cell(self.walk.row(), place)
+        cell(self.at.row(), place)
     }
 
     fn remark(&self, fault: CertFault) -> Result<Remark, AllocError> {
-        if self.met == Next::End {
+        if self.at.is_end() {
             return Ok(Remark::on_file(self.at_end()?));
         }
         let sentence = match fault {
-            CertFault::NotUtf8 => quoted(
-                self.alloc,
-                "the text isn't UTF-8: ",
-                bad_field(self.file, self.walk.start(), DIVIDER),
-            )?,
+            CertFault::NotUtf8 => self.at.not_utf8()?,
             CertFault::BadHead => self.bad_head()?,
             CertFault::BadRow => self.bad_row()?,
             CertFault::BadNumber => self.bad_number()?,
@@ -115,48 +86,45 @@ impl Scene<'_> {
             CertFault::UnknownProject => self.with_field("no project has the id ", self.id())?,
             CertFault::OutOfOrder => self.out_of_order()?,
             CertFault::Repeated => self.repeated()?,
-            CertFault::TooMany | CertFault::Memory => text(self.alloc, general(fault, self.kind))?,
+            CertFault::TooMany | CertFault::Memory => text(
+                self.at.alloc,
+                general(fault, self.kind),
+            )?,
         };
-        Ok(Remark::at(self.line(), sentence))
+        Ok(Remark::at(self.at.line(), sentence))
     }
 
     fn at_end(&self) -> Result<String, AllocError> {
-        let wanted = wanted_record(self.kind, self.behind.records);
-        if self.behind.records == 0 {
-            return format!(in self.alloc; "the file is blank; the record {wanted} is missing");
+        let wanted = wanted_record(self.kind, self.at.before.records);
+        if self.at.before.records == 0 {
+            return format!(in self.at.alloc; "the file is blank; the record {wanted} is missing");
         }
-        let line = last_line(self.file);
-        format!(in self.alloc; "the file ends at line {line}; the record {wanted} is missing")
+        let line = self.at.last_line();
+        format!(in self.at.alloc; "the file ends at line {line}; the record {wanted} is missing")
     }
 
     /// Words, and behind them a field.
     fn with_field(&self, words: &str, field: &str) -> Result<String, AllocError> {
-        quoted(self.alloc, words, field.as_bytes())
-    }
-
-    /// Words, and behind them the line on which the record begins.
-    fn with_line(&self, words: &str) -> Result<String, AllocError> {
-        let line = rest_of_line(self.file, self.walk.start());
-        quoted(self.alloc, words, line)
+        quoted(self.at.alloc, words, field.as_bytes())
     }
 
     fn bad_head(&self) -> Result<String, AllocError> {
-        let wanted = wanted_record(self.kind, self.behind.records);
-        let words = format!(in self.alloc; "the record {wanted} is wanted here, and not ")?;
-        self.with_line(&words)
+        let wanted = wanted_record(self.kind, self.at.before.records);
+        let words = format!(in self.at.alloc; "the record {wanted} is wanted here, and not ")?;
+        self.at.with_line(&words)
     }
 
     fn bad_row(&self) -> Result<String, AllocError> {
         let row = wanted_row(self.kind);
-        let words = format!(in self.alloc; "{row}, and not ")?;
-        self.with_line(&words)
+        let words = format!(in self.at.alloc; "{row}, and not ")?;
+        self.at.with_line(&words)
     }
 
     fn bad_number(&self) -> Result<String, AllocError> {
         if self.kind != Kind::Prices {
             return self.with_field("the voter isn't a whole number: ", self.field(1));
         }
-        match self.behind.records {
+        match self.at.before.records {
             1 => self.with_field(
                 "the denominator isn't a whole number from 1 to 10^9: ",
                 self.field(1),
@@ -189,7 +157,7 @@ impl Scene<'_> {
     /// The voters of the election, where its bytes are there.
     fn voters(&self) -> Result<Option<Voters>, AllocError> {
         match self.election {
-            Some(election) => Ok(Some(voters_of(self.alloc, election, self.voter())?)),
+            Some(election) => Ok(Some(voters_of(self.at.alloc, election, self.voter())?)),
             None => Ok(None),
         }
     }
@@ -210,15 +178,15 @@ impl Scene<'_> {
     }
 
     fn repeated(&self) -> Result<String, AllocError> {
-        let first = first_like(self.alloc, self.file, self.place, self.walk.row())?;
+        let first = first_like(self.at.alloc, self.at.file, self.number, self.at.row())?;
         let line = match first {
-            Some(start) => line_at(self.file, start),
+            Some(start) => line_at(self.at.file, start),
             None => 1,
         };
         let mut sentence = match self.kind {
             Kind::Prices => {
                 let words = self.with_field("voter ", self.voter())?;
-                let words = format!(in self.alloc; "{words} and project ")?;
+                let words = format!(in self.at.alloc; "{words} and project ")?;
                 self.with_field(&words, self.id())?
             }
             _ => {
@@ -236,15 +204,15 @@ impl Scene<'_> {
     /// What often causes the fault, or stands elsewhere and causes it here.
     fn cause(&self, fault: CertFault) -> Result<Option<Remark>, AllocError> {
         if fault == CertFault::NotUtf8 {
-            return Ok(Some(encoding_cause(self.alloc, self.file)?));
+            return Ok(Some(encoding_cause(self.at.alloc, self.at.file)?));
         }
-        if fault == CertFault::BadHead && self.behind.records == 0 {
-            let cause = first_record_cause(self.alloc, self.file, self.walk.row(), self.kind)?;
+        if fault == CertFault::BadHead && self.at.before.records == 0 {
+            let cause = first_record_cause(self.at.alloc, self.at.file, self.at.row(), self.kind)?;
             if cause.is_some() {
                 return Ok(cause);
             }
         }
-        let quote = self.quote_cause()?;
+        let quote = self.at.quote_cause(self.at.before.last)?;
         if quote.is_some() {
             return Ok(quote);
         }
@@ -255,19 +223,10 @@ impl Scene<'_> {
         self.usual_cause(fault)
     }
 
-    /// A quote of the record, or of the last one where the file ends.
-    fn quote_cause(&self) -> Result<Option<Remark>, AllocError> {
-        let start = match self.met {
-            Next::End => self.behind.last,
-            _ => self.walk.start(),
-        };
-        quote_remark(self.alloc, self.file, start, DIVIDER)
-    }
-
     fn divider_cause(&self, fault: CertFault) -> Result<Option<Remark>, AllocError> {
         match fault {
-            CertFault::BadHead | CertFault::BadRow if self.met == Next::Record => {
-                divider_cause(self.alloc, self.line(), self.walk.row(), DIVIDER)
+            CertFault::BadHead | CertFault::BadRow if !self.at.is_end() => {
+                self.at.divider_cause()
             }
             _ => Ok(None),
         }
@@ -282,17 +241,16 @@ impl Scene<'_> {
             CertFault::BadNumber if self.kind == Kind::Prices && self.has_decimals() => WHOLE,
             CertFault::BadRow if self.kind == Kind::Prices && self.is_cut_amount() => WHOLE,
             CertFault::BadRow if self.field(0) == "voter_id" => BY_ROWS,
-            CertFault::BadRow if self.field(0) == "satisfaction" && !self.behind.is_version_2 => {
-                "a measure is stated in version 2 alone, by the record behind pb-violation,2"
-            }
+            CertFault::BadRow if self.field(0) == "satisfaction" && !self.at.before.is_version_2 =>
+                { "a measure is stated in version 2 alone, by the record behind pb-violation,2" }
             _ => return Ok(None),
         };
-        Ok(Some(Remark::on_file(text(self.alloc, words)?)))
+        Ok(Some(Remark::on_file(text(self.at.alloc, words)?)))
     }
 
     /// That voters are named by their rows, with the row of the one that may be meant.
     fn voter_cause(&self) -> Result<Option<Remark>, AllocError> {
-        let mut sentence = text(self.alloc, BY_ROWS)?;
+        let mut sentence = text(self.at.alloc, BY_ROWS)?;
         if let Some(
             Voters {
                 found: Some(voter),
@@ -301,7 +259,7 @@ impl Scene<'_> {
         ) = self.voters()?
         {
             sentence.push_str("; the one with voter_id ")?;
-            let id = quoted(self.alloc, "", self.voter().as_bytes())?;
+            let id = quoted(self.at.alloc, "", self.voter().as_bytes())?;
             write!(sentence, "{id} is voter {voter}")?;
         }
         Ok(Some(Remark::on_file(sentence)))
@@ -309,12 +267,12 @@ impl Scene<'_> {
 
     /// Whether the record stands behind the head of a price certificate, or in another file.
     fn is_row(&self) -> bool {
-        self.kind != Kind::Prices || self.behind.records >= 4
+        self.kind != Kind::Prices || self.at.before.records >= 4
     }
 
     /// Whether a number of the record has a decimal point or comma.
     fn has_decimals(&self) -> bool {
-        let number = match self.behind.records {
+        let number = match self.at.before.records {
             1 | 2 => self.field(1),
             _ => self.field(2),
         };

@@ -1,35 +1,18 @@
 //! Sentences on elections that are refused.
 use crate::Kind;
-use crate::causes::{divider_cause, encoding_cause, first_record_cause};
+use crate::causes::{encoding_cause, first_record_cause};
 use crate::excerpt::quoted;
-use crate::lines::{last_line, line_at, rest_of_line};
-use crate::quotes::quote_remark;
-use crate::remark::{Remark, text};
+use crate::lines::line_at;
+use crate::remark::{Remark, text, with_cause};
+use crate::scene::Scene;
 use crate::story::{Section, Story, field_in, occurrences, small};
-use crate::walk::{Walk, without_marks};
 use pb_election::{ElectionFault, MOST_VOTERS};
 use pb_money::{Money, MoneyFault};
-use pb_records::{Next, cell, clean};
+use pb_records::{cell, clean};
 use std::alloc::{AllocError, Global};
 
 /// What divides the fields of an election.
 const DIVIDER: u8 = b';';
-
-/// How many bytes of a field are shown before the one that isn't UTF-8.
-const MOST_BEFORE: usize = 40;
-
-/// Where an election is refused.
-#[derive(Drop)]
-struct Scene<'a> {
-    alloc: Global,
-    /// The file without byte order marks.
-    file: &'a [u8],
-    /// What stands before.
-    story: Story,
-    /// Behind the record, or at the end.
-    walk: Walk<'a>,
-    met: Next,
-}
 
 /// What is wrong with an election, where its bytes can't be had.
 pub(crate) fn general(fault: ElectionFault) -> &'static str {
@@ -67,35 +50,17 @@ pub(crate) fn remarks(
     place: u64,
     bytes: &[u8],
 ) -> Result<Option<Vec<Remark>>, AllocError> {
-    let file = without_marks(bytes);
-    let mut story = Story::new(alloc);
-    let mut walk = Walk::open(alloc, file, DIVIDER)?;
-    let Some(met) = walk.go_to(place, &mut story)? else {
+    let story = Story::new(alloc);
+    let Some(scene) = Scene::open(alloc, bytes, DIVIDER, place, story)? else {
         return Ok(None);
     };
-    let scene = Scene {
-        alloc,
-        file,
-        story,
-        walk,
-        met,
-    };
-    let mut remarks = Vec::new(alloc);
-    remarks.push(scene.remark(fault)?)?;
-    if let Some(cause) = scene.cause(fault)? {
-        remarks.push(cause)?;
-    }
+    let remarks = with_cause(alloc, scene.remark(fault)?, scene.cause(fault)?)?;
     Ok(Some(remarks))
 }
 
-impl Scene<'_> {
-    /// The line at which the record begins, from 1.
-    fn line(&self) -> u64 {
-        line_at(self.file, self.walk.start())
-    }
-
+impl Scene<'_, Story> {
     fn remark(&self, fault: ElectionFault) -> Result<Remark, AllocError> {
-        if self.met == Next::End {
+        if self.is_end() {
             return Ok(Remark::on_file(self.at_end(fault)?));
         }
         let sentence = match fault {
@@ -124,8 +89,8 @@ impl Scene<'_> {
 
     /// The sentence on a file that ends where something else is wanted.
     fn at_end(&self, fault: ElectionFault) -> Result<String, AllocError> {
-        let line = last_line(self.file);
-        let section = match self.story.section {
+        let line = self.last_line();
+        let section = match self.before.section {
             None => return text(self.alloc, "the file is blank; META is missing"),
             Some(section) => section,
         };
@@ -142,31 +107,14 @@ impl Scene<'_> {
         format!(in self.alloc; "the file ends at line {line}; the section {name} is missing")
     }
 
-    fn not_utf8(&self) -> Result<String, AllocError> {
-        quoted(
-            self.alloc,
-            "the text isn't UTF-8: ",
-            bad_field(self.file, self.walk.start(), DIVIDER),
-        )
-    }
-
-    /// Words, and behind them the line on which the record begins.
-    fn with_line(&self, words: &str) -> Result<String, AllocError> {
-        quoted(
-            self.alloc,
-            words,
-            rest_of_line(self.file, self.walk.start()),
-        )
-    }
-
     /// Words, and behind them the second field of the record.
     fn quoted_cell(&self, words: &str) -> Result<String, AllocError> {
-        quoted(self.alloc, words, cell(self.walk.row(), 1).as_bytes())
+        quoted(self.alloc, words, cell(self.row(), 1).as_bytes())
     }
 
     /// The section at hand.
     fn section(&self) -> Section {
-        self.story.section.unwrap_or(Section::Meta)
+        self.before.section.unwrap_or(Section::Meta)
     }
 
     fn no_header(&self) -> Result<String, AllocError> {
@@ -176,7 +124,7 @@ impl Scene<'_> {
     }
 
     fn unexpected_section(&self) -> Result<String, AllocError> {
-        let marked = Section::marked_by(self.walk.row()).unwrap_or(Section::Meta);
+        let marked = Section::marked_by(self.row()).unwrap_or(Section::Meta);
         if marked == Section::Votes && self.section() == Section::Meta {
             let words = "the section VOTES begins, and PROJECTS has to come before it";
             return text(self.alloc, words);
@@ -186,7 +134,7 @@ impl Scene<'_> {
     }
 
     fn missing_key(&self) -> Result<String, AllocError> {
-        let keys = &self.story.keys;
+        let keys = &self.before.keys;
         let words = match (keys.contains_key("budget"), keys.contains_key("vote_type")) {
             (false, false) => "META ends here, without a budget and a vote_type",
             (false, true) => "META ends here, without a budget",
@@ -196,8 +144,8 @@ impl Scene<'_> {
     }
 
     fn repeated_key(&self) -> Result<String, AllocError> {
-        let key = small(self.alloc, cell(self.walk.row(), 0))?;
-        let first = match self.story.keys.get(&key) {
+        let key = small(self.alloc, cell(self.row(), 0))?;
+        let first = match self.before.keys.get(&key) {
             Some(start) => line_at(self.file, *start),
             None => 1,
         };
@@ -219,8 +167,8 @@ impl Scene<'_> {
     /// The amount of the record: what it is called, and its field.
     fn amount(&self) -> (&'static str, &str) {
         match self.section() {
-            Section::Meta => ("budget", cell(self.walk.row(), 1)),
-            _ => ("cost", field_in(self.story.cost, self.walk.row())),
+            Section::Meta => ("budget", cell(self.row(), 1)),
+            _ => ("cost", field_in(self.before.cost, self.row())),
         }
     }
 
@@ -255,11 +203,11 @@ impl Scene<'_> {
     }
 
     fn occurrences(&self, name: &str) -> usize {
-        occurrences(self.walk.row(), name)
+        occurrences(self.row(), name)
     }
 
     fn bad_id(&self) -> Result<String, AllocError> {
-        let id = field_in(self.story.id, self.walk.row());
+        let id = field_in(self.before.id, self.row());
         if id.is_empty() {
             return text(self.alloc, "the project_id is empty");
         }
@@ -271,8 +219,8 @@ impl Scene<'_> {
     }
 
     fn repeated_project(&self) -> Result<String, AllocError> {
-        let id = field_in(self.story.id, self.walk.row());
-        let first = match self.story.projects.get(id) {
+        let id = field_in(self.before.id, self.row());
+        let first = match self.before.projects.get(id) {
             Some(start) => line_at(self.file, *start),
             None => 1,
         };
@@ -285,9 +233,9 @@ impl Scene<'_> {
     }
 
     fn unknown_project(&self) -> Result<String, AllocError> {
-        let vote = field_in(self.story.vote, self.walk.row());
+        let vote = field_in(self.before.vote, self.row());
         let unknown = vote.split(',').map(|name| clean(name)).find(|name| !name.is_empty()
-            && !self.story.projects.contains_key(*name));
+            && !self.before.projects.contains_key(*name));
         let mut sentence = quoted(
             self.alloc,
             "the vote names ",
@@ -299,7 +247,7 @@ impl Scene<'_> {
 
     fn too_many(&self) -> Result<String, AllocError> {
         let words = match self.section() {
-            Section::Votes if self.story.rows >= MOST_VOTERS as u64 =>
+            Section::Votes if self.before.rows >= MOST_VOTERS as u64 =>
                 "there are more than 1,000,000 voters",
             Section::Votes => "there are more than 20,000,000 approvals up to this vote",
             _ => "there are more than 20,000 projects",
@@ -313,34 +261,25 @@ impl Scene<'_> {
             return Ok(Some(encoding_cause(self.alloc, self.file)?));
         }
         if fault == ElectionFault::NoMeta {
-            let row = self.walk.row();
+            let row = self.row();
             let cause = first_record_cause(self.alloc, self.file, row, Kind::Election)?;
             if cause.is_some() {
                 return Ok(cause);
             }
         }
-        let quote = self.quote_cause()?;
+        let quote = self.quote_cause(self.before.last)?;
         if quote.is_some() {
             return Ok(quote);
         }
         self.usual_cause(fault)
     }
 
-    /// A quote of the record, or of the last one where the file ends.
-    fn quote_cause(&self) -> Result<Option<Remark>, AllocError> {
-        let start = match self.met {
-            Next::End => self.story.last,
-            _ => self.walk.start(),
-        };
-        quote_remark(self.alloc, self.file, start, DIVIDER)
-    }
-
     fn usual_cause(&self, fault: ElectionFault) -> Result<Option<Remark>, AllocError> {
         let words = match fault {
             ElectionFault::NoMeta | ElectionFault::MissingColumn => {
-                return divider_cause(self.alloc, self.line(), self.walk.row(), DIVIDER);
+                return self.divider_cause();
             }
-            ElectionFault::MissingKey if self.story.is_divided_otherwise => {
+            ElectionFault::MissingKey if self.before.is_divided_otherwise => {
                 "the fields of META seem to be divided otherwise; ';' is wanted"
             }
             ElectionFault::NotApproval => "only approval ballots are audited",
@@ -358,19 +297,4 @@ impl Scene<'_> {
         Money::read(amount) == Err(MoneyFault::NotNumber)
             && amount.iter().any(|byte| byte.is_ascii_digit())
     }
-}
-
-/// The field with the first byte that isn't UTF-8 from a place on; only from that byte on where much stands before it.
-pub(crate) fn bad_field(file: &[u8], start: usize, delimiter: u8) -> &[u8] {
-    let line = rest_of_line(file, start);
-    for field in line.split(|byte| *byte == delimiter) {
-        if let Err(error) = str::from_utf8(field) {
-            let place = error.valid_up_to();
-            return match field.get(place..) {
-                Some(rest) if place > MOST_BEFORE => rest,
-                _ => field,
-            };
-        }
-    }
-    line
 }

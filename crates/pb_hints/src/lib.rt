@@ -13,6 +13,7 @@ mod quotes;
 mod refusal;
 mod refused_file;
 mod remark;
+mod scene;
 mod story;
 mod voters;
 mod walk;

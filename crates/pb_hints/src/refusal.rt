@@ -7,7 +7,7 @@ use pb_certificate::CertFault;
 use pb_election::ElectionFault;
 
 /// Why a file is refused.
-#[derive(Clone, Copy, Debug, PartialEq, Eq)]
+#[derive(Clone, Copy)]
 pub enum Fault {
     /// It couldn't be read.
     Unread,
@@ -20,7 +20,7 @@ pub enum Fault {
 }
 
 /// The line of a refusal, in its parts.
-#[derive(Clone, Copy, Debug, PartialEq, Eq)]
+#[derive(Clone, Copy)]
 pub struct Refusal<'a> {
     /// The input that is refused, by the name that it has in the line.
     pub input: &'a str,

@@ -5,7 +5,7 @@ use crate::{certificates, elections};
 use std::alloc::{AllocError, Global};
 
 /// What a file is to be.
-#[derive(Clone, Copy, Debug, PartialEq, Eq)]
+#[derive(Clone, Copy, PartialEq, Eq)]
 pub enum Kind {
     Election,
     Outcome,

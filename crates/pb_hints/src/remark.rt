@@ -39,6 +39,20 @@ impl Remark {
     }
 }
 
+/// A remark, and behind it the one on its cause, if there is one.
+pub(crate) fn with_cause(
+    alloc: Global,
+    remark: Remark,
+    cause: Option<Remark>,
+) -> Result<Vec<Remark>, AllocError> {
+    let mut remarks = Vec::new(alloc);
+    remarks.push(remark)?;
+    if let Some(cause) = cause {
+        remarks.push(cause)?;
+    }
+    Ok(remarks)
+}
+
 /// A text of its own.
 pub(crate) fn text(alloc: Global, words: &str) -> Result<String, AllocError> {
     String::from_str(alloc, words)

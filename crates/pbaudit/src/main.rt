@@ -1,62 +1,11 @@
 //! The program `pbaudit`: it does what its words ask for.
 #![tactic(auto)]
 
-mod end;
-mod file;
-mod folder;
-mod listing;
-mod noted;
-mod progress;
-mod refusals;
-mod task;
-mod words;
-
-use end::End;
-use pb_audit::task_of;
-use std::io::{IsTerminal, Read, Write};
+use pb_run::{run, words_of};
 use std::process::ExitCode;
-use task::run_task;
-use words::words_of;
 
 fn main(rt: HostRuntime) -> ExitCode {
     let (mut input, mut out, mut err) = (rt.stdin(), rt.stdout(), rt.stderr());
     let words = words_of(&rt);
     ExitCode::from(run(&rt, words, &mut input, &mut out, &mut err))
 }
-
-/// Does what the words ask for, and gives the exit status. Standard input, output and error are `input`, `out` and
-/// `err`. Where the words could not be had, it says so.
-pub fn run<I: Read, O: Write, E: Write + IsTerminal>(
-    rt: &HostRuntime,
-    words: Result<Vec<String>, End>,
-    input: &mut I,
-    out: &mut O,
-    err: &mut E,
-) -> u8 {
-    let end = match words {
-        Ok(words) => end_of(rt, words, input, out, err),
-        Err(end) => end,
-    };
-    end.tell(out, err)
-}
-
-/// Does what the words ask for.
-fn end_of<I: Read, O: Write, E: Write + IsTerminal>(
-    rt: &HostRuntime,
-    words: Vec<String>,
-    input: &mut I,
-    out: &mut O,
-    err: &mut E,
-) -> End {
-    let task = match task_of(rt.alloc(), words) {
-        Ok(task) => task,
-        Err(fault) => return End::from(fault),
-    };
-    match run_task(rt, &task, input, out, err) {
-        Ok(status) => End::Answered(status),
-        Err(fault) => End::Faulted(fault),
-    }
-}
-
-#[cfg(test)]
-mod tests;

@@ -1,11 +1,11 @@
 //! Whole runs of the program, on real files.
 use super::fakes::FakeWriter;
 use super::room::Room;
-use super::samples::{
-    ELECTION, POOL_OUTCOME, POOL_PRICES, PRICES, SPLIT_ELECTION, SPLIT_PRICES, UNFAIR_ELECTION,
-    UNFAIR_PRICES, UNTIDY_PRICES, VIOLATION,
+use pb_run::run;
+use pb_samples::files::{
+    ELECTION, EVEN_PRICES, POOL_OUTCOME, POOL_PRICES, PRICES, SMALL_SHARE_ELECTION, SPLIT_ELECTION,
+    SPLIT_PRICES, UNTIDY_PRICES, VIOLATION,
 };
-use crate::run;
 use std::alloc::{AllocError, Global};
 use std::fs;
 use std::test::Fail;
@@ -89,7 +89,7 @@ fn reads_standard_input_where_no_words_are_given(rt: HostRuntime) -> Result<(), 
 #[test]
 fn reads_the_file_and_not_standard_input(rt: HostRuntime) -> Result<(), Fail> {
     let room = Room::new(&rt, "read")?;
-    room.write("e.pb", UNFAIR_ELECTION.as_bytes())?;
+    room.write("e.pb", SMALL_SHARE_ELECTION.as_bytes())?;
     let runs = [("read e.pb", 0, "read 4 voters 3 projects 1 funded\n")];
     expect_each(&rt, &room, &runs)
 }
@@ -109,8 +109,8 @@ fn takes_the_files_of_prices_in_their_places(rt: HostRuntime) -> Result<(), Fail
 #[test]
 fn mode_of_prices_is_that_of_the_words(rt: HostRuntime) -> Result<(), Fail> {
     let room = Room::new(&rt, "mode")?;
-    room.write("unfair.pb", UNFAIR_ELECTION.as_bytes())?;
-    room.write("even.csv", UNFAIR_PRICES.as_bytes())?;
+    room.write("unfair.pb", SMALL_SHARE_ELECTION.as_bytes())?;
+    room.write("even.csv", EVEN_PRICES.as_bytes())?;
     room.write("split.pb", SPLIT_ELECTION.as_bytes())?;
     room.write("half.csv", SPLIT_PRICES.as_bytes())?;
     let runs = [
@@ -155,7 +155,7 @@ fn outcome_of_prices_is_that_of_the_words(rt: HostRuntime) -> Result<(), Fail> {
 #[test]
 fn takes_the_files_of_a_violation_in_their_places(rt: HostRuntime) -> Result<(), Fail> {
     let room = Room::new(&rt, "violation")?;
-    room.write("e.pb", UNFAIR_ELECTION.as_bytes())?;
+    room.write("e.pb", SMALL_SHARE_ELECTION.as_bytes())?;
     room.write("v.csv", VIOLATION.as_bytes())?;
     let runs = [
         ("violation e.pb v.csv", 0, "violation\n"),
@@ -167,7 +167,7 @@ fn takes_the_files_of_a_violation_in_their_places(rt: HostRuntime) -> Result<(),
 #[test]
 fn outcome_of_a_violation_is_that_of_the_words(rt: HostRuntime) -> Result<(), Fail> {
     let room = Room::new(&rt, "violation-outcome")?;
-    room.write("e.pb", UNFAIR_ELECTION.as_bytes())?;
+    room.write("e.pb", SMALL_SHARE_ELECTION.as_bytes())?;
     room.write("v.csv", VIOLATION.as_bytes())?;
     room.write("o.csv", b"pb-outcome,1\nproject,x1\nproject,x2\n")?;
     let runs = [
@@ -184,8 +184,8 @@ fn outcome_of_a_violation_is_that_of_the_words(rt: HostRuntime) -> Result<(), Fa
 #[test]
 fn takes_the_files_of_both_in_their_places(rt: HostRuntime) -> Result<(), Fail> {
     let room = Room::new(&rt, "both")?;
-    room.write("e.pb", UNFAIR_ELECTION.as_bytes())?;
-    room.write("p.csv", UNFAIR_PRICES.as_bytes())?;
+    room.write("e.pb", SMALL_SHARE_ELECTION.as_bytes())?;
+    room.write("p.csv", EVEN_PRICES.as_bytes())?;
     room.write("v.csv", VIOLATION.as_bytes())?;
     let runs = [
         (
@@ -211,8 +211,8 @@ fn takes_the_files_of_both_in_their_places(rt: HostRuntime) -> Result<(), Fail> 
 #[test]
 fn mode_and_outcome_of_both_are_those_of_the_words(rt: HostRuntime) -> Result<(), Fail> {
     let room = Room::new(&rt, "both-mode")?;
-    room.write("e.pb", UNFAIR_ELECTION.as_bytes())?;
-    room.write("p.csv", UNFAIR_PRICES.as_bytes())?;
+    room.write("e.pb", SMALL_SHARE_ELECTION.as_bytes())?;
+    room.write("p.csv", EVEN_PRICES.as_bytes())?;
     room.write("v.csv", VIOLATION.as_bytes())?;
     room.write("o.csv", b"pb-outcome,1\nproject,x1\n")?;
     let runs = [
@@ -323,7 +323,7 @@ fn output_that_is_not_taken_is_a_write_fault(rt: HostRuntime) -> Result<(), Fail
     let room = Room::new(&rt, "write")?;
     room.write("e.pb", ELECTION.as_bytes())?;
     room.write("p.csv", PRICES.as_bytes())?;
-    room.write("u.pb", UNFAIR_ELECTION.as_bytes())?;
+    room.write("u.pb", SMALL_SHARE_ELECTION.as_bytes())?;
     room.write("v.csv", VIOLATION.as_bytes())?;
     expect_write_fault(&rt, &[], "read ")?;
     for (words, written) in [

@@ -1,7 +1,7 @@
 //! Hints on elections: sections, keys, columns, ids and ballots.
 use super::hints::{Row, expect_hint, expect_on_elections};
 use super::room::Room;
-use super::samples::{ELECTION, with_lines};
+use pb_samples::files::{ELECTION, with_lines};
 use std::alloc::{AllocError, Global};
 use std::test::Fail;
 

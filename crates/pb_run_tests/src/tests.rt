@@ -10,5 +10,4 @@ mod hints_on_other_files;
 mod hints_on_prices;
 mod room;
 mod runs;
-mod samples;
 mod words;

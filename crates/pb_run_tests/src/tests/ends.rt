@@ -1,7 +1,7 @@
 //! Exit statuses, and what is said on standard output and standard error at the end, where no words are at fault.
 use super::fakes::FakeWriter;
-use crate::end::End;
 use pb_audit::{Fault, Status};
+use pb_run::End;
 use std::test::Fail;
 
 #[test]

@@ -1,7 +1,6 @@
 //! The words of the command line.
 use super::fakes::{FakeWords, FakeWriter};
-use crate::run;
-use crate::words::{without_words, words_of};
+use pb_run::{run, without_words, words_of};
 use std::io;
 use std::io::ErrorKind;
 use std::test::Fail;

@@ -1,7 +1,7 @@
 //! What the tests of hints share: changes to sample files, and runs of the program on the changed ones.
 use super::room::Room;
 use super::runs::told;
-use super::samples::{ELECTION, PRICES, with_lines};
+use pb_samples::files::{ELECTION, PRICES, with_lines};
 use std::alloc::{AllocError, Global};
 use std::test::Fail;
 

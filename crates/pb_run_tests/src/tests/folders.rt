@@ -2,15 +2,13 @@
 use super::fakes::{FakeTerminal, FakeWriter};
 use super::room::Room;
 use super::runs::{Ending, command, expect, expect_line, told};
-use super::samples::{
-    ELECTION, FAIR_VIOLATION, PRICES, SPLIT_ELECTION, SPLIT_PRICES, UNFAIR_ELECTION, UNFAIR_PRICES,
-};
-use crate::folder::report;
-use crate::listing::{ListFault, Listing};
-use crate::progress::Progress;
-use crate::run;
 use pb_audit::Status;
 use pb_price::Mode;
+use pb_run::{ListFault, Listing, Progress, report, run};
+use pb_samples::files::{
+    ELECTION, EVEN_PRICES, FAIR_VIOLATION, PRICES, SMALL_SHARE_ELECTION, SPLIT_ELECTION,
+    SPLIT_PRICES,
+};
 use std::alloc::{AllocError, Global};
 use std::io::ErrorKind;
 use std::os::unix::fs::symlink;
@@ -57,8 +55,8 @@ fn entries_are_told_in_order_and_a_refusal_decides_the_status(rt: HostRuntime) -
 fn mode_of_a_folder_is_that_of_the_words(rt: HostRuntime) -> Result<(), Fail> {
     let alloc = rt.alloc();
     let room = Room::new(&rt, "folder-mode")?;
-    room.write("a.pb", UNFAIR_ELECTION.as_bytes())?;
-    room.write("a.prices.csv", UNFAIR_PRICES.as_bytes())?;
+    room.write("a.pb", SMALL_SHARE_ELECTION.as_bytes())?;
+    room.write("a.prices.csv", EVEN_PRICES.as_bytes())?;
     room.write("b.pb", SPLIT_ELECTION.as_bytes())?;
     room.write("b.prices.csv", SPLIT_PRICES.as_bytes())?;
     for (switch, first, second, total, status) in [

@@ -1,7 +1,7 @@
 //! Hints on violation certificates and outcome files.
 use super::hints::{Row, expect_hint};
 use super::room::Room;
-use super::samples::{ELECTION, UNFAIR_ELECTION, VIOLATION, with_lines};
+use pb_samples::files::{ELECTION, SMALL_SHARE_ELECTION, VIOLATION, with_lines};
 use std::test::Fail;
 
 const VIOLATIONS: [Row<'static>; 7] = [
@@ -72,7 +72,7 @@ const VIOLATIONS: [Row<'static>; 7] = [
 #[test]
 fn hint_shows_the_record_of_a_violation_certificate(rt: HostRuntime) -> Result<(), Fail> {
     let room = Room::new(&rt, "hints-violation")?;
-    let election = room.write("e.pb", UNFAIR_ELECTION.as_bytes())?;
+    let election = room.write("e.pb", SMALL_SHARE_ELECTION.as_bytes())?;
     for row in &VIOLATIONS {
         let bytes = with_lines(rt.alloc(), VIOLATION, row.kept, row.removed, row.new)?;
         let path = room.write("v.csv", &bytes)?;

@@ -1,0 +1,22 @@
+//! Whole runs of the program: words, files and standard streams in; an answer, what is told beside it, and an exit status
+//! out. No contract says what a run does, since none can say what a file holds; it is tested.
+#![tactic(auto)]
+
+mod end;
+mod file;
+mod files;
+mod folder;
+mod listing;
+mod noted;
+mod progress;
+mod refusals;
+mod task;
+mod whole;
+mod words;
+
+pub use end::End;
+pub use folder::report;
+pub use listing::{ListFault, Listing};
+pub use progress::Progress;
+pub use whole::run;
+pub use words::{without_words, words_of};

@@ -1,0 +1,5 @@
+//! The tests of whole runs.
+#![tactic(auto)]
+
+#[cfg(test)]
+mod tests;
