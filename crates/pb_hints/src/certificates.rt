@@ -241,8 +241,9 @@ impl RefusedRecord<'_> {
             CertFault::BadNumber if self.kind == Kind::Prices && self.has_decimals() => WHOLE,
             CertFault::BadRow if self.kind == Kind::Prices && self.is_cut_amount() => WHOLE,
             CertFault::BadRow if self.field(0) == "voter_id" => BY_ROWS,
-            CertFault::BadRow if self.field(0) == "satisfaction" && !self.at.before.is_version_2 =>
-                { "a measure is stated in version 2 alone, by the record behind pb-violation,2" }
+            CertFault::BadRow if self.is_measure_in_version_1() => {
+                "a measure is stated in version 2 alone, by the record behind pb-violation,2"
+            }
             _ => return Ok(None),
         };
         Ok(Some(Remark::on_file(text(self.at.alloc, words)?)))
@@ -277,6 +278,11 @@ impl RefusedRecord<'_> {
             _ => self.field(2),
         };
         number.contains('.') || number.contains(',')
+    }
+
+    /// Whether the record states a measure in a file of version 1.
+    fn is_measure_in_version_1(&self) -> bool {
+        self.field(0) == "satisfaction" && !self.at.before.is_version_2
     }
 
     /// Whether the record has a field too many, as where a decimal comma cuts the payment in two.
