@@ -1,4 +1,7 @@
 //! How a run of the program ends.
+ghost use Rattle.std.specs.Prelude.{◌≡◌};
+ghost use Rattle.pb_run.specs.Endings.{HasStatus};
+
 use pb_audit::{Fault, Status, UsageFault};
 use pb_election::{Output, put};
 use std::io::Write;
@@ -30,7 +33,9 @@ impl From<UsageFault> for End {
 
 impl End {
     /// The exit status, once help is written on `out`, or what went wrong on `err`. What `err` does not take is lost.
-    pub fn tell<O: Write, E: Write>(&self, out: &mut O, err: &mut E) -> u8 {
+    pub fn tell<O: Write, E: Write>(&self, out: &mut O, err: &mut E) -> u8
+        ensures { HasStatus self.now result }
+    {
         match self {
             End::Answered(Status::Yes) => 0,
             End::Answered(Status::No) => 1,
@@ -46,12 +51,16 @@ impl End {
     }
 }
 
-fn tell_usage<E: Write>(text: &str, err: &mut E) -> u8 {
+fn tell_usage<E: Write>(text: &str, err: &mut E) -> u8
+    ensures { result ≡ 3 }
+{
     let _ = err.write_all(text.as_bytes());
     3
 }
 
-fn tell_fault<E: Write>(fault: Fault, err: &mut E) -> u8 {
+fn tell_fault<E: Write>(fault: Fault, err: &mut E) -> u8
+    ensures { result ≡ 4 }
+{
     let _ = writeln!(err, "{fault}");
     4
 }

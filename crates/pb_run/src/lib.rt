@@ -1,5 +1,6 @@
 //! Whole runs of the program: words, files and standard streams in; an answer, what is told beside it, and an exit status
-//! out. No contract says what a run does, since none can say what a file holds; it is tested.
+//! out. No contract says how a run ends, since none can say what a file holds; it is tested. Which exit status each
+//! ending has is proved.
 #![tactic(auto)]
 
 mod end;

@@ -1,0 +1,16 @@
+-- How a run of the program ends, and its exit status.
+use Rattle.std.specs.Prelude.{◌≡◌, ◌⊎◌, ℕ}
+use Rattle.pb_reply.specs.declared.status.Status.TheVariants.{Yes, No, Refused}
+use Rattle.pb_run.specs.declared.end.End.{End}
+use Rattle.pb_run.specs.declared.end.End.TheVariants.{Answered, Help, Usage, NotText, Faulted}
+
+-- A run that ends so has this exit status: 0 after a yes, 1 after a no, 2 where an input was refused, 3 where the words
+-- were not understood, and 4 where the answer was not written whole. Help that is asked for is an answer too.
+abbrev pub HasStatus : End → ℕ → Type 0
+HasStatus (Answered Yes) status = status ≡ 0
+HasStatus (Answered No) status = status ≡ 1
+HasStatus (Answered Refused) status = status ≡ 2
+HasStatus (Help _) status = (status ≡ 0) ⊎ (status ≡ 4)
+HasStatus (Usage _) status = status ≡ 3
+HasStatus NotText status = status ≡ 3
+HasStatus (Faulted _) status = status ≡ 4
