@@ -12,12 +12,12 @@ mod noted;
 mod progress;
 mod refusals;
 mod task;
-mod whole;
+mod whole_run;
 mod words;
 
 pub use end::End;
 pub use folder::report;
 pub use listing::{ListFault, Listing};
 pub use progress::Progress;
-pub use whole::run;
+pub use whole_run::run;
 pub use words::{without_words, words_of};
