@@ -5,7 +5,8 @@ use Rattle.pb_run.specs.declared.end.End.{End}
 use Rattle.pb_run.specs.declared.end.End.TheVariants.{Answered, Help, Usage, NotText, Faulted}
 
 -- A run that ends so has this exit status: 0 after a yes, 1 after a no, 2 where an input was refused, 3 where the words
--- were not understood, and 4 where the answer was not written whole. Help that is asked for is an answer too.
+-- were not understood, and 4 where the answer was not written whole. After help it is 0 or 4; which one isn't said here,
+-- since an ending doesn't tell whether the help was written.
 abbrev pub HasStatus : End → ℕ → Type 0
 HasStatus (Answered Yes) status = status ≡ 0
 HasStatus (Answered No) status = status ≡ 1

@@ -34,18 +34,18 @@ impl<'a> Files<'a> {
         }
     }
 
-    /// `read`, of an election that is no file.
+    /// Answers `read` on an election that is no file.
     pub fn read_from<I: Read, O: Sink>(self, input: &mut I, out: &mut O) -> Result<Status, Fault> {
         let mut election = Input::new(NotedReader::new(input, self.failure));
         run_read(self.rt.alloc(), &mut election, out)
     }
 
-    /// `read`.
+    /// Answers `read`.
     pub fn read<O: Sink>(self, election: &'a str, out: &mut O) -> Result<Status, Fault> {
         run_read(self.rt.alloc(), &mut self.open(election), out)
     }
 
-    /// `prices`.
+    /// Answers `prices`.
     pub fn prices<O: Sink>(
         self,
         election: &'a str,
@@ -64,7 +64,7 @@ impl<'a> Files<'a> {
         )
     }
 
-    /// `violation`.
+    /// Answers `violation`.
     pub fn violation<O: Sink>(
         self,
         election: &'a str,
@@ -81,7 +81,7 @@ impl<'a> Files<'a> {
         )
     }
 
-    /// `both`.
+    /// Answers `both`.
     pub fn both<O: Sink>(
         self,
         election: &'a str,
@@ -102,7 +102,7 @@ impl<'a> Files<'a> {
         )
     }
 
-    /// `explain`.
+    /// Answers `explain`.
     pub fn explain<O: Sink>(
         self,
         election: &'a str,
@@ -121,7 +121,7 @@ impl<'a> Files<'a> {
         )
     }
 
-    /// `margins`.
+    /// Answers `margins`.
     pub fn margins<O: Sink>(
         self,
         election: &'a str,
@@ -138,7 +138,7 @@ impl<'a> Files<'a> {
         )
     }
 
-    /// `tidy`.
+    /// Answers `tidy`.
     pub fn tidy<O: Sink>(
         self,
         election: &'a str,
