@@ -27,6 +27,9 @@ import tempfile
 import time
 
 HEADER = re.compile(r'(?m)^( *)(?:pub(?:\(\w+\))? )?(?:const )?(?:unsafe )?(?:extern "C" )?fn (\w+)')
+# the paths by which a check names a closure and a function, with the module and the function's name
+CLOSURE = re.compile(r"((?:[^:]+::)*?)fn::(?:[A-Z][^:]*::)?([^:]+)")
+FUNCTION = re.compile(r"((?:[^:A-Z][^:]*::)*)(?:[A-Z].*::)?([^:]+)$")
 # what a check says of a function, and what of a place in a proof
 JUDGED = re.compile(r"(?m)^fn \w+::(\S+): (.*)$")
 ERROR = re.compile(r"(?m)^(?:\./)?proofs/(\S+)\.antt:\d+:\d+: error: (.*)$")
@@ -43,17 +46,9 @@ def module_of(path):
 
 
 def function_of(path):
-    """The module and the name of a function, from a path such as money::Money::read or ids::fn::has_id::any."""
-    parts = path.split("::")
-    marked = parts.index("fn") if "fn" in parts else None
-    place = next((at for at, part in enumerate(parts) if part[0].isupper()), None)
-    if marked is not None:
-        parts, place = parts[:marked] + parts[marked + 1 :], marked + parts[marked + 1][0].isupper()
-    elif place is None or place + 1 == len(parts):
-        place = len(parts) - 1
-    else:
-        place += 1
-    return "::".join(it for it in parts[:place] if not it[0].isupper()), parts[place]
+    """The module and the name of a function, from a path: money::Money::read, or ids::fn::has_id::any of a closure."""
+    found = CLOSURE.match(path) or FUNCTION.match(path)
+    return found[1].removesuffix("::"), found[2]
 
 
 def bodies_of(crate):
