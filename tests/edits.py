@@ -183,6 +183,9 @@ def try_round(copy, crate, lines, edits):
             alone = [it for it in edits if not it.functions & refused]
         for edit in alone:
             verdict = room.check([edit])
+            if not verdict.is_read:
+                # once more, since a check may have been killed for want of memory
+                verdict = room.check([edit])
             if verdict.why_not():
                 failed.append(f"{crate}/{edit.name}: {verdict.why_not()}\n{verdict.text}")
     seconds = time.monotonic() - began
