@@ -18,7 +18,7 @@ use Rattle.pb_certificate.specs.PriceRows.{as_payment, payment_fault, row_fault}
 use Rattle.pb_certificate.specs.PriceText.{Payment, payment_of, payments_stated}
 use Rattle.pb_certificate.specs.Inside.PriorRows.{RefusesPayment, RiseFrom, TakesPayment}
 use Rattle.pb_certificate.specs.Inside.RowReader.{Advances, IsReading, place_of}
-use Rattle.pb_certificate.specs.Rows.{IsInHead, RefusesNext, given}
+use Rattle.pb_certificate.specs.Rows.{IsBetweenRows, IsInHead, RefusesNext, given}
 use Rattle.pb_certificate.specs.declared.price_row.PriceRow.{PriceRow}
 use Rattle.pb_certificate.specs.declared.prior_rows.PriorRows.{PriorRows}
 use Rattle.pb_certificate.specs.declared.row_reader.RowReader.{RowReader}
@@ -48,6 +48,19 @@ pub given-is : (r : RowReader) (h : IsReading r) → given (place_of r) ≡ h.pa
 given-is r h =
     ap (λ (recs : List Rec). filter_map (payment_of r.election.now) (drop 4 recs)) h.stands.behind
     ∙ given-behind r.election.now r.denominator r.budget h.heads h.rows h.payments h.is_head h.each_row
+
+-- a reader stands between rows
+pub between-rows : (r : RowReader) → IsReading r → IsBetweenRows (place_of r)
+between-rows r h =
+    record {
+      heads = h.heads;
+      rows = h.rows;
+      behind = h.stands.behind;
+      is_head = h.is_head;
+      each_row = h.each_row ∙ ap (map Some) (sym (given-is r h));
+      within = h.stands.within;
+      clear = h.stands.clear;
+    }
 
 -- a row is given
 pub row-taken : (old : RowReader) (cursor : Box Position) (prior : PriorRows) (q : PriceRow) → IsReading old
@@ -88,6 +101,7 @@ row-taken old cursor prior q h m t many =
             };
         states = t.states;
         same = refl;
+        between = between-rows (record old { cursor = cursor; prior = prior }) reading;
         given_then = given-is (record old { cursor = cursor; prior = prior }) reading
             ∙ ap (λ (qs : List Payment). qs ++ (as_payment q ∷ [])) (sym (given-is old h));
         voter = t.voter;
@@ -190,6 +204,7 @@ none-left old cursor h m =
       record {
         no_row_left = ap nonblank (sym h.stands.left) ∙ m.are_blank;
         same = refl;
+        between = between-rows (record old { cursor = cursor }) reading;
         given_then = given-is (record old { cursor = cursor }) reading ∙ sym (given-is old h);
         states =
             record {

@@ -11,10 +11,9 @@ use Rattle.pb_records.specs.Records.{Field, Rec}
 use Rattle.pb_records.specs.Cells.{cell, is_text}
 use Rattle.pb_election.proofs.Elections.{found_is}
 use Rattle.pb_certificate.specs.Fields.{number, project_in}
-use Rattle.pb_certificate.specs.PriceText.{Payment, payment_of, same_pair}
+use Rattle.pb_certificate.specs.PriceText.{IsPriceHead, Payment, payment_of, same_pair}
 use Rattle.pb_certificate.specs.PriceRows.{last_number, last_voter, payment_fault, row_fault}
 use Rattle.pb_certificate.specs.Faults.{at_record, price_form, same_cells}
-use Rattle.pb_certificate.specs.Inside.PriceHead.{IsHead}
 use Rattle.pb_certificate.specs.declared.refusal.CertFault.{CertFault}
 use Rattle.pb_certificate.proofs.Cells.{cell-is}
 use Rattle.pb_certificate.proofs.PriceClear.{row-number, row-of}
@@ -85,14 +84,14 @@ place-is e r q done qs is k =
     refl
 
 -- the fault of a record behind the head
-pub form-of-row : (e : Instance) (d b : ℕ) (heads rows : List Rec) (r : Rec) (f : CertFault) → IsHead d b heads
+pub form-of-row : (e : Instance) (d b : ℕ) (heads rows : List Rec) (r : Rec) (f : CertFault) → IsPriceHead d b heads
     → is_text r ≡ true → row_fault e r ≡ Some f → price_form e (heads ++ rows) (Some r) ≡ Some f
 form-of-row e d b heads rows r f h text is =
     rw h.cut (form-at-row e h.name h.denominator_of h.budget_of h.columns rows r text ∙ rw is refl)
 
 -- and of one that states a payment
 pub form-of-payment : (e : Instance) (d b : ℕ) (heads rows : List Rec) (qs : List Payment) (r : Rec) (q : Payment)
-    → IsHead d b heads → map (payment_of e) rows ≡ map Some qs
+    → IsPriceHead d b heads → map (payment_of e) rows ≡ map Some qs
     → is_text r ≡ true → row_fault e r ≡ None → payment_of e r ≡ Some q
     → price_form e (heads ++ rows) (Some r) ≡ payment_fault qs q
 form-of-payment e d b heads rows qs r q h each text none is =
@@ -102,6 +101,6 @@ form-of-payment e d b heads rows qs r q h each text none is =
 
 -- the payments that rows behind a head state
 
-pub given-behind : (e : Instance) (d b : ℕ) (heads rows : List Rec) (qs : List Payment) → IsHead d b heads
+pub given-behind : (e : Instance) (d b : ℕ) (heads rows : List Rec) (qs : List Payment) → IsPriceHead d b heads
     → map (payment_of e) rows ≡ map Some qs → filter_map (payment_of e) (drop 4 (heads ++ rows)) ≡ qs
 given-behind e d b heads rows qs h each = rw h.cut (filter_map-all (payment_of e) rows qs each)

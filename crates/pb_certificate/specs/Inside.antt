@@ -1,4 +1,5 @@
--- What the code's own parts stand for, step by step. No claim on a file cites these.
+-- What the code's own parts stand for, step by step. The contracts of these parts cite it, as those of `record_writer`.
+-- What a file states is said without it.
 pub mod Places
 pub mod PriceHead
 pub mod PriorRows

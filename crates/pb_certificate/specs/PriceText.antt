@@ -55,6 +55,18 @@ above_0 j x = if nat_lt 0 x then Some (j, x) else None
 abbrev pub payments_stated : Instance → List Payment → ℕ → List (ℕ × ℕ)
 payments_stated e qs i = filter_map (λ j. above_0 j (stated qs i j)) (all_projects e)
 
+-- these are the four head records, with these numbers
+pub record IsPriceHead (denominator budget : ℕ) (heads : List Rec) : Type 0 where
+  pub name : Rec
+  pub denominator_of : Rec
+  pub budget_of : Rec
+  pub columns : Rec
+  pub cut : heads ≡ name ∷ denominator_of ∷ budget_of ∷ columns ∷ []
+  pub is_name : fields name ≡ codes "pb-prices" ∷ codes "1" ∷ []
+  pub is_denominator : StatesNumber (codes "denominator") 1 most_denominator denominator_of denominator
+  pub is_budget : StatesNumber (codes "voter_budget") 0 most_numerator budget_of budget
+  pub are_columns : fields columns ≡ codes "voter" ∷ codes "project" ∷ codes "payment" ∷ []
+
 -- the records are the text of these prices
 pub record IsPriceText (recs : List Rec) (e : Instance) (p : Prices) : Type 0 where
   pub head : Rec

@@ -3,9 +3,9 @@ use Rattle.std.specs.Prelude.{◌≡◌, ◌≤◌, ◌+◌, ◌-◌, ◌<◌, �
 use Rattle.pb_election.specs.Instance.{Instance, IsProject, IsVoter, all_voters, projects}
 use Rattle.pb_records.specs.Records.{Rec}
 use Rattle.pb_records.specs.Cells.{is_blank, nonblank}
-use Rattle.pb_records.specs.FirstFault.{IsFirstFault}
+use Rattle.pb_records.specs.FirstFault.{IsFirstFault, fault_at}
 use Rattle.pb_certificate.specs.Prices.{Prices, most_numerator}
-use Rattle.pb_certificate.specs.PriceText.{IsPriceText, Payment, payment_of, payments_stated}
+use Rattle.pb_certificate.specs.PriceText.{IsPriceHead, IsPriceText, Payment, payment_of, payments_stated}
 use Rattle.pb_certificate.specs.PriceRows.{as_payment, payment_fault}
 use Rattle.pb_certificate.specs.Faults.{no_memory, price_form}
 use Rattle.pb_certificate.specs.declared.price_row.PriceRow.{PriceRow}
@@ -34,6 +34,17 @@ prices_given s =
       payments = map (payments_stated s.election (given s)) (all_voters s.election);
     }
 
+-- the place is behind the four head records, which state these numbers, and behind rows that each state a payment, and
+-- no fault stands there or before
+pub record IsBetweenRows (s : Rows) : Type 0 where
+  pub heads : List Rec
+  pub rows : List Rec
+  pub behind : nonblank (take s.place s.records) ≡ heads ++ rows
+  pub is_head : IsPriceHead s.denominator s.budget heads
+  pub each_row : map (payment_of s.election) rows ≡ map Some (given s)
+  pub within : s.place ≤ length s.records
+  pub clear : (k : ℕ) → k ≤ s.place → fault_at (price_form s.election) s.records k ≡ None
+
 -- behind some blank records, the next that is not blank is this one, at this place
 pub record ComesNext (s : Rows) (place : ℕ) (r : Rec) : Type 0 where
   pub blanks : List Rec
@@ -49,6 +60,7 @@ pub record GivesRow (old new : Rows) (q : PriceRow) : Type 0 where
   pub next : ComesNext old new.place record_of
   pub states : payment_of old.election record_of ≡ Some (as_payment q)
   pub same : new ≡ record old { place = new.place }
+  pub between : IsBetweenRows new
   pub given_then : given new ≡ given old ++ (as_payment q ∷ [])
   pub voter : IsVoter old.election q.voter
   pub project : IsProject old.election q.project
@@ -59,6 +71,7 @@ pub record GivesRow (old new : Rows) (q : PriceRow) : Type 0 where
 pub record GivesNone (old new : Rows) : Type 0 where
   pub no_row_left : nonblank (drop old.place old.records) ≡ []
   pub same : new ≡ record old { place = new.place }
+  pub between : IsBetweenRows new
   pub given_then : given new ≡ given old
   pub states : IsPriceText old.records old.election (prices_given old)
 

@@ -91,6 +91,7 @@ impl Prices {
     /// The denominator of all amounts, from 1 to 10^9.
     pub fn denominator(&self) -> u32
         ensures value { result ≡ (self.now).denominator }
+        ensures sound { IsPriceSystem self.now }
         ensures low { 1 ≤ result }
         ensures high { result ≤ most_denominator }
     {
@@ -100,6 +101,7 @@ impl Prices {
     /// The numerator of the budget of each voter, at most 10^21.
     pub fn budget(&self) -> u128
         ensures value { result ≡ (self.now).budget }
+        ensures sound { IsPriceSystem self.now }
         ensures high { result ≤ most_numerator }
     {
         self.budget

@@ -27,7 +27,7 @@ pub struct RowReader<'a> {
 impl<'a> RowReader<'a> {
     ghost use Rattle.std.specs.Prelude.{◌≡◌, []};
     ghost use Rattle.pb_certificate.specs.Faults.{Refuses, certificate_records, no_memory, price_form};
-    ghost use Rattle.pb_certificate.specs.Rows.{IsInHead, given};
+    ghost use Rattle.pb_certificate.specs.Rows.{IsBetweenRows, IsInHead, given};
     ghost use Rattle.pb_certificate.specs.Inside.RowReader.{Advances, IsReading, place_of};
 
     /// Behind the head of a price certificate, or its first fault where that stands in the head.
@@ -39,6 +39,7 @@ impl<'a> RowReader<'a> {
         ensures reading { IfOk result (λ r. IsReading r) }
         ensures election { IfOk result (λ r. r.election.now ≡ election.now) }
         ensures bytes { IfOk result (λ r. r.bytes.now ≡ bytes.now) }
+        ensures between { IfOk result (λ r. IsBetweenRows (place_of r)) }
         ensures none_given { IfOk result (λ r. given (place_of r) ≡ []) }
         ensures refused { IfErr result (λ r. (r ≡ no_memory) ⊎ Refuses (price_form election.now) bytes.now r) }
         ensures in_head { IfErr result (λ r. IsInHead (certificate_records bytes.now) r) }

@@ -1,7 +1,7 @@
 //! The rows of a price certificate, one after another.
 ghost use Rattle.std.specs.Prelude.{◌≡◌, ◌≤◌, ◌⊎◌, [], None, IfOk, IfErr, IfSome};
 ghost use Rattle.pb_certificate.specs.Faults.{Refuses, certificate_records, no_memory, price_form};
-ghost use Rattle.pb_certificate.specs.Rows.{GivesNone, GivesRow, IsInHead, RefusesNext, given};
+ghost use Rattle.pb_certificate.specs.Rows.{GivesNone, GivesRow, IsBetweenRows, IsInHead, RefusesNext, given};
 ghost use Rattle.pb_certificate.specs.Prices.{most_denominator, most_numerator};
 
 use crate::CertRefusal;
@@ -41,6 +41,7 @@ impl<'a> Rows<'a> {
     ) -> Result<Rows<'a>, CertRefusal>
         ensures election { IfOk result (λ s. s.election ≡ election.now) }
         ensures records { IfOk result (λ s. s.records ≡ certificate_records bytes.now) }
+        ensures between { IfOk result (λ s. IsBetweenRows s) }
         ensures none_given { IfOk result (λ s. given s ≡ []) }
         ensures refused { IfErr result (λ r. (r ≡ no_memory) ⊎ Refuses (price_form election.now) bytes.now r) }
 
@@ -57,6 +58,7 @@ impl<'a> Rows<'a> {
     /// The denominator of all amounts, from 1 to 10^9.
     pub fn denominator(&self) -> u32
         ensures value { result ≡ (self.now).denominator }
+        ensures sound { IsBetweenRows self.now }
         ensures low { 1 ≤ result }
         ensures high { result ≤ most_denominator }
     {
@@ -66,6 +68,7 @@ impl<'a> Rows<'a> {
     /// The numerator of the budget of each voter, at most 10^21.
     pub fn budget(&self) -> u128
         ensures value { result ≡ (self.now).budget }
+        ensures sound { IsBetweenRows self.now }
         ensures high { result ≤ most_numerator }
     {
         self.reader.budget

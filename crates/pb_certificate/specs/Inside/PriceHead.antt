@@ -5,12 +5,12 @@ use Rattle.pb_records.specs.Records.{Field, Rec}
 use Rattle.pb_records.specs.Cells.{nonblank}
 use Rattle.pb_records.specs.FirstFault.{IsFirstFault}
 use Rattle.pb_records.specs.Inside.Position.{MeetsRecord, Position}
-use Rattle.pb_certificate.specs.Fields.{StatesNumber, fields}
+use Rattle.pb_certificate.specs.Fields.{fields}
+use Rattle.pb_certificate.specs.PriceText.{IsPriceHead}
 use Rattle.pb_certificate.specs.Faults.{no_memory, price_form}
 use Rattle.pb_certificate.specs.Inside.Places.{RefusedBehind, StandsBehind}
 use Rattle.pb_certificate.specs.declared.price_head.PriceHead.{PriceHead}
 use Rattle.pb_certificate.specs.declared.refusal.CertRefusal.{CertRefusal}
-use Rattle.pb_certificate.specs.Prices.{most_denominator, most_numerator}
 
 -- the next head record was met, or the file was refused
 abbrev pub NextHead : Position → Position → Result ⊤ CertRefusal → Type 0
@@ -38,21 +38,9 @@ name_fields = codes "pb-prices" ∷ codes "1" ∷ []
 abbrev pub column_fields : List Field
 column_fields = codes "voter" ∷ codes "project" ∷ codes "payment" ∷ []
 
--- these are the four head records, with these numbers
-pub record IsHead (denominator budget : ℕ) (heads : List Rec) : Type 0 where
-  pub name : Rec
-  pub denominator_of : Rec
-  pub budget_of : Rec
-  pub columns : Rec
-  pub cut : heads ≡ name ∷ denominator_of ∷ budget_of ∷ columns ∷ []
-  pub is_name : fields name ≡ name_fields
-  pub is_denominator : StatesNumber (codes "denominator") 1 most_denominator denominator_of denominator
-  pub is_budget : StatesNumber (codes "voter_budget") 0 most_numerator budget_of budget
-  pub are_columns : fields columns ≡ column_fields
-
 -- the head was read, and the cursor stands behind it; or it was refused
 abbrev pub ReadsHead : Instance → List Rec → Position → Result PriceHead CertRefusal → Type 0
-ReadsHead e recs new (Ok h) = (heads : List Rec) × IsHead h.denominator h.budget heads
+ReadsHead e recs new (Ok h) = (heads : List Rec) × IsPriceHead h.denominator h.budget heads
     × StandsBehind (price_form e) recs new heads
 ReadsHead e recs new (Err r) = (r ≡ no_memory)
     ⊎ (IsFirstFault (price_form e) recs r.place r.fault × (length (nonblank (take (r.place - 1) recs)) < 4))

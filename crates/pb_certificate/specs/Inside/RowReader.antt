@@ -1,11 +1,11 @@
--- What the reader's own parts of the rows of a price certificate stand for. No claim on a file rests on this.
+-- What the reader's own parts of the rows of a price certificate stand for, and as which place `Rows` is seen. What a
+-- file states is said without this module.
 use Rattle.std.specs.Prelude.{◌≡◌, ◌⊎◌, List, ◌++◌, length, map, Option, Some, None, Result, Ok, Err}
 use Rattle.pb_election.specs.Instance.{projects}
 use Rattle.pb_records.specs.Records.{Rec}
-use Rattle.pb_certificate.specs.PriceText.{Payment, payment_of}
+use Rattle.pb_certificate.specs.PriceText.{IsPriceHead, Payment, payment_of}
 use Rattle.pb_certificate.specs.Faults.{certificate_records, no_memory, price_form}
 use Rattle.pb_certificate.specs.Inside.Places.{StandsBehind}
-use Rattle.pb_certificate.specs.Inside.PriceHead.{IsHead}
 use Rattle.pb_certificate.specs.Inside.PriorRows.{Remembers}
 use Rattle.pb_certificate.specs.Rows.{GivesNone, GivesRow, RefusesNext, Rows}
 use Rattle.pb_certificate.specs.declared.price_row.PriceRow.{PriceRow}
@@ -28,7 +28,7 @@ pub record IsReading (r : RowReader) : Type 0 where
   pub heads : List Rec
   pub rows : List Rec
   pub payments : List Payment
-  pub is_head : IsHead r.denominator r.budget heads
+  pub is_head : IsPriceHead r.denominator r.budget heads
   pub each_row : map (payment_of r.election.now) rows ≡ map Some payments
   pub stands : StandsBehind (price_form r.election.now) (certificate_records r.bytes.now) r.cursor.value (heads ++ rows)
   pub remembers : Remembers r.prior payments

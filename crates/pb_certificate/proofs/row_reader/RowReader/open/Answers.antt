@@ -1,7 +1,7 @@
 use Rattle.std.proofs.Common.{◌∙◌, [], refl, append-nil}
 use Rattle.std.proofs.lemmas.Result.{err_from_is_err_and}
 use Rattle.pb_certificate.specs.Faults.{certificate_records}
-use Rattle.pb_certificate.proofs.ReaderSteps.{given-is, opened, refused-in-head}
+use Rattle.pb_certificate.proofs.ReaderSteps.{between-rows, given-is, opened, refused-in-head}
 use Rattle.pb_certificate.proofs.row_reader.RowReader.open.Goals as goal
 
 pub returns-in_err-denominator-clause-in_head : goal.returns-in_err-denominator-clause-in_head
@@ -34,3 +34,7 @@ returns-clause-reading c =
 pub returns-clause-none_given : goal.returns-clause-none_given
 unfolding returns-clause-reading
 returns-clause-none_given c = given-is _ (returns-clause-reading c)
+
+pub returns-clause-between : goal.returns-clause-between
+unfolding returns-clause-reading
+returns-clause-between c = between-rows _ (returns-clause-reading c)
