@@ -1,6 +1,6 @@
 -- The projects that verdicts name are those of the election.
 use Rattle.std.proofs.Common.{◌≡◌, ℕ, Bool, List, [], ◌∷◌, ◌++◌, length, sym, subst, if◌then◌else◌, arith}
-use Rattle.std.specs.Prelude.{◌==◌, nat_le, nat_lt, ◌*◌, IfSome, Option, Some, None, filter, map}
+use Rattle.std.specs.Prelude.{◌==◌, ◌&&◌, nat_le, nat_lt, ◌*◌, IfSome, Option, Some, None, filter, map}
 use Rattle.std.specs.List.{AllByRecursion}
 use Rattle.pb_records.proofs.Each.{all-append, all-every, all-filter, all-first, all-flat_map, all-if, all-map, all-range}
 use Rattle.pb_election.specs.Instance.{Instance, IsProject, IsSet, all_projects, all_voters, cost_of_all, projects, voters}
@@ -46,8 +46,7 @@ outcome-names m e w =
 
 pub budget-names : (m : Mode) (e : Instance) (p : Prices) → AllByRecursion (Names e) (failures_of_budgets m e p)
 budget-names m e p =
-    all-if (Names e) m.cover (if nat_le (voters e * beta p) (budget_limit e p) then failure.Cover ∷ [] else []) []
-    (all-if (Names e) (nat_le (voters e * beta p) (budget_limit e p)) (failure.Cover ∷ []) [] (tt, tt) tt) tt
+    all-if (Names e) (m.cover && nat_le (voters e * beta p) (budget_limit e p)) (failure.Cover ∷ []) [] (tt, tt) tt
 
 pub unapproved-name : (e : Instance) (p : Prices) → AllByRecursion (λ (q : ℕ × ℕ). IsProject e q.1) (culprits_of_C1 e p)
 unapproved-name e p =

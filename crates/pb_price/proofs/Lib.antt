@@ -24,3 +24,5 @@ pub mod Counting
 pub mod Looking
 pub mod Explained
 pub mod Told
+pub mod Lowest
+pub mod FirstFalse

@@ -1,6 +1,6 @@
 -- What the findings tell is so by the definitions.
 use Rattle.std.proofs.Common.{◌≡◌, ℕ, ◌+◌, ◌*◌, ◌≤◌, ◌↔◌, Bool, cond, List, [], ◌∷◌, length, refl, sym, ◌∙◌, ap, inl, inr, arith}
-use Rattle.std.specs.Prelude.{Some, None, map, nat_le, nat_lt, slice_get}
+use Rattle.std.specs.Prelude.{◌&&◌, Some, None, map, nat_le, nat_lt, slice_get}
 use Rattle.std.proofs.lemmas.Bool.{cases_lt, le-ltb, lt-ltb}
 use Rattle.std.proofs.lemmas.Nat.{mul-le}
 use Rattle.pb_election.specs.Instance.{Instance, voters}
@@ -66,8 +66,7 @@ outcome-told m e w p low =
 budgets-told : (m : Mode) (e : Instance) (w : List Bool) (p : Prices)
     → told_of_budgets m (findings e w p) ≡ slice_get (failures_of_budgets m e p) 0
 budgets-told m e w p =
-    of-choice m.cover (cond (nat_le (voters e * beta p) (budget_limit e p)) (failure.Cover ∷ []) []) [] _ _
-    (of-test (nat_le (voters e * beta p) (budget_limit e p)) failure.Cover) refl
+    of-test (m.cover && nat_le (voters e * beta p) (budget_limit e p)) failure.Cover
 
 supporters-told : (m : Mode) (e : Instance) (w : List Bool) (p : Prices)
     → told_of_supporters m (findings e w p) ≡ slice_get (failures_of_supporters m e w p) 0

@@ -1,8 +1,8 @@
 -- The first failure: none where the prices support the outcome, and the last condition only where the others hold.
-use Rattle.std.proofs.Common.{◌≡◌, ℕ, ◌*◌, ◌≤◌, Bool, true, false, cond, List, [], ◌∷◌, ◌++◌, refl, sym, ◌∙◌, ap, subst, arith}
-use Rattle.std.specs.Prelude.{◌↔◌, Contains, map, nat_le, nat_lt, slice_get, Some, None}
+use Rattle.std.proofs.Common.{◌≡◌, ℕ, ◌*◌, ◌≤◌, Bool, true, false, cond, List, [], ◌∷◌, ◌++◌, refl, sym, ◌∙◌, ap, subst, inl, inr, arith}
+use Rattle.std.specs.Prelude.{◌↔◌, ◌&&◌, Contains, map, nat_le, nat_lt, slice_get, Some, None}
 use Rattle.std.specs.List.{AllByRecursion}
-use Rattle.std.proofs.lemmas.Bool.{false≢true, le-ltb, leb-false, lt-leb, ltb-false}
+use Rattle.std.proofs.lemmas.Bool.{and_cases, and_left, and_right, cases_Bool, false≢true, le-ltb, leb-false, lt-leb, ltb-false}
 use Rattle.pb_election.specs.Instance.{Instance, voters}
 use Rattle.pb_certificate.specs.Prices.{Prices}
 use Rattle.pb_cohesion.specs.Amounts.{beta, budget_limit}
@@ -20,6 +20,20 @@ choice-nil : {A : Type 0} (b : Bool) (xs ys : List A)
     → (cond b xs ys ≡ []) ↔ ((b ≡ true → xs ≡ []) × (b ≡ false → ys ≡ []))
 choice-nil true xs ys = (λ h. (λ e. h, λ e. cc), λ h. h.0 refl)
 choice-nil false xs ys = (λ h. (λ e. cc, λ e. h), λ h. h.1 refl)
+
+-- Cover has no failure exactly where it holds, if the mode asks for it
+pub cover-nil : (m : Mode) (e : Instance) (p : Prices) → (failures_of_budgets m e p ≡ []) ↔ (m.cover ≡ true → Cover e p)
+cover-nil m e p = (
+  λ h asked. elim (and_cases m.cover (nat_le (voters e * beta p) (budget_limit e p))
+      ((if-nil (m.cover && nat_le (voters e * beta p) (budget_limit e p)) failure.Cover).0 h)) [
+        | inl none ↦ absurd (false≢true (sym none ∙ asked))
+        | inr less ↦ leb-false (voters e * beta p) (budget_limit e p) less
+      ],
+  λ h. (if-nil (m.cover && nat_le (voters e * beta p) (budget_limit e p)) failure.Cover).1 (elim (cases_Bool m.cover) [
+    | inl asked ↦ and_right m.cover _ (lt-leb (voters e * beta p) (budget_limit e p) (h asked))
+    | inr none ↦ and_left m.cover _ none
+  ]),
+)
 
 -- the failures of all conditions but the last
 abbrev before_last : Mode → Instance → List Bool → Prices → List Failure
@@ -52,9 +66,7 @@ before-nil m e w p h =
       exhausts =
           λ yes'. map-nil failure.Exhaustive (culprits_of_Exhaustive e w)
           ((when-nil m.exhaustive (map failure.Exhaustive (culprits_of_Exhaustive e w))).0 second.1 yes');
-      covers = λ yes'. leb-false (voters e * beta p) (budget_limit e p)
-          ((if-nil (nat_le (voters e * beta p) (budget_limit e p)) failure.Cover).0
-          ((when-nil m.cover _).0 third.1 yes'));
+      covers = (cover-nil m e p).0 third.1;
       approved = (C1-iff e p).0 (map-nil _ _ fourth.0);
       within_budget = (C2-iff e p).0 (map-nil _ _ fourth.1);
       paid_for = (C3-iff e w p).0 (map-nil _ _ fifth.1);
@@ -90,9 +102,7 @@ supports-iff m e w p = (
       ((if-nil (nat_lt e.limit (total e w)) failure.Feasible).1 (le-ltb e.limit (total e w) s.feasible))
       ((when-nil m.exhaustive (map failure.Exhaustive (culprits_of_Exhaustive e w))).1
       (λ yes'. nil-map failure.Exhaustive (culprits_of_Exhaustive e w) ((Exhaustive-iff e w).1 (s.exhausts yes')))))
-      ((when-nil m.cover _).1
-      (λ yes'. (if-nil (nat_le (voters e * beta p) (budget_limit e p)) failure.Cover).1
-      (lt-leb (voters e * beta p) (budget_limit e p) (s.covers yes')))))
+      ((cover-nil m e p).1 s.covers))
       (nil-append _ _ (nil-append _ _ (nil-append _ _
       (nil-map _ _ ((C1-iff e p).1 s.approved))
       (nil-map _ _ ((C2-iff e p).1 s.within_budget)))
@@ -138,7 +148,7 @@ before-earlier m e w p =
     (earlier-append _ _
     (earlier-if (nat_lt e.limit (total e w)) (failure.Feasible ∷ []) (refl, tt))
     (earlier-if m.exhaustive _ (earlier-map failure.Exhaustive (culprits_of_Exhaustive e w) (λ x. refl))))
-    (earlier-if m.cover _ (earlier-if (nat_le (voters e * beta p) (budget_limit e p)) (failure.Cover ∷ []) (refl, tt))))
+    (earlier-if (m.cover && nat_le (voters e * beta p) (budget_limit e p)) (failure.Cover ∷ []) (refl, tt)))
     (earlier-append _ _ (earlier-append _ _ (earlier-append _ _
     (earlier-map (λ q. failure.C1 q.0 q.1) (culprits_of_C1 e p) (λ x. refl))
     (earlier-map failure.C2 (culprits_of_C2 e p) (λ x. refl)))

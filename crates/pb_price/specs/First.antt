@@ -1,5 +1,5 @@
 -- The first condition that is false, with its first culprit.
-use Rattle.std.specs.Prelude.{◌*◌, nat_lt, nat_le, if◌then◌else◌, Bool, List, [], ◌∷◌, ◌++◌, map, slice_get, Option, Some, None}
+use Rattle.std.specs.Prelude.{◌*◌, ◌&&◌, nat_lt, nat_le, if◌then◌else◌, Bool, List, [], ◌∷◌, ◌++◌, map, slice_get, Option, Some, None}
 use Rattle.pb_election.specs.Instance.{Instance, voters}
 use Rattle.pb_certificate.specs.Prices.{Prices}
 use Rattle.pb_cohesion.specs.Amounts.{beta, budget_limit}
@@ -21,8 +21,8 @@ failures_of_outcome m e w =
 
 -- then Cover, where the mode asks for it
 abbrev pub failures_of_budgets : Mode → Instance → Prices → List Failure
-failures_of_budgets m e p = if m.cover then if nat_le (voters e * beta p) (budget_limit e p) then failure.Cover ∷ []
-    else [] else []
+failures_of_budgets m e p =
+    if m.cover && nat_le (voters e * beta p) (budget_limit e p) then failure.Cover ∷ [] else []
 
 -- then C1, C2, C3 and C4
 abbrev pub failures_of_payments : Instance → List Bool → Prices → List Failure

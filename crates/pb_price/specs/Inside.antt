@@ -1,4 +1,4 @@
--- What the code's own parts stand for, step by step. No claim on a file cites these.
+-- What the code's own parts stand for, step by step. The contracts of these parts cite it, and those of no public call.
 pub mod Tallies
 pub mod Noted
 pub mod Looked

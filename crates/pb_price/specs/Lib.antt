@@ -1,5 +1,6 @@
 pub mod Supports
 pub mod First
+pub mod FirstFalse
 pub mod Answers
 pub mod Margins
 pub mod Findings

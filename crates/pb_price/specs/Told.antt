@@ -1,5 +1,5 @@
 -- What the findings on prices tell: which conditions hold, and the first that doesn't.
-use Rattle.std.specs.Prelude.{◌≡◌, ◌<◌, ◌≤◌, ◌↔◌, if◌then◌else◌, nat_le, nat_lt, Bool, List, Option, Some, None, option_map}
+use Rattle.std.specs.Prelude.{◌≡◌, ◌<◌, ◌≤◌, ◌↔◌, ◌&&◌, if◌then◌else◌, nat_le, nat_lt, Bool, List, Option, Some, None, option_map}
 use Rattle.std.specs.Option.{option_or}
 use Rattle.pb_election.specs.Instance.{Instance}
 use Rattle.pb_certificate.specs.Prices.{Prices}
@@ -30,7 +30,7 @@ told_of_outcome m f =
     (if m.exhaustive then option_map failure.Exhaustive f.exhaustive.first else None)
 
 abbrev pub told_of_budgets : Mode → Findings → Option Failure
-told_of_budgets m f = if m.cover then if nat_le f.budgets f.limit then Some failure.Cover else None else None
+told_of_budgets m f = if m.cover && nat_le f.budgets f.limit then Some failure.Cover else None
 
 abbrev pub told_of_payments : Findings → Option Failure
 told_of_payments f =

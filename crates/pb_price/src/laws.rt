@@ -1,19 +1,27 @@
 //! Laws of the verdict and of the sums that it compares, over the definitions alone.
 
-ghost use Rattle.std.specs.Prelude.{◌≡◌, ◌≤◌, ◌↔◌, Bool, List, None};
+ghost use Rattle.std.specs.Prelude.{◌≡◌, ◌≤◌, ◌↔◌, Bool, List, None, Some};
 ghost use Rattle.pb_election.specs.Instance.{Instance};
 ghost use Rattle.pb_election.specs.Text.{IsElection};
 ghost use Rattle.pb_certificate.specs.Prices.{ArePrices, Prices};
 ghost use Rattle.pb_price.specs.Findings.{findings};
 ghost use Rattle.pb_price.specs.First.{First};
+ghost use Rattle.pb_price.specs.FirstFalse.{IsFirstFalse};
 ghost use Rattle.pb_price.specs.Supports.{Supports};
 ghost use Rattle.pb_price.specs.Ranges.{AllSumsFit};
 ghost use Rattle.pb_price.specs.Told.{TellWhatHolds, first_told};
+ghost use Rattle.pb_price.specs.declared.Failure.{Failure};
 ghost use Rattle.pb_price.specs.declared.Mode.{Mode};
 
 /// The prices support the outcome exactly where no condition fails, whatever the mode asks for.
 pub fn supported_where_no_condition_fails()
     ensures { (m : Mode) (e : Instance) (w : List Bool) (p : Prices) → (First m e w p ≡ None) ↔ Supports m e w p }
+{}
+
+/// The first failure is the one whose condition is the first that is false, of those that the mode asks for, and which
+/// names the lowest voter and project at which that condition is false.
+pub fn fails_at_the_first_false_condition()
+    ensures { (m : Mode) (e : Instance) (w : List Bool) (p : Prices) (f : Failure) → (First m e w p ≡ Some f) ↔ IsFirstFalse m e w p f }
 {}
 
 /// Within the limits on elections and certificates each sum that the conditions compare, and each sum over a part of
