@@ -1,5 +1,5 @@
--- How a run of the program ends, and its exit status.
-use Rattle.std.specs.Prelude.{◌≡◌, ◌⊎◌, ℕ}
+-- How a run of the program ends: its exit status, and what is written on standard output then.
+use Rattle.std.specs.Prelude.{◌≡◌, ◌⊎◌, ⊤, ℕ}
 use Rattle.pb_reply.specs.declared.status.Status.TheVariants.{Yes, No, Refused}
 use Rattle.pb_run.specs.declared.end.End.{End}
 use Rattle.pb_run.specs.declared.end.End.TheVariants.{Answered, Help, Usage, NotText, Faulted}
@@ -15,3 +15,11 @@ HasStatus (Help _) status = (status ≡ 0) ⊎ (status ≡ 4)
 HasStatus (Usage _) status = status ≡ 3
 HasStatus NotText status = status ≡ 3
 HasStatus (Faulted _) status = status ≡ 4
+
+-- Nothing is written on standard output at the end, unless help was asked for. Here O is the type of that output.
+abbrev pub WritesOnlyHelp : {O : Type 0} → End → O → O → Type 0
+WritesOnlyHelp (Answered _) old new = new ≡ old
+WritesOnlyHelp (Help _) old new = ⊤
+WritesOnlyHelp (Usage _) old new = new ≡ old
+WritesOnlyHelp NotText old new = new ≡ old
+WritesOnlyHelp (Faulted _) old new = new ≡ old

@@ -1,6 +1,6 @@
 //! How a run of the program ends.
 ghost use Rattle.std.specs.Prelude.{◌≡◌};
-ghost use Rattle.pb_run.specs.Endings.{HasStatus};
+ghost use Rattle.pb_run.specs.Endings.{HasStatus, WritesOnlyHelp};
 
 use pb_audit::{Fault, Status, UsageFault};
 use pb_election::{Output, put};
@@ -34,7 +34,8 @@ impl From<UsageFault> for End {
 impl End {
     /// The exit status, once help is written on `out`, or what went wrong on `err`. What `err` does not take is lost.
     pub fn tell<O: Write, E: Write>(&self, out: &mut O, err: &mut E) -> u8
-        ensures { HasStatus self.now result }
+        ensures status { HasStatus self.now result }
+        ensures printed { WritesOnlyHelp self.now out.old out.new }
     {
         match self {
             End::Answered(Status::Yes) => 0,
