@@ -1,9 +1,8 @@
 //! What is printed on a price certificate and a violation certificate together.
 use super::engines;
-use pb_audit::{Fault, Status, run_both};
-use pb_election::{Input, Output};
+use pb_audit::Status;
 use pb_price::Mode;
-use pb_samples::fakes::{InterruptedReader, Lapse, LapsingWriter};
+use pb_samples::fakes::InterruptedReader;
 use pb_samples::files::{
     ELECTION, EVEN_PRICES, FAIR_VIOLATION, OUTCOME, PRICES, SMALL_SHARE_ELECTION, VIOLATION,
     with_lines,
@@ -182,43 +181,6 @@ fn each_input_is_read_in_its_turn(rt: HostRuntime) -> Result<(), Fail> {
             assert!(rt; printed.as_str() == line, "{printed}");
             assert!(rt; counted == reads, "{line}{at}");
         }
-    }
-    Ok(())
-}
-
-#[test]
-fn writer_that_fails_has_a_front_of_both_lines(rt: HostRuntime) -> Result<(), Fail> {
-    let alloc = rt.alloc();
-    let whole = "supported priceable\nfailed V4 voter 1\n";
-    for (lapse, want, written) in [
-        (Lapse::Fails(1), Err(Fault::Write), ""),
-        (
-            Lapse::Fails(6),
-            Err(Fault::Write),
-            "supported priceable\nfaile",
-        ),
-        (Lapse::Unflushed, Err(Fault::Write), whole),
-        (Lapse::Fails(0), Ok(Status::No), whole),
-    ] {
-        let mut writer = LapsingWriter::new(alloc, 5, lapse);
-        let mut election = ELECTION.as_bytes();
-        let mut prices = PRICES.as_bytes();
-        let mut violation = FAIR_VIOLATION.as_bytes();
-        let mut outcome: Option<Input<&mut &[u8]>> = None;
-        let got = run_both(
-            alloc,
-            &mut Input::new(&mut election),
-            &mut outcome,
-            &mut Input::new(&mut prices),
-            &mut Input::new(&mut violation),
-            PLAIN,
-            &mut Output::new(&mut writer),
-        );
-        assert!(rt; got == want, "{written}");
-        assert!(rt;
-            writer.written.as_slice() == written.as_bytes(),
-            "{written}"
-        );
     }
     Ok(())
 }

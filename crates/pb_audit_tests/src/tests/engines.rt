@@ -8,6 +8,14 @@ use std::alloc::Global;
 use std::io::Read;
 use std::test::Fail;
 
+/// The input of an outcome, where one is given.
+fn input_of<O: Read + Drop>(outcome: Option<O>) -> Option<Input<O>> {
+    match outcome {
+        Some(reader) => Some(Input::new(reader)),
+        None => None,
+    }
+}
+
 /// On an election.
 pub fn read<E: Read>(alloc: Global, election: &mut E) -> Result<(String, Status), Fail> {
     let mut written = Vec::new(alloc);
@@ -27,7 +35,7 @@ pub fn prices<E: Read, O: Read + Drop, C: Read>(
     certificate: &mut C,
     mode: Mode,
 ) -> Result<(String, Status), Fail> {
-    let mut outcome = outcome.map(|reader| Input::new(reader));
+    let mut outcome = input_of(outcome);
     let mut written = Vec::new(alloc);
     let status = run_prices(
         alloc,
@@ -47,7 +55,7 @@ pub fn violation<E: Read, O: Read + Drop, C: Read>(
     outcome: Option<O>,
     certificate: &mut C,
 ) -> Result<(String, Status), Fail> {
-    let mut outcome = outcome.map(|reader| Input::new(reader));
+    let mut outcome = input_of(outcome);
     let mut written = Vec::new(alloc);
     let status = run_violation(
         alloc,
@@ -68,7 +76,7 @@ pub fn both<E: Read, O: Read + Drop, P: Read, V: Read>(
     violation: &mut V,
     mode: Mode,
 ) -> Result<(String, Status), Fail> {
-    let mut outcome = outcome.map(|reader| Input::new(reader));
+    let mut outcome = input_of(outcome);
     let mut written = Vec::new(alloc);
     let status = run_both(
         alloc,
@@ -90,7 +98,7 @@ pub fn explain<E: Read, O: Read + Drop, C: Read>(
     certificate: &mut C,
     mode: Mode,
 ) -> Result<(String, Status), Fail> {
-    let mut outcome = outcome.map(|reader| Input::new(reader));
+    let mut outcome = input_of(outcome);
     let mut written = Vec::new(alloc);
     let status = run_explain(
         alloc,
@@ -110,7 +118,7 @@ pub fn margins<E: Read, O: Read + Drop, C: Read>(
     outcome: Option<O>,
     certificate: &mut C,
 ) -> Result<(String, Status), Fail> {
-    let mut outcome = outcome.map(|reader| Input::new(reader));
+    let mut outcome = input_of(outcome);
     let mut written = Vec::new(alloc);
     let status = run_margins(
         alloc,

@@ -1,17 +1,17 @@
 //! Each read and each write of each command, made to fail one after the other.
 use super::engines;
 use pb_audit::{
-    Fault, Status, folder_text, run_explain, run_margins, run_prices, run_read, run_tidy,
+    Fault, Status, folder_text, run_both, run_explain, run_margins, run_prices, run_read, run_tidy,
     run_violation,
 };
 use pb_certificate::{Prices, WriteFault};
 use pb_election::{Election, Input, Output};
 use pb_samples::fakes::{InterruptedReader, Lapse, LapsingWriter};
 use pb_samples::files::{
-    ELECTION, EXPLAINED, MARGINS, OUTCOME, POOL_OUTCOME, PRICES, UNFAIR_ELECTION, UNTIDY_PRICES,
-    VIOLATION,
+    ELECTION, EXPLAINED, FAIR_VIOLATION, MARGINS, OUTCOME, POOL_OUTCOME, PRICES, UNFAIR_ELECTION,
+    UNTIDY_PRICES, VIOLATION,
 };
-use pb_samples::modes::PLAIN;
+use pb_samples::modes::{PLAIN, STABLE_AND_COVERED};
 use std::alloc::Global;
 use std::io::Write;
 use std::test::Fail;
@@ -153,6 +153,7 @@ enum Written {
     Election,
     Prices,
     Violation,
+    Both,
     Explain,
     Margins,
     Tidy,
@@ -161,16 +162,25 @@ enum Written {
 }
 
 impl Written {
-    /// What is written where nothing fails. The status is a yes.
+    /// What is written where nothing fails.
     fn text(self) -> &'static str {
         match self {
             Written::Election => "read 3 voters 3 projects 2 funded\n",
             Written::Prices => "supported priceable\n",
             Written::Violation => "violation\n",
+            Written::Both => "supported stable\nfailed V4 voter 1\n",
             Written::Explain => EXPLAINED,
             Written::Margins => MARGINS,
             Written::Tidy | Written::Canonical => PRICES,
             Written::Folder => "total 0 elections 0 yes 0 no 0 refused\n",
+        }
+    }
+
+    /// How that ends.
+    fn status(self) -> Status {
+        match self {
+            Written::Both => Status::No,
+            _ => Status::Yes,
         }
     }
 
@@ -193,6 +203,15 @@ impl Written {
                 &mut input(UNFAIR_ELECTION),
                 &mut no_input(),
                 &mut input(VIOLATION),
+                &mut out,
+            ),
+            Written::Both => run_both(
+                alloc,
+                &mut election,
+                &mut no_input(),
+                &mut prices,
+                &mut input(FAIR_VIOLATION),
+                STABLE_AND_COVERED,
                 &mut out,
             ),
             Written::Explain => run_explain(
@@ -244,10 +263,11 @@ fn write_canonical<W: Write>(
     })
 }
 
-const WRITTEN: [Written; 8] = [
+const WRITTEN: [Written; 9] = [
     Written::Election,
     Written::Prices,
     Written::Violation,
+    Written::Both,
     Written::Explain,
     Written::Margins,
     Written::Tidy,
@@ -321,7 +341,7 @@ fn flush_fails_once_all_is_written(rt: HostRuntime) -> Result<(), Fail> {
     for call in WRITTEN {
         for piece in [1, 7, 1000] {
             let writes = call.text().len().div_ceil(piece);
-            let done = Ok(Status::Yes);
+            let done = Ok(call.status());
             expect_whole(&rt, call, piece, Lapse::Fails(0), writes, done)?;
             let failed = Err(Fault::Write);
             expect_whole(&rt, call, piece, Lapse::Unflushed, writes, failed)?;
