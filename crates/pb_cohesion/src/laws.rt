@@ -69,7 +69,7 @@ pub fn stable_prices_exclude_violations()
     ensures { (e : Instance) (w : List Bool) (p : Prices) → C1 e p → C3 e w p → C4 e w p → S5 e w p → Cover e p → NoViolationByCounting e w }
 {}
 
-/// Each condition holds exactly where it has no culprit.
+/// Each condition but Feasible and Cover, which name no culprit, holds exactly where it has none.
 pub fn conditions_have_culprits()
     ensures exhaustive { (e : Instance) (w : List Bool) → (culprits_of_Exhaustive e w ≡ []) ↔ Exhaustive e w }
     ensures c1 { (e : Instance) (p : Prices) → (culprits_of_C1 e p ≡ []) ↔ C1 e p }

@@ -77,7 +77,7 @@ asked_by name rows =
     then option_map (λ f. folder f (mode_in rows)) (first_of (codes "folder") rows)
     else None)))))))
 
--- no command reads standard input
+-- without a command, standard input is read
 unfoldable pub asked_in : Option (Text × List Row) → Option Asked
 asked_in met = option_map_or (λ p. asked_by p.0 p.1) met (Some (read None))
 

@@ -1,4 +1,5 @@
--- What the code's own parts stand for, step by step. No claim on a file cites these.
+-- What the code's own parts stand for, step by step, and which `Instance` an `Election` is seen as. What a file states
+-- is said without it.
 pub mod Ids
 pub mod SoFar
 pub mod Beginnings

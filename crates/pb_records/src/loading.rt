@@ -16,7 +16,7 @@ pub enum LoadFault {
     Memory,
     /// The reader answered an error.
     Read,
-    /// The reader gave more bytes than were asked for.
+    /// The reader gave more bytes than are allowed.
     TooLong,
 }
 

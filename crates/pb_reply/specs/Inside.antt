@@ -1,3 +1,4 @@
--- What the code's own parts stand for, step by step. No claim on a file cites these.
+-- What the code's own parts stand for, step by step. The contracts of these parts cite it, as those of `Loaded` and
+-- `election_of`. What an input states, and how an answer is made of it, is said without it.
 pub mod Loaded
 pub mod Taking
