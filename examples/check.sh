@@ -182,6 +182,8 @@ if command -v script > /dev/null; then
     printf 'on a terminal was written:\n'
     cat -v "$work/terminal"
   fi
+else
+  echo 'script is not installed: what is told on a terminal was not tried'
 fi
 echo "$passed passed, $failed failed"
 [ "$failed" = 0 ]

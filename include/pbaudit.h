@@ -15,7 +15,8 @@
  * program (docs/FORMATS.md).
  *
  * What the caller owes, and nothing tests:
- * - No pointer is null, also where its length or room is 0.
+ * - No pointer is null, also where its length or room is 0, and outcome also where has_outcome is false.
+ * - A file holds as many bytes as its length says, outcome also where has_outcome is false, and out as many as room.
  * - out and *needed overlap neither each other nor a file, and nothing else touches them during the call. The files
  *   do not change during the call.
  * - A bool is 0 or 1.

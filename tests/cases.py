@@ -22,9 +22,8 @@ class Case:
     known: tuple = None
 
 
-def some_mode(chance, later):
-    mode = [option for option in ("--stable", "--no-exhaustive") if chance.random() < 0.4]
-    return mode + (["--cover"] if "cover" in later and chance.random() < 0.4 else [])
+def some_mode(chance):
+    return [option for option in ("--stable", "--no-exhaustive", "--cover") if chance.random() < 0.4]
 
 
 def some_outcome(chance, town, plain):
@@ -37,7 +36,7 @@ def some_outcome(chance, town, plain):
     return ["--outcome", "outcome.csv"], {"outcome.csv": making.outcome_file(chance, town, funded, plain)}
 
 
-def a_read(chance, later):
+def a_read(chance):
     town, _ = making.supported(chance, False)
     files = {"town.pb": making.election_file(chance, town, chance.random() < 0.3)}
     if chance.random() < 0.15:
@@ -45,9 +44,9 @@ def a_read(chance, later):
     return Case(["read", "town.pb"], files)
 
 
-def a_price_check(chance, later):
+def a_price_check(chance):
     """Prices that mostly support the outcome but for one small change, as a case of 'prices'."""
-    mode = some_mode(chance, later)
+    mode = some_mode(chance)
     town, claim = making.supported(chance, "--stable" in mode and chance.random() < 0.6)
     for _ in range(chance.choice([0, 0, 1, 1, 1, 2, 3])):
         making.nudge(chance, town, claim)
@@ -62,17 +61,17 @@ def a_price_check(chance, later):
     return Case(["prices", "town.pb", "claim.csv", *mode, *words], files)
 
 
-def a_violation_check(chance, later):
+def a_violation_check(chance):
     town, group, demand = making.a_violation(chance)
     plain = chance.random() < 0.4
     words, files = some_outcome(chance, town, plain)
-    version = b"2" if "cost" in later and chance.random() < 0.6 else b"1"
+    version = b"2" if chance.random() < 0.6 else b"1"
     files["town.pb"] = making.election_file(chance, town, plain)
     files["claim.csv"] = making.violation_file(chance, town, group, demand, plain, (b"pb-violation", version))
     return Case(["violation", "town.pb", "claim.csv", *words], files)
 
 
-def a_tidying(chance, later):
+def a_tidying(chance):
     town, claim = making.supported(chance, False)
     making.nudge(chance, town, claim)
     files = {"town.pb": making.election_file(chance, town, chance.random() < 0.4)}
@@ -80,14 +79,14 @@ def a_tidying(chance, later):
     return Case(["tidy", "town.pb", "claim.csv"], files)
 
 
-def margins(chance, later):
-    case = a_price_check(chance, later)
+def margins(chance):
+    case = a_price_check(chance)
     mode = ("--stable", "--no-exhaustive", "--cover")
     case.words = ["margins", *[word for word in case.words[1:] if word not in mode]]
     return case
 
 
-def both(chance, later):
+def both(chance):
     """Prices and a violation of one town."""
     if chance.random() < 0.5:
         town, group, demand = making.a_violation(chance)
@@ -100,24 +99,24 @@ def both(chance, later):
     words, files = some_outcome(chance, town, plain)
     files["town.pb"] = making.election_file(chance, town, plain)
     files["claim.csv"] = making.prices_file(chance, town, claim, plain)
-    head = (b"pb-violation", b"2" if "cost" in later and chance.random() < 0.3 else b"1")
+    head = (b"pb-violation", b"2" if chance.random() < 0.3 else b"1")
     files["violation.csv"] = making.violation_file(chance, town, group, demand, plain, head)
-    return Case(["both", "town.pb", "claim.csv", "violation.csv", *some_mode(chance, later), *words], files)
+    return Case(["both", "town.pb", "claim.csv", "violation.csv", *some_mode(chance), *words], files)
 
 
-def explain(chance, later):
-    case = chance.choice([a_price_check, a_violation_check])(chance, later)
+def explain(chance):
+    case = chance.choice([a_price_check, a_violation_check])(chance)
     case.words[0] = "explain"
     return case
 
 
-def folder(chance, later):
+def folder(chance):
     """A folder of a few elections, with or without certificates, and of files that aren't elections."""
     files = {}
     names = ["one", "Two", "a b", "\u00fcber", "-x", "10", "9", "x.pb", ".pb"]
     for name in chance.sample(names, chance.randint(0, 4)):
         maker = chance.choice([a_price_check, a_violation_check])
-        case = maker(chance, later)
+        case = maker(chance)
         files[f"room/{name}.pb"] = case.files["town.pb"]
         if maker is a_price_check:
             files[f"room/{name}.prices.csv"] = case.files["claim.csv"]
@@ -130,18 +129,18 @@ def folder(chance, later):
         if chance.random() < 0.2:
             files[name] = b"META\n"
     files.setdefault("room/readme", b"")
-    return Case(["folder", "room", *some_mode(chance, later)], files)
+    return Case(["folder", "room", *some_mode(chance)], files)
 
 
 # How often each kind is made; the damaged ones are made of these.
-KINDS = [(a_read, 12), (a_price_check, 38), (a_violation_check, 14), (a_tidying, 6)]
-LATER_KINDS = {"both": (both, 10), "folder": (folder, 8), "margins": (margins, 10), "explain": (explain, 10)}
+KINDS = {
+    a_read: 12, a_price_check: 38, a_violation_check: 14, a_tidying: 6, both: 10, explain: 10, folder: 8, margins: 10,
+}  # fmt: skip
 DAMAGED = 0.5
 
 
-def random_case(chance, later=()):
-    kinds = KINDS + [LATER_KINDS[name] for name in sorted(LATER_KINDS) if name in later]
-    case = chance.choices([kind for kind, _ in kinds], [often for _, often in kinds])[0](chance, later)
+def random_case(chance, kinds):
+    case = chance.choices(list(kinds), list(kinds.values()))[0](chance)
     if case.words[:1] != ["folder"] and chance.random() < DAMAGED:
         if case.stdin is not None:
             case.stdin = damage(chance, case.stdin)
@@ -152,10 +151,10 @@ def random_case(chance, later=()):
     return case
 
 
-def random_cases(count, seed, later=()):
+def random_cases(count, seed, kinds=KINDS):
     """Each case from a seed of its own, so that one can be made again alone."""
     for number in range(count):
-        case = random_case(random.Random(f"{seed}/{number}"), later)
+        case = random_case(random.Random(f"{seed}/{number}"), kinds)
         case.name = f"{seed}/{number}"
         yield case
 
@@ -178,19 +177,9 @@ LIMITS = [
 ]
 
 
-def later_fixed_cases(later):
-    """Folders that can't be listed, as far as folders are compared."""
-    if "folder" in later:
-        yield Case(["folder", "missing.csv"], {"town.pb": ELECTION}, name="no folder")
-        yield Case(["folder", "town.pb"], {"town.pb": ELECTION}, name="a file for a folder")
-        files = {"room/town.pb": ELECTION, b"room/\xff.pb": ELECTION}
-        yield Case(["folder", "room"], files, name="a name that isn't text")
-        files = {"room/town.pb": ELECTION, "room/town.prices.csv": Sparse(2**28 + 1)}
-        yield Case(["folder", "room"], files, name="too long in a folder")
-
-
 def fixed_cases():
-    """What chance doesn't meet: files that aren't there, folders for files, and what is at its limit or past it."""
+    """What chance doesn't meet: files that aren't there, folders for files, what is at its limit or past it, and folders
+    that can't be listed."""
     good = {"town.pb": ELECTION, "claim.csv": PRICES, "outcome.csv": OUTCOME, "folder/file": b""}
     asks = [
         ["read", "{town}"], ["prices", "{town}", "{claim}"], ["prices", "{town}", "{claim}", "--outcome", "{outcome}"],
@@ -231,6 +220,12 @@ def fixed_cases():
     yield known(tidy, {"town.pb": data, "claim.csv": head + payments}, head.decode().strip())
     last = head + payments + b"501,1,0\n"
     yield known(tidy, {"town.pb": data, "claim.csv": last}, "refused certificate 28 TooMany record 10000005")
+    yield Case(["folder", "missing.csv"], {"town.pb": ELECTION}, name="no folder")
+    yield Case(["folder", "town.pb"], {"town.pb": ELECTION}, name="a file for a folder")
+    files = {"room/town.pb": ELECTION, b"room/\xff.pb": ELECTION}
+    yield Case(["folder", "room"], files, name="a name that isn't text")
+    files = {"room/town.pb": ELECTION, "room/town.prices.csv": Sparse(2**28 + 1)}
+    yield Case(["folder", "room"], files, name="too long in a folder")
 
 
 def many_projects(count):

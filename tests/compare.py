@@ -1,16 +1,14 @@
 #!/usr/bin/env python3
 """Compares the program with the plain reference, on files that are made by chance and damaged.
 
-    python3 tests/compare.py PROGRAM [--cases N] [--seed S] [--later WHAT] [--keep FOLDER]
+    python3 tests/compare.py PROGRAM [--cases N] [--seed S] [--keep FOLDER]
 
 Prints how often each kind of answer came, which kind never came, and last 'N passed, M failed'. A case passes where
 the program prints exactly what the reference says, ends with the status that it says, and leaves standard error empty
 (where a file is refused that the words name, a hint has to stand there). With 2,000 cases or more, each kind of answer
 has to come.
 
-The cases are the same for the same seed. --later names what isn't compared yet, as a list with commas: cost (violations
-by cost), cover, both, folder, margins, explain; or 'all'. --keep writes the files of
-the cases that failed into a folder.
+The cases are the same for the same seed. --keep writes the files of the cases that failed into a folder.
 """
 import argparse
 import collections
@@ -24,36 +22,28 @@ import sys
 import tempfile
 import traceback
 
-from cases import fixed_cases, later_fixed_cases, random_cases, write_files
+from cases import fixed_cases, random_cases, write_files
 from reference.answers import NAMES, answer
 
-LATER = ["cost", "cover", "both", "folder", "margins", "explain"]
-# What the program has of these by now; it is always compared.
-HAS = ["cost", "cover", "both", "folder", "margins", "explain"]
 VERDICTS = [
     "read .. funded", "read .. no outcome", "note: num_projects", "note: num_votes", "note: selected",
     "supported priceable", "supported stable", "failed Feasible", "failed Exhaustive", "failed C1", "failed C2",
     "failed C3", "failed C4", "failed C5", "failed S5", "violation", "failed V1", "failed V2", "failed V3", "failed V4",
-    "pb-prices,1",
+    "pb-prices,1", "failed Cover", "total", "pb-margins,1",
 ]  # fmt: skip
 CONDITIONS = ["Feasible", "Exhaustive", "Cover", "C1", "C2", "C3", "C4", "C5", "S5", "V1", "V2", "V3", "V4"]
-LATER_VERDICTS = {
-    "cover": ["failed Cover"],
-    "folder": ["total"],
-    "margins": ["pb-margins,1"],
-    "explain": [f"{name} {answer}" for name in CONDITIONS for answer in ("holds", "fails")]
-    + [f"{name} not asked" for name in ("Exhaustive", "Cover", "C5", "S5")],
-}
+EXPLAINED = [f"{name} {answer}" for name in CONDITIONS for answer in ("holds", "fails")]
+EXPLAINED += [f"{name} not asked" for name in ("Exhaustive", "Cover", "C5", "S5")]
 
 
-def wanted_kinds(later):
+def wanted_kinds():
     """Each kind of answer that has to come."""
     inputs = {number: ["election"] if number < 18 else ["certificate", "outcome"] for number in NAMES}
     inputs[18] = inputs[19] = ["election", "certificate", "outcome"]
     for number in (23, 24, 26, 28):
         inputs[number] = ["certificate"]
     refusals = [f"refused {name} {number} {NAMES[number]}" for number in NAMES for name in inputs[number]]
-    return VERDICTS + [kind for name in later for kind in LATER_VERDICTS.get(name, [])] + refusals
+    return VERDICTS + EXPLAINED + refusals
 
 
 def kinds_of(text):
@@ -70,6 +60,8 @@ def kinds_of(text):
     return kinds
 
 
+# The status of a reference that ended by an error of its own.
+CRASHED = -1
 # What is said of a folder without elections, on standard error.
 NO_ELECTION = b"pbaudit: no election was found: no file of the folder is named NAME.pb\n"
 
@@ -101,32 +93,31 @@ def run(program, case, room):
     return Said(done.stdout, done.returncode, done.stderr)
 
 
-def reference_says(case, room, later, answer=answer):
+def reference_says(case, room, answer=answer):
     """What the reference says; an error of its own is what it says too, and fails the case."""
     if case.known:
         return Said(*case.known)
-    versions = (1, 2) if "cost" in later else (1,)
     paths = [os.path.join(room, word) if word in case.files or word in PATHS else word for word in case.words[1:]]
     words = case.words[:1] + paths
     if case.stdin is not None:
         words = ["read", os.path.join(room, "stdin")]
     try:
-        return Said(*answer(words, versions))
+        return Said(*answer(words))
     except Exception:
-        return Said(traceback.format_exc().encode(), -1)
+        return Said(traceback.format_exc().encode(), CRASHED)
 
 
 # Words that are paths though no file of the case has this name.
 PATHS = ["missing.csv", "folder", "folder/file/x", "room"]
 
 
-def check(program, case, later):
+def check(program, case):
     """What the reference says and what the program says, on files in a folder of their own."""
     if case.stdin is not None:
         case.files = {"stdin": case.stdin}
     with tempfile.TemporaryDirectory(prefix="pbaudit ") as room:
         write_files(room, case.files)
-        return case, reference_says(case, room, later), run(program, case, room)
+        return case, reference_says(case, room), run(program, case, room)
 
 
 def keep_files(folder, case, wanted, said):
@@ -158,17 +149,15 @@ def main():
     words.add_argument("program")
     words.add_argument("--cases", type=int, default=2000)
     words.add_argument("--seed", default="1")
-    words.add_argument("--later", default="")
     words.add_argument("--keep")
     given = words.parse_args()
-    later = LATER if given.later == "all" else [name for name in LATER if name in HAS + given.later.split(",")]
-    checks = functools.partial(check, os.path.abspath(given.program), later=later)
+    checks = functools.partial(check, os.path.abspath(given.program))
     with concurrent.futures.ThreadPoolExecutor(4) as threads:
         # The fixed cases have large files: one at a time.
-        fixed = map(checks, itertools.chain(fixed_cases(), later_fixed_cases(later)))
-        by_chance = threads.map(checks, random_cases(given.cases, given.seed, later))
+        fixed = map(checks, fixed_cases())
+        by_chance = threads.map(checks, random_cases(given.cases, given.seed))
         counts, passed, failed = compare(itertools.chain(fixed, by_chance), given.keep)
-    wanted = wanted_kinds(later)
+    wanted = wanted_kinds()
     for kind in sorted(counts, key=lambda kind: (wanted.index(kind) if kind in wanted else -1)):
         print(f"{counts[kind]:6} {kind}")
     missing = [kind for kind in wanted if kind not in counts]

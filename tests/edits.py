@@ -1,10 +1,12 @@
 #!/usr/bin/env python3
 """Tries the edits of must-fail/, as many in one check as it can tell apart.
 
-    tests/edits.py COPY [CRATE..]
+    tests/edits.py COPY [--anew] [CRATE..]
 
 COPY is a copy of the repository in which nothing else works. Its crates are proved there, lowest first, and the edits
-of a crate are tried beside the proofs of those above it.
+of a crate are tried beside the proofs of those above it. What is refused is noted in ~/.cache/pbaudit/edits by the sum
+of all that it rests on, and isn't tried again on this machine until some of that changes, but with --anew. A crate is
+proved only where an edit of it or of one above is to be tried.
 
 A function is proved from its own body and from the contracts of what it calls, and a check says of each function
 whether it is proved. So edits in the bodies of different functions are made in one text. Each is refused where a goal
@@ -17,6 +19,8 @@ since right code would be refused too. `rt must-fail` lets that pass, and tries 
 The last line is 'N passed, M failed'; an edit that is refused has passed.
 """
 import concurrent.futures
+import functools
+import hashlib
 import os
 import pathlib
 import re
@@ -37,6 +41,10 @@ ERROR = re.compile(r"(?m)^(?:\./)?proofs/(\S+)\.antt:\d+:\d+: error: (.*)$")
 NAMES = re.compile(r"has no field|is not in scope|has no `|was not admitted|was not checked")
 # how many edits are made in one text
 MOST = 16
+# what a check reads in a crate's folder
+PARTS = ("src", "specs", "proofs")
+# for how many seconds a note that isn't asked for is kept
+MONTH = 30 * 24 * 60 * 60
 
 
 def module_of(path):
@@ -45,42 +53,54 @@ def module_of(path):
     return "" if parts in (("lib",), ("main",)) else "::".join(parts)
 
 
-def function_of(path):
-    """The module and the name of a function, from a path: money::Money::read, or ids::fn::has_id::any of a closure."""
-    found = CLOSURE.match(path) or FUNCTION.match(path)
-    return found[1].removesuffix("::"), found[2]
+class Functions:
+    """The functions of a crate, each a module and a name, and where the bodies stand."""
 
+    def __init__(self, crate):
+        self.bodies, self.methods = [], {}
+        for file in sorted((crate / "src").rglob("*.rt")):
+            path, text = str(file.relative_to(crate)), file.read_text()
+            for header in HEADER.finditer(text):
+                margin, function = header[1], (module_of(path), header[2])
+                start = re.compile(rf"(?m)^{margin}(?:\S.* )?\{{$").search(text, header.start())
+                end = start and re.compile(rf"(?m)^{margin}\}}$").search(text, start.end())
+                if end:
+                    self.bodies.append((path, start.end(), end.start(), function))
+                    if margin:
+                        self.methods.setdefault(function[1], []).append(function)
+        self.known = {it for *_, it in self.bodies}
 
-def bodies_of(crate):
-    """Where the body of each function stands: a file, a start and an end in it, and the function."""
-    bodies = []
-    for file in sorted((crate / "src").rglob("*.rt")):
-        path, text = str(file.relative_to(crate)), file.read_text()
-        for header in HEADER.finditer(text):
-            margin = header[1]
-            start = re.compile(rf"(?m)^{margin}(?:\S.* )?\{{$").search(text, header.start())
-            end = start and re.compile(rf"(?m)^{margin}\}}$").search(text, start.end())
-            if end:
-                bodies.append((path, start.end(), end.start(), (module_of(path), header[2])))
-    return bodies
+    def around(self, path, start, end):
+        """The function in whose body this part of a source stands, or None."""
+        return next((it for file, low, high, it in self.bodies if file == path and low <= start and end <= high), None)
+
+    def named(self, path):
+        """The function of a path, as a check has it: money::Money::read, or ids::fn::has_id::any of a closure.
+
+        A check has the methods of a type where the type is handed on. So where the path's module has no function of the
+        name, it is the one method that has it.
+        """
+        found = CLOSURE.match(path) or FUNCTION.match(path)
+        function = found[1].removesuffix("::"), found[2]
+        methods = self.methods.get(function[1], [])
+        return methods[0] if function not in self.known and len(methods) == 1 else function
 
 
 class Edit:
     """What an edit replaces, and the functions in whose bodies that stands; None for what stands in none."""
 
-    def __init__(self, file, crate, bodies):
-        self.name, self.pairs, self.functions = file.stem, [], set()
+    def __init__(self, file, crate, functions):
+        self.name, self.text, self.pairs, self.functions = file.stem, file.read_text(), [], set()
         path = old = None
-        for line in file.read_text().split("\n"):
+        for line in self.text.split("\n"):
             if line.startswith("file: "):
                 path = line.removeprefix("file: ")
             elif line.startswith("old: "):
                 old = line.removeprefix("old: ")
             elif line.startswith("new:"):
                 self.pairs.append((path, old, line.removeprefix("new:").removeprefix(" ")))
-                place = (crate / path).read_text().find(old)
-                around = [it for file, start, end, it in bodies if file == path and start <= place <= end - len(old)]
-                self.functions.add(around[0] if around else None)
+                start = (crate / path).read_text().find(old)
+                self.functions.add(functions.around(path, start, start + len(old)) if start >= 0 else None)
 
     def fits(self, edits):
         """Whether it may be made beside these: each in bodies, none in another's, nor in what another writes."""
@@ -106,14 +126,15 @@ class Edit:
 class Verdict:
     """What a check says: the functions of which it refuses a goal or an answer, and whether it refuses any."""
 
-    def __init__(self, text):
+    def __init__(self, text, functions):
         self.text, judged, errors = text, JUDGED.findall(text), {}
         for path, said in ERROR.findall(text):
-            errors.setdefault(function_of(os.path.dirname(path).replace("/", "::") or path), []).append(said)
+            errors.setdefault(functions.named(os.path.dirname(path).replace("/", "::") or path), []).append(said)
         self.refused = {it for it, all_said in errors.items() if not all(map(NAMES.search, all_said))}
         for path, said in judged:
-            if "did not prove" in said or said == "not proved" and function_of(path) not in errors:
-                self.refused.add(function_of(path))
+            function = functions.named(path)
+            if "did not prove" in said or said == "not proved" and function not in errors:
+                self.refused.add(function)
         self.is_read = bool(judged)
         self.is_proved = all(said == "proved" for _, said in judged)
 
@@ -126,10 +147,15 @@ class Verdict:
         return "" if self.refused else "a proof only names what it took away"
 
 
-def rt(word, crate):
-    words = ["rt", word, "--jobs", "1"]
+def rt(word, crate, *flags):
+    words = ["rt", word, "--jobs", "1", *flags]
     ran = subprocess.run(words, cwd=crate, stdin=subprocess.DEVNULL, stdout=subprocess.PIPE, stderr=subprocess.STDOUT)
     return ran.returncode, ran.stdout.decode(errors="replace")
+
+
+def prove(copy, crate, lines):
+    """Proves a crate, of which those above then read what it states, and not how that is proved."""
+    return rt("lib", copy / "crates" / crate, *([] if "staticlib" in lines[crate] else ["--statements"]))
 
 
 def below(crate, lines):
@@ -138,12 +164,47 @@ def below(crate, lines):
     return set(used).union(*(below(it, lines) for it in used))
 
 
+class Kept:
+    """Which edits were refused on this machine before, by the sums of all that each rests on: the kit, this script, the
+    crate and those below it, and the edit itself."""
+
+    def __init__(self, copy, lines, is_asked):
+        caches = pathlib.Path(os.environ.get("XDG_CACHE_HOME") or pathlib.Path.home() / ".cache")
+        self.folder, self.copy, self.lines, self.is_asked = caches / "pbaudit" / "edits", copy, lines, is_asked
+        self.kit = subprocess.run(["rt", "version"], stdout=subprocess.PIPE, check=True).stdout
+        self.folder.mkdir(parents=True, exist_ok=True)
+        for note in self.folder.iterdir():
+            if time.time() - note.stat().st_mtime > MONTH:
+                note.unlink(missing_ok=True)
+
+    @functools.lru_cache(maxsize=None)
+    def sum_of_crate(self, crate):
+        parts = [self.kit, pathlib.Path(__file__).read_bytes(), (self.copy / "HANDLES").read_bytes()]
+        for name in sorted({crate, *below(crate, self.lines)}):
+            files = [it for part in PARTS for it in (self.copy / "crates" / name / part).rglob("*") if it.is_file()]
+            parts += [self.lines[name], *((str(it.relative_to(self.copy)), it.read_bytes()) for it in sorted(files))]
+        return hashlib.sha256(repr(parts).encode()).hexdigest()
+
+    def note_of(self, crate, edit):
+        return self.folder / hashlib.sha256(f"{self.sum_of_crate(crate)} {edit.text}".encode()).hexdigest()
+
+    def has(self, crate, edit):
+        note = self.note_of(crate, edit)
+        if not self.is_asked or not note.exists():
+            return False
+        note.touch()
+        return True
+
+    def add(self, crate, edit):
+        self.note_of(crate, edit).touch()
+
+
 class Room:
     """A copy of a crate that is proved, with those below it, in which its edits are tried."""
 
     def __init__(self, copy, crate, lines, folder):
         self.home, self.crate = copy / "crates" / crate, folder / "crates" / crate
-        lower = below(crate, lines)
+        self.functions, lower = Functions(self.home), below(crate, lines)
         (folder / "crates.txt").write_text("".join(lines[it] for it in lines if it == crate or it in lower))
         shutil.copy(copy / "HANDLES", folder)
         left_out = shutil.ignore_patterns("incremental", "must-fail")
@@ -151,20 +212,24 @@ class Room:
             shutil.copytree(copy / "crates" / it, folder / "crates" / it, copy_function=os.link, ignore=left_out)
 
     def check(self, edits):
-        for part in ("src", "specs", "proofs", "out/incremental"):
+        for part in (*PARTS, "out/incremental"):
             shutil.rmtree(self.crate / part, ignore_errors=True)
             if (self.home / part).is_dir():
                 shutil.copytree(self.home / part, self.crate / part)
         for edit in edits:
             edit.make(self.crate)
-        return Verdict(rt("check", self.crate)[1])
+        return Verdict(rt("check", self.crate)[1], self.functions)
 
 
-def rounds_of(crate):
+def edits_of(crate):
+    functions = Functions(crate)
+    return [Edit(it, crate, functions) for it in sorted((crate / "must-fail").glob("*.edit"))]
+
+
+def rounds_of(edits):
     """The edits of a crate, those together that fit."""
-    rounds, bodies = [], bodies_of(crate)
-    for file in sorted((crate / "must-fail").glob("*.edit")):
-        edit = Edit(file, crate, bodies)
+    rounds = []
+    for edit in edits:
         fitting = next((it for it in rounds if edit.fits(it)), None)
         if fitting is None:
             rounds.append([edit])
@@ -173,9 +238,9 @@ def rounds_of(crate):
     return rounds
 
 
-def try_round(copy, crate, lines, edits):
+def try_round(copy, crate, lines, edits, kept):
     """Tries edits together, and alone where they have to be. Returns what to say of each that isn't refused."""
-    began, failed, alone = time.monotonic(), [], edits
+    began, failed, alone = time.monotonic(), {}, edits
     with tempfile.TemporaryDirectory(dir=copy) as folder:
         room = Room(copy, crate, lines, pathlib.Path(folder))
         if len(edits) > 1:
@@ -187,29 +252,36 @@ def try_round(copy, crate, lines, edits):
                 # once more, since a check may have been killed for want of memory
                 verdict = room.check([edit])
             if verdict.why_not():
-                failed.append(f"{crate}/{edit.name}: {verdict.why_not()}\n{verdict.text}")
+                failed[edit.name] = f"{crate}/{edit.name}: {verdict.why_not()}\n{verdict.text}"
+    for edit in edits:
+        if edit.name not in failed:
+            kept.add(crate, edit)
     seconds = time.monotonic() - began
     print(f"{crate}: {len(edits)} edits, {len(alone)} alone, {len(failed)} not refused, {seconds:.0f} s", flush=True)
-    return failed
+    return failed.values()
 
 
 def main():
-    copy, names = pathlib.Path(sys.argv[1]).resolve(), sys.argv[2:]
-    lines = {}
+    names = [it for it in sys.argv[2:] if it != "--anew"]
+    copy, lines = pathlib.Path(sys.argv[1]).resolve(), {}
     for line in (copy / "crates.txt").read_text().splitlines(keepends=True):
         if re.match(r"\w", line):
             lines[re.match(r"\w+", line)[0]] = line
+    kept = Kept(copy, lines, "--anew" not in sys.argv[2:])
     count, failed, tried = 0, [], []
     with concurrent.futures.ThreadPoolExecutor(os.cpu_count()) as pool:
         for crate in names or lines:
-            rounds = rounds_of(copy / "crates" / crate)
-            if rounds:
-                status, said = rt("lib", copy / "crates" / crate)
+            edits = edits_of(copy / "crates" / crate)
+            new = [it for it in edits if not kept.has(crate, it)]
+            if len(new) < len(edits):
+                print(f"{crate}: {len(edits) - len(new)} of {len(edits)} edits were refused on this machine before", flush=True)
+            if new:
+                status, said = prove(copy, crate, lines)
                 if status:
                     failed.append(f"{crate}: it isn't proved\n{said}")
                     break
-            count += sum(map(len, rounds))
-            tried += [pool.submit(try_round, copy, crate, lines, it) for it in rounds]
+            count += len(edits)
+            tried += [pool.submit(try_round, copy, crate, lines, it, kept) for it in rounds_of(new)]
     not_refused = [said for it in tried for said in it.result()]
     print(*failed, *not_refused, sep="\n")
     print(f"{count - len(not_refused)} passed, {len(failed) + len(not_refused)} failed")

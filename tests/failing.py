@@ -213,6 +213,13 @@ def is_right_in_a_folder(kind, how, told, said, ordinary):
     return said == Said(text.encode(), ordinary.errors, status)
 
 
+def tells_no_more(said, ordinary):
+    """Whether a hint is there at most as far as the ordinary one: no more lines, each of which names the same file."""
+    file, lines = ordinary.errors.split(b":")[0] + b":", said.errors.splitlines(keepends=True)
+    is_whole = all(line.startswith(file) and line.endswith(b"\n") for line in lines)
+    return is_whole and len(lines) <= len(ordinary.errors.splitlines())
+
+
 def is_right(kind, how, words, told, said, ordinary):
     """Whether the program said what it has to, where one call failed."""
     same_answer = (said.text, said.status) == (ordinary.text, ordinary.status)
@@ -221,7 +228,7 @@ def is_right(kind, how, words, told, said, ordinary):
         return said in (FAULT_MEMORY, ordinary) or (ordinary.status == 2 and same_answer and not said.errors)
     if kind == "look":
         # What can't be looked at counts as a file, and isn't opened again for a hint.
-        return said == ordinary or (ordinary.status == 2 and same_answer)
+        return said == ordinary or (ordinary.status == 2 and same_answer and tells_no_more(said, ordinary))
     if how == "one":
         return said == ordinary
     if kind == "write" and told.file == 2:
@@ -232,7 +239,7 @@ def is_right(kind, how, words, told, said, ordinary):
         return is_right_in_a_folder(kind, how, told, said, ordinary)
     if ordinary.status == 2 and same_answer and said.errors != ordinary.errors:
         # A file was opened again for the hint, which then tells less.
-        return True
+        return tells_no_more(said, ordinary)
     return is_refused(words, how, told, said)
 
 

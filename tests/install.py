@@ -49,8 +49,8 @@ def has(tool):
     return False
 
 
-# What the program's help says, read here by other means than in packaging/pages.py: a command is the first word of a line
-# of 'Commands:', and an option a word with '-' before the text of a line of 'Options:'.
+# What the program's help says, read here by other means than in packaging/man_and_completions.py: a command is the first
+# word of a line of 'Commands:', and an option a word with '-' before the text of a line of 'Options:'.
 
 
 def section(text, heading):
@@ -234,7 +234,7 @@ def has_example(name, text):
     return re.search(rf"^Examples?:\n(?:  .*\n)*?  pbaudit {name}\b", text, re.MULTILINE)
 
 
-def try_pages(score, prefix, helps, folder):
+def try_man_and_completions(score, prefix, helps, folder):
     score.check(len(helps.names) > 1 and helps.sets[""] and helps.valued, f"the help wasn't understood: {helps.options}")
     for name in helps.names:
         # The command `help` has clap's own help.
@@ -253,6 +253,8 @@ def try_files(score, root, written):
     """Everything is there and nothing else, and is told."""
     found = {str(file.relative_to(root)): file.stat().st_mode & 0o777 for file in root.rglob("*") if file.is_file()}
     score.same(FILES, found, f"the files below {root}")
+    modes = {file.stat().st_mode & 0o777 for file in [root, *root.rglob("*")] if file.is_dir()}
+    score.same({0o755}, modes, f"the modes of the folders below {root}")
     score.same(sorted(str(root / file) for file in FILES), sorted(written.splitlines()), "the files that are told")
     words = ["read", EXAMPLES / "district.pb"]
     mine, built = ran(root / "bin/pbaudit", *words), ran(TOP / "crates/pbaudit/out/pbaudit", *words)
@@ -273,7 +275,7 @@ def try_library(score, root, prefix, work, **environment):
     flags = shlex.split(found.stdout)
     score.check(all(flag[:2] in ("-I", "-L", "-l") for flag in flags) and "-lpbaudit" in flags, f"flags: {flags}")
     program = work / "audit"
-    built = ran(os.environ.get("CC", "cc"), "-o", program, EXAMPLES / "audit.c", *flags, f"-Wl,-rpath,{root}/lib")
+    built = ran(*shlex.split(os.environ.get("CC") or "cc"), "-o", program, EXAMPLES / "audit.c", *flags, f"-Wl,-rpath,{root}/lib")
     score.same((0, ""), (built.returncode, built.stderr), "cc")
     for certificate in ("district.prices.csv", "district.short.prices.csv"):
         files = [EXAMPLES / "district.pb", EXAMPLES / certificate]
@@ -299,13 +301,17 @@ def try_refusals(score, work):
         ("a DESTDIR that is a file", ["/usr"], {"DESTDIR": str(file)}, 1, f"{file}/usr/bin can't be made"),
         ("a folder that the system shuts", ["/proc/pbaudit"], {}, 1, "/proc/pbaudit/bin can't be made"),
         ("no python3", [work / "unused"], {"PATH": str(work / "tools")}, 70, "python3 is not on the PATH"),
+        ("no find", [work / "unused"], {"PATH": f"{work}/tools:{work}/more"}, 70, "find is not on the PATH"),
     ]
+    # What begins a comment in pbaudit.pc, quotes, or stands for something else there.
+    for sign in ("#", "$", "\\", "'", '"', "\n", "\t"):
+        cases.append((f"{sign!r} in a PREFIX", [work / f"a{sign}b"], {}, 3, "pbaudit.pc can't name a PREFIX with one of"))
     if os.geteuid() != 0:
         cases.append(("a folder that may not be written", [shut], {}, 1, "can't be made (Permission denied)"))
-    tools = work / "tools"
-    tools.mkdir()
-    for tool in ("bash", "dirname", "readlink", "sed"):
-        (tools / tool).symlink_to(shutil.which(tool))
+    for folder, tools in (("tools", ("bash", "dirname", "readlink", "sed")), ("more", ("python3",))):
+        (work / folder).mkdir()
+        for tool in tools:
+            (work / folder / tool).symlink_to(shutil.which(tool))
     before = sorted(work.rglob("*"))
     for name, words, environment, status, text in cases:
         done = ran(TOP / "install", *words, cwd=work, env=os.environ | no_rt | {"DESTDIR": ""} | environment)
@@ -340,9 +346,14 @@ def try_building(score, work):
     shutil.copytree(TOP / "lib", copy / "lib")
     done = ran(copy / "install", work / "from copy", env=environment)
     score.same((0, len(FILES)), (done.returncode, len(done.stdout.splitlines())), f"both are built: {done.stderr}")
-    os.utime(copy / "include/pbaudit.h", (2**32, 2**32))
-    done = ran(copy / "install", work / "from copy", env=environment)
-    score.same(70, done.returncode, "the header is newer than the library")
+    for source in (copy / "include/pbaudit.h", copy / "HANDLES"):
+        times = source.stat().st_atime, source.stat().st_mtime
+        os.utime(source, (2**32, 2**32))
+        os.utime(out / "pbaudit", (2**32, 2**32))
+        done = ran(copy / "install", work / "from copy", env=environment)
+        score.check("install: the library could not be built" in done.stderr, f"{source} is newer than the library: {done}")
+        score.same(70, done.returncode, f"{source} is newer than the library")
+        os.utime(source, times)
 
 
 def main():
@@ -354,8 +365,9 @@ def main():
         try_refusals(score, refusals)
 
         prefix = work / "a prefix"
-        for _ in ("first", "again"):
-            done = ran(TOP / "install", prefix, env=os.environ | {"DESTDIR": ""})
+        # Others may read it, whatever the caller's files are for.
+        for umask in (0o077, 0o022):
+            done = ran(TOP / "install", prefix, env=os.environ | {"DESTDIR": ""}, umask=umask)
             score.check(done.returncode == 0, f"./install PREFIX: {done.stderr}")
             try_files(score, prefix, done.stdout)
         try_library(score, prefix, prefix, work)
@@ -377,7 +389,7 @@ def main():
         (folder / "more").mkdir(parents=True)
         for file in ("a town.pb", "-town.pb"):
             (folder / file).touch()
-        try_pages(score, prefix, Helps(prefix / "bin/pbaudit"), folder)
+        try_man_and_completions(score, prefix, Helps(prefix / "bin/pbaudit"), folder)
         try_building(score, work)
     print(f"{score.passed} passed, {score.failed} failed")
     return 1 if score.failed else 0

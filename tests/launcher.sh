@@ -1,27 +1,49 @@
 #!/usr/bin/env bash
-# Tries the launcher ./pbaudit on a copy of this repository in a folder whose name has a blank. In the place of rt stands
-# a script that proves nothing, and builds a program that tells how it was called. The last line is 'N passed, M failed'.
+# Tries the launcher ./pbaudit and ./pbaudit-library on a copy of this repository in a folder whose name has a blank. In the
+# place of rt stands a script that proves nothing, and builds a program that tells how it was called; in that of cc and the
+# others that link, one that makes empty files. The last line is 'N passed, M failed'.
 set -uo pipefail
 top=$(realpath "$(dirname "$0")/..")
 work=$(mktemp -d)
 trap 'rm -r "$work"' EXIT
 passed=0 failed=0
-copy="$work/a copy" log=$work/log
+copy="$work/a copy" log=$work/log temporary=$work/temporary
 program=$copy/crates/pbaudit/out/pbaudit
 
-# The commands that the launcher calls, so that no other rt is found; and rt itself in a folder of its own.
-mkdir "$copy" "$work/tools" "$work/rt" "$work/elsewhere"
-for tool in bash basename cat chmod dirname env find flock mkdir mktemp readlink rm sleep tail tee touch; do
+# The commands that the two call, so that no other rt is found; and rt itself in a folder of its own.
+mkdir "$copy" "$work/tools" "$work/rt" "$work/elsewhere" "$temporary"
+for tool in bash basename cat chmod cp dirname env find flock mkdir mktemp mv readlink rm rmdir sed sleep tail tee touch; do
   ln -s "$(command -v "$tool")" "$work/tools/$tool"
 done
-tar -C "$top" --exclude=out -cf - pbaudit crates.txt crates | tar -C "$copy" -xf -
+printf '#!/usr/bin/env bash\necho 4\n' > "$work/tools/nproc"
+chmod +x "$work/tools/nproc"
+for tool in find flock; do
+  cp -r "$work/tools" "$work/no_$tool"
+  rm "$work/no_$tool/$tool"
+done
+tar -C "$top" --exclude=out -cf - pbaudit pbaudit-library include packaging HANDLES crates.txt crates |
+  tar -C "$copy" -xf -
 
 cat > "$work/rt/rt" << 'RT'
 #!/usr/bin/env bash
-# What rt does here: it notes the call, does what $RT_DOES says, and leaves a program.
-printf '%s: %s\n' "$(basename "$PWD")" "$*" >> "$RT_LOG"
+# What rt does here: it notes the call, does what $RT_DOES says, and leaves a program, the C library, or a library where
+# all below it are built.
+what=$(basename "$PWD") below=''
+[ "$1" != doc ] || { echo /nowhere/guide; exit; }
+[ "$1" = lib ] && [ "$what" != pb_c ] && below=yes
+[ -n "$below" ] || printf '%s: %s\n' "$what" "$*" >> "$RT_LOG"
 # It may read its standard input: that isn't the program's.
 cat > /dev/null
+if [ -n "$below" ]; then
+  printf '%s\n' "$what" >> "$RT_LOG.below"
+  for crate in ../*; do
+    [ "$crate" -ef . ] || [ -e "$crate/out/rlib/stamp" ] || exit 1
+  done
+  [ "$RT_DOES" != fail ] || { echo "no proof in $what"; exit 1; }
+  mkdir -p out/rlib
+  touch out/rlib/stamp
+  exit
+fi
 echo 'rt: chose 2 jobs for pb_money'
 case $RT_DOES in
   fail) echo 'no proof of a promise' >&2; exit 1 ;;
@@ -31,6 +53,7 @@ case $RT_DOES in
   meanwhile) sleep 0.1; touch ../pb_money/src/lib.rt ;;
 esac
 mkdir -p out
+[ "$what" != pb_c ] || { touch out/libpb_c.a; exit; }
 cat > out/pbaudit << 'PROGRAM'
 #!/usr/bin/env bash
 printf 'in %s, %s words:' "$PWD" $#
@@ -44,12 +67,25 @@ chmod +x out/pbaudit
 RT
 chmod +x "$work/rt/rt"
 
+# Whoever links makes the file behind -o, and ar the one that it is told first.
+mkdir "$work/linkers"
+cat > "$work/linkers/cc" << 'CC'
+#!/usr/bin/env bash
+printf '%s %s\n' "$(basename "$0")" "$1" >> "$RT_LOG.linked"
+while [ "$1" != -o ]; do shift; done
+touch "$2"
+CC
+printf '#!/usr/bin/env bash\ntouch "$2"\n' > "$work/linkers/ar"
+printf '#!/usr/bin/env bash\n' > "$work/linkers/objcopy"
+chmod +x "$work/linkers"/*
+ln -s cc "$work/linkers/ld"
+
 # launch DOES WORD..: calls the launcher from another folder with these words and some standard input.
 launch() {
   local does=$1
   shift
   (cd "$work/elsewhere" && printf 'some\ninput' |
-    env -i PATH="$path" TMPDIR="$work" RT_DOES="$does" RT_LOG="$log" "${launcher:-$copy/pbaudit}" "$@")
+    env -i PATH="$path" TMPDIR="$temporary" RT_DOES="$does" RT_LOG="$log" "${launcher:-$copy/pbaudit}" "$@")
 }
 
 # wants NAME STATUS BUILDS ERRORS DOES WORD..: calls the launcher, and compares its status, how often rt was called, and
@@ -95,16 +131,30 @@ isnt_there() {
   [ ! -e "$2" ] && count yes || count no "$1"
 }
 
+# built_below WHAT CRATE..: these crates, and no others, were built ahead of the program.
+built_below() {
+  local what=$1
+  shift
+  [ "$(LC_ALL=C sort "$log.below")" = "$(printf '%s\n' "$@")" ] && count yes || count no "$what"
+}
+
 path=$work/tools
 wants 'rt is not on the PATH' 70 0 'rt, the command of the Rattle kit, is not on the PATH' build read
 path=$work/rt:$work/tools
-wants 'the first call builds' 7 1 'pbaudit: building' build read 'a b' '' '*' -- -x $'two\nlines'
+wants 'a first build that fails below tells where' 70 1 'no proof in pb_money' fail read
+built_below 'nothing is built on what failed' pb_money
+rm -f "$log.below"
+wants 'the first call builds' 7 1 'pbaudit: proving pb_run' build read 'a b' '' '*' -- -x $'two\nlines'
+built_below 'each crate below is built once' pb_audit pb_certificate pb_cohesion pb_command pb_election pb_explain \
+  pb_hints pb_money pb_price pb_records pb_reply pb_run
+isnt_there 'a first build leaves its rooms behind' "$copy/out"
+rm "$log.below"
 wants 'the second call does not build' 7 0 nothing build read town.pb
 path=$work/tools
 wants 'rt is not needed for what is built' 7 0 nothing build
 path=$work/rt:$work/tools
 
-for changed in crates.txt crates/pb_money/src/lib.rt crates/pb_price/specs/First.antt crates/pb_audit/proofs/Lib.antt; do
+for changed in crates.txt HANDLES crates/pb_money/src/lib.rt crates/pb_price/specs/First.antt crates/pb_audit/proofs/Lib.antt; do
   touch "$copy/$changed"
   wants "$changed is newer" 7 1 'pbaudit: building' build
   wants "$changed is older" 7 0 nothing build
@@ -114,10 +164,16 @@ wants 'a source was added' 7 1 'pbaudit: building' build
 rm "$copy/crates/pb_money/src/added.rt"
 wants 'a source was deleted' 7 1 'pbaudit: building' build
 wants 'nothing was changed' 7 0 nothing build
+isnt_there 'what was built before is left to rt' "$log.below"
 touch "$copy/README.md" "$copy/crates/pb_money/notes"
 wants 'what is no source was changed' 7 0 nothing build
 
 touch "$copy/crates.txt"
+path=$work/no_find
+wants 'without find nothing is run' 70 0 'find, which looks for newer sources, is not on the PATH' build
+path=$work/rt:$work/no_flock
+wants 'without flock nothing is built' 70 0 'flock, by which builds take turns, is not on the PATH' build
+path=$work/rt:$work/tools
 wants 'a source is changed while it builds' 7 1 'pbaudit: building' meanwhile
 wants 'what was changed meanwhile is built' 7 1 'pbaudit: building' build
 
@@ -147,6 +203,16 @@ until_there() {
   return 1
 }
 
+# in_background WORD..: begins a command with these words in a group of processes of its own, as a terminal does, and
+# leaves its number in 'job'.
+in_background() {
+  set -m
+  (cd "$work/elsewhere" && exec env -i PATH="$path" TMPDIR="$temporary" RT_DOES=slow RT_LOG="$log" "$@") \
+    < /dev/null > "$work/first" 2> "$work/first.errors" &
+  job=$!
+  set +m
+}
+
 # at_once DOES STATUS BUILDS: two calls at once. The build ends once the second one waits for it.
 at_once() {
   local first=0 second=0 right=yes one two
@@ -171,6 +237,115 @@ at_once() {
 at_once slow 7 1
 at_once slow_fail 70 2
 isnt_there 'a build that waited and failed leaves a program behind' "$program"
+
+# What the failed builds above left are their logs; nothing else stays.
+rm -rf "$temporary"/tmp.*
+launch build > /dev/null 2>&1
+nothing_is_left() {
+  [ -z "$(find "$temporary" "$copy/out" -mindepth 1 -print -quit 2> /dev/null)" ] && count yes || count no "$1"
+}
+nothing_is_left 'a build leaves temporary files behind'
+
+# killed SIGNAL [-]: a launcher is killed while it builds, by itself, or with '-' together with all that it began.
+killed() {
+  local job right=yes
+  touch "$copy/crates.txt"
+  rm -f "$log.go"
+  : > "$log"
+  in_background "$copy/pbaudit"
+  until_there 'run -- --version' "$log" || right=no
+  kill "-$1" -- "${2:-}$job"
+  wait "$job" 2> /dev/null
+  count "$right" "a launcher that is killed ($1) didn't build"
+}
+
+killed INT -
+nothing_is_left 'a build that is interrupted leaves temporary files behind'
+isnt_there 'a build that is interrupted leaves a program behind' "$program"
+for signal in TERM KILL; do
+  killed "$signal"
+  touch "$copy/HANDLES"
+  launch build read > "$work/output" 2> "$work/errors" &
+  job=$!
+  until_there 'another build is running; waiting for it' "$work/errors" && right=yes || right=no
+  touch "$log.go"
+  wait "$job" && status=0 || status=$?
+  [ "$status" = 7 ] && [ "$(wc -l < "$log")" = 2 ] || right=no
+  count "$right" "a source is changed after SIG$signal: status $status, rt called $(wc -l < "$log") times"
+done
+rm -rf "$temporary"/tmp.*
+
+# library NAME STATUS OUTPUT ERRORS WORD..: calls pbaudit-library with these words, and compares its status, what is on
+# standard output ('some' text, or this), and what has to stand on standard error, as 'wants' has it.
+library() {
+  local name=$1 wanted=$2 output=$3 errors=$4 status=0 right=yes
+  shift 4
+  (cd "$work/elsewhere" && env -i PATH="$path" TMPDIR="$temporary" RT_DOES="${does:-build}" RT_LOG="$log" \
+    CC="${compiler:-}" "$copy/pbaudit-library" "$@") < /dev/null > "$work/output" 2> "$work/errors" || status=$?
+  [ "$status" = "$wanted" ] || right=no
+  [ "$errors" = nothing ] && [ ! -s "$work/errors" ] || grep -qF -- "$errors" "$work/errors" || right=no
+  [ "$output" = some ] && [ -s "$work/output" ] || [ "$output" = "$(cat "$work/output")" ] || right=no
+  count "$right" "$name: status $status"
+}
+
+for word in --help -h; do
+  library "$word of the library" 0 some nothing "$word"
+done
+library 'an option that is none' 3 '' 'pbaudit-library: no option is -x' -x
+library 'two folders' 3 '' 'one FOLDER is wanted, and there are 2 words' one two
+library 'a folder without a name' 3 '' 'FOLDER is empty' ''
+library 'linkers are not on the PATH' 70 '' 'cc is not on the PATH' one
+path=$work/linkers:$work/tools
+library 'rt is not on the PATH for the library' 70 '' 'rt is not on the PATH' one
+path=$work/rt:$work/linkers:$work/no_flock
+library 'flock is not on the PATH for the library' 70 '' 'flock is not on the PATH' one
+path=$work/rt:$work/linkers:$work/tools
+library 'a file in the place of the folder' 70 '' "$log/lib can't be made (Not a directory)" "$log/lib"
+[ -z "$(ls "$work/elsewhere")" ] && count yes || count no 'a call that is refused makes a folder'
+library 'the library is built' 0 "$work/elsewhere/-a lib" 'rt: chose' './-a lib'
+[ "$(cd "$work/elsewhere/-a lib" && echo *)" = 'libpbaudit.a libpbaudit.so pbaudit.h pbaudit.pc' ] && count yes ||
+  count no 'the files of the library'
+rm -f "$log.linked"
+compiler='cc -m64' library 'a compiler with words of its own' 0 "$copy/lib" 'rt: chose'
+grep -qx 'cc -m64' "$log.linked" && count yes || count no 'the words of a compiler are left out'
+does=fail library 'a library that is not proved' 70 '' 'pbaudit-library: the library could not be built'
+does=meanwhile library 'a source is changed while the library builds' 0 "$copy/lib" 'rt: chose'
+[ "$copy/crates/pb_money/src/lib.rt" -nt "$copy/lib/libpbaudit.so" ] && count yes ||
+  count no 'a source that was changed while the library was built counts as built'
+nothing_is_left 'the library leaves temporary files behind'
+
+# turns FIRST SECOND SIGNAL: one of the two scripts builds, perhaps is killed by itself, and the other waits for its build.
+turns() {
+  local first=$1 second=$2 right=yes status=0 job other
+  touch "$copy/crates.txt"
+  rm -f "$log.go"
+  : > "$log"
+  : > "$work/errors"
+  in_background "$copy/$first"
+  until_there : "$log" || right=no
+  if [ -n "${3:-}" ]; then
+    kill "-$3" "$job"
+    wait "$job" 2> /dev/null
+  fi
+  (cd "$work/elsewhere" && exec env -i PATH="$path" TMPDIR="$temporary" RT_DOES=build RT_LOG="$log" "$copy/$second") \
+    < /dev/null > "$work/output" 2> "$work/errors" &
+  other=$!
+  until_there 'another build is running; waiting for it' "$work/errors" || right=no
+  [ "$(wc -l < "$log")" = 1 ] || right=no
+  touch "$log.go"
+  wait "$other" || status=$?
+  wait "$job" 2> /dev/null
+  case $status in
+    0 | 7) [ "$(wc -l < "$log")" = 2 ] || right=no ;;
+    *) right=no ;;
+  esac
+  count "$right" "$first, ${3:-not} killed, then $second: status $status, rt called $(wc -l < "$log") times"
+}
+turns pbaudit pbaudit-library
+for signal in '' TERM KILL; do
+  turns pbaudit-library pbaudit "$signal"
+done
+turns pbaudit-library pbaudit-library
 
 echo "$passed passed, $failed failed"
 [ "$failed" = 0 ] && [ "$passed" != 0 ]

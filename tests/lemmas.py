@@ -209,7 +209,7 @@ def main():
         print(line)
     tried = sum(1 for _, name in declared if name) + sum(len(file.imports) for file in files.values())
     print(f"{tried - len(failed)} passed, {len(failed)} failed")
-    return 1 if failed else 0
+    return 1 if failed or not tried else 0
 
 
 if __name__ == "__main__":

@@ -269,7 +269,7 @@ def main(program, *names):
             if not good:
                 print(f"  wanted {lines[:200]!r}\n  status {status}, printed {text[:200]!r} {complaint[:200]!r}")
     print(f"{passed} passed, {failed} failed")
-    return 1 if failed else 0
+    return 1 if failed or not passed else 0
 
 
 if __name__ == "__main__":

@@ -106,10 +106,7 @@ def verdict_on_violation(election, funded, violation):
 
 
 class Commands:
-    """Each command, by its name. 'versions' are those of violation certificates that are known."""
-
-    def __init__(self, versions):
-        self.versions = versions
+    """Each command, by its name."""
 
     def read(self, paths, mode, outcome):
         election = take("election", read_election, paths[0] if paths else None)
@@ -123,7 +120,7 @@ class Commands:
     def violation(self, paths, mode, outcome):
         election = take("election", read_election, paths[0])
         funded = take_outcome(election, outcome)
-        violation = take("certificate", read_violation, paths[1], election, self.versions)
+        violation = take("certificate", read_violation, paths[1], election)
         return verdict_on_violation(election, funded, violation)
 
     def tidy(self, paths, mode, outcome):
@@ -134,7 +131,7 @@ class Commands:
         election = take("election", read_election, paths[0])
         funded = take_outcome(election, outcome)
         prices = take("prices", read_prices, paths[1], election)
-        violation = take("violation", read_violation, paths[2], election, self.versions)
+        violation = take("violation", read_violation, paths[2], election)
         first, first_status = verdict_on_prices(election, funded, prices, mode)
         second, second_status = verdict_on_violation(election, funded, violation)
         return first + second, max(first_status, second_status)
@@ -150,7 +147,7 @@ class Commands:
         election = take("election", read_election, paths[0])
         funded = take_outcome(election, outcome)
         if is_violation(take("certificate", bytes, paths[1])):
-            violation = take("certificate", read_violation, paths[1], election, self.versions)
+            violation = take("certificate", read_violation, paths[1], election)
             text, status = verdict_on_violation(election, funded, violation)
             lines = violation_lines(election, funded, violation)
         else:
@@ -220,7 +217,7 @@ def answer_or_refusal(work, paths, mode, outcome):
         return refusal.line, REFUSED
 
 
-def answer(words, versions=(1, 2)):
+def answer(words):
     """The text and the status for the words of a command line that is understood."""
     command, paths, mode, outcome = (words[0] if words else "read"), [], set(), None
     words = iter(words[1:])
@@ -231,4 +228,4 @@ def answer(words, versions=(1, 2)):
             mode.add(word)
         else:
             paths.append(word)
-    return answer_or_refusal(getattr(Commands(versions), command), paths, mode, outcome)
+    return answer_or_refusal(getattr(Commands(), command), paths, mode, outcome)

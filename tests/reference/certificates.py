@@ -61,7 +61,7 @@ def faults_of_voter(election, text):
 
 def voter_of(election, text):
     """The voter, or None where the text names none."""
-    return None if faults_of_voter(election, text) else int(text.lstrip(b"0"))
+    return None if faults_of_voter(election, text) else numbers.whole(text, len(election.ballots))
 
 
 def faults_of_project(election, text):
@@ -115,11 +115,11 @@ def read_outcome(data, election):
     return funded
 
 
-def read_violation(data, election, versions):
+def read_violation(data, election):
     """The group and the demand that the bytes state; else they are refused."""
     rows = rows_of(data)
     place, fields = next(rows)
-    if fields not in [[b"pb-violation", b"%d" % version] for version in versions]:
+    if fields not in [[b"pb-violation", b"1"], [b"pb-violation", b"2"]]:
         raise Refused(BAD_HEAD, place)
     violation = Violation()
     if fields[1] == b"2":

@@ -1,11 +1,12 @@
 #!/usr/bin/env python3
-"""Plants wrong rules in the reference, one after the other, and tells by how many cases each is caught.
+"""Puts wrong rules into the reference, one after the other, and tells by which case each is caught.
 
-    python3 tests/plant.py PROGRAM [--cases N] [--seed S]
+    python3 tests/wrong_rules.py PROGRAM [--cases N] [--seed S]
 
 Each rule is one change of the reference's text. The program is run once on every case; then each changed reference
-answers the same cases, until one differs. The last line is 'N passed, M failed': a wrong rule that no case catches has
-failed, and so has one whose text doesn't stand exactly once.
+answers the same cases, until one differs. A changed reference that ends by an error of its own answers nothing, and isn't
+caught by that. The last line is 'N passed, M failed': a wrong rule that no case catches has failed, and so has one whose
+text doesn't stand exactly once.
 """
 import argparse
 import importlib
@@ -16,7 +17,7 @@ import sys
 import tempfile
 
 from cases import fixed_cases, random_cases, write_files
-from compare import HAS, reference_says, run
+from compare import CRASHED, reference_says, run
 
 # The file, the right rule, the wrong rule.
 WRONG = {
@@ -112,8 +113,8 @@ WRONG = {
     ),
     "V3 is left out": (
         "violations.py",
-        '("V3", v3), ',
-        "",
+        '("V3", v3)',
+        '("V3", lambda *violation: [])',
     ),
     "V4 asks for more than is demanded": (
         "violations.py",
@@ -132,13 +133,16 @@ WRONG = {
     ),
     "an empty group is a violation": (
         "violations.py",
-        '[("V1", v1), ',
-        "[",
+        '("V1", v1)',
+        '("V1", lambda *violation: [])',
     ),
     "a project named twice in a ballot counts twice": (
         "election.py",
         "ballot = {election.number_of.get(piece) for piece in named}",
-        "ballot = [election.number_of.get(piece) for piece in named]",
+        "class Ballot(list):\n"
+        "        def __and__(self, others):\n"
+        "            return [project for project in self if project in others]\n\n"
+        "    ballot = Ballot(election.number_of.get(piece) for piece in named)",
     ),
     "an empty piece of a ballot is an id": (
         "election.py",
@@ -309,7 +313,7 @@ WRONG = {
 }
 
 
-def planted(room, file, right, wrong):
+def changed(room, file, right, wrong):
     """The answers of a copy of the reference with one change, in a folder of its own; None where it can't be made."""
     here = os.path.dirname(os.path.abspath(__file__))
     copy = os.path.join(room, "reference")
@@ -333,7 +337,8 @@ def planted(room, file, right, wrong):
 def first_caught(answer, said):
     """The first case that the changed reference answers in another way than the program; None where there is none."""
     for case, room, told in said:
-        if not told.is_as(reference_says(case, room, HAS, answer)):
+        wanted = reference_says(case, room, answer)
+        if wanted.status != CRASHED and not told.is_as(wanted):
             return case
     return None
 
@@ -349,7 +354,7 @@ def main():
     passed = failed = 0
     with tempfile.TemporaryDirectory(prefix="pbaudit ") as top:
         said = []
-        for number, case in enumerate(itertools.chain(fixed_cases(), random_cases(given.cases, given.seed, HAS))):
+        for number, case in enumerate(itertools.chain(fixed_cases(), random_cases(given.cases, given.seed))):
             if case.known:
                 continue
             if case.stdin is not None:
@@ -361,7 +366,7 @@ def main():
         for number, (name, (file, right, wrong)) in enumerate(WRONG.items()):
             room = os.path.join(top, f"wrong{number}")
             os.mkdir(room)
-            answer = planted(room, file, right, wrong)
+            answer = changed(room, file, right, wrong)
             caught = answer and first_caught(answer, said)
             if caught:
                 passed += 1

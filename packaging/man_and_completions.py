@@ -4,7 +4,7 @@
 No command and no option is named here: they come from `PROGRAM --help`, and from `PROGRAM help COMMAND` for each command
 that it lists.
 
-usage: packaging/pages.py PROGRAM FOLDER     writes FOLDER/pbaudit.1, pbaudit.bash, _pbaudit and pbaudit.fish
+usage: packaging/man_and_completions.py PROGRAM FOLDER     writes FOLDER/pbaudit.1, pbaudit.bash, _pbaudit and pbaudit.fish
 """
 import re
 import subprocess
@@ -361,7 +361,7 @@ def main():
         version = subprocess.run([program, "--version"], capture_output=True, text=True, check=True).stdout.strip()
         top, commands = read_all(program)
     except (BadHelp, OSError, subprocess.SubprocessError) as error:
-        print(f"pages: {error}", file=sys.stderr)
+        print(f"man_and_completions: {error}", file=sys.stderr)
         return 1
     folder.joinpath("pbaudit.1").write_text(man_page(version, top, commands), encoding="utf-8")
     folder.joinpath("pbaudit.bash").write_text(bash_completion(top, commands), encoding="utf-8")
