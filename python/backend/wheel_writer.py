@@ -1,7 +1,9 @@
 """Writes the wheel of pbaudit by the standard library alone, so that `pip install` needs no other package.
 
-The wheel holds the proved library where it is built, in the folder `lib` beside this folder's parent, or can be built
-by `./pbaudit-library` there. Without it the wheel is pure Python, and the package runs the program `pbaudit`.
+The wheel holds the proved library of the folder `lib` beside this folder's parent. Where `rt` is on the PATH and the
+library isn't there, or is older than a source, it is built first by `./pbaudit-library`, and where that fails there is
+no wheel. Without `rt` a library that is there is taken as it is; where there is none the wheel is pure Python, and the
+package runs the program `pbaudit`.
 """
 import base64
 import hashlib
@@ -16,6 +18,8 @@ import zipfile
 PYTHON = pathlib.Path(__file__).resolve().parent.parent
 REPOSITORY = PYTHON.parent
 LIBRARY = REPOSITORY / "lib" / "libpbaudit.so"
+# What the library is built of, as ./install has it.
+SOURCES = ("crates.txt", "HANDLES", "include", "pbaudit-library", "crates/*/src", "crates/*/specs", "crates/*/proofs")
 TABLE = dict(re.findall(r'^(name|version|description|requires-python) = "(.*)"$',
                         (PYTHON / "pyproject.toml").read_text(encoding="utf-8"), re.MULTILINE))
 FOLDER = f"{TABLE['name']}-{TABLE['version']}.dist-info"
@@ -28,10 +32,19 @@ License: MIT
 """
 
 
+def is_current():
+    """Whether the library is there and no source is newer."""
+    if not LIBRARY.exists():
+        return False
+    built = LIBRARY.stat().st_mtime_ns
+    sources = (path for pattern in SOURCES for path in REPOSITORY.glob(pattern))
+    return all(path.lstat().st_mtime_ns <= built for source in sources for path in (source, *source.rglob("*")))
+
+
 def build_library():
-    """Whether the library is there, built first where that can be done."""
+    """Whether the library is there, built first where that can be done and is needed."""
     builder = REPOSITORY / "pbaudit-library"
-    if not LIBRARY.exists() and builder.exists() and shutil.which("rt"):
+    if not is_current() and builder.exists() and shutil.which("rt"):
         print("pbaudit: building the library: everything is proved first", file=sys.stderr)
         subprocess.run([str(builder)], check=True, stdout=sys.stderr)
     return LIBRARY.exists()

@@ -84,15 +84,22 @@ class _Library:
             self._functions[command] = function
 
     def ask(self, question):
-        words, room = self.words(question), 4096
+        words, room = self.words(question), self.room(question)
         while True:
             out, needed = ctypes.create_string_buffer(room), self._SIZE()
             status = self._functions[question.command](*words, out, room, ctypes.byref(needed))
             if status == 4:
                 raise MemoryError("pbaudit: fault memory")
             if needed.value <= room:
-                return status, out.raw[: needed.value]
+                return status, ctypes.string_at(out, needed.value)
             room = needed.value
+
+    @staticmethod
+    def room(question):
+        """How many bytes an answer is given at first; where it needs more, all is audited once more. That of `tidy` is
+        mostly no longer than the certificate and that of `margins` than the election, and others have a few lines."""
+        file = {"tidy": question.certificate, "margins": question.election}.get(question.command, b"")
+        return max(4096, len(file))
 
     @staticmethod
     def words(question):
@@ -116,6 +123,19 @@ class _Program:
         self._path = path
 
     def ask(self, question):
+        try:
+            done = self._run(question)
+        except OSError as why:
+            # No file that was given is at fault, so that this is none of the errors of reading them.
+            raise RuntimeError(f"{self._path} can't be run on copies of the files: {why}") from why
+        if done.returncode in (0, 1, 2):
+            return done.returncode, done.stdout
+        told = done.stderr.decode("utf-8", "replace").strip()
+        if done.returncode == 4 and told == "fault memory":
+            raise MemoryError("pbaudit: fault memory")
+        raise RuntimeError(f"{self._path} ended with status {done.returncode}: {told}")
+
+    def _run(self, question):
         with tempfile.TemporaryDirectory(prefix="pbaudit-") as folder:
             words = [self._path, question.command, self._file(folder, "election.pb", question.election)]
             for number, certificate in enumerate(_certificates(question), 1):
@@ -124,13 +144,7 @@ class _Program:
                 words += ["--outcome", self._file(folder, "outcome.csv", question.outcome)]
             if question.command in _WITH_MODE:
                 words += question.mode.options
-            done = subprocess.run(words, stdin=subprocess.DEVNULL, capture_output=True, check=False)
-        if done.returncode in (0, 1, 2):
-            return done.returncode, done.stdout
-        told = done.stderr.decode("utf-8", "replace").strip()
-        if done.returncode == 4 and told == "fault memory":
-            raise MemoryError("pbaudit: fault memory")
-        raise RuntimeError(f"{self._path} ended with status {done.returncode}: {told}")
+            return subprocess.run(words, stdin=subprocess.DEVNULL, capture_output=True, check=False)
 
     @staticmethod
     def _file(folder, name, data):
@@ -145,10 +159,18 @@ def _certificates(question):
     return [file for file in (question.certificate, question.violation) if file is not None]
 
 
+def _loaded(path):
+    try:
+        return _Library(path)
+    except (OSError, AttributeError) as why:
+        raise ImportError(f"{path} can't be used: {why}; build it again by ./pbaudit-library, and where it lies in the "
+                          "package install that again by pip install ./python") from why
+
+
 def _find():
     for path in _LIBRARIES:
         if path.exists():
-            return _Library(path)
+            return _loaded(path)
     program = shutil.which("pbaudit")
     if program:
         return _Program(program)
@@ -159,8 +181,9 @@ _found = None
 
 
 def ask(question):
-    """The status and the text that answer a question. Raises MemoryError where memory ran out, and ImportError where
-    neither the library nor the program is found."""
+    """The status and the text that answer a question. Raises MemoryError where memory ran out, ImportError where
+    neither the library nor the program is found or the library can't be used, and RuntimeError where the program can't
+    be run or doesn't answer."""
     global _found
     if _found is None:
         _found = _find()

@@ -2,7 +2,10 @@
 
 A `str` or `os.PathLike` is the path of a file, and `bytes` are a file's bytes. What a file can't be read for is an
 OSError, and a file that isn't what it has to be is a Refusal. Both are exceptions, since neither is an answer to what
-was asked. That a condition fails is an answer, and so a value.
+was asked. That a condition fails is an answer, and so a value. All files are read before the first is judged.
+
+Where neither the library nor the program is found, or what is found can't be used, that is an ImportError or a
+RuntimeError.
 """
 import os
 import re
@@ -190,8 +193,14 @@ def bytes_of(file: File) -> bytes:
     """The bytes of a file that is given as such or by its path."""
     if isinstance(file, (bytes, bytearray, memoryview)):
         return bytes(file)
-    with open(os.fspath(file), "rb") as opened:
-        return opened.read(MOST_BYTES + 1)
+    path = os.fspath(file)
+    try:
+        with open(path, "rb") as opened:
+            return opened.read(MOST_BYTES + 1)
+    except OSError as why:
+        # An error of reading, other than one of opening, doesn't say of which file it is.
+        why.filename = path
+        raise
 
 
 def _given(file):

@@ -6,7 +6,7 @@ from typing import FrozenSet, Optional, Tuple
 
 from . import auditing
 from ._auditor import Mode
-from .auditing import Explanation, File, ProjectMargins
+from .auditing import Explanation, File, ProjectMargins, Refusal
 from .reading import Titles, titles_of
 
 # A price certificate by which nobody has or pays anything: by it `margins` tells what projects cost, which are funded
@@ -49,9 +49,9 @@ class Case:
 def case_of(election: File, certificate: File, outcome: Optional[File], mode: Mode) -> Case:
     """Reads each file once, and asks the auditor. Raises Refusal, OSError and MemoryError."""
     town = _given(election)
-    chosen = None if outcome is None else _given(outcome)
-    claim = _given(certificate)
+    chosen = None if outcome is None else _given_behind("outcome", outcome, town.data, b"")
     funded = None if chosen is None else chosen.data
+    claim = _given_behind("certificate", certificate, town.data, funded)
     explanation = auditing.explain(town.data, claim.data, funded, **asdict(mode))
     prices = claim.data if _kind(explanation) == "prices" else NO_PRICES
     projects = auditing.margins(town.data, prices, funded)
@@ -60,6 +60,19 @@ def case_of(election: File, certificate: File, outcome: Optional[File], mode: Mo
 
 def _kind(explanation):
     return "violation" if explanation.findings[0].name == "V1" else "prices"
+
+
+def _given_behind(role, file, election, outcome):
+    """A file behind others. That one of these is refused stands before that this one can't be read."""
+    try:
+        return _given(file)
+    except OSError:
+        try:
+            auditing.explain(election, b"", outcome)
+        except Refusal as refusal:
+            if refusal.input != role:
+                raise refusal from None
+        raise
 
 
 def _given(file):

@@ -8,7 +8,7 @@ from .amounts import MOST_DENOMINATOR, common_denominator, near
 from .auditing import audit_prices
 from .elections import Town, town_of
 from .rounding import CannotKeep, Given, Rounding
-from .writing import id_of, price_file, write_election
+from .writing import amounts_of, price_file, read_once, write_election
 
 # A payment of at most this part of the largest cost is taken for noise, where there should be none.
 NOISE = Fraction(1, 10**6)
@@ -50,6 +50,7 @@ def price_certificate(instance, profile, budget_allocation: Iterable, voter_budg
 
     What comes out was audited. That CannotKeep is raised doesn't say that there is no such certificate.
     """
+    profile, budget_allocation = read_once(profile), list(budget_allocation)
     town = town_of(instance, profile, budget_allocation)
     _check_outcome(town, exhaustive)
     given = _given(town, voter_budget, payment_functions)
@@ -82,7 +83,8 @@ def _given(town: Town, voter_budget, payment_functions) -> Given:
         raise ValueError(f"there are {len(town.ballots)} ballots and {len(payment_functions)} payment functions")
     noise = max(town.costs, default=Fraction(0)) * NOISE
     place = {name: at for at, name in enumerate(town.names)}
-    payments = [_payments_of(town, place, voter, function, noise) for voter, function in enumerate(payment_functions)]
+    payments = [_without_noise(town, place, voter, function, noise)
+                for voter, function in enumerate(payment_functions)]
     # Whether something is off by more than noise is told from rounded sums, since exact ones take long.
     spent = [sum(map(float, mine.values())) for mine in payments]
     budget = _most(payments, spent) if voter_budget is None else near(voter_budget, "the voter budget")
@@ -125,10 +127,10 @@ def _check_unfunded(town: Town, given: Given, stable: bool):
             raise CannotKeep(condition, told, project=name)
 
 
-def _payments_of(town, place, voter, function, noise):
+def _without_noise(town, place, voter, function, noise):
+    """What a voter pays, by places of projects. More than noise in a wrong place is a CannotKeep."""
     payments = {}
-    for project, amount in function.items():
-        name = id_of(project)
+    for name, amount in amounts_of(voter + 1, function).items():
         amount = near(amount, f"what voter {voter + 1} pays for {name}")
         if not amount:
             continue

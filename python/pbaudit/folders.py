@@ -1,4 +1,5 @@
 """Audits a folder of elections, by any executor of `concurrent.futures`."""
+import errno
 import json
 import logging
 import os
@@ -53,7 +54,8 @@ def audit_folder(path: "os.PathLike[str]", executor: Optional[Executor] = None, 
     `ProcessPoolExecutor`, or a Dask cluster by `client.get_executor()`, whose workers have to see the folder under the
     same path and need this package. An election whose worker is lost is tried again, by the same executor where that
     still works and else in a process of its own, three times in all; then its line says so, and it is never left out.
-    Raises OSError where the folder can't be listed.
+    Raises OSError where the folder can't be listed, or lists a name that isn't UTF-8 (errno.EILSEQ): `pbaudit folder`
+    refuses it then, as `refused folder 18 Read record 0`.
     """
     entries = _entries(os.path.abspath(os.fspath(path)), Mode(stable, exhaustive, cover))
     found = {entry: audit_entry(entry) for entry in entries} if executor is None else _spread(executor, entries)
@@ -104,13 +106,20 @@ def _entries(folder, mode):
     files = set()
     with os.scandir(folder) as listing:
         for file in listing:
-            file.name.encode("utf-8")
+            _check_name(folder, file.name)
             # What can't be looked at counts as a regular file, and is refused when it is read.
             if file.is_file(follow_symlinks=False) and not re.search(r"[\x00-\x1f\x7f]", file.name):
                 files.add(file.name)
     names = sorted((name[:-3] for name in files if name.endswith(".pb") and name != ".pb"), key=str.encode)
     beside = {name: tuple(ending for ending in CERTIFICATES if name + ending in files) for name in names}
     return [Entry(folder, name, beside[name], mode) for name in names]
+
+
+def _check_name(folder, name):
+    try:
+        name.encode("utf-8")
+    except UnicodeEncodeError:
+        raise OSError(errno.EILSEQ, f"it lists {name!r}, a name that isn't UTF-8", folder) from None
 
 
 def _spread(executor: Executor, entries) -> Dict[Entry, list]:

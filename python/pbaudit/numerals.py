@@ -6,15 +6,15 @@ MINUS = "\u2212"
 
 
 def exact_amount(value: Fraction) -> str:
-    """An amount as `explain` writes it: with two to six decimals, or as a whole number and a fraction."""
+    """An amount as `explain` writes it: with two to six decimals, or as a whole number, where that isn't 0, and a
+    fraction."""
     sign, size = "-" if value < 0 else "", abs(value)
     millionths = size * MILLION
     if millionths.denominator == 1:
         whole, rest = divmod(millionths.numerator, MILLION)
         return f"{sign}{whole}.{f'{rest:06}'.rstrip('0'):0<2}"
-    whole = size.numerator // size.denominator
-    rest = size - whole
-    return f"{sign}{whole} {rest.numerator}/{rest.denominator}"
+    whole, rest = divmod(size.numerator, size.denominator)
+    return f"{sign}{f'{whole} ' if whole else ''}{rest}/{size.denominator}"
 
 
 def amount(value: Fraction) -> str:

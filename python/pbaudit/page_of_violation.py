@@ -98,6 +98,7 @@ def _as_sentence(told):
 
 
 def _amount_behind(words, told) -> Optional[Fraction]:
-    """The amount that stands behind some words in a sentence of `explain`, as 12.50 or 12 1/3; None where none does."""
-    found = re.search(rf"{words} (\d+(?:\.\d+)?(?: \d+/\d+)?)", told)
+    """The amount that stands behind some words in a sentence of `explain`, as 12.50, 12 1/3, 1/3 or 12; None where none
+    does."""
+    found = re.search(rf"{words} (\d+\.\d+|(?:\d+ )?\d+/\d+|\d+)", told)
     return sum(map(Fraction, found[1].split(" ")), Fraction(0)) if found else None

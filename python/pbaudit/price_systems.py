@@ -6,7 +6,7 @@ from ._auditor import Mode, Question
 from .amounts import MILLION, MOST_COST, MOST_DENOMINATOR, common_denominator, exact
 from .auditing import Verdict, verdict
 from .elections import Instance, Project
-from .writing import costs_of, id_of, write_election, write_prices
+from .writing import costs_of, exact_payments, read_once, write_election, write_prices
 
 
 def validate_price_system(instance, profile, budget_allocation: Iterable, voter_budget,
@@ -19,31 +19,22 @@ def validate_price_system(instance, profile, budget_allocation: Iterable, voter_
     approval ballots, each a set of projects; payments are, for each voter in the order of the profile, a mapping from
     projects or their names to amounts. Amounts are whole numbers, Fractions or Decimals, and are taken exactly. A float
     is a TypeError, since a check of rounded numbers isn't one; `price_certificate` makes exact payments of floats. What
-    no certificate can say (a payment below 0, amounts with too large a common denominator) is a ValueError.
+    no certificate can say (a payment below 0, amounts with too large a common denominator) is a ValueError, and so is a
+    voter who pays for a project twice, by its name and as itself.
     """
-    ballots = list(profile) if not isinstance(profile, Mapping) else profile
+    ballots = read_once(profile)
     if len(payment_functions) != len(ballots):
         raise ValueError(f"there are {len(ballots)} ballots and {len(payment_functions)} payment functions")
     costs = costs_of(instance)
     limit = exact(instance.budget_limit, "the budget limit")
     budget = exact(voter_budget, "the voter budget")
-    payments = [_payments_of(voter, function, costs) for voter, function in enumerate(payment_functions, 1)]
+    payments = [exact_payments(voter, function, costs) for voter, function in enumerate(payment_functions, 1)]
     amounts = [budget, *(amount for mine in payments for amount in mine.values())]
     factor = _factor([limit, *costs.values()], amounts)
     scaled = Instance([Project(name, cost * factor) for name, cost in costs.items()], limit * factor)
     election = write_election(scaled, ballots, budget_allocation)
     certificate = write_prices(budget * factor, [{name: x * factor for name, x in mine.items()} for mine in payments])
     return verdict(Question("prices", election, certificate, mode=Mode(stable, exhaustive)))
-
-
-def _payments_of(voter, function, costs):
-    payments = {}
-    for project, amount in function.items():
-        name = id_of(project)
-        if name not in costs:
-            raise ValueError(f"voter {voter} pays for {name}, which is no project of the instance")
-        payments[name] = exact(amount, f"what voter {voter} pays for {name}")
-    return payments
 
 
 def _factor(costs, amounts) -> int:

@@ -99,7 +99,8 @@ def ballots_of(election: bytes, voters: Container[int]) -> Iterator[Set[bytes]]:
 def claim_of(certificate: bytes) -> Claim:
     """What a violation certificate states."""
     rows = [[field.decode() for field in fields[:2]] for fields in records(certificate, b",")]
-    voters = frozenset(int(value) for key, value in rows if key == "voter")
+    # Python takes no number of more than 4,300 digits, and zeros in front may be many.
+    voters = frozenset(int(value.lstrip("0")) for key, value in rows if key == "voter")
     projects = tuple(value for key, value in rows if key == "project")
     return Claim(voters, projects, ["satisfaction", "cost"] in rows)
 

@@ -1,21 +1,27 @@
 """Writes the files of docs/FORMATS.md from Python values.
 
 Each function answers the file's bytes, and writes them to `path` as well where one is given. What no file can say is
-refused by a ValueError with the reason, or a TypeError for an amount that is a float.
+refused by a ValueError with the reason, and a value of another kind than is wanted, such as an amount that is a float,
+by a TypeError.
 
 Values are taken by their shape, which is that of pabutools: an instance is an iterable of projects with `name` and
 `cost`, and has a `budget_limit`; a profile is an iterable of approval ballots, one for each voter, and each is an
 iterable of projects; a project may also be named by its id, a `str`.
 """
+import operator
 import os
 from collections.abc import Mapping, Set
 from fractions import Fraction
 from functools import lru_cache
-from typing import Dict, Iterable, List, Optional
+from typing import Container, Dict, Iterable, List, Optional
 
 from .amounts import MOST_DENOMINATOR, MOST_NUMERATOR, common_denominator, exact, money
+from .auditing import MOST_BYTES
 
 BLANKS = " \t\n\v\f\r"
+# How many of each an election has at most, and how many rows a price certificate.
+MOST_PROJECTS, MOST_VOTERS, MOST_APPROVALS = 20_000, 10**6, 2 * 10**7
+MOST_PAYMENTS = 10**7
 
 
 def write_election(instance, profile, budget_allocation: Optional[Iterable] = None,
@@ -29,6 +35,9 @@ def write_election(instance, profile, budget_allocation: Optional[Iterable] = No
         for project in ballot:
             if "," in project:
                 raise ValueError(f"a ballot can't name the project {project!r}, whose id has a comma")
+    _at_most(MOST_PROJECTS, len(ids), "projects")
+    _at_most(MOST_VOTERS, len(ballots), "voters")
+    _at_most(MOST_APPROVALS, sum(map(len, ballots)), "approvals")
     head = [["META"], ["key", "value"], ["num_projects", str(len(ids))], ["num_votes", str(len(ballots))],
             ["budget", limit], ["vote_type", "approval"], ["PROJECTS"]]
     if budget_allocation is None:
@@ -53,7 +62,7 @@ def write_prices(voter_budget, payment_functions: Iterable[Mapping],
     """A price certificate: the budget of each voter, and for each voter, in the order of the profile, a mapping from
     projects to what the voter pays, in the currency of the costs."""
     budget = exact(voter_budget, "the voter budget")
-    payments = [_payments_of(voter, function) for voter, function in enumerate(payment_functions, 1)]
+    payments = [exact_payments(voter, function) for voter, function in enumerate(payment_functions, 1)]
     denominator = common_denominator([budget, *(amount for mine in payments for amount in mine.values())])
     rows = [(voter, project, amount * denominator) for voter, mine in enumerate(payments, 1)
             for project, amount in mine.items()]
@@ -68,15 +77,16 @@ def write_violation(voters: Iterable[int], projects: Iterable, satisfaction: Opt
         raise ValueError(f"the satisfaction is {satisfaction!r}, and not 'count' or 'cost'")
     head = [["pb-violation", "1"]] if satisfaction is None else [["pb-violation", "2"], ["satisfaction", satisfaction]]
     ids = _once([id_of(project) for project in projects], "the demand names")
-    group = _once([int(voter) for voter in voters], "the group names voter")
-    if any(voter < 1 for voter in group):
-        raise ValueError("voters are numbered from 1")
+    group = _once(list(map(_whole, voters)), "the group names voter")
+    if not all(1 <= voter <= MOST_VOTERS for voter in group):
+        raise ValueError(f"voters are numbered from 1 to {MOST_VOTERS}")
     rows = [["project", project] for project in ids] + [["voter", str(voter)] for voter in group]
     return _written(head + rows, ",", path)
 
 
 def price_file(denominator: int, voter_budget: int, rows, path=None) -> bytes:
-    """A price certificate of numerators over a denominator; rows are a voter (from 1), an id and a numerator."""
+    """A price certificate of numerators over a denominator; rows are a voter (from 1), an id and a numerator, by rising
+    voter."""
     if denominator > MOST_DENOMINATOR:
         raise ValueError(f"the amounts' common denominator is {denominator}, and a certificate's is at most 10^9: "
                          "price_certificate rounds to a smaller one where the conditions still hold")
@@ -84,6 +94,8 @@ def price_file(denominator: int, voter_budget: int, rows, path=None) -> bytes:
         raise ValueError("a numerator is over 10^21, the most that a certificate has")
     if voter_budget < 0:
         raise ValueError("the voter budget is below 0")
+    _at_most(MOST_PAYMENTS, len(rows), "payments")
+    _at_most(MOST_VOTERS, rows[-1][0] if rows else 0, "voters")
     head = [["pb-prices", "1"], ["denominator", str(denominator)], ["voter_budget", str(voter_budget)],
             ["voter", "project", "payment"]]
     return _written(head + [[str(voter), project, str(numerator)] for voter, project, numerator in rows], ",", path)
@@ -122,28 +134,59 @@ def funded_of(budget_allocation, projects) -> List[str]:
     return funded
 
 
+def read_once(profile):
+    """A profile as lists, which can be read again, also where it or a ballot is an iterator. One of merged ballots
+    stays as it is."""
+    return profile if isinstance(profile, Mapping) else [list(ballot) for ballot in profile]
+
+
+def amounts_of(voter: int, function: Mapping) -> Dict[str, object]:
+    """What a voter pays, as it is given, by the ids of the projects. None of them may be there twice, by its id and as
+    itself."""
+    names = _once([id_of(project) for project in function], f"voter {voter} pays for")
+    return dict(zip(names, function.values()))
+
+
+def exact_payments(voter: int, function: Mapping, projects: Optional[Container] = None) -> Dict[str, Fraction]:
+    """What a voter pays by the ids of projects, exactly and without what is 0. Where projects are given, each is one of
+    them."""
+    payments = {name: exact(amount, f"what voter {voter} pays for {name}")
+                for name, amount in amounts_of(voter, function).items()}
+    if projects is not None:
+        _known(payments, projects, f"voter {voter} pays for")
+    for name, amount in payments.items():
+        if amount < 0:
+            raise ValueError(f"voter {voter} pays {amount} for {name}, and a certificate has no payments below 0")
+    return {name: amount for name, amount in payments.items() if amount}
+
+
 def id_of(project) -> str:
     """The id of a project, which is its name or itself."""
-    return _checked_id(project if isinstance(project, str) else str(project.name))
+    if isinstance(project, str):
+        return _checked_id(project)
+    if not hasattr(project, "name"):
+        raise TypeError(f"{project!r} is no project: one has a name, or is given by its id, a str")
+    return _checked_id(str(project.name))
 
 
-@lru_cache(maxsize=None)
+# More ids than two elections have.
+@lru_cache(maxsize=2**16)
 def _checked_id(name):
     if not name or name != name.strip(BLANKS) or any(letter < " " or letter == "\x7f" for letter in name):
         raise ValueError(f"the id {name!r} can't be written: it is empty, has a blank at an end, or a control byte")
     return name
 
 
-def _payments_of(voter, function):
-    payments = {}
-    for project, amount in function.items():
-        name = id_of(project)
-        if name in payments:
-            raise ValueError(f"voter {voter} pays for {name} twice")
-        payments[name] = exact(amount, f"what voter {voter} pays for {name}")
-        if payments[name] < 0:
-            raise ValueError(f"voter {voter} pays {amount} for {name}, and a certificate has no payments below 0")
-    return {name: amount for name, amount in payments.items() if amount}
+def _whole(voter):
+    try:
+        return operator.index(voter)
+    except TypeError:
+        raise TypeError(f"the group names voter {voter!r}, which is no whole number") from None
+
+
+def _at_most(most, number, what):
+    if number > most:
+        raise ValueError(f"there are {number} {what}, and a file has at most {most}")
 
 
 def _once(names, what):
@@ -164,6 +207,7 @@ def _known(names, projects, what):
 def _written(records, separator, path):
     lines = [separator.join(_field(text, separator) for text in record) for record in records]
     data = ("\n".join(lines) + "\n").encode("utf-8")
+    _at_most(MOST_BYTES, len(data), "bytes")
     if path is not None:
         with open(path, "wb") as file:
             file.write(data)

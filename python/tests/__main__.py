@@ -11,5 +11,6 @@ result = unittest.TextTestRunner(stream=sys.stdout).run(tests)
 for test, why in result.skipped:
     print(f"skipped {test}: {why}")
 failed = len(result.failures) + len(result.errors)
-print(f"{result.testsRun - failed - len(result.skipped)} passed, {failed} failed")
-sys.exit(1 if failed else 0)
+passed = result.testsRun - failed - len(result.skipped)
+print(f"{passed} passed, {failed} failed")
+sys.exit(1 if failed or not passed else 0)

@@ -1,4 +1,5 @@
 """The audits of files, by the library and by the program."""
+import ctypes
 import os
 import pathlib
 import pickle
@@ -7,6 +8,7 @@ import sys
 import tempfile
 import unittest
 from fractions import Fraction
+from unittest import mock
 
 import pbaudit
 from pbaudit import Refusal, _auditor
@@ -52,6 +54,27 @@ class Answers(unittest.TestCase):
                 count += 1
         self.assertGreater(count, 15)
 
+    def test_library_is_asked_once(self):
+        """Answers of tidy and margins are about as long as the files."""
+        asked, answer = [], b"x" * 90_000
+
+        def answered(*words):
+            *_, out, room, needed = words
+            asked.append(room)
+            needed._obj.value = len(answer)
+            if room >= len(answer):
+                out.raw = answer.ljust(room, b"\0")
+            return 0
+        library = object.__new__(_auditor._Library)
+        library._functions = dict.fromkeys(AUDITS, answered)
+        long, short = bytes(100_000), b""
+        for times, *files in ((1, "tidy", short, long), (2, "tidy", long, short), (1, "margins", long, short),
+                              (2, "read", long)):
+            asked.clear()
+            with self.subTest(command=files[0]):
+                self.assertEqual(library.ask(_auditor.Question(*files)), (0, answer))
+                self.assertEqual(len(asked), times)
+
     def test_program_answers_as_the_examples_say(self):
         program = _auditor._Program(str(PROGRAM))
         for words, text, status in wanted_answers():
@@ -61,6 +84,24 @@ class Answers(unittest.TestCase):
     def test_program_that_ends_otherwise_is_an_error(self):
         with self.assertRaises(RuntimeError):
             _auditor._Program(str(PROGRAM)).ask(_auditor.Question("unknown", b"", b""))
+
+    def test_program_that_cannot_be_run_is_no_unread_file(self):
+        question = _auditor.Question("read", b"")
+        with self.assertRaisesRegex(RuntimeError, "/missing/pbaudit"):
+            _auditor._Program("/missing/pbaudit").ask(question)
+        with mock.patch.object(tempfile, "tempdir", "/missing"), self.assertRaisesRegex(RuntimeError, "/missing"):
+            _auditor._Program(str(PROGRAM)).ask(question)
+
+    def test_library_that_cannot_be_used(self):
+        with tempfile.TemporaryDirectory() as room:
+            junk = pathlib.Path(room, "libpbaudit.so")
+            junk.write_bytes(b"junk")
+            with mock.patch.object(_auditor, "_LIBRARIES", [junk]):
+                with self.assertRaisesRegex(ImportError, "libpbaudit.so can't be used: .*pbaudit-library"):
+                    _auditor._find()
+                with mock.patch.object(ctypes, "CDLL", lambda path: object()):
+                    with self.assertRaisesRegex(ImportError, "no attribute 'pbaudit_read'.*pbaudit-library"):
+                        _auditor._find()
 
     def test_without_either_it_says_how_to_build(self):
         with tempfile.TemporaryDirectory() as room:
@@ -89,6 +130,14 @@ class Audits(unittest.TestCase):
             self.assertEqual(pbaudit.read(file).voters, 3)
         with self.assertRaises(FileNotFoundError):
             pbaudit.read(EXAMPLES / "missing.pb")
+
+    def test_a_file_whose_read_fails(self):
+        path = "/proc/self/mem"
+        if not os.path.exists(path):
+            self.skipTest(f"{path} isn't there")
+        with self.assertRaises(OSError) as caught:
+            pbaudit.read(path)
+        self.assertEqual(caught.exception.filename, path)
 
     def test_prices(self):
         files = EXAMPLES / "district.pb", EXAMPLES / "district.prices.csv"

@@ -1,11 +1,15 @@
 """Folders over executors, with workers that are killed."""
+import errno
 import multiprocessing
 import os
 import pathlib
+import re
 import shutil
 import signal
 import subprocess
+import sys
 import tempfile
+import textwrap
 import unittest
 from concurrent.futures import Future, ProcessPoolExecutor, ThreadPoolExecutor
 from unittest import mock
@@ -76,13 +80,36 @@ class Folders(unittest.TestCase):
         for name, (switch, value) in modes.items():
             self.assertEqual(pbaudit.audit_folder(self.room, **{name: value}), self.wanted(switch))
         self.assertEqual(pbaudit.audit_folder(EXAMPLES).status, 1)
-        with self.assertRaises(FileNotFoundError):
-            pbaudit.audit_folder(os.path.join(self.room, "missing"))
+
+    def test_a_folder_that_is_refused(self):
+        self.assert_refused(os.path.join(self.room, "missing"), errno.ENOENT)
+        self.assert_refused(os.path.join(self.room, "a.pb"), errno.ENOTDIR)
+        self.write(os.fsdecode(b"\xff.txt"), b"")
+        self.assert_refused(self.room, errno.EILSEQ)
+
+    def assert_refused(self, folder, number):
+        done = subprocess.run([PROGRAM, "folder", folder], capture_output=True, check=False)
+        self.assertEqual((done.stdout, done.returncode), (b"refused folder 18 Read record 0\n", 2))
+        with self.assertRaises(OSError) as caught:
+            pbaudit.audit_folder(folder)
+        self.assertEqual((caught.exception.errno, caught.exception.filename), (number, folder))
 
     def test_by_executors(self):
         for executor in (ThreadPoolExecutor(3), ProcessPoolExecutor(3)):
             with executor:
                 self.assertEqual(pbaudit.audit_folder(self.room, executor), self.wanted())
+
+    def test_the_example_of_the_documents(self):
+        """It runs also where the processes are started anew, which import the script."""
+        told = (REPOSITORY / "docs" / "MANY.md").read_text(encoding="utf-8").split("## From Python\n")[1]
+        example = re.match(r"\n((?:    .*\n|\n)+)", told)[1]
+        script = pathlib.Path(self.room, "script.py")
+        begin = "import multiprocessing\nmultiprocessing.set_start_method('spawn', force=True)\n"
+        script.write_text(begin + textwrap.dedent(example).replace('"elections"', repr(self.room)), encoding="utf-8")
+        given = {**os.environ, "PYTHONPATH": os.pathsep.join(filter(None, sys.path))}
+        done = subprocess.run([sys.executable, script], stdout=subprocess.PIPE, stderr=subprocess.PIPE, env=given,
+                              timeout=300, check=False)
+        self.assertEqual((done.stdout.decode(), done.stderr.decode()), (self.wanted().text, ""))
 
     def test_a_worker_that_is_killed(self):
         forks = multiprocessing.get_context("fork")

@@ -1,7 +1,9 @@
 """The page about a certificate: what is read and counted for it, and what stands on it."""
 import hashlib
 import html.parser
+import os
 import pathlib
+import random
 import re
 import shutil
 import subprocess
@@ -21,6 +23,10 @@ DISTRICT = EXAMPLES / "district.pb"
 PRICES = EXAMPLES / "district.prices.csv"
 VIOLATION = EXAMPLES / "district.violation.csv"
 OTHER = EXAMPLES / "district.other.outcome.csv"
+SHARE_AND_COST = "the group's share of the limit is (.*); the demanded projects cost (.*)"
+
+sys.path.append(str(REPOSITORY / "tests"))
+import cases  # noqa: E402
 
 
 class Tags(html.parser.HTMLParser):
@@ -54,8 +60,9 @@ class Pieces(unittest.TestCase):
             Fraction(0): "0.00", Fraction(1234567): "1\u202f234\u202f567.00", Fraction(1, 8): "0.125",
             Fraction(-1, 10**6): "\u22120.000001", Fraction(-12345): "\u221212\u202f345.00", Fraction(5, 2): "2.50",
             Fraction(38596, 3): '<span title="12865 1/3">12\u202f865.33\u2026</span>',
-            Fraction(-2, 3): '<span title="-0 2/3">\u22120.66\u2026</span>',
-            Fraction(1, 10**7): '<span title="0 1/10000000">0.00\u2026</span>',
+            Fraction(-2, 3): '<span title="-2/3">\u22120.66\u2026</span>',
+            Fraction(-4, 3): '<span title="-1 1/3">\u22121.33\u2026</span>',
+            Fraction(1, 10**7): '<span title="1/10000000">0.00\u2026</span>',
         }
         self.assertEqual({value: numerals.amount(value) for value in wanted}, wanted)
 
@@ -158,6 +165,31 @@ class Pages(unittest.TestCase):
         self.assertEqual(label.groups(), ("16650.00", "16437.50"))
         self.assertNotIn("as much as is demanded", made)
         self.assertIn("as much as is demanded", pbaudit.write_page(DISTRICT, VIOLATION).decode())
+
+    def test_a_share_is_drawn_as_it_is_told(self):
+        town = pbaudit.Instance([pbaudit.Project("a", 1)], 2)
+        files = pbaudit.write_election(town, [["a"], [], []], []), pbaudit.write_violation([1], ["a"])
+        self.assertEqual(self.drawn_share(*files), ("2/3", "1.00", "broken"))
+        drawn = set()
+        for number in range(80):
+            case = cases.a_violation_check(random.Random(f"shares/{number}"), ["cost"])
+            files = [case.files.get(name) for name in ("town.pb", "claim.csv", "outcome.csv")]
+            with self.subTest(number=number):
+                try:
+                    told = next(found for found in pbaudit.explain(*files).findings if found.name == "V3")
+                except pbaudit.Refusal:
+                    continue
+                due, cost = re.fullmatch(SHARE_AND_COST, told.sentence).groups()
+                kind = "left" if told.state == "holds" else "broken"
+                self.assertEqual(self.drawn_share(*files), (due, cost, kind))
+                drawn.add((kind, re.sub(r"\d+", "0", due)))
+        self.assertEqual(drawn, {(kind, due) for kind in ("left", "broken") for due in ("0.0", "0/0", "0 0/0")})
+
+    def drawn_share(self, *files):
+        """The share and the cost in the label of the bar, and its kind."""
+        label = r'class="bar (\w+)(?: cut)?" role="img" aria-label="a share of (.*?) against a cost of (.*?)"'
+        kind, due, cost = re.search(label, pbaudit.write_page(*files).decode()).groups()
+        return due, cost, kind
 
     def test_elections_with_little(self):
         """Without voters, projects, payments, a demand or a group there is a page all the same."""
@@ -264,9 +296,9 @@ class Strangers(unittest.TestCase):
 
 
 class Commands(unittest.TestCase):
-    def run_page(self, *words):
+    def run_page(self, *words, **given):
         command = [sys.executable, "-m", "pbaudit", "page", *map(str, words)]
-        return subprocess.run(command, capture_output=True, check=False)
+        return subprocess.run(command, check=False, **{"stdout": subprocess.PIPE, "stderr": subprocess.PIPE, **given})
 
     def test_it_writes_a_page(self):
         with tempfile.TemporaryDirectory() as room:
@@ -291,6 +323,85 @@ class Commands(unittest.TestCase):
             self.assertEqual((missing.returncode, missing.stdout), (2, b"refused certificate 18 Read record 0\n"))
             self.assertEqual(self.run_page(DISTRICT, PRICES, "-o", pathlib.Path(room, "no", "page.html")).returncode, 4)
             self.assertFalse(out.exists())
+
+    def test_a_file_whose_read_fails(self):
+        path = "/proc/self/mem"
+        if not pathlib.Path(path).exists():
+            self.skipTest(f"{path} isn't there")
+        for role, words in {"election": [path, PRICES], "certificate": [DISTRICT, path],
+                            "outcome": [DISTRICT, PRICES, "--outcome", path]}.items():
+            done = self.run_page(*words, "-o", "unwritten.html")
+            self.assertEqual((done.returncode, done.stdout), (2, f"refused {role} 18 Read record 0\n".encode()))
+
+    def test_an_auditor_that_cannot_be_used_is_a_fault(self):
+        """None, a library that can't be loaded, and a program that doesn't know the command."""
+        for name, data, told in (("bin/none", b"", b"build the library"), ("bin/pbaudit", b"#!/bin/sh\nexit 3\n", b"3"),
+                                 ("pbaudit/libpbaudit.so", b"junk", b"can't be used")):
+            with self.subTest(name=name), tempfile.TemporaryDirectory() as room:
+                out, package = pathlib.Path(room, "page.html"), pathlib.Path(pbaudit.__file__).parent
+                shutil.copytree(package, f"{room}/pbaudit", ignore=shutil.ignore_patterns("*.so", "__pycache__"))
+                os.mkdir(f"{room}/bin")
+                pathlib.Path(room, name).write_bytes(data)
+                os.chmod(f"{room}/{name}", 0o755)
+                given = {"PATH": f"{room}/bin", "PYTHONPATH": room}
+                done = self.run_page(DISTRICT, PRICES, "-o", out, cwd=room, env=given)
+                self.assertEqual((done.returncode, done.stdout, out.exists()), (4, b"", False))
+                self.assertRegex(done.stderr, b"^fault: .*%b.*\n$" % told)
+
+    def test_what_cannot_be_told(self):
+        if not pathlib.Path("/dev/full").exists():
+            self.skipTest("/dev/full isn't there")
+        with open("/dev/full", "wb") as full:
+            refused = self.run_page(PRICES, PRICES, "-o", "unwritten.html", stdout=full)
+            self.assertEqual(refused.returncode, 4)
+            self.assertRegex(refused.stderr, b"^fault write: .*\n$")
+            for words in ([PRICES, PRICES, "-o", "unwritten.html"], [DISTRICT, PRICES, "-o", "/dev/full"]):
+                self.assertEqual(self.run_page(*words, stdout=full, stderr=full).returncode, 4)
+
+    def test_files_are_judged_in_their_order(self):
+        """As `pbaudit explain` does: an election that is refused stands before a file that can't be read."""
+        sample, missing = EXAMPLES / "sample.pb", EXAMPLES / "missing.csv"
+        with tempfile.TemporaryDirectory() as room:
+            plain = pathlib.Path(room, "plain.pb")
+            plain.write_bytes(sample.read_bytes().replace(b"selected", b"chosen"))
+            for files, line in (
+                ((PRICES, missing, None), "election 2 NoMeta record 1"),
+                ((PRICES, missing, missing), "election 2 NoMeta record 1"),
+                ((PRICES, PRICES, missing), "election 2 NoMeta record 1"),
+                ((plain, missing, None), "election 17 NoOutcome record 0"),
+                ((sample, missing, PRICES), "outcome 21 BadHead record 1"),
+                ((sample, PRICES, missing), "outcome 18 Read record 0"),
+                ((sample, missing, None), "certificate 18 Read record 0"),
+                ((sample, missing, EXAMPLES / "sample.outcome.csv"), "certificate 18 Read record 0"),
+            ):
+                election, certificate, outcome = files
+                with self.subTest(files=files):
+                    words = [election, certificate, *([] if outcome is None else ["--outcome", outcome])]
+                    told = subprocess.run([PROGRAM, "explain", *words], capture_output=True, check=False)
+                    self.assertEqual(told.stdout.decode(), f"refused {line}\n")
+                    done = self.run_page(*words, "-o", pathlib.Path(room, "page.html"))
+                    self.assertEqual((done.returncode, done.stdout), (2, told.stdout))
+
+    def test_it_replaces_no_file_of_its_own(self):
+        with tempfile.TemporaryDirectory() as room:
+            files = {"ELECTION": DISTRICT, "CERTIFICATE": PRICES, "--outcome": OTHER}
+            copies = {word: shutil.copy(file, room) for word, file in files.items()}
+            linked = pathlib.Path(room, "linked.html")
+            linked.symlink_to(copies["ELECTION"])
+            words = [copies["ELECTION"], copies["CERTIFICATE"], "--outcome", copies["--outcome"]]
+            for word, out in [*copies.items(), ("ELECTION", linked)]:
+                done = self.run_page(*words, "-o", out)
+                self.assertEqual((done.returncode, done.stdout), (3, b""))
+                self.assertIn(f"the same file as {word},".encode(), done.stderr)
+            for word, file in files.items():
+                self.assertEqual(pathlib.Path(copies[word]).read_bytes(), file.read_bytes())
+
+    def test_help_says_what_it_does_and_how_it_ends(self):
+        done = self.run_page("--help")
+        self.assertEqual(done.returncode, 0)
+        told = b" ".join(done.stdout.split())
+        for words in (b"Writes a page", b"Exit statuses: 0 ", b" 2 ", b" 3 ", b" 4 "):
+            self.assertIn(words, told)
 
     def test_the_version_is_that_of_the_program(self):
         told = subprocess.run([PROGRAM, "--version"], capture_output=True, check=True).stdout.decode()

@@ -31,6 +31,10 @@ class Reading(unittest.TestCase):
         claim = b'pb-violation,2\nsatisfaction,cost\nvoter,04,,\nproject,"x,y"\nproject,voter\nvoter,1\n'
         self.assertEqual(reading.claim_of(claim), reading.Claim(frozenset({1, 4}), ("x,y", "voter"), True))
         self.assertFalse(reading.claim_of(b"pb-violation,1\n").by_cost)
+        zeros = b"pb-violation,1\nproject,a\nvoter," + b"0" * 5000 + b"1\n"
+        town = pbaudit.write_election(pbaudit.Instance([pbaudit.Project("a", 1)], 1), [["a"]], [])
+        self.assertTrue(pbaudit.audit_violation(town, zeros))
+        self.assertEqual(reading.claim_of(zeros).voters, {1})
         odd = ['a"b', "x,y", "plain", "1"]
         town = pbaudit.write_election(pbaudit.Instance([pbaudit.Project(name, 1) for name in odd], 9), [[], []], [])
         prices = pbaudit.write_prices(Fraction(7, 3), [dict.fromkeys(odd, 1), {"1": Fraction(1, 3)}])

@@ -4,9 +4,10 @@ import unittest
 from collections import Counter
 from decimal import Decimal
 from fractions import Fraction
+from unittest import mock
 
 import pbaudit
-from pbaudit import Instance, Project, validate_price_system
+from pbaudit import Instance, Project, validate_price_system, writing
 
 A, B, C = Project("a", 6), Project("b", 4), Project("c", 9)
 SAMPLE = Instance([A, B, C], 10)
@@ -61,10 +62,28 @@ class PriceSystems(unittest.TestCase):
         with self.assertRaises(TypeError):
             validate_price_system(Instance([Project("a", 6.0)], 10), [{"a"}], ["a"], 6, [{"a": 6}])
 
+    def test_a_project_that_is_paid_for_twice(self):
+        """Once by its id and once as itself, in either order, also where one payment is 0."""
+        rest = [{A: 4}, {B: 2}]
+        for first in ({"a": 50, A: 2, B: 2}, {A: 2, "a": 50, B: 2}, {"a": 0, A: 2, B: 2}, {A: 2, B: 2, "b": 0}):
+            with self.subTest(first=first):
+                for check in (validate_price_system, pbaudit.price_certificate):
+                    with self.assertRaisesRegex(ValueError, "^voter 1 pays for [ab] twice$"):
+                        check(SAMPLE, PROFILE, [A, B], 4, [first, *rest])
+                with self.assertRaisesRegex(ValueError, "^voter 1 pays for [ab] twice$"):
+                    pbaudit.write_prices(4, [first, *rest])
+
+    def test_values_that_are_read_once(self):
+        for check in (validate_price_system, pbaudit.price_certificate):
+            for exhaustive in (True, False):
+                ballots = (iter(ballot) for ballot in PROFILE)
+                self.assertTrue(check(SAMPLE, ballots, iter([A, B]), 4, PAYMENTS, exhaustive=exhaustive))
+
     def test_what_no_certificate_can_say(self):
         for profile, funded, payments in (
             (PROFILE, [A, B], [{A: 2, B: 2}, {A: 4}]),
             (PROFILE, [A, B], [{A: 2, B: 2}, {A: 4}, {"d": 2}]),
+            (PROFILE, [A, B], [{A: 2, B: 2}, {A: 4}, {B: 2, "d": 0}]),
             (PROFILE, [A, "d"], PAYMENTS),
             (PROFILE, [A, A], PAYMENTS),
             ([{A, B}, {A}, {"d"}], [A, B], PAYMENTS),
@@ -138,6 +157,43 @@ class Files(unittest.TestCase):
         ):
             with self.assertRaises(ValueError):
                 make()
+
+    def test_values_of_a_wrong_kind(self):
+        for make, told in (
+            (lambda: pbaudit.write_violation([1.9], ["a"]), "the group names voter 1.9, which is no whole number"),
+            (lambda: pbaudit.write_violation(["1"], ["a"]), "the group names voter '1', which is no whole number"),
+            (lambda: pbaudit.write_violation([1], [1]), "1 is no project: "),
+            (lambda: pbaudit.write_outcome([2]), "2 is no project: "),
+            (lambda: pbaudit.write_election(SAMPLE, [[None]]), "None is no project: "),
+        ):
+            with self.assertRaisesRegex(TypeError, f"^{told}"):
+                make()
+
+    def test_more_than_a_file_may_have(self):
+        """At its limit a file is written, and past it it's refused."""
+        many = Instance([Project(str(number), 0) for number in range(20_000)], 1)
+        self.assertEqual(pbaudit.read(pbaudit.write_election(many, [])).projects, 20_000)
+        many.projects.append(Project("last", 0))
+        with self.assertRaisesRegex(ValueError, "20001 projects.*20000"):
+            pbaudit.write_election(many, [])
+        self.assertIn(b"voter,1000000\n", pbaudit.write_violation([10**6], ["a"]))
+        with self.assertRaisesRegex(ValueError, "voters are numbered from 1 to 1000000"):
+            pbaudit.write_violation([10**6 + 1], ["a"])
+        for limit, most, make in (
+            ("MOST_VOTERS", 3, lambda: pbaudit.write_election(SAMPLE, PROFILE)),
+            ("MOST_APPROVALS", 5, lambda: pbaudit.write_election(SAMPLE, PROFILE)),
+            ("MOST_VOTERS", 3, lambda: pbaudit.write_prices(4, PAYMENTS)),
+            ("MOST_PAYMENTS", 4, lambda: pbaudit.write_prices(4, PAYMENTS)),
+            ("MOST_BYTES", len(pbaudit.write_prices(4, PAYMENTS)), lambda: pbaudit.write_prices(4, PAYMENTS)),
+        ):
+            with self.subTest(limit=limit):
+                with mock.patch.object(writing, limit, most):
+                    make()
+                with mock.patch.object(writing, limit, most - 1), self.assertRaisesRegex(ValueError, str(most - 1)):
+                    make()
+
+    def test_ids_are_not_kept_for_ever(self):
+        self.assertIsNotNone(writing._checked_id.cache_info().maxsize)
 
 
 if __name__ == "__main__":
