@@ -4,7 +4,7 @@ import os
 import sys
 
 from .auditing import Refusal
-from .page import VERSION, write_page
+from .page import VERSION, replaced, write_page
 
 REFUSED, USAGE, FAULT = 2, 3, 4
 WHAT_IT_DOES = (
@@ -48,9 +48,10 @@ def main(words=None) -> int:
     """Runs a command line, and answers its exit status, which is as with the program: 0 where the page is written,
     whatever it says, and else 2, 3 or 4."""
     given = _parser().parse_args(words)
-    replaced = _replaced(given)
-    if replaced:
-        given.end_by_usage(f"-o names the same file as {replaced}, which the page would replace")
+    over = replaced(given.output, {"ELECTION": given.election, "CERTIFICATE": given.certificate,
+                                   "--outcome": given.outcome})
+    if over:
+        given.end_by_usage(f"-o names the same file as {over}, which the page would replace")
     try:
         page = write_page(given.election, given.certificate, given.outcome, stable=given.stable,
                           exhaustive=not given.no_exhaustive, cover=given.cover)
@@ -68,20 +69,6 @@ def main(words=None) -> int:
     except OSError as unwritten:
         return _fault(f"fault write: {unwritten}")
     return 0
-
-
-def _replaced(given):
-    """The word for which of the files that are read the page would be written over it; None where it is none."""
-    words = {"ELECTION": given.election, "CERTIFICATE": given.certificate, "--outcome": given.outcome}
-    return next((word for word, path in words.items() if path is not None and _is_same(path, given.output)), None)
-
-
-def _is_same(path, other):
-    """Whether two paths lead to one regular file."""
-    try:
-        return os.path.isfile(path) and os.path.samefile(path, other)
-    except OSError:
-        return False
 
 
 def _role(given, path):

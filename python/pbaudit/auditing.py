@@ -24,8 +24,9 @@ MOST_BYTES = 2**28
 class Refusal(ValueError):
     """A file isn't what it has to be. `str` is the line that the program prints.
 
-    `input` is "election", "outcome" or "certificate" (of `audit_both` "prices" or "violation"); `number` and `name` are those of docs/FORMATS.md; `record` is the
-    record at which the first fault stands, numbered from 1, or 0 where it stands at none.
+    `input` is "election", "outcome" or "certificate" (of `audit_both` "prices" or "violation"); `number` and `name` are
+    those of docs/FORMATS.md; `record` is the record at which the first fault stands, numbered from 1, or 0 where it
+    stands at none.
     """
 
     def __init__(self, line: str):

@@ -6,7 +6,7 @@ projects what `margins` tells; what is counted beside that is in figures.py.
 import hashlib
 import os
 import shlex
-from typing import Iterator, List, Optional
+from typing import Iterator, List, Mapping, Optional
 
 from . import page_of_prices, page_of_violation, wording
 from ._auditor import Mode
@@ -29,13 +29,30 @@ def write_page(election: File, certificate: File, outcome: Optional[File] = None
                cover: bool = False) -> bytes:
     """A page on a price or a violation certificate, as one HTML file: answers its bytes, and writes them to `path` as
     well where one is given. The outcome and the switches are as for `explain`. Raises Refusal, OSError and MemoryError,
-    and then writes nothing."""
+    and a ValueError where the page would replace one of these files, and then writes nothing."""
+    files = {"election": election, "certificate": certificate, "outcome": outcome}
+    over = None if path is None else replaced(path, files)
+    if over:
+        raise ValueError(f"the path of the page is that of the {over}, which it would replace")
     case = case_of(election, certificate, outcome, Mode(stable, exhaustive, cover))
     page = "".join(_page(case)).encode("utf-8")
     if path is not None:
         with open(path, "wb") as file:
             file.write(page)
     return page
+
+
+def replaced(path, files: Mapping[str, Optional[File]]) -> Optional[str]:
+    """The name of the file that a page at this path would replace, or None."""
+    return next((name for name, file in files.items() if _is_same(file, path)), None)
+
+
+def _is_same(file, path):
+    """Whether a file is given by a path that leads, like the other, to one regular file."""
+    try:
+        return isinstance(file, (str, os.PathLike)) and os.path.isfile(file) and os.path.samefile(file, path)
+    except OSError:
+        return False
 
 
 def _page(case: Case) -> Iterator[str]:

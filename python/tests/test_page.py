@@ -393,6 +393,8 @@ class Commands(unittest.TestCase):
                 done = self.run_page(*words, "-o", out)
                 self.assertEqual((done.returncode, done.stdout), (3, b""))
                 self.assertIn(f"the same file as {word},".encode(), done.stderr)
+                with self.assertRaisesRegex(ValueError, "would replace"):
+                    page.write_page(*(copies[it] for it in files), path=out)
             for word, file in files.items():
                 self.assertEqual(pathlib.Path(copies[word]).read_bytes(), file.read_bytes())
 
