@@ -246,7 +246,18 @@ nothing_is_left() {
 }
 nothing_is_left 'a build leaves temporary files behind'
 
-# killed SIGNAL [-]: a launcher is killed while it builds, by itself, or with '-' together with all that it began.
+# until_ended GROUP: waits until no process of a group is left, for half a minute.
+until_ended() {
+  local times
+  for times in {1..300}; do
+    kill -0 -- "-$1" 2> /dev/null || return 0
+    sleep 0.1
+  done
+  return 1
+}
+
+# killed SIGNAL [-]: a launcher is killed while it builds, by itself, or with '-' together with all that it began, which
+# ends a little later.
 killed() {
   local job right=yes
   touch "$copy/crates.txt"
@@ -256,6 +267,7 @@ killed() {
   until_there 'run -- --version' "$log" || right=no
   kill "-$1" -- "${2:-}$job"
   wait "$job" 2> /dev/null
+  [ -z "${2:-}" ] || until_ended "$job" || right=no
   count "$right" "a launcher that is killed ($1) didn't build"
 }
 
