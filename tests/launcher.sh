@@ -204,11 +204,11 @@ until_there() {
 }
 
 # in_background WORD..: begins a command with these words in a group of processes of its own, as a terminal does, and
-# leaves its number in 'job'.
+# leaves its number in 'job'. SIGINT ends it also where this script was begun in the background, which ignores it.
 in_background() {
   set -m
-  (cd "$work/elsewhere" && exec env -i PATH="$path" TMPDIR="$temporary" RT_DOES=slow RT_LOG="$log" "$@") \
-    < /dev/null > "$work/first" 2> "$work/first.errors" &
+  (cd "$work/elsewhere" && exec env --default-signal=INT -i PATH="$path" TMPDIR="$temporary" RT_DOES=slow \
+    RT_LOG="$log" "$@") < /dev/null > "$work/first" 2> "$work/first.errors" &
   job=$!
   set +m
 }
