@@ -8,7 +8,7 @@ from .amounts import MOST_DENOMINATOR, common_denominator, near
 from .auditing import audit_prices
 from .elections import Town, town_of
 from .rounding import CannotKeep, Given, Rounding
-from .writing import amounts_of, price_file, read_once, write_election
+from .writing import amounts_of, ids_of, price_file, read_once, write_election
 
 # A payment of at most this part of the largest cost is taken for noise, where there should be none.
 NOISE = Fraction(1, 10**6)
@@ -50,7 +50,7 @@ def price_certificate(instance, profile, budget_allocation: Iterable, voter_budg
 
     What comes out was audited. That CannotKeep is raised doesn't say that there is no such certificate.
     """
-    profile, budget_allocation = read_once(profile), list(budget_allocation)
+    profile, budget_allocation = read_once(profile), ids_of(budget_allocation)
     town = town_of(instance, profile, budget_allocation)
     _check_outcome(town, exhaustive)
     given = _given(town, voter_budget, payment_functions)

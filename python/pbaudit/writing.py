@@ -10,10 +10,11 @@ iterable of projects; a project may also be named by its id, a `str`.
 """
 import operator
 import os
+import reprlib
 from collections.abc import Mapping, Set
 from fractions import Fraction
 from functools import lru_cache
-from typing import Container, Dict, Iterable, List, Optional
+from typing import Container, Dict, Iterable, Iterator, List, Optional
 
 from .amounts import MOST_DENOMINATOR, MOST_NUMERATOR, common_denominator, exact, money
 from .auditing import MOST_BYTES
@@ -22,6 +23,7 @@ BLANKS = " \t\n\v\f\r"
 # How many of each an election has at most, and how many rows a price certificate.
 MOST_PROJECTS, MOST_VOTERS, MOST_APPROVALS = 20_000, 10**6, 2 * 10**7
 MOST_PAYMENTS = 10**7
+PROJECTS = "projects or their ids"
 
 
 def write_election(instance, profile, budget_allocation: Optional[Iterable] = None,
@@ -53,7 +55,7 @@ def write_election(instance, profile, budget_allocation: Optional[Iterable] = No
 
 def write_outcome(budget_allocation: Iterable, path: Optional["os.PathLike[str]"] = None) -> bytes:
     """An outcome file of the funded projects."""
-    ids = _once([id_of(project) for project in budget_allocation], "the outcome names")
+    ids = _once(ids_of(budget_allocation), "the outcome names")
     return _written([["pb-outcome", "1"]] + [["project", project] for project in ids], ",", path)
 
 
@@ -76,8 +78,8 @@ def write_violation(voters: Iterable[int], projects: Iterable, satisfaction: Opt
     if satisfaction not in (None, "count", "cost"):
         raise ValueError(f"the satisfaction is {satisfaction!r}, and not 'count' or 'cost'")
     head = [["pb-violation", "1"]] if satisfaction is None else [["pb-violation", "2"], ["satisfaction", satisfaction]]
-    ids = _once([id_of(project) for project in projects], "the demand names")
-    group = _once(list(map(_whole, voters)), "the group names voter")
+    ids = _once(ids_of(projects, "the demand is"), "the demand names")
+    group = _once(list(map(_whole, listed(voters, "the group is", "numbers of voters"))), "the group names voter")
     if not all(1 <= voter <= MOST_VOTERS for voter in group):
         raise ValueError(f"voters are numbered from 1 to {MOST_VOTERS}")
     rows = [["project", project] for project in ids] + [["voter", str(voter)] for voter in group]
@@ -120,7 +122,7 @@ def ballots_of(profile, projects) -> List[List[str]]:
                          "be in: give one ballot for each voter")
     order = {project: at for at, project in enumerate(projects)}
     ballots = []
-    for voter, ballot in enumerate(profile, 1):
+    for voter, ballot in enumerate(_ballots(profile), 1):
         named = {id_of(project) for project in ballot}
         _known(named, order, f"voter {voter} approves")
         ballots.append(sorted(named, key=order.__getitem__))
@@ -129,7 +131,7 @@ def ballots_of(profile, projects) -> List[List[str]]:
 
 def funded_of(budget_allocation, projects) -> List[str]:
     """The ids of the funded projects."""
-    funded = _once([id_of(project) for project in budget_allocation], "the outcome names")
+    funded = _once(ids_of(budget_allocation), "the outcome names")
     _known(funded, projects, "the outcome names")
     return funded
 
@@ -137,7 +139,19 @@ def funded_of(budget_allocation, projects) -> List[str]:
 def read_once(profile):
     """A profile as lists, which can be read again, also where it or a ballot is an iterator. One of merged ballots
     stays as it is."""
-    return profile if isinstance(profile, Mapping) else [list(ballot) for ballot in profile]
+    return profile if isinstance(profile, Mapping) else list(map(list, _ballots(profile)))
+
+
+def ids_of(projects: Iterable, what: str = "the budget allocation is") -> List[str]:
+    """The ids of projects."""
+    return [id_of(project) for project in listed(projects, what, PROJECTS)]
+
+
+def listed(values, what: str, wanted: str) -> Iterable:
+    """Values that are an iterable. A text isn't what is wanted, since it would be taken letter by letter."""
+    if isinstance(values, (str, bytes)) or not hasattr(values, "__iter__"):
+        raise TypeError(f"{what} {reprlib.repr(values)}, and not a list of {wanted}")
+    return values
 
 
 def amounts_of(voter: int, function: Mapping) -> Dict[str, object]:
@@ -175,6 +189,12 @@ def _checked_id(name):
     if not name or name != name.strip(BLANKS) or any(letter < " " or letter == "\x7f" for letter in name):
         raise ValueError(f"the id {name!r} can't be written: it is empty, has a blank at an end, or a control byte")
     return name
+
+
+def _ballots(profile) -> Iterator[Iterable]:
+    """The ballots of a profile, each as it is given."""
+    for voter, ballot in enumerate(listed(profile, "the profile is", "ballots"), 1):
+        yield listed(ballot, f"the ballot of voter {voter} is", PROJECTS)
 
 
 def _whole(voter):

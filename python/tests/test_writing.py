@@ -169,6 +169,25 @@ class Files(unittest.TestCase):
             with self.assertRaisesRegex(TypeError, f"^{told}"):
                 make()
 
+    def test_a_text_is_no_list(self):
+        """It would be taken letter by letter: here a and b are projects."""
+        checks = (validate_price_system, pbaudit.price_certificate)
+        ballots, projects = ["ab", ["a"], ["b"]], "and not a list of projects or their ids$"
+        for make, told in (
+            (lambda: pbaudit.write_outcome("park"), f"the budget allocation is 'park', {projects}"),
+            (lambda: pbaudit.write_violation([1], "park"), f"the demand is 'park', {projects}"),
+            (lambda: pbaudit.write_violation("1", ["a"]), "the group is '1', and not a list of numbers of voters$"),
+            (lambda: pbaudit.write_election(SAMPLE, ballots), f"the ballot of voter 1 is 'ab', {projects}"),
+            (lambda: pbaudit.write_election(SAMPLE, "ab"), "the profile is 'ab', and not a list of ballots$"),
+            (lambda: pbaudit.write_election(SAMPLE, PROFILE, "ab"), f"the budget allocation is 'ab', {projects}"),
+            *((lambda check=check: check(SAMPLE, ballots, [A, B], 4, PAYMENTS), "the ballot of voter 1 is 'ab', ")
+              for check in checks),
+            *((lambda check=check: check(SAMPLE, PROFILE, "ab", 4, PAYMENTS), "the budget allocation is 'ab', ")
+              for check in checks),
+        ):
+            with self.subTest(told=told), self.assertRaisesRegex(TypeError, f"^{told}"):
+                make()
+
     def test_more_than_a_file_may_have(self):
         """At its limit a file is written, and past it it's refused."""
         many = Instance([Project(str(number), 0) for number in range(20_000)], 1)
