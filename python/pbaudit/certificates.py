@@ -2,13 +2,13 @@
 import os
 from dataclasses import dataclass, field
 from fractions import Fraction
-from typing import Iterable, Iterator, List, Mapping, Optional, Sequence, Tuple
+from typing import Iterable, Iterator, List, Mapping, Optional, Tuple
 
 from .amounts import MOST_DENOMINATOR, common_denominator, near
 from .auditing import audit_prices
 from .elections import Town, town_of
 from .rounding import CannotKeep, Given, Rounding
-from .writing import amounts_of, ids_of, price_file, read_once, write_election
+from .writing import amounts_of, functions_of, ids_of, price_file, read_once, write_election
 
 # A payment of at most this part of the largest cost is taken for noise, where there should be none.
 NOISE = Fraction(1, 10**6)
@@ -38,7 +38,7 @@ class PriceCertificate:
 
 
 def price_certificate(instance, profile, budget_allocation: Iterable, voter_budget,
-                      payment_functions: Sequence[Mapping], stable: bool = False, exhaustive: bool = True, *,
+                      payment_functions: Iterable[Mapping], stable: bool = False, exhaustive: bool = True, *,
                       denominator: Optional[int] = None) -> PriceCertificate:
     """A certificate near the given payments that the auditor supports, or CannotKeep.
 
@@ -53,7 +53,7 @@ def price_certificate(instance, profile, budget_allocation: Iterable, voter_budg
     profile, budget_allocation = read_once(profile), ids_of(budget_allocation)
     town = town_of(instance, profile, budget_allocation)
     _check_outcome(town, exhaustive)
-    given = _given(town, voter_budget, payment_functions)
+    given = _given(town, voter_budget, functions_of(payment_functions))
     _check_unfunded(town, given, stable)
     rounding = _rounded(town, given, stable, denominator)
     certificate = _certificate(rounding)
@@ -77,14 +77,14 @@ def _check_outcome(town: Town, exhaustive: bool):
             raise CannotKeep("Exhaustive", told, project=name)
 
 
-def _given(town: Town, voter_budget, payment_functions) -> Given:
+def _given(town: Town, voter_budget, functions: List[Mapping]) -> Given:
     """The payments as fractions, without noise. What is more than noise in a wrong place is told."""
-    if len(payment_functions) != len(town.ballots):
-        raise ValueError(f"there are {len(town.ballots)} ballots and {len(payment_functions)} payment functions")
+    if len(functions) != len(town.ballots):
+        raise ValueError(f"there are {len(town.ballots)} ballots and {len(functions)} payment functions")
     noise = max(town.costs, default=Fraction(0)) * NOISE
     place = {name: at for at, name in enumerate(town.names)}
     payments = [_without_noise(town, place, voter, function, noise)
-                for voter, function in enumerate(payment_functions)]
+                for voter, function in enumerate(functions)]
     # Whether something is off by more than noise is told from rounded sums, since exact ones take long.
     spent = [sum(map(float, mine.values())) for mine in payments]
     budget = _most(payments, spent) if voter_budget is None else near(voter_budget, "the voter budget")

@@ -3,8 +3,7 @@ from dataclasses import dataclass, field
 from fractions import Fraction
 from typing import Iterable, Iterator, List, Set
 
-from .amounts import exact
-from .writing import ballots_of, costs_of, funded_of
+from .writing import ballots_of, costs_of, funded_of, limit_of
 
 
 @dataclass(frozen=True)
@@ -59,4 +58,4 @@ def town_of(instance, profile, budget_allocation: Iterable) -> Town:
     place = {name: at for at, name in enumerate(costs)}
     ballots = [{place[name] for name in ballot} for ballot in ballots_of(profile, costs)]
     funded = {place[name] for name in funded_of(budget_allocation, costs)}
-    return Town(list(costs), list(costs.values()), exact(instance.budget_limit, "the budget limit"), funded, ballots)
+    return Town(list(costs), list(costs.values()), limit_of(instance), funded, ballots)

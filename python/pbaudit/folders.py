@@ -57,9 +57,16 @@ def audit_folder(path: "os.PathLike[str]", executor: Optional[Executor] = None, 
     Raises OSError where the folder can't be listed, or lists a name that isn't UTF-8 (errno.EILSEQ): `pbaudit folder`
     refuses it then, as `refused folder 18 Read record 0`.
     """
-    entries = _entries(os.path.abspath(os.fspath(path)), Mode(stable, exhaustive, cover))
+    entries = _entries(os.path.abspath(_text_of(path)), Mode(stable, exhaustive, cover))
     found = {entry: audit_entry(entry) for entry in entries} if executor is None else _spread(executor, entries)
     return _report(entries, found)
+
+
+def _text_of(path):
+    text = os.fspath(path)
+    if not isinstance(text, str):
+        raise TypeError(f"the path of the folder is {text!r}, and not a str")
+    return text
 
 
 def audit_entry(entry: Entry) -> List[Tuple[str, str, int]]:

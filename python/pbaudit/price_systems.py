@@ -1,16 +1,16 @@
 """The check of prices over Python values, with the arguments of `validate_price_system` of pabutools."""
 from fractions import Fraction
-from typing import Iterable, Mapping, Sequence
+from typing import Iterable, Mapping
 
 from ._auditor import Mode, Question
 from .amounts import MILLION, MOST_COST, MOST_DENOMINATOR, common_denominator, exact
 from .auditing import Verdict, verdict
 from .elections import Instance, Project
-from .writing import costs_of, exact_payments, read_once, write_election, write_prices
+from .writing import costs_of, exact_payments, functions_of, limit_of, read_once, write_election, write_prices
 
 
 def validate_price_system(instance, profile, budget_allocation: Iterable, voter_budget,
-                          payment_functions: Sequence[Mapping], stable: bool = False,
+                          payment_functions: Iterable[Mapping], stable: bool = False,
                           exhaustive: bool = True) -> Verdict:
     """Whether the payments support the budget allocation: a Verdict, which is true or false, and names what fails
     first.
@@ -22,13 +22,13 @@ def validate_price_system(instance, profile, budget_allocation: Iterable, voter_
     no certificate can say (a payment below 0, amounts with too large a common denominator) is a ValueError, and so is a
     voter who pays for a project twice, by its name and as itself.
     """
-    ballots = read_once(profile)
-    if len(payment_functions) != len(ballots):
-        raise ValueError(f"there are {len(ballots)} ballots and {len(payment_functions)} payment functions")
+    ballots, functions = read_once(profile), functions_of(payment_functions)
+    if len(functions) != len(ballots):
+        raise ValueError(f"there are {len(ballots)} ballots and {len(functions)} payment functions")
     costs = costs_of(instance)
-    limit = exact(instance.budget_limit, "the budget limit")
+    limit = limit_of(instance)
     budget = exact(voter_budget, "the voter budget")
-    payments = [exact_payments(voter, function, costs) for voter, function in enumerate(payment_functions, 1)]
+    payments = [exact_payments(voter, function, costs) for voter, function in enumerate(functions, 1)]
     amounts = [budget, *(amount for mine in payments for amount in mine.values())]
     factor = _factor([limit, *costs.values()], amounts)
     scaled = Instance([Project(name, cost * factor) for name, cost in costs.items()], limit * factor)

@@ -31,7 +31,7 @@ def write_election(instance, profile, budget_allocation: Optional[Iterable] = No
     """An election; its outcome is the budget allocation, and without one it states none."""
     costs = {name: money(cost, f"the cost of {name}") for name, cost in costs_of(instance).items()}
     ids = list(costs)
-    limit = money(exact(instance.budget_limit, "the budget limit"), "the budget limit")
+    limit = money(limit_of(instance), "the budget limit")
     ballots = ballots_of(profile, costs)
     for ballot in ballots:
         for project in ballot:
@@ -64,7 +64,7 @@ def write_prices(voter_budget, payment_functions: Iterable[Mapping],
     """A price certificate: the budget of each voter, and for each voter, in the order of the profile, a mapping from
     projects to what the voter pays, in the currency of the costs."""
     budget = exact(voter_budget, "the voter budget")
-    payments = [exact_payments(voter, function) for voter, function in enumerate(payment_functions, 1)]
+    payments = [exact_payments(voter, function) for voter, function in enumerate(functions_of(payment_functions), 1)]
     denominator = common_denominator([budget, *(amount for mine in payments for amount in mine.values())])
     rows = [(voter, project, amount * denominator) for voter, mine in enumerate(payments, 1)
             for project, amount in mine.items()]
@@ -106,13 +106,22 @@ def price_file(denominator: int, voter_budget: int, rows, path=None) -> bytes:
 def costs_of(instance) -> Dict[str, Fraction]:
     """What each project costs, by id and in the instance's order. An instance that is a set, as in pabutools, is put in
     order by the ids."""
-    costs = {}
-    for project in sorted(instance, key=id_of) if isinstance(instance, Set) else instance:
+    costs, projects = {}, listed(instance, "the instance is", "projects with a budget_limit")
+    for project in sorted(projects, key=id_of) if isinstance(projects, Set) else projects:
         name = id_of(project)
+        if not hasattr(project, "cost"):
+            raise TypeError(f"the instance's project {name} has no cost")
         if name in costs:
             raise ValueError(f"two projects have the id {name!r}")
         costs[name] = exact(project.cost, f"the cost of {name}")
     return costs
+
+
+def limit_of(instance) -> Fraction:
+    """The budget limit of an instance."""
+    if not hasattr(instance, "budget_limit"):
+        raise TypeError(f"the instance is {reprlib.repr(instance)}, which has no budget_limit")
+    return exact(instance.budget_limit, "the budget limit")
 
 
 def ballots_of(profile, projects) -> List[List[str]]:
@@ -142,14 +151,19 @@ def read_once(profile):
     return profile if isinstance(profile, Mapping) else list(map(list, _ballots(profile)))
 
 
+def functions_of(payment_functions: Iterable[Mapping]) -> List[Mapping]:
+    """The payment functions as a list, also where they are an iterator."""
+    return list(listed(payment_functions, "the payment functions are", "mappings, one for each voter", Mapping))
+
+
 def ids_of(projects: Iterable, what: str = "the budget allocation is") -> List[str]:
     """The ids of projects."""
     return [id_of(project) for project in listed(projects, what, PROJECTS)]
 
 
-def listed(values, what: str, wanted: str) -> Iterable:
+def listed(values, what: str, wanted: str, *unwanted: type) -> Iterable:
     """Values that are an iterable. A text isn't what is wanted, since it would be taken letter by letter."""
-    if isinstance(values, (str, bytes)) or not hasattr(values, "__iter__"):
+    if isinstance(values, (str, bytes, *unwanted)) or not hasattr(values, "__iter__"):
         raise TypeError(f"{what} {reprlib.repr(values)}, and not a list of {wanted}")
     return values
 
@@ -157,6 +171,9 @@ def listed(values, what: str, wanted: str) -> Iterable:
 def amounts_of(voter: int, function: Mapping) -> Dict[str, object]:
     """What a voter pays, as it is given, by the ids of the projects. None of them may be there twice, by its id and as
     itself."""
+    if not callable(getattr(function, "values", None)):
+        raise TypeError(f"the payment function of voter {voter} is {reprlib.repr(function)}, and not a mapping from "
+                        "projects to amounts")
     names = _once([id_of(project) for project in function], f"voter {voter} pays for")
     return dict(zip(names, function.values()))
 

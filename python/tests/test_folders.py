@@ -87,6 +87,10 @@ class Folders(unittest.TestCase):
         self.write(os.fsdecode(b"\xff.txt"), b"")
         self.assert_refused(self.room, errno.EILSEQ)
 
+    def test_a_path_of_bytes(self):
+        with self.assertRaisesRegex(TypeError, "^the path of the folder is b'folder', and not a str$"):
+            pbaudit.audit_folder(b"folder")
+
     def assert_refused(self, folder, number):
         done = subprocess.run([PROGRAM, "folder", folder], capture_output=True, check=False)
         self.assertEqual((done.stdout, done.returncode), (b"refused folder 18 Read record 0\n", 2))

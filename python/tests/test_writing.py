@@ -77,7 +77,7 @@ class PriceSystems(unittest.TestCase):
         for check in (validate_price_system, pbaudit.price_certificate):
             for exhaustive in (True, False):
                 ballots = (iter(ballot) for ballot in PROFILE)
-                self.assertTrue(check(SAMPLE, ballots, iter([A, B]), 4, PAYMENTS, exhaustive=exhaustive))
+                self.assertTrue(check(SAMPLE, ballots, iter([A, B]), 4, iter(PAYMENTS), exhaustive=exhaustive))
 
     def test_what_no_certificate_can_say(self):
         for profile, funded, payments in (
@@ -168,6 +168,26 @@ class Files(unittest.TestCase):
         ):
             with self.assertRaisesRegex(TypeError, f"^{told}"):
                 make()
+
+    def test_values_without_what_is_wanted(self):
+        checks = (validate_price_system, pbaudit.price_certificate)
+        no_limit, no_costs = "the instance is .*, which has no budget_limit$", "the instance's project a has no cost$"
+        of_voter, no_list = "the payment function of voter", "and not a list of mappings, one for each voter$"
+        for told, instance, profile, payments in (
+            (no_limit, [A, B, C], PROFILE, PAYMENTS), (no_costs, Instance(["a"], 10), [["a"]], [{"a": 1}]),
+            ("the instance is None, and not a list of projects", None, PROFILE, PAYMENTS),
+            ("the ballot of voter 2 is None, and not a list of projects", SAMPLE, [{A}, None, {B}], PAYMENTS),
+            ("the profile is None, and not a list of ballots$", SAMPLE, None, PAYMENTS),
+            (f"{of_voter} 1 is \\['a'\\], and not a mapping from projects", SAMPLE, PROFILE, [["a"], {}, {}]),
+            (f"{of_voter} 3 is None, and not a mapping from projects", SAMPLE, PROFILE, [{}, {}, None]),
+            (f"the payment functions are {{1: .*}}, {no_list}", SAMPLE, PROFILE, dict(enumerate(PAYMENTS, 1))),
+            (f"the payment functions are None, {no_list}", SAMPLE, PROFILE, None),
+        ):
+            makes = [lambda check=check: check(instance, profile, [A, B], 4, payments) for check in checks]
+            makes.append(lambda: (pbaudit.write_election(instance, profile), pbaudit.write_prices(4, payments)))
+            for make in makes:
+                with self.subTest(told=told), self.assertRaisesRegex(TypeError, f"^{told}"):
+                    make()
 
     def test_a_text_is_no_list(self):
         """It would be taken letter by letter: here a and b are projects."""
