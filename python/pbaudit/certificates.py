@@ -1,10 +1,11 @@
 """Price certificates from a solver's floats, or from the fractions of a rule."""
+import operator
 import os
 from dataclasses import dataclass, field
 from fractions import Fraction
 from typing import Iterable, Iterator, List, Mapping, Optional, Tuple
 
-from .amounts import MOST_DENOMINATOR, common_denominator, near
+from .amounts import MOST_DENOMINATOR, MOST_NUMERATOR, common_denominator, near
 from .auditing import audit_prices
 from .elections import Town, town_of
 from .rounding import CannotKeep, Given, Rounding
@@ -51,18 +52,25 @@ def price_certificate(instance, profile, budget_allocation: Iterable, voter_budg
     What comes out was audited. That CannotKeep is raised doesn't say that there is no such certificate.
     """
     profile, budget_allocation = read_once(profile), ids_of(budget_allocation)
+    denominator = None if denominator is None else _whole(denominator)
+    election = write_election(instance, profile, budget_allocation)
     town = town_of(instance, profile, budget_allocation)
     _check_outcome(town, exhaustive)
     given = _given(town, voter_budget, functions_of(payment_functions))
     _check_unfunded(town, given, stable)
     rounding = _rounded(town, given, stable, denominator)
     certificate = _certificate(rounding)
-    election = write_election(instance, profile, budget_allocation)
     verdict = audit_prices(election, certificate.file, stable=stable, exhaustive=exhaustive)
     if not verdict:
         told = f"the rounded payments are answered '{verdict}'"
         raise CannotKeep(verdict.condition, told, verdict.voter, verdict.project)
     return certificate
+
+
+def _whole(denominator) -> int:
+    if isinstance(denominator, bool) or not hasattr(denominator, "__index__"):
+        raise TypeError(f"the denominator is {denominator!r}, and not a whole number")
+    return operator.index(denominator)
 
 
 def _check_outcome(town: Town, exhaustive: bool):
@@ -87,7 +95,7 @@ def _given(town: Town, voter_budget, functions: List[Mapping]) -> Given:
                 for voter, function in enumerate(functions)]
     # Whether something is off by more than noise is told from rounded sums, since exact ones take long.
     spent = [sum(map(float, mine.values())) for mine in payments]
-    budget = _most(payments, spent) if voter_budget is None else near(voter_budget, "the voter budget")
+    budget = _most(payments, spent) if voter_budget is None else _payable(voter_budget, "the voter budget")
     has, off = float(budget), float(noise)
     for voter, mine in enumerate(payments):
         if spent[voter] > has + off * max(1, len(mine)):
@@ -102,6 +110,14 @@ def _given(town: Town, voter_budget, functions: List[Mapping]) -> Given:
         if abs(paid[project] - cost) > off * max(1, payers[project]):
             raise CannotKeep("C3", f"{paid[project]:.9g} is paid for {name}, which costs {cost:.9g}", project=name)
     return Given(payments, budget, noise)
+
+
+def _payable(amount, what) -> Fraction:
+    """An amount of any kind, but none beyond what a certificate has. One a little below 0 may be noise."""
+    amount = near(amount, what)
+    if abs(amount) > MOST_NUMERATOR:
+        raise ValueError(f"{what} isn't from 0 to 10^21, as a certificate's amounts are")
+    return amount
 
 
 def _most(payments, spent) -> Fraction:
@@ -131,7 +147,7 @@ def _without_noise(town, place, voter, function, noise):
     """What a voter pays, by places of projects. More than noise in a wrong place is a CannotKeep."""
     payments = {}
     for name, amount in amounts_of(voter + 1, function).items():
-        amount = near(amount, f"what voter {voter + 1} pays for {name}")
+        amount = _payable(amount, f"what voter {voter + 1} pays for {name}")
         if not amount:
             continue
         at = place.get(name)

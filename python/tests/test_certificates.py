@@ -105,6 +105,25 @@ class Roundings(unittest.TestCase):
         with self.assertRaises(ValueError):
             price_certificate(SAMPLE, PROFILE, [A, B], 4, [{}, {}, {}], denominator=10**9 + 1)
 
+    def test_amounts_beyond_those_of_a_certificate(self):
+        for amount in (10**21 + 1, 10**400, -10**400, Fraction(10**400), Fraction(10**5000, 3), 1e300):
+            with self.assertRaisesRegex(ValueError, "^the voter budget isn't from 0 to 10.21, "):
+                price_certificate(SAMPLE, PROFILE, [A, B], amount, [{A: 2, B: 2}, {A: 4}, {B: 2}])
+            with self.assertRaisesRegex(ValueError, "^what voter 2 pays for a isn't from 0 to 10.21, "):
+                price_certificate(SAMPLE, PROFILE, [A, B], 4, [{A: 2, B: 2}, {A: amount}, {B: 2}])
+        for cost, limit, told in ((10**400, 10, "the cost of d"), (1, 10**400, "the budget limit")):
+            with self.assertRaisesRegex(ValueError, f"^{told} is 10+, and an election's amounts are from 0 to 10.12"):
+                price_certificate(Instance([Project("d", cost)], limit), [["d"]], [], 4, [{}])
+
+    def test_denominators_that_are_none(self):
+        words = SAMPLE, PROFILE, [A, B], 4, [{A: 2, B: 2}, {A: 4}, {B: 2}]
+        for denominator in (True, False, 100.0, "100"):
+            with self.assertRaisesRegex(TypeError, f"^the denominator is {denominator!r}, and not a whole number$"):
+                price_certificate(*words, denominator=denominator)
+        for denominator in (0, -1, 10**9 + 1, 10**5000):
+            with self.assertRaisesRegex(ValueError, "^the denominator has to be "):
+                price_certificate(*words, denominator=denominator)
+
 
 class District(unittest.TestCase):
     def test_the_files_are_those_of_the_rule(self):
