@@ -44,10 +44,12 @@ def price_certificate(instance, profile, budget_allocation: Iterable, voter_budg
     """A certificate near the given payments that the auditor supports, or CannotKeep.
 
     The arguments are those of `validate_price_system`, but payments and the voter budget may be floats too, which count
-    as the decimals that they print as; a voter budget of None is the most that a voter spends, which is the best for C5
-    and S5. Up to a millionth of the largest cost counts as a solver's noise. `denominator` asks for this one; without
-    it the exact one is tried where it is at most 10^9, and then 100, 10^4, 10^6 and 10^9 (or multiples near them where
-    costs have other parts); where none does, payments are moved among supporters and all are tried again.
+    as the decimals that they print as, and costs and the limit are those of an election file, with at most six decimals
+    (`validate_price_system` takes others too); a voter budget of None is the most that a voter spends, which is the
+    best for C5 and S5. Up to a millionth of the largest cost counts as a solver's noise. `denominator` asks for this
+    one; without it the exact one is tried where it is at most 10^9, and then 100, 10^4, 10^6 and 10^9 (or multiples
+    near them where costs have other parts); where none does, payments are moved among supporters and all are tried
+    again.
 
     What comes out was audited. That CannotKeep is raised doesn't say that there is no such certificate.
     """

@@ -115,6 +115,14 @@ class Roundings(unittest.TestCase):
             with self.assertRaisesRegex(ValueError, f"^{told} is 10+, and an election's amounts are from 0 to 10.12"):
                 price_certificate(Instance([Project("d", cost)], limit), [["d"]], [], 4, [{}])
 
+    def test_costs_are_those_of_a_file(self):
+        """The check takes others too."""
+        third = Fraction(1, 3)
+        words = Instance([Project("d", third)], third), [["d"]], ["d"], third, [{"d": third}]
+        self.assertTrue(pbaudit.validate_price_system(*words))
+        with self.assertRaisesRegex(ValueError, "^the cost of d is 1/3, and .* at most six decimals$"):
+            price_certificate(*words)
+
     def test_denominators_that_are_none(self):
         words = SAMPLE, PROFILE, [A, B], 4, [{A: 2, B: 2}, {A: 4}, {B: 2}]
         for denominator in (True, False, 100.0, "100"):
