@@ -6,7 +6,7 @@ from ._auditor import Mode, Question
 from .amounts import MILLION, MOST_COST, MOST_DENOMINATOR, common_denominator, exact
 from .auditing import Verdict, verdict
 from .elections import Instance, Project
-from .writing import costs_of, exact_payments, functions_of, limit_of, read_once, write_election, write_prices
+from .writing import costs_of, exact_payments, functions_of, ids_of, limit_of, read_once, write_election, write_prices
 
 
 def validate_price_system(instance, profile, budget_allocation: Iterable, voter_budget,
@@ -22,7 +22,7 @@ def validate_price_system(instance, profile, budget_allocation: Iterable, voter_
     no certificate can say (a payment below 0, amounts with too large a common denominator) is a ValueError, and so is a
     voter who pays for a project twice, by its name and as itself.
     """
-    ballots, functions = read_once(profile), functions_of(payment_functions)
+    ballots, funded, functions = read_once(profile), ids_of(budget_allocation), functions_of(payment_functions)
     if len(functions) != len(ballots):
         raise ValueError(f"there are {len(ballots)} ballots and {len(functions)} payment functions")
     costs = costs_of(instance)
@@ -32,7 +32,7 @@ def validate_price_system(instance, profile, budget_allocation: Iterable, voter_
     amounts = [budget, *(amount for mine in payments for amount in mine.values())]
     factor = _factor([limit, *costs.values()], amounts)
     scaled = Instance([Project(name, cost * factor) for name, cost in costs.items()], limit * factor)
-    election = write_election(scaled, ballots, budget_allocation)
+    election = write_election(scaled, ballots, funded)
     certificate = write_prices(budget * factor, [{name: x * factor for name, x in mine.items()} for mine in payments])
     return verdict(Question("prices", election, certificate, mode=Mode(stable, exhaustive)))
 

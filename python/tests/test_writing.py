@@ -189,6 +189,16 @@ class Files(unittest.TestCase):
                 with self.subTest(told=told), self.assertRaisesRegex(TypeError, f"^{told}"):
                     make()
 
+    def test_no_budget_allocation(self):
+        """Only an election may have none."""
+        for make in (
+            lambda: validate_price_system(SAMPLE, PROFILE, None, 4, PAYMENTS),
+            lambda: pbaudit.price_certificate(SAMPLE, PROFILE, None, 4, PAYMENTS),
+            lambda: pbaudit.write_outcome(None),
+        ):
+            with self.assertRaisesRegex(TypeError, "^the budget allocation is None, and not a list of projects or "):
+                make()
+
     def test_a_text_is_no_list(self):
         """It would be taken letter by letter: here a and b are projects."""
         checks = (validate_price_system, pbaudit.price_certificate)
