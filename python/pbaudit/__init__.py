@@ -8,7 +8,8 @@ Audits of files are `read`, `audit_prices`, `audit_violation`, `audit_both`, `ex
 exact prices of a solver's floats. The answers are those of the program `pbaudit`: they come from the proved library, or
 from the program where the library isn't there. What this package does before and after isn't proved.
 
-Voters are numbered from 1, in the order of the profile. Amounts are in the currency of the costs.
+Voters are numbered from 1, in the order of the profile. Amounts are in the currency of the costs. Where Python values
+are taken, what no file can say is a ValueError, and a value of another kind than is wanted a TypeError.
 """
 from .auditing import (
     Explanation, Finding, ProjectMargins, Refusal, Summary, Verdict, audit_both, audit_prices, audit_violation, explain,

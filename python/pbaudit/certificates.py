@@ -33,7 +33,7 @@ class PriceCertificate:
     file: bytes = field(repr=False)
 
     def write(self, path: "os.PathLike[str]") -> None:
-        """Writes the file."""
+        """Writes the file. Raises OSError."""
         with open(path, "wb") as file:
             file.write(self.file)
 
@@ -51,7 +51,8 @@ def price_certificate(instance, profile, budget_allocation: Iterable, voter_budg
     near them where costs have other parts); where none does, payments are moved among supporters and all are tried
     again.
 
-    What comes out was audited. That CannotKeep is raised doesn't say that there is no such certificate.
+    What comes out was audited. That CannotKeep is raised doesn't say that there is no such certificate. Raises
+    ValueError, TypeError and MemoryError too.
     """
     profile, budget_allocation = read_once(profile), ids_of(budget_allocation)
     denominator = None if denominator is None else _whole(denominator)

@@ -28,7 +28,8 @@ PROJECTS = "projects or their ids"
 
 def write_election(instance, profile, budget_allocation: Optional[Iterable] = None,
                    path: Optional["os.PathLike[str]"] = None) -> bytes:
-    """An election; its outcome is the budget allocation, and without one it states none."""
+    """An election; its outcome is the budget allocation, and without one it states none. Raises ValueError, TypeError
+    and OSError."""
     costs = {name: money(cost, f"the cost of {name}") for name, cost in costs_of(instance).items()}
     ids = list(costs)
     limit = money(limit_of(instance), "the budget limit")
@@ -54,7 +55,7 @@ def write_election(instance, profile, budget_allocation: Optional[Iterable] = No
 
 
 def write_outcome(budget_allocation: Iterable, path: Optional["os.PathLike[str]"] = None) -> bytes:
-    """An outcome file of the funded projects."""
+    """An outcome file of the funded projects. Raises ValueError, TypeError and OSError."""
     ids = _once(ids_of(budget_allocation), "the outcome names")
     return _written([["pb-outcome", "1"]] + [["project", project] for project in ids], ",", path)
 
@@ -62,7 +63,7 @@ def write_outcome(budget_allocation: Iterable, path: Optional["os.PathLike[str]"
 def write_prices(voter_budget, payment_functions: Iterable[Mapping],
                  path: Optional["os.PathLike[str]"] = None) -> bytes:
     """A price certificate: the budget of each voter, and for each voter, in the order of the profile, a mapping from
-    projects to what the voter pays, in the currency of the costs."""
+    projects to what the voter pays, in the currency of the costs. Raises ValueError, TypeError and OSError."""
     budget = exact(voter_budget, "the voter budget")
     payments = [exact_payments(voter, function) for voter, function in enumerate(functions_of(payment_functions), 1)]
     denominator = common_denominator([budget, *(amount for mine in payments for amount in mine.values())])
@@ -74,7 +75,8 @@ def write_prices(voter_budget, payment_functions: Iterable[Mapping],
 def write_violation(voters: Iterable[int], projects: Iterable, satisfaction: Optional[str] = None,
                     path: Optional["os.PathLike[str]"] = None) -> bytes:
     """A violation certificate: the group, by the numbers of its voters (from 1, in the order of the profile), and the
-    projects that it demands. `satisfaction` is "count" or "cost"; None is "count" in the older version of the file."""
+    projects that it demands. `satisfaction` is "count" or "cost"; None is "count" in the older version of the file.
+    Raises ValueError, TypeError and OSError."""
     if satisfaction not in (None, "count", "cost"):
         raise ValueError(f"the satisfaction is {satisfaction!r}, and not 'count' or 'cost'")
     head = [["pb-violation", "1"]] if satisfaction is None else [["pb-violation", "2"], ["satisfaction", satisfaction]]

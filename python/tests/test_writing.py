@@ -241,6 +241,12 @@ class Files(unittest.TestCase):
                 with mock.patch.object(writing, limit, most - 1), self.assertRaisesRegex(ValueError, str(most - 1)):
                     make()
 
+    def test_each_function_names_its_errors(self):
+        for name in pbaudit.__all__:
+            function = getattr(pbaudit, name)
+            if not isinstance(function, type):
+                self.assertIn("Error", function.__doc__, name)
+
     def test_ids_are_not_kept_for_ever(self):
         self.assertIsNotNone(writing._checked_id.cache_info().maxsize)
 
