@@ -11,14 +11,25 @@ MOST_DENOMINATOR = 10**9
 MOST_NUMERATOR = 10**21
 
 
-def exact(amount, what: str) -> Fraction:
+def exact(amount, what: str, advice: str = "") -> Fraction:
     """An amount that is a whole number, a fraction or a Decimal. A float is a TypeError that names what it was for."""
     if isinstance(amount, float):
-        raise TypeError(
-            f"{what} is the float {amount!r}, and a check of rounded numbers isn't one: give whole numbers, Fractions "
-            "or Decimals, or let price_certificate make exact payments of a solver's floats"
-        )
+        raise TypeError(f"{what} is the float {amount!r}, and a check of rounded numbers isn't one: "
+                        f"give whole numbers, Fractions or Decimals{advice}")
     return near(amount, what)
+
+
+def exact_price(amount, what: str) -> Fraction:
+    """What a price certificate states, which may be made of floats elsewhere."""
+    return exact(amount, what, ", or let price_certificate make exact payments of a solver's floats")
+
+
+def exact_cost(amount, what: str) -> Fraction:
+    """A cost or the limit, which is from 0 to 10^12."""
+    cost = exact(amount, what)
+    if not 0 <= cost <= MOST_COST:
+        raise ValueError(f"{what} is {cost}, and an election's amounts are from 0 to 10^12")
+    return cost
 
 
 def near(amount, what: str) -> Fraction:
@@ -44,9 +55,7 @@ def common_denominator(amounts: Iterable[Fraction]) -> int:
 
 
 def money(amount: Fraction, what: str) -> str:
-    """An amount as an election file writes it. It has at most six decimals and is from 0 to 10^12."""
-    if not 0 <= amount <= MOST_COST:
-        raise ValueError(f"{what} is {amount}, and an election's amounts are from 0 to 10^12")
+    """An exact cost as an election file writes it. It has at most six decimals."""
     whole, rest = divmod(amount * MILLION, MILLION)
     if rest.denominator != 1:
         raise ValueError(f"{what} is {amount}, and an election's amounts have at most six decimals")

@@ -3,7 +3,7 @@ from fractions import Fraction
 from typing import Iterable, Mapping
 
 from ._auditor import Mode, Question
-from .amounts import MILLION, MOST_COST, MOST_DENOMINATOR, common_denominator, exact
+from .amounts import MILLION, MOST_COST, MOST_DENOMINATOR, common_denominator, exact_price
 from .auditing import Verdict, verdict
 from .elections import Instance, Project
 from .writing import costs_of, exact_payments, functions_of, ids_of, limit_of, read_once, write_election, write_prices
@@ -19,15 +19,15 @@ def validate_price_system(instance, profile, budget_allocation: Iterable, voter_
     approval ballots, each a set of projects; payments are, for each voter in the order of the profile, a mapping from
     projects or their names to amounts. Amounts are whole numbers, Fractions or Decimals, and are taken exactly. A float
     is a TypeError, since a check of rounded numbers isn't one; `price_certificate` makes exact payments of floats. What
-    no certificate can say (a payment below 0, amounts with too large a common denominator) is a ValueError, and so is a
-    voter who pays for a project twice, by its name and as itself.
+    no certificate can say (a payment below 0, amounts that are too large or have too large a common denominator) is a
+    ValueError, and so is a voter who pays for a project twice, by its name and as itself.
     """
     ballots, funded, functions = read_once(profile), ids_of(budget_allocation), functions_of(payment_functions)
     if len(functions) != len(ballots):
         raise ValueError(f"there are {len(ballots)} ballots and {len(functions)} payment functions")
     costs = costs_of(instance)
     limit = limit_of(instance)
-    budget = exact(voter_budget, "the voter budget")
+    budget = exact_price(voter_budget, "the voter budget")
     payments = [exact_payments(voter, function, costs) for voter, function in enumerate(functions, 1)]
     amounts = [budget, *(amount for mine in payments for amount in mine.values())]
     factor = _factor([limit, *costs.values()], amounts)

@@ -16,7 +16,7 @@ from fractions import Fraction
 from functools import lru_cache
 from typing import Container, Dict, Iterable, Iterator, List, Optional
 
-from .amounts import MOST_DENOMINATOR, MOST_NUMERATOR, common_denominator, exact, money
+from .amounts import MOST_DENOMINATOR, MOST_NUMERATOR, common_denominator, exact_cost, exact_price, money
 from .auditing import MOST_BYTES
 
 BLANKS = " \t\n\v\f\r"
@@ -64,7 +64,7 @@ def write_prices(voter_budget, payment_functions: Iterable[Mapping],
                  path: Optional["os.PathLike[str]"] = None) -> bytes:
     """A price certificate: the budget of each voter, and for each voter, in the order of the profile, a mapping from
     projects to what the voter pays, in the currency of the costs. Raises ValueError, TypeError and OSError."""
-    budget = exact(voter_budget, "the voter budget")
+    budget = exact_price(voter_budget, "the voter budget")
     payments = [exact_payments(voter, function) for voter, function in enumerate(functions_of(payment_functions), 1)]
     denominator = common_denominator([budget, *(amount for mine in payments for amount in mine.values())])
     rows = [(voter, project, amount * denominator) for voter, mine in enumerate(payments, 1)
@@ -94,8 +94,10 @@ def price_file(denominator: int, voter_budget: int, rows, path=None) -> bytes:
     if denominator > MOST_DENOMINATOR:
         raise ValueError(f"the amounts' common denominator is {denominator}, and a certificate's is at most 10^9: "
                          "price_certificate rounds to a smaller one where the conditions still hold")
-    if max([voter_budget, *(numerator for _, _, numerator in rows)]) > MOST_NUMERATOR:
-        raise ValueError("a numerator is over 10^21, the most that a certificate has")
+    over = ["the voter budget"] if voter_budget > MOST_NUMERATOR else []
+    over += [f"what voter {voter} pays for {project}" for voter, project, amount in rows if amount > MOST_NUMERATOR]
+    if over:
+        raise ValueError(f"the numerator of {over[0]} is over 10^21, the most that a certificate has")
     if voter_budget < 0:
         raise ValueError("the voter budget is below 0")
     _at_most(MOST_PAYMENTS, len(rows), "payments")
@@ -115,7 +117,7 @@ def costs_of(instance) -> Dict[str, Fraction]:
             raise TypeError(f"the instance's project {name} has no cost")
         if name in costs:
             raise ValueError(f"two projects have the id {name!r}")
-        costs[name] = exact(project.cost, f"the cost of {name}")
+        costs[name] = exact_cost(project.cost, f"the cost of {name}")
     return costs
 
 
@@ -123,7 +125,7 @@ def limit_of(instance) -> Fraction:
     """The budget limit of an instance."""
     if not hasattr(instance, "budget_limit"):
         raise TypeError(f"the instance is {reprlib.repr(instance)}, which has no budget_limit")
-    return exact(instance.budget_limit, "the budget limit")
+    return exact_cost(instance.budget_limit, "the budget limit")
 
 
 def ballots_of(profile, projects) -> List[List[str]]:
@@ -183,7 +185,7 @@ def amounts_of(voter: int, function: Mapping) -> Dict[str, object]:
 def exact_payments(voter: int, function: Mapping, projects: Optional[Container] = None) -> Dict[str, Fraction]:
     """What a voter pays by the ids of projects, exactly and without what is 0. Where projects are given, each is one of
     them."""
-    payments = {name: exact(amount, f"what voter {voter} pays for {name}")
+    payments = {name: exact_price(amount, f"what voter {voter} pays for {name}")
                 for name, amount in amounts_of(voter, function).items()}
     if projects is not None:
         _known(payments, projects, f"voter {voter} pays for")

@@ -59,8 +59,25 @@ class PriceSystems(unittest.TestCase):
         for budget, payments in ((4.0, PAYMENTS), (4, [{A: 2, B: 2.0}, {A: 4}, {B: 2}])):
             with self.assertRaisesRegex(TypeError, "price_certificate"):
                 validate_price_system(SAMPLE, PROFILE, [A, B], budget, payments)
-        with self.assertRaises(TypeError):
-            validate_price_system(Instance([Project("a", 6.0)], 10), [{"a"}], ["a"], 6, [{"a": 6}])
+        for told, instance in (("the cost of a is the float 6.0", Instance([Project("a", 6.0)], 10)),
+                               ("the budget limit is the float 10.0", Instance([Project("a", 6)], 10.0))):
+            with self.assertRaisesRegex(TypeError, f"^{told}, .*: give whole numbers, Fractions or Decimals$"):
+                validate_price_system(instance, [{"a"}], ["a"], 6, [{"a": 6}])
+
+    def test_amounts_that_are_too_large(self):
+        def town(cost, limit):
+            return Instance([A, B, Project("c", cost)], limit)
+        most, over = 10**12, "is 1000000000001, and an election's amounts are from 0 to 10.12$"
+        numerator = "is over 10.21, the most that a certificate has$"
+        for told, instance, budget, payment in (
+            (f"the cost of c {over}", town(most + 1, 10), 4, 2), (f"the budget limit {over}", town(9, most + 1), 4, 2),
+            ("the cost of c is -1, and an", town(-1, 10), 4, 2),
+            (f"the numerator of the voter budget {numerator}", SAMPLE, 10**22, 2),
+            (f"the numerator of what voter 3 pays for b {numerator}", SAMPLE, 4, 10**22),
+            ("the amounts have too large a common denominator", town(most, most), 4, Fraction(1, 10**9 + 7)),
+        ):
+            with self.subTest(told=told), self.assertRaisesRegex(ValueError, f"^{told}"):
+                validate_price_system(instance, PROFILE, [A, B], budget, [{A: 2, B: 2}, {A: 4}, {B: payment}])
 
     def test_a_project_that_is_paid_for_twice(self):
         """Once by its id and once as itself, in either order, also where one payment is 0."""
