@@ -3,8 +3,9 @@ import argparse
 import os
 import sys
 
+from ._auditor import Mode
 from .auditing import Refusal
-from .page import VERSION, replaced, write_page
+from .page import VERSION, path_word, replaced, write_page
 
 REFUSED, USAGE, FAULT = 2, 3, 4
 WHAT_IT_DOES = (
@@ -13,9 +14,9 @@ WHAT_IT_DOES = (
 )
 HOW_IT_ENDS = (
     "Exit statuses: 0 where the page was written, whatever the answer on it; 2 where a file is refused, with the line "
-    "of the refusal on standard output; 3 where the words aren't understood, or the page would replace one of the "
-    "files; 4 where memory runs out, the page or that line can't be written, or the auditor isn't found or can't be "
-    "used."
+    "of the refusal on standard output, and on standard error how to see the place in the file; 3 where the words "
+    "aren't understood, or the page would replace one of the files; 4 where memory runs out, the page or that line "
+    "can't be written, or the auditor isn't found or can't be used."
 )
 
 
@@ -56,9 +57,9 @@ def main(words=None) -> int:
         page = write_page(given.election, given.certificate, given.outcome, stable=given.stable,
                           exhaustive=not given.no_exhaustive, cover=given.cover)
     except Refusal as refusal:
-        return _refused(str(refusal))
+        return _refused(str(refusal), f"for the line and the reason: {_explain(given)}")
     except OSError as unread:
-        return _refused(f"refused {_role(given, unread.filename)} 18 Read record 0")
+        return _refused(f"refused {_role(given, unread.filename)} 18 Read record 0", str(unread))
     except MemoryError:
         return _fault("fault memory")
     except (ImportError, RuntimeError) as why:
@@ -76,21 +77,34 @@ def _role(given, path):
     return next((role for role in ("election", "outcome") if getattr(given, role) == path), "certificate")
 
 
-def _refused(line):
+def _explain(given):
+    """The command that says of the same files what is the matter."""
+    outcome = [] if given.outcome is None else ["--outcome", path_word(given.outcome)]
+    options = Mode(given.stable, not given.no_exhaustive, given.cover).options
+    return " ".join(["pbaudit explain", path_word(given.election), path_word(given.certificate), *options, *outcome])
+
+
+def _refused(line, more):
+    """Ends with the line of a refusal, and with more on it for people."""
     try:
         print(line, flush=True)
     except OSError as unwritten:
         _give_up(sys.stdout)
         return _fault(f"fault write: {unwritten}")
+    _tell(more)
     return REFUSED
 
 
 def _fault(line):
+    _tell(line)
+    return FAULT
+
+
+def _tell(line):
     try:
         print(line, file=sys.stderr, flush=True)
     except OSError:
         _give_up(sys.stderr)
-    return FAULT
 
 
 def _give_up(stream):

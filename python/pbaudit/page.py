@@ -123,8 +123,12 @@ def _name(file, role):
 
 def _word(file, role):
     """A file as a word of a command."""
-    name = os.path.basename(file.path) if file.path is not None else role.upper()
-    return shlex.quote(f"./{name}" if name.startswith("-") else name)
+    return path_word(os.path.basename(file.path) if file.path is not None else role.upper())
+
+
+def path_word(path: str) -> str:
+    """A path as a word of a command, which isn't taken for an option."""
+    return shlex.quote(f"./{path}" if path.startswith("-") else path)
 
 
 def _conditions(case):

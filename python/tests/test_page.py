@@ -5,6 +5,7 @@ import os
 import pathlib
 import random
 import re
+import shlex
 import shutil
 import subprocess
 import sys
@@ -323,6 +324,29 @@ class Commands(unittest.TestCase):
             self.assertEqual((missing.returncode, missing.stdout), (2, b"refused certificate 18 Read record 0\n"))
             self.assertEqual(self.run_page(DISTRICT, PRICES, "-o", pathlib.Path(room, "no", "page.html")).returncode, 4)
             self.assertFalse(out.exists())
+
+    def test_a_refusal_says_where_to_see_more(self):
+        """The program takes the command, and tells the place."""
+        with tempfile.TemporaryDirectory() as room:
+            shutil.copy(DISTRICT, f"{room}/-my town.pb")
+            for words, told in (
+                (["--", "-my town.pb", PRICES], f"'./-my town.pb' {PRICES} --outcome b.csv"),
+                (["--stable", "--cover", "--no-exhaustive", DISTRICT, VIOLATION],
+                 f"{DISTRICT} {VIOLATION} --stable --no-exhaustive --cover --outcome b.csv"),
+            ):
+                pathlib.Path(room, "b.csv").write_bytes(b"pb-outcome,1\nproject,none\n")
+                done = self.run_page("--outcome", "b.csv", "-o", "page.html", *words, cwd=room)
+                self.assertEqual((done.returncode, done.stdout), (2, b"refused outcome 25 UnknownProject record 2\n"))
+                self.assertEqual(done.stderr.decode(), f"for the line and the reason: pbaudit explain {told}\n")
+                command = f"{shlex.quote(str(PROGRAM))} explain {told}"
+                again = subprocess.run(command, shell=True, cwd=room, capture_output=True, check=False)
+                self.assertEqual((again.returncode, again.stdout), (2, done.stdout))
+                self.assertIn(b"b.csv:2: ", again.stderr)
+
+    def test_a_file_that_is_not_there(self):
+        missing = str(EXAMPLES / "missing.csv")
+        done = self.run_page(DISTRICT, missing, "-o", "unwritten.html")
+        self.assertEqual(done.stderr.decode(), f"[Errno 2] No such file or directory: {missing!r}\n")
 
     def test_a_file_whose_read_fails(self):
         path = "/proc/self/mem"
