@@ -12,6 +12,9 @@ from fractions import Fraction
 
 from pbaudit import Instance, Project, price_certificate, write_outcome
 
+USAGE = 3
+MEASURES = {"count": lambda project: 1, "cost": lambda project: project.cost}
+
 
 def equal_shares(instance, profile, measure):
     """The funded projects in the order of their purchase, the voter budget, and for each voter a mapping from projects
@@ -35,7 +38,7 @@ def equal_shares(instance, profile, measure):
 
 
 def worth(project, measure):
-    return {"count": 1, "cost": project.cost}[measure]
+    return MEASURES[measure](project)
 
 
 def rate(project, lefts, measure):
@@ -83,6 +86,7 @@ def main(measure, election, outcome, certificate):
 
 
 if __name__ == "__main__":
-    if len(sys.argv) != 5:
-        sys.exit(__doc__)
+    if len(sys.argv) != 5 or sys.argv[1] not in MEASURES:
+        print(__doc__, file=sys.stderr)
+        sys.exit(USAGE)
     main(*sys.argv[1:])

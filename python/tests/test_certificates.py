@@ -2,6 +2,7 @@
 import pathlib
 import pickle
 import random
+import subprocess
 import sys
 import tempfile
 import unittest
@@ -142,6 +143,15 @@ class District(unittest.TestCase):
         self.assertEqual(outcome.read_bytes(), pbaudit.write_outcome(funded))
         made = price_certificate(instance, profile, funded, budget, payments, exhaustive=False)
         self.assertEqual(certificate.read_bytes(), made.file)
+
+    def test_words_that_the_script_does_not_know(self):
+        with tempfile.TemporaryDirectory() as room:
+            files = [EXAMPLES / "district.pb", f"{room}/outcome.csv", f"{room}/prices.csv"]
+            for words in (["coutn", *files], ["count", *files[:2]]):
+                done = subprocess.run([sys.executable, EXAMPLES / "equal_shares.py", *words], capture_output=True,
+                                      check=False)
+                self.assertEqual((done.returncode, done.stdout), (3, b""))
+                self.assertRegex(done.stderr, b"^The Method of Equal Shares")
 
 
 if __name__ == "__main__":
