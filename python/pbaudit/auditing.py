@@ -7,6 +7,7 @@ was asked. That a condition fails is an answer, and so a value. All files are re
 Where neither the library nor the program is found, or what is found can't be used, that is an ImportError or a
 RuntimeError.
 """
+import errno
 import os
 import re
 from dataclasses import dataclass
@@ -202,6 +203,9 @@ def bytes_of(file: File) -> bytes:
         # An error of reading, other than one of opening, doesn't say of which file it is.
         why.filename = path
         raise
+    except ValueError as why:
+        # No file has such a path: one with a zero byte.
+        raise OSError(errno.EINVAL, str(why), path) from None
 
 
 def _given(file):

@@ -1,5 +1,6 @@
 """The audits of files, by the library and by the program."""
 import ctypes
+import errno
 import os
 import pathlib
 import pickle
@@ -138,6 +139,13 @@ class Audits(unittest.TestCase):
         with self.assertRaises(OSError) as caught:
             pbaudit.read(path)
         self.assertEqual(caught.exception.filename, path)
+
+    def test_a_path_that_no_file_has(self):
+        for path in ("a\0b", pathlib.Path("a\0b")):
+            for ask in (pbaudit.read, lambda file: pbaudit.write_page(EXAMPLES / "sample.pb", file)):
+                with self.assertRaises(OSError) as caught:
+                    ask(path)
+                self.assertEqual((caught.exception.errno, caught.exception.filename), (errno.EINVAL, "a\0b"))
 
     def test_prices(self):
         files = EXAMPLES / "district.pb", EXAMPLES / "district.prices.csv"
