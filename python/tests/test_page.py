@@ -173,7 +173,7 @@ class Pages(unittest.TestCase):
         self.assertEqual(self.drawn_share(*files), ("2/3", "1.00", "broken"))
         drawn = set()
         for number in range(80):
-            case = cases.a_violation_check(random.Random(f"shares/{number}"), ["cost"])
+            case = cases.a_violation_check(random.Random(f"shares/{number}"))
             files = [case.files.get(name) for name in ("town.pb", "claim.csv", "outcome.csv")]
             with self.subTest(number=number):
                 try:
