@@ -17,7 +17,8 @@ HOW_PAYERS_ARE_DRAWN = (
 
 HOW_VOTERS_ARE_DRAWN = (
     "How many voters have how much left, in percent of the budget: 0 is nothing, 10 is more than nothing and up to "
-    "10\u202f%, 20 is more than 10\u202f% and up to 20\u202f%, and so on; all is the whole budget."
+    "10\u202f%, 20 is more than 10\u202f% and up to 20\u202f%, and so on; 100 is more than 90\u202f% and less than all, "
+    "which is the whole budget."
 )
 
 
