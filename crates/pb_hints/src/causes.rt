@@ -5,7 +5,7 @@ use csv::StringRecord;
 use std::alloc::{AllocError, Global};
 
 /// The marks with which files begin that aren't plain text, and what to say of them.
-const MARKS: [(&[u8], &str); 9] = [
+const MARKS: [(&[u8], &str); 10] = [
     (b"\xFF\xFE", UTF_16),
     (b"\xFE\xFF", UTF_16),
     (b"\x1F\x8B", COMPRESSED),
@@ -13,6 +13,7 @@ const MARKS: [(&[u8], &str); 9] = [
     (b"\xFD7zXZ", COMPRESSED),
     (b"\x28\xB5\x2F\xFD", COMPRESSED),
     (b"PK\x03\x04", ARCHIVE),
+    (b"\xD0\xCF\x11\xE0", WORKBOOK),
     (b"<!", WEB_PAGE),
     (b"<html", WEB_PAGE),
 ];
@@ -23,6 +24,8 @@ const COMPRESSED: &str = "the file is compressed; unpack it first";
 
 const ARCHIVE: &str =
     "the file is a ZIP archive, as a spreadsheet is; unpack it, or save it as text";
+
+const WORKBOOK: &str = "the file is a spreadsheet of an older kind; save it as text";
 
 const WEB_PAGE: &str = "the file is a web page";
 
@@ -58,7 +61,7 @@ pub(crate) fn first_record_cause(
         return Ok(Some(Remark::on_file(text(alloc, words)?)));
     }
     match Kind::of_first(row.get(0).unwrap_or("")) {
-        Some(kind) if kind != wanted => {
+        Some(kind) if !wanted.has(kind) => {
             let (found, wanted) = (kind.name(), wanted.name());
             let sentence = format!(in alloc; "this is {found}, and {wanted} is wanted")?;
             Ok(Some(Remark::on_file(sentence)))

@@ -57,9 +57,13 @@ pub(crate) fn remarks(
     let Some(at) = Scene::open(alloc, bytes, DIVIDER, place, Behind::nothing())? else {
         return Ok(None);
     };
+    let records = at.before.records;
     let record = RefusedRecord {
         at,
-        kind: refused.kind,
+        kind: match refused.kind {
+            Kind::Certificate if records > 0 => Kind::Prices,
+            kind => kind,
+        },
         number: place,
         election: refused.election.as_deref(),
     };

@@ -47,13 +47,14 @@ pub(crate) fn wanted_record(kind: Kind, records: u64) -> &'static str {
         (Kind::Violation, 0) => "pb-violation,1 or pb-violation,2",
         (Kind::Violation, _) => "satisfaction,count or satisfaction,cost",
         (Kind::Outcome | Kind::Election, _) => "pb-outcome,1",
+        (Kind::Certificate, _) => "pb-prices,1, pb-violation,1 or pb-violation,2",
     }
 }
 
 /// The row that is wanted in such a file.
 pub(crate) fn wanted_row(kind: Kind) -> &'static str {
     match kind {
-        Kind::Prices => "a row is VOTER,ID,NUMERATOR",
+        Kind::Prices | Kind::Certificate => "a row is VOTER,ID,NUMERATOR",
         Kind::Violation => "a row is project,ID or voter,NUMBER",
         Kind::Outcome | Kind::Election => "a row is project,ID",
     }

@@ -11,6 +11,9 @@ pub enum Kind {
     Outcome,
     Prices,
     Violation,
+    /// A certificate of either kind, which its first record tells; behind a first record that doesn't, it is read as one
+    /// of prices.
+    Certificate,
 }
 
 /// A file that is refused.
@@ -35,6 +38,15 @@ impl Kind {
             Kind::Outcome => "an outcome file",
             Kind::Prices => "a price certificate",
             Kind::Violation => "a violation certificate",
+            Kind::Certificate => "a price or a violation certificate",
+        }
+    }
+
+    /// Whether a file of the kind `found` is one of these.
+    pub(crate) fn has(self, found: Kind) -> bool {
+        match self {
+            Kind::Certificate => found == Kind::Prices || found == Kind::Violation,
+            _ => found == self,
         }
     }
 

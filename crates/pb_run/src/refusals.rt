@@ -123,9 +123,9 @@ fn outcome_of(task: &Task) -> Option<&str> {
 fn certificate_of(task: &Task, of_violation: bool) -> Option<(Kind, &str)> {
     match task {
         Task::Prices { certificate, .. }
-        | Task::Explain { certificate, .. }
         | Task::Margins { certificate, .. }
         | Task::Tidy { certificate, .. } => Some((Kind::Prices, certificate)),
+        Task::Explain { certificate, .. } => Some((Kind::Certificate, certificate)),
         Task::Violation { certificate, .. } => Some((Kind::Violation, certificate)),
         Task::Both { violation, .. } if of_violation => Some((Kind::Violation, violation)),
         Task::Both { prices, .. } => Some((Kind::Prices, prices)),

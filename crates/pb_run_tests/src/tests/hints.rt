@@ -58,6 +58,20 @@ pub fn expect_on_elections(rt: &HostRuntime, name: &str, rows: &[Row<'_>]) -> Re
 /// `prices` and `tidy` are to refuse the sample prices with each of these changes. The voters have the voter_id 7001,
 /// 7002 and 7010.
 pub fn expect_on_prices(rt: &HostRuntime, name: &str, rows: &[Row<'_>]) -> Result<(), Fail> {
+    expect_by(rt, name, &["prices", "tidy"], rows)
+}
+
+/// `explain` is to refuse the sample prices with each of these changes.
+pub fn expect_on_explained(rt: &HostRuntime, name: &str, rows: &[Row<'_>]) -> Result<(), Fail> {
+    expect_by(rt, name, &["explain"], rows)
+}
+
+fn expect_by(
+    rt: &HostRuntime,
+    name: &str,
+    commands: &[&str],
+    rows: &[Row<'_>],
+) -> Result<(), Fail> {
     let alloc = rt.alloc();
     let room = Room::new(rt, name)?;
     let ids = b"7001;a,b\n7002;a\n7010;b,c\n";
@@ -65,10 +79,10 @@ pub fn expect_on_prices(rt: &HostRuntime, name: &str, rows: &[Row<'_>]) -> Resul
     for row in rows {
         let bytes = with_lines(alloc, PRICES, row.kept, row.removed, row.new)?;
         let path = room.write("p.csv", &bytes)?;
-        let words = ["prices", &election, &path];
-        expect_hint(rt, &words, row.line, &path, row.hint)?;
-        let words = ["tidy", &election, &path];
-        expect_hint(rt, &words, row.line, &path, row.hint)?;
+        for command in commands {
+            let words = [*command, &election, &path];
+            expect_hint(rt, &words, row.line, &path, row.hint)?;
+        }
     }
     Ok(())
 }

@@ -1,5 +1,5 @@
 //! Hints on files that aren't what is wanted: blank, of another kind, in another encoding, compressed, or not there.
-use super::hints::{Row, expect_hint, expect_on_elections, expect_on_prices};
+use super::hints::{Row, expect_hint, expect_on_elections, expect_on_explained, expect_on_prices};
 use super::room::Room;
 use std::test::Fail;
 
@@ -85,7 +85,7 @@ fn hint_tells_what_is_given_for_an_election(rt: HostRuntime) -> Result<(), Fail>
     expect_on_elections(&rt, "hints-no-elections", &NO_ELECTIONS)
 }
 
-const NO_PRICES: [Row<'static>; 4] = [
+const NO_PRICES: [Row<'static>; 5] = [
     Row {
         kept: 0,
         removed: 8,
@@ -123,11 +123,83 @@ const NO_PRICES: [Row<'static>; 4] = [
             ": the file is a ZIP archive, as a spreadsheet is; unpack it, or save it as text",
         ],
     },
+    Row {
+        kept: 0,
+        removed: 1,
+        new: b"\xD0\xCF\x11\xE0\n",
+        line: "certificate 20 NotUtf8 record 1",
+        hint: &[
+            ":1: the text isn't UTF-8: '\\xd0\\xcf\\u{11}\\xe0'",
+            ": the file is a spreadsheet of an older kind; save it as text",
+        ],
+    },
 ];
 
 #[test]
 fn hint_tells_what_is_given_for_prices(rt: HostRuntime) -> Result<(), Fail> {
     expect_on_prices(&rt, "hints-no-prices", &NO_PRICES)
+}
+
+const NO_CERTIFICATES: [Row<'static>; 6] = [
+    Row {
+        kept: 0,
+        removed: 8,
+        new: b"",
+        line: "certificate 21 BadHead record 1",
+        hint: &[
+            ": the file is blank; the record pb-prices,1, pb-violation,1 or pb-violation,2 is missing",
+        ],
+    },
+    Row {
+        kept: 0,
+        removed: 8,
+        new: b"META\n",
+        line: "certificate 21 BadHead record 1",
+        hint: &[
+            ":1: the record pb-prices,1, pb-violation,1 or pb-violation,2 is wanted here, and not 'META'",
+            ": this is an election, and a price or a violation certificate is wanted",
+        ],
+    },
+    Row {
+        kept: 0,
+        removed: 8,
+        new: b"pb-violation;2\n",
+        line: "certificate 21 BadHead record 1",
+        hint: &[
+            ":1: the record pb-prices,1, pb-violation,1 or pb-violation,2 is wanted here, and not 'pb-violation;2'",
+            ":1: the fields are divided by ';' here, and ',' is wanted",
+        ],
+    },
+    Row {
+        kept: 0,
+        removed: 1,
+        new: b"pb-prices,2\n",
+        line: "certificate 21 BadHead record 1",
+        hint: &[
+            ":1: the record pb-prices,1, pb-violation,1 or pb-violation,2 is wanted here, and not 'pb-prices,2'",
+        ],
+    },
+    Row {
+        kept: 1,
+        removed: 1,
+        new: b"denominator,0\n",
+        line: "certificate 23 BadNumber record 2",
+        hint: &[":2: the denominator isn't a whole number from 1 to 10^9: '0'"],
+    },
+    Row {
+        kept: 0,
+        removed: 8,
+        new: b"pb-violation,2\nsatisfaction,both\n",
+        line: "certificate 21 BadHead record 2",
+        hint: &[
+            ":2: the record satisfaction,count or satisfaction,cost is wanted here, and not 'satisfaction,both'",
+        ],
+    },
+];
+
+#[test]
+fn hint_tells_what_is_given_to_explain(rt: HostRuntime) -> Result<(), Fail> {
+    expect_on_explained(&rt, "hints-no-certificates", &NO_CERTIFICATES)
 }
 
 #[test]
