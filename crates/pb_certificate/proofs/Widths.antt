@@ -37,3 +37,10 @@ keeps-last (f ∷ fs) (suc k) h e =
     after false c [] many = absurd (omega arith)
     after true c (g ∷ gs) many = ap suc many
     after false c (g ∷ gs) many = ap suc many
+
+-- the front of a record that is as long as it
+pub whole : (r : Rec) (k : ℕ) → length r ≡ k → take k r ≡ r
+whole [] zero e = refl
+whole [] (suc k) e = refl
+whole (f ∷ fs) zero e = absurd (omega (arith, e))
+whole (f ∷ fs) (suc k) e = ap (λ (rest : Rec). f ∷ rest) (whole fs k (omega (arith, e)))

@@ -1,7 +1,9 @@
 //! The rows of a price certificate.
-ghost use Rattle.std.specs.Prelude.{◌≡◌, ◌≤◌, None, Some, MatchResult, IfOk};
+ghost use Rattle.std.specs.Prelude.{◌≡◌, ◌≤◌, ◌==◌, None, Some, MatchResult, IfOk, length};
 ghost use Rattle.csv.specs.Records.{fields_of};
 ghost use Rattle.pb_election.specs.Instance.{IsProject, IsVoter};
+ghost use Rattle.pb_records.specs.Cells as spec;
+ghost use Rattle.pb_certificate.specs.Fields.{fields};
 ghost use Rattle.pb_certificate.specs.PriceText.{payment_of};
 ghost use Rattle.pb_certificate.specs.PriceRows.{as_payment, row_fault};
 ghost use Rattle.pb_certificate.specs.Prices.{most_numerator};
@@ -23,6 +25,17 @@ pub struct PriceRow {
     pub payment: u128,
 }
 
+// Whether a record has three fields, without the empty ones at its end. The third is given, cleaned.
+fn has_three_fields(row: &StringRecord, third: &str) -> bool
+    requires { third.now ≡ spec.cell 2 (fields_of row.now) }
+    ensures { result ≡ (length (fields (fields_of row.now)) == 3) }
+{
+    if row.len() == 3 && !third.is_empty() {
+        return true;
+    }
+    width(row) == 3
+}
+
 /// The row that a record states, or why it states none, whatever rows stand before it.
 pub fn price_row(row: &StringRecord, election: &Election) -> Result<PriceRow, CertFault>
     ensures row { MatchResult result (λ q. payment_of election.now (fields_of row.now) ≡ Some (as_payment q)) (λ f. row_fault election.now (fields_of row.now) ≡ Some f) }
@@ -31,11 +44,12 @@ pub fn price_row(row: &StringRecord, election: &Election) -> Result<PriceRow, Ce
     ensures project { IfOk result (λ q. IsProject election.now q.project) }
     ensures small { IfOk result (λ q. q.payment ≤ most_numerator) }
 {
-    if width(row) != 3 {
+    let payment = cell(row, 2);
+    if !has_three_fields(row, payment) {
         return Err(CertFault::BadRow);
     }
     let voter = voter_in(cell(row, 0), election)?;
-    let payment = whole_within(0, MOST_NUMERATOR, cell(row, 2)).ok_or(CertFault::BadNumber)?;
+    let payment = whole_within(0, MOST_NUMERATOR, payment).ok_or(CertFault::BadNumber)?;
     let voter = voter.ok_or(CertFault::UnknownVoter)?;
     let project = election
         .find(cell(row, 1))

@@ -3,3 +3,4 @@ mod certificate;
 mod election;
 mod money;
 mod records;
+mod streams;

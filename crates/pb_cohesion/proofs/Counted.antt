@@ -16,9 +16,7 @@ use Rattle.pb_cohesion.specs.Amounts.{largest_by}
 use Rattle.pb_cohesion.specs.FirstV.{culprits_of_V2}
 use Rattle.pb_cohesion.specs.ViolationFindings.{satisfied_members, shown_worth, violation_findings}
 use Rattle.pb_cohesion.specs.Groups.{gets, sat}
-use Rattle.pb_cohesion.specs.declared.MissingApprovals.{MissingApprovals}
 use Rattle.pb_cohesion.specs.declared.SatisfiedMembers.{SatisfiedMembers}
-use Rattle.pb_cohesion.specs.declared.ViolationFindings.{ViolationFindings}
 use Rattle.pb_cohesion.proofs.Ballots.{set-is}
 use Rattle.pb_cohesion.proofs.Culprits.{filter-filter}
 use Rattle.pb_cohesion.proofs.Loops.{set-length}
@@ -146,30 +144,14 @@ seen-more q f xs k s s' g g' n b h within gets_is is first count shown =
     (shown ∙ ap (λ m. cond (is_some s.first) g (cond b m (max g m))) gets_is))
 
 -- all members
-abbrev members : Option ℕ → ℕ → SatisfiedMembers
-members first count = record { first = first; count = count }
-
 pub all-seen : (q : ℕ → Bool) (f : ℕ → ℕ) (xs : List ℕ) (k : ℕ) (s : SatisfiedMembers) (g : ℕ)
     → Seen q f (take k xs) s g → length xs ≤ k → (s ≡ satisfied_members (filter q xs))
     × (g ≡ shown_worth (slice_get (filter q xs) 0) f xs)
 all-seen q f xs k s g h end =
-    let whole : Seen q f xs s g = subst (λ ys. Seen q f ys s g) (take_all k xs end) h in (
-      ap (λ o. members o s.count) whole.first ∙ ap (members (slice_get (filter q xs) 0)) whole.count,
-      whole.shown
-          ∙ ap (λ o. shown_worth o f xs) whole.first,
-    )
+    let whole : Seen q f xs s g = subst (λ ys. Seen q f ys s g) (take_all k xs end) h in
+    (rw (sym whole.first, sym whole.count) refl, whole.shown ∙ ap (λ o. shown_worth o f xs) whole.first)
 
 -- findings of the same parts
-abbrev of : ℕ → ℕ → MissingApprovals → ℕ → SatisfiedMembers → ℕ → ViolationFindings
-of a b x c y d = record { members = a; cost = b; unapproved = x; demanded = c; satisfied = y; gets = d }
-
-of-parts : (a b b' c c' d d' : ℕ) (x x' : MissingApprovals) (y y' : SatisfiedMembers) → b ≡ b' → x ≡ x' → c ≡ c'
-    → y ≡ y' → d ≡ d' → of a b x c y d ≡ of a b' x' c' y' d'
-of-parts a b b' c c' d d' x x' y y' p q r s t = rw (p, q, r, s, t) refl
-
-abbrev missing : Option (ℕ × ℕ) → ℕ → MissingApprovals
-missing first count = record { first = first; count = count }
-
 pub findings-are : (worth : ℕ → ℕ) (e : Instance) (w : List Bool) (s t : List ℕ) (cost : ℕ) (first : Option (ℕ × ℕ))
     (count demanded : ℕ) (satisfied : SatisfiedMembers) (shown : ℕ)
     → cost ≡ cost_of_all e t → first ≡ slice_get (culprits_of_V2 e s t) 0 → count ≡ length (culprits_of_V2 e s t)
@@ -177,11 +159,12 @@ pub findings-are : (worth : ℕ → ℕ) (e : Instance) (w : List Bool) (s t : L
     → satisfied ≡ satisfied_members (filter (λ i. nat_le demanded (sat worth (gets e w i))) s)
     → shown ≡ shown_worth (slice_get (filter (λ i. nat_le demanded (sat worth (gets e w i))) s) 0)
     (λ i. sat worth (gets e w i)) s
-    → of (length s) cost (missing first count) demanded satisfied shown ≡ violation_findings worth e w s t
-findings-are worth e w s t cost first count demanded satisfied shown p q r d m g =
-    of-parts (length s) cost _ demanded _ shown _ (missing first count) _ satisfied _ p
-    (ap (λ o. missing o count) q ∙ ap (missing (slice_get (culprits_of_V2 e s t) 0)) r) d
-    (m ∙ ap (λ n. satisfied_members (filter (λ i. nat_le n (sat worth (gets e w i))) s)) d)
-    (g ∙ ap
-    (λ n. shown_worth (slice_get (filter (λ i. nat_le n (sat worth (gets e w i))) s) 0)
-    (λ i. sat worth (gets e w i)) s) d)
+    → record {
+      members = length s;
+      cost = cost;
+      unapproved = record { first = first; count = count };
+      demanded = demanded;
+      satisfied = satisfied;
+      gets = shown;
+    } ≡ violation_findings worth e w s t
+findings-are worth e w s t cost first count demanded satisfied shown p q r d m g = rw (p, q, r, m, g, d) refl

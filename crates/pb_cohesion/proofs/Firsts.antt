@@ -38,25 +38,6 @@ filter-first q (x ∷ xs) (suc k) h within pass = go (q x) refl h (λ rest. filt
     go true e none rest = cc
     go false e none rest = rest none
 
--- a loop goes on past an element that fails the test
-filter-suc : (q : ℕ → Bool) (xs : List ℕ) (k : ℕ) → filter q (take k xs) ≡ [] → k < length xs
-    → q (get_or xs k 0) ≡ false → filter q (take (suc k) xs) ≡ []
-filter-suc q [] k h within fail = absurd (omega arith)
-filter-suc q (x ∷ xs) zero h within fail = rw fail refl
-filter-suc q (x ∷ xs) (suc k) h within fail = go (q x) refl h (λ rest. filter-suc q xs k rest (omega arith) fail)
-  where
-    go : (r : Bool) → q x ≡ r → cond r (x ∷ filter q (take k xs)) (filter q (take k xs)) ≡ []
-        → (filter q (take k xs) ≡ [] → filter q (take (suc k) xs) ≡ [])
-        → cond r (x ∷ filter q (take (suc k) xs)) (filter q (take (suc k) xs)) ≡ []
-    go true e none rest = cc
-    go false e none rest = rest none
-
-pub filter-more : (q : ℕ → Bool) (xs : List ℕ) (k : ℕ) → filter q (take k xs) ≡ [] → k < length xs
-    → q (get_or xs k 0) ≡ false → filter q (take (k + 1) xs) ≡ []
-filter-more q xs k h within fail =
-    let next : k + 1 ≡ suc k = omega arith in
-    ap (λ m. filter q (take m xs)) next ∙ filter-suc q xs k h within fail
-
 -- the same where each element gives a list
 pub lists-first : {A : Type 0} (g : ℕ → List A) (xs : List ℕ) (k : ℕ) (a : A) → flat_map g (take k xs) ≡ []
     → k < length xs → slice_get (g (get_or xs k 0)) 0 ≡ Some a → slice_get (flat_map g xs) 0 ≡ Some a

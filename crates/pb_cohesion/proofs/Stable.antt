@@ -132,7 +132,15 @@ stable_from_none e w p none_wasted none c unfunded =
       | inr most ↦ le-pos _ _ most
     ])
 
--- a culprit of the stable form is an unfunded project whose supporters can offer more than it costs
+-- supporters who can offer more than an unfunded project costs block, and those of a culprit of the stable form do
+pub block-there : (e : Instance) (w : List Bool) (p : Prices) (c : ℕ) → C4 e w p → IsUnfunded e w c
+    → int_lt (pos (cost e p c)) (sum_ℤ (most_of e p) (supporters e c)) ≡ true
+    → (x : ℕ → ℕ) × Blocks e w p (supporters e c) c x
+block-there e w p c none_wasted unfunded_is more = (
+  most_ℕ e p,
+  supporters_block e w p c none_wasted unfunded_is (lt-pos _ _ (rw (most-is e p (supporters e c)) at more)),
+)
+
 pub after_S5 : (e : Instance) (w : List Bool) (p : Prices) (c : ℕ) → C4 e w p → Contains (culprits_of_S5 e w p) c
     → (x : ℕ → ℕ) × Blocks e w p (supporters e c) c x
 after_S5 e w p c none_wasted found =
@@ -140,9 +148,5 @@ after_S5 e w p c none_wasted found =
     let unfunded_is : IsUnfunded e w c =
     All-contains (IsUnfunded e w) (culprits_of_S5 e w p) c
     (All-filter test (IsUnfunded e w) (unfunded e w) (unfunded-all e w)) found in
-    let more : int_lt (pos (cost e p c)) (sum_ℤ (most_of e p) (supporters e c)) ≡ true =
-    All-contains (λ j. test j ≡ true) (culprits_of_S5 e w p) c (filter_passes test (unfunded e w)) found in (
-      most_ℕ e p,
-      supporters_block e w p c none_wasted unfunded_is
-          (lt-pos _ _ (rw (most-is e p (supporters e c)) at more)),
-    )
+    block-there e w p c none_wasted unfunded_is
+    (All-contains (λ j. test j ≡ true) (culprits_of_S5 e w p) c (filter_passes test (unfunded e w)) found)

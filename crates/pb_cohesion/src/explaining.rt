@@ -1,6 +1,6 @@
 //! What each test of a violation certificate comes to, also of those behind the first that fails.
 
-ghost use Rattle.std.specs.Prelude.{◌≡◌, ◌≤◌, ◌+◌, if◌then◌else◌, Some, None, filter, is_some, length, max, not};
+ghost use Rattle.std.specs.Prelude.{◌≡◌, ◌≤◌, ◌+◌, if◌then◌else◌, Some, None, filter, is_some, length, max, not, slice_get};
 ghost use Rattle.std.specs.Option.{option_or};
 ghost use Rattle.pb_election.specs.Instance.{IsVoter, approves, most_voters};
 ghost use Rattle.pb_election.specs.Outcome.{OutcomeFits, most_total};
@@ -10,7 +10,6 @@ ghost use Rattle.pb_cohesion.specs.FirstV.{culprits_of_V2};
 ghost use Rattle.pb_cohesion.specs.Groups.{AreProjects, IsGroup};
 ghost use Rattle.pb_cohesion.specs.ViolationFindings as spec;
 
-use crate::violations::first_not_approved;
 use crate::worths::{cost_of_all, worth_of_all, worth_of_funded};
 use crate::{MissingApprovals, Satisfaction, SatisfiedMembers, ViolationFindings};
 use pb_certificate::Violation;
@@ -47,6 +46,34 @@ pub fn violation_findings<S: Satisfaction>(
         satisfied,
         gets,
     }
+}
+
+// The first member that does not approve a demanded project, with the first such project.
+fn first_not_approved(election: &Election, group: &[u32], demand: &[u32]) -> Option<(u32, u32)>
+    requires group { IsGroup election.now group.now }
+    requires demand { AreProjects election.now demand.now }
+    ensures { result ≡ slice_get (culprits_of_V2 election.now group.now demand.now) 0 }
+{
+    for i in group {
+        if let Some(j) = first_missing(election, *i, demand) {
+            return Some((*i, j));
+        }
+    }
+    None
+}
+
+// The first demanded project that a voter does not approve.
+fn first_missing(election: &Election, i: u32, demand: &[u32]) -> Option<u32>
+    requires voter { IsVoter election.now i }
+    requires demand { AreProjects election.now demand.now }
+    ensures { result ≡ slice_get (filter (λ j. not (approves election.now i j)) demand.now) 0 }
+{
+    for j in demand {
+        if !election.approves(i, *j) {
+            return Some(*j);
+        }
+    }
+    None
 }
 
 // How many times a member does not approve a demanded project.

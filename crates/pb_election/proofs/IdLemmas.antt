@@ -1,6 +1,6 @@
 -- The ids that a set of strings keeps.
-use Rattle.std.proofs.Common.{◌≡◌, ◌∙◌, ◌+◌, ◌++◌, length, ℕ, List, [], ◌∷◌, refl, ap, Bool, true, false, Option, Some}
-use Rattle.std.specs.Prelude.{◌==◌, cond, map, not, position, string_bytes}
+use Rattle.std.proofs.Common.{◌≡◌, ◌∙◌, ◌+◌, ◌++◌, length, ℕ, List, [], ◌∷◌, refl, ap, arith, suc, zero, Bool, true, false, Option, Some}
+use Rattle.std.specs.Prelude.{◌==◌, cond, map, not, position, slice_get, string_bytes}
 use Rattle.std.specs.Global.{Global}
 use Rattle.std.specs.List.{AllByRecursion, IsDistinct, list_any, position_from}
 use Rattle.std.specs.Option.{option_map}
@@ -8,7 +8,9 @@ use Rattle.std.specs.Str.{bytes_eq}
 use Rattle.std.specs.String.{string_eq}
 use Rattle.std.specs.declared.string.String.{String}
 use Rattle.std.proofs.lemmas.Iterator.Adapters.{position_from-zero}
+use Rattle.std.proofs.lemmas.Cmp.{nat_list_eq_equiv}
 use Rattle.std.proofs.lemmas.List.{map-append}
+use Rattle.std.proofs.lemmas.Slice.Eq.{bytes_eq-Decides}
 use Rattle.indexmap.specs.IndexSet.{insert_key}
 use Rattle.pb_money.proofs.Numbers.{is-empty}
 use Rattle.pb_records.specs.Records.{Field}
@@ -79,3 +81,26 @@ id-full id e = rw (is-empty id, e) refl
 pub id-empty : (id : Field) → (length id == 0) ≡ true → is_id id ≡ false
 unfolding is_id
 id-empty id e = rw (is-empty id, e) refl
+
+-- an id stands where it is met first, since none is kept twice
+pub place-at : (keys : List (String Global)) (i : ℕ) (k : String Global) (id : Field) → IsDistinct string_eq keys
+    → slice_get keys i ≡ Some k → bytes_eq (string_bytes k) id ≡ true
+    → (n : ℕ) → position_from (bytes_eq id) n (ids_kept keys) ≡ Some (i + n)
+unfolding IsDistinct
+place-at [] i k id h g e n = cc g
+place-at (x ∷ xs) zero k id h g e n =
+    let same : x ≡ k = cc g in
+    let here : bytes_eq id (string_bytes x) ≡ true = rw same (nat_list_eq_equiv.symm id (string_bytes k) ∙ e) in
+    rw here (ap Some (omega arith))
+place-at (x ∷ xs) (suc i) k id h g e n =
+    let other : bytes_eq (string_bytes x) (string_bytes k) ≡ false = at xs i h.0 g in
+    let same : string_bytes k ≡ id = (bytes_eq-Decides (string_bytes k) id).0 e in
+    let on : bytes_eq id (string_bytes x) ≡ false =
+    nat_list_eq_equiv.symm id (string_bytes x) ∙ rw (← same) other in
+    rw on (place-at xs i k id h.1 g e (n + 1) ∙ ap Some (omega arith))
+  where
+    at : (js : List (String Global)) (i : ℕ) → AllByRecursion (λ j. string_eq x j ≡ false) js
+        → slice_get js i ≡ Some k → string_eq x k ≡ false
+    at [] i h g = cc g
+    at (j ∷ js) zero h g = let same : j ≡ k = cc g in rw (← same) h.0
+    at (j ∷ js) (suc i) h g = at js i h.1 g

@@ -17,3 +17,4 @@ mod ColumnLemmas
 mod VoteLemmas
 mod Rising
 mod MarkerLemmas
+mod OutlineLemmas

@@ -5,4 +5,5 @@ pub mod Rows
 pub mod Text
 pub mod Faults
 pub mod Outcome
+pub mod Outline
 pub mod Inside

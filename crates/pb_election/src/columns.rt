@@ -34,8 +34,8 @@ fn column_from(name: &str, header: &StringRecord, start: usize) -> Option<usize>
     None
 }
 
-// The first column of a name, which has no capital letters.
-fn column_named(name: &str, header: &StringRecord) -> Option<usize>
+/// The first column of a name, which has no capital letters, from 0.
+pub fn column_named(name: &str, header: &StringRecord) -> Option<usize>
     requires { lower name.now ≡ name.now }
     ensures first { result ≡ rows.column_named name.now (fields_of header.now) }
     ensures within { IfSome result (λ i. i + 1 < 2 ^ 64) }
@@ -107,7 +107,7 @@ pub(crate) fn vote_column(header: &StringRecord) -> Option<usize>
 }
 
 /// The field of a row in a column, cleaned, and empty where there is no such column or field.
-pub(crate) fn field_in(column: Option<usize>, row: &StringRecord) -> &str
+pub fn field_in(column: Option<usize>, row: &StringRecord) -> &str
     ensures { result.now ≡ rows.field_in column (fields_of row.now) }
 {
     match column {

@@ -7,6 +7,7 @@ ghost use Rattle.pb_election.specs.Instance.{Instance, IsBallot, IsProject, IsVo
 ghost use Rattle.pb_election.specs.Text.{IsElection, IsTextOf};
 
 use crate::election_draft::ElectionDraft;
+use crate::guesses::Guesses;
 use crate::ids::position_of;
 use crate::{ElectionFault, Refusal};
 use indexmap::IndexSet;
@@ -22,6 +23,7 @@ use std::marker::Model;
 pub struct Election {
     pub(crate) limit: Money,
     pub(crate) ids: IndexSet<String>,
+    pub(crate) guesses: Guesses,
     pub(crate) costs: Vec<Money>,
     pub(crate) selected: Option<Vec<bool>>,
     pub(crate) other_selected: u32,
@@ -112,7 +114,7 @@ impl Election {
         ensures value { result ≡ spec.position_of self.now id.now }
         ensures project { IfSome result (λ j. IsProject self.now j × (spec.id_of self.now j ≡ id.now)) }
     {
-        let place = position_of(&self.ids, id)?;
+        let place = position_of(&self.ids, &self.guesses, id)?;
         Some(place as u32)
     }
 

@@ -15,6 +15,7 @@ ghost use Rattle.pb_election.specs.Inside.ProjectRows.{AddsProject};
 
 use crate::columns::{Columns, columns_of, field_in, misses, repeats, vote_column};
 use crate::election::Election;
+use crate::guesses::Guesses;
 use crate::ids::{add_id, has_id, is_id};
 use crate::keys::{Key, Keys, count_in, is_approval, key_in};
 use crate::markers::marker_of;
@@ -51,6 +52,7 @@ pub(crate) struct MetaRows {
 pub(crate) struct ProjectRows {
     pub columns: Columns,
     pub ids: IndexSet<String>,
+    pub guesses: Guesses,
     pub costs: Vec<Money>,
     pub selected: Option<Vec<bool>>,
     pub other_selected: u32,
@@ -129,6 +131,7 @@ impl ElectionDraft {
                     selected: None,
                 },
                 ids: IndexSet::new(alloc),
+                guesses: Guesses::new(alloc)?,
                 costs: Vec::new(alloc),
                 selected: None,
                 other_selected: 0,
@@ -332,7 +335,12 @@ impl ElectionDraft {
             return Err(Stop::Fault(ElectionFault::UnexpectedSection));
         }
         let vote = field_in(self.votes.column, row);
-        let Ok(known) = ballot_in(&self.projects.ids, vote, &mut self.votes.ballot) else {
+        let Ok(known) = ballot_in(
+            &self.projects.ids,
+            &self.projects.guesses,
+            vote,
+            &mut self.votes.ballot,
+        ) else {
             return Err(Stop::Memory);
         };
         if !known {
@@ -378,6 +386,7 @@ impl ElectionDraft {
         Election {
             limit: meta.limit,
             ids: projects.ids,
+            guesses: projects.guesses,
             costs: projects.costs,
             selected: projects.selected,
             other_selected: projects.other_selected,
@@ -424,6 +433,7 @@ impl ProjectRows {
         ensures ids { length self.new.ids.keys ≤ length self.old.ids.keys + 1 }
         ensures others { self.new.other_selected ≤ length self.new.ids.keys }
     {
+        self.guesses.note(id, self.ids.len());
         add_id(alloc, &mut self.ids, id)?;
         self.costs.push(cost)?;
         if let Some(marks) = &mut self.selected {

@@ -5,17 +5,23 @@
 mod columns;
 mod election;
 mod election_draft;
+mod guesses;
 mod ids;
 mod keys;
 pub mod laws;
 mod markers;
 mod outcome;
+mod outline;
 mod refusal;
 mod sections;
 mod votes;
 
+pub use columns::{column_named, field_in};
 pub use election::Election;
 pub use election_draft::MOST_VOTERS;
+pub use markers::{is_named, marker_of};
 pub use outcome::Outcome;
+pub use outline::{Outline, RecordKind};
 pub use pb_records::{Input, LoadFault, Output, PutFault, Sink, Source, clean, load, put};
 pub use refusal::{ElectionFault, Refusal};
+pub use sections::Section;

@@ -10,7 +10,7 @@ use csv::StringRecord;
 use pb_records::{clean, is_blank_from};
 
 /// Whether a text is a name, small and capital letters of ASCII being alike.
-pub(crate) fn is_named(text: &str, name: &str) -> bool
+pub fn is_named(text: &str, name: &str) -> bool
     ensures { result ≡ bytes_eq (lower text.now) (lower name.now) }
 {
     text.eq_ignore_ascii_case(name)
@@ -32,7 +32,7 @@ fn section_named(name: &str) -> Option<Section>
 }
 
 /// The section that a record marks, if it marks one.
-pub(crate) fn marker_of(row: &StringRecord) -> Option<Section>
+pub fn marker_of(row: &StringRecord) -> Option<Section>
     ensures { result ≡ spec.marker_of (fields_of row.now) }
 {
     let Some(field) = row.get(0) else {

@@ -8,6 +8,7 @@ ghost use Rattle.pb_election.specs.Inside.Ids.{ids_kept, position_in};
 ghost use Rattle.pb_election.specs.Instance.{most_projects};
 ghost use Rattle.pb_election.specs.Rows.{names_in, positions_of};
 
+use crate::guesses::Guesses;
 use crate::ids::position_of;
 use indexmap::IndexSet;
 use pb_records::clean;
@@ -35,6 +36,7 @@ fn cut_first(text: &str) -> (&str, Option<&str>)
 // tells whether each of them is kept.
 fn find_positions(
     ids: &IndexSet<String>,
+    guesses: &Guesses,
     vote: &str,
     found: &mut Vec<u32>,
 ) -> Result<bool, AllocError>
@@ -49,7 +51,7 @@ fn find_positions(
         left = rest;
         let name = clean(piece);
         if !name.is_empty() {
-            let Some(position) = position_of(ids, name) else {
+            let Some(position) = position_of(ids, guesses, name) else {
                 return Ok(false);
             };
             found.push(position as u32)?;
@@ -62,6 +64,7 @@ fn find_positions(
 /// rising. Tells whether each text that the vote names is the id of a project; where not, the list is left open.
 pub(crate) fn ballot_in(
     ids: &IndexSet<String>,
+    guesses: &Guesses,
     vote: &str,
     ballot: &mut Vec<u32>,
 ) -> Result<bool, AllocError>
@@ -69,7 +72,7 @@ pub(crate) fn ballot_in(
     ensures known { IfOk result (λ known. known ≡ list_all (is_among (ids_kept ids.now.keys)) (names_in vote.now)) }
     ensures ballot { IfOk result (λ known. known ≡ true → ballot.new.items ≡ positions_of (names_in vote.now) (ids_kept ids.now.keys)) }
 {
-    if !find_positions(ids, vote, ballot)? {
+    if !find_positions(ids, guesses, vote, ballot)? {
         return Ok(false);
     }
     // Also tells the proof that no id is kept twice.

@@ -116,22 +116,11 @@ shown-is n r bound amount None (Some m) h = ap Some h.0
     ∙ ap (option_map (comparison bound amount))
     (sym (closest-is r (λ x. excess (comparison bound amount x)) n m.at h.1))
 
-abbrev make : Option ℕ → ℕ → Option Comparison → Finding
-make first count shown = record { first = first; count = count; shown = shown }
-
 finding-is : (n : ℕ) (r : ℕ → Bool) (culprits candidates : List ℕ) (bound : ℕ → ℕ) (amount : ℕ → ℤ) (f : Finding)
     → IsFindingBy culprits n r bound amount f → filter r (range_with_len 1 n) ≡ candidates
     → f ≡ finding culprits candidates bound amount
 finding-is n r culprits candidates bound amount f h is =
-    ap (make f.first f.count) (shown-is n r bound amount f.first f.shown h.shown)
-    ∙ ap (λ o. make o f.count
-    (option_map (comparison bound amount)
-    (option_or o (closest (filter r (range_with_len 1 n)) (λ x. excess (comparison bound amount x)))))) h.first
-    ∙ ap (λ k. make (slice_get culprits 0) k
-    (option_map (comparison bound amount)
-    (option_or (slice_get culprits 0)
-    (closest (filter r (range_with_len 1 n)) (λ x. excess (comparison bound amount x)))))) h.count
-    ∙ ap (λ xs. finding culprits xs bound amount) is
+    rw (sym is, sym h.first, sym h.count, sym (shown-is n r bound amount f.first f.shown h.shown)) refl
 
 -- the same by another account of the sums
 pub found-as : (n : ℕ) (q r : ℕ → Bool) (culprits candidates : List ℕ) (bound bound' : ℕ → ℕ) (amount amount' : ℕ → ℤ)

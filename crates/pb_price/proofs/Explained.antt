@@ -6,7 +6,7 @@ use Rattle.std.proofs.lemmas.Bool.{cases_lt, le-leb, lt-leb}
 use Rattle.std.proofs.lemmas.Int.{ints}
 use Rattle.std.proofs.lemmas.Nat.{mul-le}
 use Rattle.pb_money.specs.Grains.{cost_grains}
-use Rattle.pb_records.proofs.Lists.{filter-same, filter-none}
+use Rattle.pb_records.proofs.Lists.{filter-none}
 use Rattle.pb_election.specs.Instance.{Instance, all_projects, all_voters, cost_of, projects, supporters, voters}
 use Rattle.pb_election.specs.Outcome.{has}
 use Rattle.pb_certificate.specs.Prices.{Prices}
@@ -22,9 +22,8 @@ use Rattle.pb_price.specs.declared.PaymentFinding.{PaymentFinding}
 use Rattle.pb_price.specs.declared.explaining.ProjectFindings.{ProjectFindings}
 use Rattle.pb_price.specs.declared.tally.ProjectSums.{ProjectSums}
 use Rattle.pb_price.proofs.Closest.{found-as}
-use Rattle.pb_price.proofs.Culprits.{affordable, affordable-is}
 use Rattle.pb_price.proofs.Looking.{found}
-use Rattle.pb_price.proofs.Reading.{cost-at, exactly-is, left-at, offer-at, paid-at, plain-is, stable-is, vain-is}
+use Rattle.pb_price.proofs.Reading.{cost-at, culprits-as, exactly-is, left-at, offer-at, paid-at, plain-is, stable-is, vain-is}
 
 -- room for one more project, in grains
 room-is : (t k l d : ℕ) → 1 ≤ d → int_le (pos (k * d)) (pos (l * d) -ℤ pos (t * d)) ≡ nat_le (t + k) l
@@ -49,9 +48,9 @@ room-culprits : (e : Instance) (w : List Bool) (d : ℕ) → 1 ≤ d
     → filter (has_room e w d (pos (cost_grains e.limit d) -ℤ pos (cost_grains (total e w) d))) (all_projects e)
     ≡ culprits_of_Exhaustive e w
 room-culprits e w d low =
-    filter-same (has_room e w d (pos (cost_grains e.limit d) -ℤ pos (cost_grains (total e w) d))) (affordable e w)
-    (projects e) 1 (λ c a b. ap (λ x. not (has w c) && x) (room-is (total e w) (cost_of e c) e.limit d low))
-    ∙ sym (affordable-is e w)
+    culprits-as (has_room e w d (pos (cost_grains e.limit d) -ℤ pos (cost_grains (total e w) d)))
+    (λ c. nat_le (total e w + cost_of e c) e.limit) (λ c. not (has w c)) (projects e)
+    (λ c a b. ap (λ x. not (has w c) && x) (room-is (total e w) (cost_of e c) e.limit d low))
 
 -- the findings on projects
 pub record AreOn (e : Instance) (w : List Bool) (p : Prices) (f : ProjectFindings) : Type 0 where

@@ -2,23 +2,22 @@
 use Rattle.std.proofs.Common.{◌≡◌, ℕ, zero, suc, ◌+◌, ◌*◌, ◌<◌, ◌≤◌, Bool, true, false, cond, List, [], ◌∷◌, ◌++◌, eqb, get_or, refl, sym, ◌∙◌, ap, subst, inl, inr, arith}
 use Rattle.std.specs.Prelude.{ℤ, pos, ◌↔◌, ◌≢◌, ◌⊎◌, ◌<ℤ◌, ◌≤ℤ◌, ◌&&◌, if◌then◌else◌, Option, Some, None, ⊤, filter, int_lt, map, nat_le, nat_lt, not, slice_get}
 use Rattle.std.specs.Bool.{IsFalse}
-use Rattle.std.proofs.lemmas.Bool.{and_from, and_parts, cases_lt, eqb-false, false≢true, le-leb, leb-true, lt-ltb, ltb-false, ltb-true, ne_eqb, not-true}
+use Rattle.std.proofs.lemmas.Bool.{and_cases, and_from, and_left, and_parts, and_right, cases_Bool, cases_lt, eqb-false, false≢true, le-leb, leb-false, leb-true, lt-leb, lt-ltb, ltb-false, ltb-true, ne_eqb, not-true}
 use Rattle.std.proofs.lemmas.Int.{ints}
 use Rattle.std.proofs.lemmas.List.{append_assoc, append-nil as append-none}
 use Rattle.pb_election.specs.Instance.{Instance, IsProject, IsVoter, all_projects, approves, cost_of, projects, supporters, voters}
 use Rattle.pb_certificate.specs.Prices.{Prices, payment}
 use Rattle.pb_cohesion.specs.Amounts.{beta, budget_limit, cost, left, paid, spent}
-use Rattle.pb_cohesion.specs.Conditions.{culprits_of_C1, culprits_of_C2, culprits_of_C3, culprits_of_C4, culprits_of_C5, culprits_of_Exhaustive, culprits_of_S5, most_of, sum_ℤ}
+use Rattle.pb_cohesion.specs.Conditions.{Cover, culprits_of_C1, culprits_of_C2, culprits_of_C3, culprits_of_C4, culprits_of_C5, culprits_of_Exhaustive, culprits_of_S5, most_of, sum_ℤ}
 use Rattle.pb_cohesion.specs.Outcome.{total}
 use Rattle.pb_cohesion.proofs.Amounts.{int_lt-true}
-use Rattle.pb_cohesion.proofs.Culprits.{C1-iff, C2-iff, C3-iff, C4-iff, Exhaustive-iff, filter-nil, if-nil, map-nil, when-nil, wrong}
+use Rattle.pb_cohesion.proofs.Culprits.{C1-iff, C2-iff, C3-iff, C4-iff, C5-iff, Exhaustive-iff, S5-iff, append-nil, filter-nil, first-none, if-nil, map-nil, when-nil, wrong}
 use Rattle.pb_price.specs.declared.Failure.{Failure}
 use Rattle.pb_price.specs.declared.Failure.TheVariants as failure
 use Rattle.pb_price.specs.declared.Mode.{Mode}
 use Rattle.pb_price.specs.First.{First, failures_of, failures_of_budgets, failures_of_supporters}
 use Rattle.pb_price.specs.Supports.{Supports}
 use Rattle.pb_price.specs.FirstFalse.{AsksFor, FirstHold, IsFalseAt, IsFirstFalse, IsLowestPair, order}
-use Rattle.pb_price.proofs.Verdicts.{cover-nil, supports-iff}
 use Rattle.pb_price.proofs.Lowest.{first-of-lists, first-of-mapped, first-of-two, lowest-funded, lowest-of, lowest-pair-same, lowest-same, lowest-unfunded, lowest-voter}
 
 -- tests and what they say
@@ -28,7 +27,7 @@ is-le a b = (leb-true a b, le-leb a b)
 is-lt : (a b : ℕ) → (nat_lt a b ≡ true) ↔ (a < b)
 is-lt a b = (ltb-true a b, lt-ltb a b)
 
-is-less : (a b : ℤ) → (int_lt a b ≡ true) ↔ (a <ℤ b)
+pub is-less : (a b : ℤ) → (int_lt a b ≡ true) ↔ (a <ℤ b)
 is-less a b = (int_lt-true a b, λ h. grind (arith, ints))
 
 is-other : (a b : ℕ) → (not (eqb a b) ≡ true) ↔ (a ≢ b)
@@ -92,6 +91,10 @@ first-of-joined m e w p n (xs ∷ xss) h f is = elim (first-of-two xs (joined xs
       (found.0 + 1, subst (λ k. IsOf m e w p k f) place found.1, one-more xs xss found.0 later.0 found.2)
 ]
 
+row : {m : Mode} {e : Instance} {w : List Bool} {p : Prices} {n : ℕ} {f : Failure} → order f ≡ n → AsksFor m f
+    → IsFalseAt e w p f → IsOf m e w p n f
+row here asked false_there = record { here = here; asked = asked; false_there = false_there }
+
 -- the first element of a list that a test chooses, or that is mapped
 of-one : (b : Bool) (x f : Failure) → slice_get (cond b (x ∷ []) []) 0 ≡ Some f → (b ≡ true) × (x ≡ f)
 of-one true x f h = (refl, cc)
@@ -113,7 +116,7 @@ of-feasible : (m : Mode) (e : Instance) (w : List Bool) (p : Prices) (f : Failur
 of-feasible m e w p f h =
     let found = of-one (nat_lt e.limit (total e w)) failure.Feasible f h in
     subst (λ x. IsOf m e w p 0 x) found.1
-    (record { here = refl; asked = tt; false_there = ltb-true e.limit (total e w) found.0 })
+    (row refl tt (ltb-true e.limit (total e w) found.0))
 
 of-exhaustive : (m : Mode) (e : Instance) (w : List Bool) (p : Prices) (f : Failure)
     → slice_get (cond m.exhaustive (map failure.Exhaustive (culprits_of_Exhaustive e w)) []) 0 ≡ Some f
@@ -121,23 +124,16 @@ of-exhaustive : (m : Mode) (e : Instance) (w : List Bool) (p : Prices) (f : Fail
 of-exhaustive m e w p f h =
     let chosen = of-chosen m.exhaustive (map failure.Exhaustive (culprits_of_Exhaustive e w)) f h in
     of-mapped m e w p 1 failure.Exhaustive (culprits_of_Exhaustive e w)
-    (λ c first. record {
-      here = refl;
-      asked = chosen.0;
-      false_there = lowest-unfunded e w (λ k. nat_le (total e w + cost_of e k) e.limit)
-          (λ k. total e w + cost_of e k ≤ e.limit) (λ k. is-le (total e w + cost_of e k) e.limit) c first;
-    }) f chosen.1
+    (λ c first. row refl chosen.0
+    (lowest-unfunded e w _ (λ k. total e w + cost_of e k ≤ e.limit) (λ k. is-le _ _) c first)) f chosen.1
 
 of-cover : (m : Mode) (e : Instance) (w : List Bool) (p : Prices) (f : Failure)
     → slice_get (failures_of_budgets m e p) 0 ≡ Some f → IsOf m e w p 2 f
 of-cover m e w p f h =
     let found = of-one (m.cover && nat_le (voters e * beta p) (budget_limit e p)) failure.Cover f h in
     let both = and_parts m.cover (nat_le (voters e * beta p) (budget_limit e p)) found.0 in
-    subst (λ x. IsOf m e w p 2 x) found.1 (record {
-      here = refl;
-      asked = both.0;
-      false_there = leb-true (voters e * beta p) (budget_limit e p) both.1;
-    })
+    subst (λ x. IsOf m e w p 2 x) found.1
+    (row refl both.0 (leb-true (voters e * beta p) (budget_limit e p) both.1))
 
 -- voter i pays for project c and doesn't approve it
 abbrev PaysWrongly : Instance → Prices → ℕ → ℕ → Type 0
@@ -172,75 +168,20 @@ lowest-pair e p i c h =
           d t.1.0 (omega arith)) ∙ (wrong-so e p j d).1 (t.2, t.3))),
     )
 
-of-C1 : (m : Mode) (e : Instance) (w : List Bool) (p : Prices) (f : Failure)
-    → slice_get (map (λ q. failure.C1 q.0 q.1) (culprits_of_C1 e p)) 0 ≡ Some f → IsOf m e w p 3 f
-of-C1 m e w p =
-    of-mapped m e w p 3 (λ q. failure.C1 q.0 q.1) (culprits_of_C1 e p)
-    (λ q first. record { here = refl; asked = tt; false_there = lowest-pair e p q.0 q.1 first })
-
-of-C2 : (m : Mode) (e : Instance) (w : List Bool) (p : Prices) (f : Failure)
-    → slice_get (map failure.C2 (culprits_of_C2 e p)) 0 ≡ Some f → IsOf m e w p 4 f
-of-C2 m e w p =
-    of-mapped m e w p 4 failure.C2 (culprits_of_C2 e p)
-    (λ i first. record {
-      here = refl;
-      asked = tt;
-      false_there = lowest-voter e (λ j. nat_lt (beta p) (spent e p j)) (λ j. beta p < spent e p j)
-          (λ j. is-lt (beta p) (spent e p j)) i first;
-    })
-
-of-C3 : (m : Mode) (e : Instance) (w : List Bool) (p : Prices) (f : Failure)
-    → slice_get (map failure.C3 (culprits_of_C3 e w p)) 0 ≡ Some f → IsOf m e w p 5 f
-of-C3 m e w p =
-    of-mapped m e w p 5 failure.C3 (culprits_of_C3 e w p)
-    (λ c first. record {
-      here = refl;
-      asked = tt;
-      false_there = lowest-funded e w _ (λ k. paid e p k ≢ cost e p k) (λ k. is-other (paid e p k) (cost e p k)) c
-          first;
-    })
-
-of-C4 : (m : Mode) (e : Instance) (w : List Bool) (p : Prices) (f : Failure)
-    → slice_get (map failure.C4 (culprits_of_C4 e w p)) 0 ≡ Some f → IsOf m e w p 6 f
-of-C4 m e w p =
-    of-mapped m e w p 6 failure.C4 (culprits_of_C4 e w p)
-    (λ c first. record {
-      here = refl;
-      asked = tt;
-      false_there = lowest-unfunded e w _ (λ k. 0 < paid e p k) (λ k. is-some (paid e p k)) c first;
-    })
-
-of-C5 : (m : Mode) (e : Instance) (w : List Bool) (p : Prices) → m.stable ≡ false → (f : Failure)
-    → slice_get (map failure.C5 (culprits_of_C5 e w p)) 0 ≡ Some f → IsOf m e w p 7 f
-of-C5 m e w p plain =
-    of-mapped m e w p 7 failure.C5 (culprits_of_C5 e w p)
-    (λ c first. record {
-      here = refl;
-      asked = plain;
-      false_there = lowest-unfunded e w _ (λ k. pos (cost e p k) <ℤ sum_ℤ (left e p) (supporters e k))
-          (λ k. is-less (pos (cost e p k)) (sum_ℤ (left e p) (supporters e k))) c first;
-    })
-
-of-S5 : (m : Mode) (e : Instance) (w : List Bool) (p : Prices) → m.stable ≡ true → (f : Failure)
-    → slice_get (map failure.S5 (culprits_of_S5 e w p)) 0 ≡ Some f → IsOf m e w p 7 f
-of-S5 m e w p stable =
-    of-mapped m e w p 7 failure.S5 (culprits_of_S5 e w p)
-    (λ c first. record {
-      here = refl;
-      asked = stable;
-      false_there = lowest-unfunded e w _ (λ k. pos (cost e p k) <ℤ sum_ℤ (most_of e p) (supporters e k))
-          (λ k. is-less (pos (cost e p k)) (sum_ℤ (most_of e p) (supporters e k))) c first;
-    })
-
 of-supporters : (m : Mode) (e : Instance) (w : List Bool) (p : Prices) (f : Failure)
     → slice_get (failures_of_supporters m e w p) 0 ≡ Some f → IsOf m e w p 7 f
 of-supporters m e w p f h = go m.stable refl h
   where
+    more : (ℕ → ℤ) → ℕ → Type 0
+    more amount k = pos (cost e p k) <ℤ sum_ℤ amount (supporters e k)
+
     go : (b : Bool) → m.stable ≡ b
         → slice_get (cond b (map failure.S5 (culprits_of_S5 e w p)) (map failure.C5 (culprits_of_C5 e w p))) 0 ≡ Some f
         → IsOf m e w p 7 f
-    go true is k = of-S5 m e w p is f k
-    go false is k = of-C5 m e w p is f k
+    go true is k = of-mapped m e w p 7 failure.S5 (culprits_of_S5 e w p)
+        (λ c first. row refl is (lowest-unfunded e w _ (more (most_of e p)) (λ k. is-less _ _) c first)) f k
+    go false is k = of-mapped m e w p 7 failure.C5 (culprits_of_C5 e w p)
+        (λ c first. row refl is (lowest-unfunded e w _ (more (left e p)) (λ k. is-less _ _) c first)) f k
 
 are-of : (m : Mode) (e : Instance) (w : List Bool) (p : Prices) → AreOf m e w p 0 (lists_of m e w p)
 are-of m e w p = (
@@ -250,14 +191,44 @@ are-of m e w p = (
     (
       of-cover m e w p,
       (
-        of-C1 m e w p,
+        of-mapped m e w p 3 (λ q. failure.C1 q.0 q.1) (culprits_of_C1 e p)
+            (λ q first. row refl tt (lowest-pair e p q.0 q.1 first)),
         (
-          of-C2 m e w p,
-          (of-C3 m e w p, (of-C4 m e w p, (of-supporters m e w p, tt))),
+          of-mapped m e w p 4 failure.C2 (culprits_of_C2 e p)
+              (λ i first. row refl tt (lowest-voter e _ (λ j. beta p < spent e p j) (λ j. is-lt _ _) i first)),
+          (
+            of-mapped m e w p 5 failure.C3 (culprits_of_C3 e w p)
+                (λ c first. row refl tt (lowest-funded e w _ (λ k. paid e p k ≢ cost e p k) (λ k. is-other _ _) c first)),
+            (
+              of-mapped m e w p 6 failure.C4 (culprits_of_C4 e w p)
+                  (λ c first. row refl tt (lowest-unfunded e w _ (λ k. 0 < paid e p k) (λ k. is-some _) c first)),
+              (of-supporters m e w p, tt),
+            ),
+          ),
         ),
       ),
     ),
   ),
+)
+
+-- one of two lists is empty where the chosen one is
+choice-nil : {A : Type 0} (b : Bool) (xs ys : List A)
+    → (cond b xs ys ≡ []) ↔ ((b ≡ true → xs ≡ []) × (b ≡ false → ys ≡ []))
+choice-nil true xs ys = (λ h. (λ e. h, λ e. cc), λ h. h.0 refl)
+choice-nil false xs ys = (λ h. (λ e. cc, λ e. h), λ h. h.1 refl)
+
+-- Cover has no failure exactly where it holds, if the mode asks for it
+cover-nil : (m : Mode) (e : Instance) (p : Prices) → (failures_of_budgets m e p ≡ []) ↔ (m.cover ≡ true → Cover e p)
+cover-nil m e p = (
+  λ h asked. elim (and_cases m.cover (nat_le (voters e * beta p) (budget_limit e p))
+      ((if-nil (m.cover && nat_le (voters e * beta p) (budget_limit e p)) failure.Cover).0 h)) [
+        | inl none ↦ absurd (false≢true (sym none ∙ asked))
+        | inr less ↦ leb-false (voters e * beta p) (budget_limit e p) less
+      ],
+  λ h. (if-nil (m.cover && nat_le (voters e * beta p) (budget_limit e p)) failure.Cover).1 (elim (cases_Bool m.cover) [
+    | inl asked ↦ and_right m.cover _ (lt-leb (voters e * beta p) (budget_limit e p) (h asked))
+    | inr none ↦ and_left m.cover _ none
+  ]),
 )
 
 -- the conditions hold that have no failures
@@ -275,7 +246,7 @@ first-hold n m e w p none = record {
   none_wasted = λ low. (C4-iff e w p).0 (map-nil _ _ (none 6 low));
 }
 
-first-false : (m : Mode) (e : Instance) (w : List Bool) (p : Prices) (f : Failure) → First m e w p ≡ Some f
+pub first-false : (m : Mode) (e : Instance) (w : List Bool) (p : Prices) (f : Failure) → First m e w p ≡ Some f
     → IsFirstFalse m e w p f
 first-false m e w p f h =
     let found =
@@ -350,6 +321,40 @@ same-failure m e w p (failure.S5 c) (failure.S5 d) is a b h k = ap failure.S5 (l
 same-failure m e w p (failure.C5 c) (failure.S5 d) is a b h k = absurd (false≢true (sym a ∙ b))
 same-failure m e w p (failure.S5 c) (failure.C5 d) is a b h k = absurd (false≢true (sym b ∙ a))
 same-failure m e w p f g is a b h k = absurd (omega (arith, is))
+
+-- no condition fails exactly where the prices support the outcome
+joined-nil : (xss : List (List Failure)) → joined xss ≡ [] → (k : ℕ) → get_or xss k [] ≡ []
+joined-nil [] h zero = refl
+joined-nil [] h (suc k) = refl
+joined-nil (xs ∷ xss) h zero = (append-nil xs (joined xss) h).0
+joined-nil (xs ∷ xss) h (suc k) = joined-nil xss (append-nil xs (joined xss) h).1 k
+
+supports : (m : Mode) (e : Instance) (w : List Bool) (p : Prices) → First m e w p ≡ None → Supports m e w p
+supports m e w p h =
+    let none = joined-nil (lists_of m e w p) (sym (joined-is m e w p) ∙ (first-none (failures_of m e w p)).0 h) in
+    let hold = first-hold 7 m e w p (λ k low. none k) in
+    let last = (choice-nil m.stable (map failure.S5 (culprits_of_S5 e w p)) (map failure.C5 (culprits_of_C5 e w p))).0
+    (none 7) in
+    record {
+      feasible = hold.feasible (omega arith);
+      exhausts = hold.exhausts (omega arith);
+      covers = hold.covers (omega arith);
+      approved = hold.approved (omega arith);
+      within_budget = hold.within_budget (omega arith);
+      paid_for = hold.paid_for (omega arith);
+      none_wasted = hold.none_wasted (omega arith);
+      plain = λ k. (C5-iff e w p).0 (map-nil failure.C5 (culprits_of_C5 e w p) (last.1 k));
+      stable_form = λ k. (S5-iff e w p).0 (map-nil failure.S5 (culprits_of_S5 e w p) (last.0 k));
+    }
+
+pub supports-iff : (m : Mode) (e : Instance) (w : List Bool) (p : Prices)
+    → (First m e w p ≡ None) ↔ Supports m e w p
+supports-iff m e w p = (supports m e w p, λ s. go (First m e w p) refl s)
+  where
+    go : (o : Option Failure) → First m e w p ≡ o → Supports m e w p → First m e w p ≡ None
+    go None is s = is
+    go (Some f) is s =
+        let k = first-false m e w p f is in absurd (not-supported m e w p f s k.asked k.false_there)
 
 -- the first failure is such a one, and there is no other
 pub first-false-iff : (m : Mode) (e : Instance) (w : List Bool) (p : Prices) (f : Failure)

@@ -1,13 +1,12 @@
 -- The first voter over its budget, the first payment for a project that is not approved, and the first number that
 -- passes a test, as they are kept.
-use Rattle.std.proofs.Common.{◌≡◌, ℕ, ◌+◌, ◌-◌, ◌<◌, ◌≤◌, Bool, true, false, cond, List, [], ◌∷◌, ◌++◌, refl, sym, ◌∙◌, ap, inl, inr, arith}
+use Rattle.std.proofs.Common.{◌≡◌, ℕ, ◌+◌, ◌<◌, ◌≤◌, Bool, true, false, cond, List, [], ◌∷◌, ◌++◌, refl, sym, ◌∙◌, ap, inl, inr, arith}
 use Rattle.std.specs.Prelude.{Option, Some, None, ◌||◌, filter, nat_lt, slice_get}
 use Rattle.std.specs.List.{range_with_len}
 use Rattle.std.proofs.lemmas.Bool.{cases_lt, false≢true, le-ltb, lt-ltb}
 use Rattle.std.proofs.lemmas.List.Elements.{filter-append}
 use Rattle.pb_election.specs.Instance.{Instance, IsProject, IsVoter}
 use Rattle.pb_cohesion.proofs.Firsts.{first-left, none-first, range-next}
-use Rattle.pb_cohesion.proofs.Loops.{range-first}
 use Rattle.pb_price.specs.Inside.Noted.{first_number}
 use Rattle.pb_price.specs.Inside.Tallies.{IsFirstPair, first_pair}
 
@@ -29,33 +28,6 @@ number-next q n o h =
     ∙ ap (λ ys. slice_get ys 0)
     (sym (filter-append q (range_with_len 1 n) ((n + 1) ∷ []))
     ∙ ap (λ j. filter q (range_with_len 1 n ++ (j ∷ []))) (sym next) ∙ ap (filter q) (sym (range-next n 1)))
-
--- the first of the numbers up to n that passes a test, where one does
-pub record IsFirstTo (q : ℕ → Bool) (n : ℕ) (o : Option ℕ) : Type 0 where
-  pub is : o ≡ slice_get (filter q (range_with_len 1 n)) 0
-
--- a loop over all numbers goes on past j, ends before j or behind it, or finds one at j
-pub number-more : {q : ℕ → Bool} {r : Bool} {o o' : Option ℕ} (j : ℕ) → IsFirstTo q (j - 1) o → 1 ≤ j → r ≡ q j
-    → o' ≡ first_number o r j → IsFirstTo q (j + 1 - 1) o'
-number-more {q} {r} {o} {o'} j h low is new =
-    let back : j - 1 + 1 ≡ j = omega arith in
-    let end : j - 1 + 1 ≡ j + 1 - 1 = omega arith in
-    record {
-      is = new ∙ ap (λ b. first_number o b j) is ∙ ap (λ k. first_number o (q k) k) (sym back)
-          ∙ number-next q (j - 1) o h.is ∙ ap (λ k. slice_get (filter q (range_with_len 1 k)) 0) end;
-    }
-
-pub number-end : {q : ℕ → Bool} {k : ℕ} {o : Option ℕ} (n : ℕ) → IsFirstTo q k o → k ≡ n
-    → o ≡ slice_get (filter q (range_with_len 1 n)) 0
-number-end {q} n h end = h.is ∙ ap (λ m. slice_get (filter q (range_with_len 1 m)) 0) end
-
-pub number-last : {q : ℕ → Bool} {r : Bool} {o o' : Option ℕ} (n j : ℕ) → IsFirstTo q (j - 1) o → 1 ≤ j → j ≡ n
-    → r ≡ q j → o' ≡ first_number o r j → o' ≡ slice_get (filter q (range_with_len 1 n)) 0
-number-last n j h low end is new = number-end n (number-more j h low is new) (omega arith)
-
-pub number-found : {q : ℕ → Bool} (n j : ℕ) → IsFirstTo q (j - 1) None → 1 ≤ j → j ≤ n → q j ≡ true
-    → Some j ≡ slice_get (filter q (range_with_len 1 n)) 0
-number-found {q} n j h low high pass = sym (range-first q n j (none-first _ (sym h.is)) low high pass)
 
 -- the same test
 pub pair-same : (e : Instance) (q r : ℕ → ℕ → Bool) (o : Option (ℕ × ℕ)) → ((i c : ℕ) → r i c ≡ q i c)

@@ -1,5 +1,5 @@
 -- What a verdict says of every group of supporters.
-use Rattle.std.proofs.Common.{◌≡◌, ◌⊎◌, ℕ, Bool, true, false, List, refl, sym, ◌∙◌, ap, inl, inr}
+use Rattle.std.proofs.Common.{◌≡◌, ◌⊎◌, ℕ, Bool, true, false, List, refl, sym, ◌∙◌, ap, inl, inr, arith}
 use Rattle.std.specs.Prelude.{Ok, Option, Result, Some, None}
 use Rattle.std.proofs.lemmas.Bool.{cases_Bool}
 use Rattle.pb_election.specs.Instance.{Instance}
@@ -10,7 +10,7 @@ use Rattle.pb_cohesion.proofs.Justified.{stable_has_no_violation, stable_is_fair
 use Rattle.pb_cohesion.proofs.Plain as plain
 use Rattle.pb_cohesion.proofs.Reaches.{within_reach}
 use Rattle.pb_cohesion.proofs.Stable as stable
-use Rattle.pb_price.proofs.Verdicts.{after_C5, after_S5, supports-iff}
+use Rattle.pb_price.proofs.FirstFalse.{first-false, is-less, supports-iff}
 use Rattle.pb_price.specs.Answers.{IsVerdictOn}
 use Rattle.pb_price.specs.First.{First, verdict_of}
 use Rattle.pb_price.specs.Supports.{Supports}
@@ -28,7 +28,8 @@ plain-yes m e w p none is_plain s c unfunded group =
 
 pub plain-no : (m : Mode) (e : Instance) (w : List Bool) (p : Prices) (c : ℕ) → First m e w p ≡ Some (failure.C5 c)
     → SupportersHaveMoreLeft e p c
-plain-no m e w p c h = plain.after_C5 e w p c (after_C5 m e w p c h)
+plain-no m e w p c h =
+    let there = (first-false m e w p (failure.C5 c) h).false_there in (plain.supporters-group e c, there.0.1)
 
 pub stable-yes : (m : Mode) (e : Instance) (w : List Bool) (p : Prices) → First m e w p ≡ None → m.stable ≡ true
     → NothingBlocks e w p
@@ -39,8 +40,10 @@ stable-yes m e w p none is_stable s c x blocks =
 pub stable-no : (m : Mode) (e : Instance) (w : List Bool) (p : Prices) (c : ℕ) → First m e w p ≡ Some (failure.S5 c)
     → SupportersBlock e w p c
 stable-no m e w p c h =
-    let found = after_S5 m e w p c h in
-    stable.after_S5 e w p c found.0 found.1
+    let found = first-false m e w p (failure.S5 c) h in
+    let there = found.false_there in
+    stable.block-there e w p c (found.earlier_hold.none_wasted (omega arith)) there.0.0
+    ((is-less _ _).1 there.0.1)
 
 pub budgets : (m : Mode) (e : Instance) (w : List Bool) (p : Prices) → First m e w p ≡ None
     → BudgetsAreWithinReach e w p

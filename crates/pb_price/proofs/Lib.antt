@@ -1,7 +1,4 @@
-pub mod Verdicts
 pub mod Groups
-pub mod Parts
-pub mod Culprits
 pub mod Sums
 pub mod Signed
 pub mod Amounts

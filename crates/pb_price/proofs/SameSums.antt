@@ -1,5 +1,5 @@
 -- A finding by two accounts of the same sums.
-use Rattle.std.proofs.Common.{◌≡◌, ℕ, zero, suc, ◌+◌, ◌<◌, ◌≤◌, Bool, true, false, cond, List, ◌∷◌, length, sym, ◌∙◌, ap, subst, arith}
+use Rattle.std.proofs.Common.{◌≡◌, ℕ, zero, suc, ◌+◌, ◌<◌, ◌≤◌, Bool, true, false, cond, List, ◌∷◌, length, refl, sym, ◌∙◌, ap, subst, arith}
 use Rattle.std.specs.Prelude.{ℤ, ◌≤ℤ◌, Option, Some, None, filter, slice_get}
 use Rattle.std.specs.List.{range_with_len}
 use Rattle.pb_price.specs.Findings.{comparison, excess}
@@ -24,13 +24,9 @@ pub record Same (n : ℕ) (bound bound' : ℕ → ℕ) (amount amount' : ℕ →
   pub bounds : (x : ℕ) → 1 ≤ x → x ≤ n → bound x ≡ bound' x
   pub amounts : (x : ℕ) → 1 ≤ x → x ≤ n → amount x ≡ amount' x
 
-abbrev make : ℕ → ℕ → ℤ → Comparison
-make x b a = record { at = x; bound = b; amount = a }
-
 same-at : (n : ℕ) (bound bound' : ℕ → ℕ) (amount amount' : ℕ → ℤ) (x : ℕ) → Same n bound bound' amount amount' → 1 ≤ x
     → x ≤ n → comparison bound amount x ≡ comparison bound' amount' x
-same-at n bound bound' amount amount' x s low high = ap (λ b. make x b (amount x)) (s.bounds x low high)
-    ∙ ap (make x (bound' x)) (s.amounts x low high)
+same-at n bound bound' amount amount' x s low high = rw (s.bounds x low high, s.amounts x low high) refl
 
 shown-as : (n : ℕ) (q r : ℕ → Bool) (bound bound' : ℕ → ℕ) (amount amount' : ℕ → ℤ) (o : Option ℕ)
     (s : Option Comparison) → Same n bound bound' amount amount'

@@ -127,9 +127,9 @@ whole e a t p h all budget agree = record {
 }
 
 -- the steps of a whole tally, and those of the passes over the projects
-pub whole-steps : (e : Instance) (a : Taken) (t : Tally) (rows steps : ℕ) → Tallied e a t → t.closed ≡ voters e
-    → a.rows ≡ rows → t.steps ≤ steps → steps ≤ t.steps + 4 * projects e → AreStepsOf e rows steps
-whole-steps e a t rows steps h all count fewest most =
+pub whole-steps : (e : Instance) (a : Taken) (t : Tally) (rows : ℕ) → Tallied e a t → t.closed ≡ voters e
+    → a.rows ≡ rows → AreStepsOf e rows (t.steps + 2 * projects e)
+whole-steps e a t rows h all count =
     let every : approvals (take t.closed e.ballots) ≡ approvals e.ballots =
     ap approvals (take_all t.closed e.ballots (omega arith)) in
     let none : length (ballot_of e (t.closed + 1)) ≡ 0 = ap length (past e t.closed (omega arith)) in

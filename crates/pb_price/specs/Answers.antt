@@ -32,7 +32,7 @@ abbrev pub row_count : List ℕ → ℕ
 row_count bytes = length (drop 4 (nonblank (certificate_records bytes)))
 
 -- at least a step for each row and each voter; at most one for each row, two for each approval, one for each voter, and
--- four for each project
+-- two for each project
 pub record AreStepsOf (e : Instance) (rows steps : ℕ) : Type 0 where
   pub fewest : rows + voters e ≤ steps
-  pub most : steps ≤ rows + 2 * approvals e.ballots + voters e + 4 * projects e
+  pub most : steps ≤ rows + 2 * approvals e.ballots + voters e + 2 * projects e

@@ -1,7 +1,7 @@
 //! The verdict on a price system.
 
 ghost use Rattle.std.specs.Prelude.{◌≡◌, ◌≤◌, ◌+◌, ◌*◌, ◌^◌, ◌↔◌, ◌⊎◌, ℕ, length, IfErr, IfOk, IsFalse, IsTrue, MatchResult, Ok};
-ghost use Rattle.pb_election.specs.Instance.{projects};
+ghost use Rattle.pb_election.specs.Instance.{IsProject, projects};
 ghost use Rattle.pb_election.specs.Outcome.{OutcomeFits};
 ghost use Rattle.pb_certificate.specs.Faults.{Refuses, certificate_records, no_memory, price_form};
 ghost use Rattle.pb_certificate.specs.Prices as spec;
@@ -11,9 +11,9 @@ ghost use Rattle.pb_cohesion.specs.EveryGroup.{BudgetsAreWithinReach, GroupsGetT
 ghost use Rattle.pb_price.specs.Answers.{AreStepsOf, IsVerdictOn, row_count};
 ghost use Rattle.pb_price.specs.Supports.{Supports};
 ghost use Rattle.pb_price.specs.First.{First, verdict_of};
-ghost use Rattle.pb_price.specs.Inside.Tallies.{IsTallyOf, most_grains};
+ghost use Rattle.pb_price.specs.Inside.Tallies.{AreInRange, IsTallyOf, most_grains, sums_of};
 
-use crate::conditions::first_failure;
+use crate::explaining::findings_by;
 use crate::takings::{take_certificate, take_prices};
 use crate::tally::Tally;
 use crate::{Checked, Failure, Mode, Verdict};
@@ -101,27 +101,17 @@ fn judge(
     requires outcome { OutcomeFits outcome.now election.now }
     requires low { 1 ≤ denominator }
     requires high { denominator ≤ most_denominator }
-    requires sums { length (tally.now).projects.items ≡ projects election.now }
     requires budget { (tally.now).budget ≤ most_grains }
+    requires sums { length (tally.now).projects.items ≡ projects election.now }
+    requires small { (c : ℕ) → IsProject election.now c → AreInRange (sums_of (tally.now).projects.items c) }
     requires steps { (tally.now).steps ≤ 2 ^ 62 }
     ensures verdict { (p : spec.Prices) → p.denominator ≡ denominator → IsTallyOf election.now p tally.now → result.verdict ≡ verdict_of (First mode election.now (outcome.now).marks p) }
-    ensures fewest { (tally.now).steps ≤ result.steps }
-    ensures most { result.steps ≤ (tally.now).steps + 4 * projects election.now }
+    ensures steps { result.steps ≡ (tally.now).steps + 2 * projects election.now }
 {
     let mut steps = tally.steps;
-    let failure = first_failure(election, outcome, mode, denominator, tally, &mut steps);
+    let findings = findings_by(election, outcome, denominator, tally, &mut steps);
     Checked {
-        verdict: verdict_by(failure),
+        verdict: findings.verdict(mode),
         steps,
-    }
-}
-
-/// The verdict by the first condition that is false, if there is one.
-pub(crate) fn verdict_by(failure: Option<Failure>) -> Verdict
-    ensures { result ≡ verdict_of failure }
-{
-    match failure {
-        None => Verdict::Supported,
-        Some(failure) => Verdict::Failed(failure),
     }
 }

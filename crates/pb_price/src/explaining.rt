@@ -1,18 +1,18 @@
 //! What each condition on a price system comes to, read off the sums of its payments, in one pass over the projects
 //! behind the one that adds up what the funded ones cost.
 
-ghost use Rattle.std.specs.Prelude.{◌≡◌, ◌≤◌, ◌^◌, ◌⊎◌, ℕ, IfErr, IfOk, MatchResult, length};
+ghost use Rattle.std.specs.Prelude.{◌≡◌, ◌≤◌, ◌+◌, ◌*◌, ◌^◌, ◌⊎◌, ℕ, IfErr, IfOk, MatchResult, length};
 ghost use Rattle.pb_election.specs.Instance.{IsProject, most_voters, projects};
-ghost use Rattle.pb_election.specs.Outcome.{OutcomeFits};
+ghost use Rattle.pb_election.specs.Outcome.{OutcomeFits, most_total};
 ghost use Rattle.pb_certificate.specs.Faults.{Refuses, certificate_records, no_memory, price_form};
 ghost use Rattle.pb_certificate.specs.PriceText.{IsPriceText};
 ghost use Rattle.pb_certificate.specs.Prices as spec;
 ghost use Rattle.pb_certificate.specs.Prices.{most_denominator};
+ghost use Rattle.pb_cohesion.specs.Outcome.{total};
 ghost use Rattle.pb_price.specs.Findings.{findings};
 ghost use Rattle.pb_price.specs.Inside.Looked.{AreFoundTo, AreSmallFindings, with_funded, with_unfunded};
 ghost use Rattle.pb_price.specs.Inside.Tallies.{AreInRange, IsTallyOf, IsWithin, most_grains, sums_of};
 
-use crate::conditions::cost_of_funded;
 use crate::noting::NOTHING_FOUND;
 use crate::takings::take_certificate;
 use crate::tally::{ProjectSums, Tally};
@@ -43,25 +43,39 @@ pub fn findings_of(
     ensures only { (p : spec.Prices) → IsPriceText (certificate_records bytes.now) election.now p → MatchResult result (λ f. f ≡ findings election.now (outcome.now).marks p) (λ r. r ≡ no_memory) }
 {
     let taken = take_certificate(alloc, election, bytes)?;
-    Ok(findings_by(election, outcome, taken.denominator, &taken.tally))
+    let mut steps = 0;
+    Ok(findings_by(
+        election,
+        outcome,
+        taken.denominator,
+        &taken.tally,
+        &mut steps,
+    ))
 }
 
-// The findings by the tally of all payments, which are over this denominator.
-fn findings_by(election: &Election, outcome: &Outcome, denominator: u32, tally: &Tally) -> Findings
+/// The findings by the tally of all payments, which are over this denominator.
+pub(crate) fn findings_by(
+    election: &Election,
+    outcome: &Outcome,
+    denominator: u32,
+    tally: &Tally,
+    steps: &mut u64,
+) -> Findings
     requires outcome { OutcomeFits outcome.now election.now }
     requires low { 1 ≤ denominator }
     requires high { denominator ≤ most_denominator }
     requires budget { (tally.now).budget ≤ most_grains }
     requires sums { length (tally.now).projects.items ≡ projects election.now }
     requires small { (c : ℕ) → IsProject election.now c → AreInRange (sums_of (tally.now).projects.items c) }
-    ensures { (p : spec.Prices) → p.denominator ≡ denominator → IsTallyOf election.now p tally.now → result ≡ findings election.now (outcome.now).marks p }
+    requires steps { steps.old ≤ 2 ^ 62 }
+    ensures found { (p : spec.Prices) → p.denominator ≡ denominator → IsTallyOf election.now p tally.now → result ≡ findings election.now (outcome.now).marks p }
+    ensures steps { steps.new ≡ steps.old + 2 * projects election.now }
 {
-    let mut steps = 0;
-    let total = cost_of_funded(election, outcome, &mut steps) * u128::from(denominator);
+    let total = cost_of_funded(election, outcome, steps) * u128::from(denominator);
     let limit = cost_grains(election.limit(), denominator);
     let remaining = limit as i128 - total as i128;
     let sums = &tally.projects;
-    let of_projects = project_findings(election, outcome, denominator, remaining, sums);
+    let of_projects = project_findings(election, outcome, denominator, remaining, sums, steps);
     Findings {
         grains_per_unit: 1_000_000 * u64::from(denominator),
         total,
@@ -76,6 +90,24 @@ fn findings_by(election: &Election, outcome: &Outcome, denominator: u32, tally: 
         c5: of_projects.c5,
         s5: of_projects.s5,
     }
+}
+
+// What the funded projects cost together, in millionths.
+fn cost_of_funded(election: &Election, outcome: &Outcome, steps: &mut u64) -> u128
+    requires outcome { OutcomeFits outcome.now election.now }
+    requires steps { steps.old ≤ 2 ^ 62 }
+    ensures value { result ≡ total election.now (outcome.now).marks }
+    ensures small { result ≤ most_total }
+    ensures steps { steps.new ≡ steps.old + projects election.now }
+{
+    let mut cost = 0;
+    for j in 1..=election.projects() {
+        *steps += 1;
+        if outcome.has(j) {
+            cost += u128::from(election.cost(j).millionths());
+        }
+    }
+    cost
 }
 
 // The findings on projects, as far as these were looked at.
@@ -95,6 +127,7 @@ fn project_findings(
     denominator: u32,
     remaining: i128,
     sums: &[ProjectSums],
+    steps: &mut u64,
 ) -> ProjectFindings
     requires outcome { OutcomeFits outcome.now election.now }
     requires low { 1 ≤ denominator }
@@ -102,7 +135,9 @@ fn project_findings(
     requires remaining { IsWithin (10 ^ 38) remaining }
     requires sums { length sums.now ≡ projects election.now }
     requires small { (c : ℕ) → IsProject election.now c → AreInRange (sums_of sums.now c) }
-    ensures { AreFoundTo (projects election.now) election.now (outcome.now).marks denominator remaining sums.now result }
+    requires steps { steps.old ≤ 2 ^ 62 + projects election.now }
+    ensures found { AreFoundTo (projects election.now) election.now (outcome.now).marks denominator remaining sums.now result }
+    ensures steps { steps.new ≡ steps.old + projects election.now }
 {
     let mut findings = ProjectFindings {
         exhaustive: NOTHING_FOUND,
@@ -113,6 +148,7 @@ fn project_findings(
     };
     for k in 0..election.projects() {
         let j = k + 1;
+        *steps += 1;
         let of_project = sums[k as usize];
         let cost = cost_grains(election.cost(j), denominator);
         if outcome.has(j) {

@@ -9,12 +9,14 @@ ghost use Rattle.pb_certificate.specs.Faults.{Refuses, certificate_records, no_m
 ghost use Rattle.pb_certificate.specs.PriceText.{IsPriceText};
 ghost use Rattle.pb_certificate.specs.Prices as spec;
 ghost use Rattle.pb_certificate.specs.Prices.{most_denominator};
+ghost use Rattle.pb_price.specs.Findings.{findings};
 ghost use Rattle.pb_price.specs.Margins.{AreMargins};
-ghost use Rattle.pb_price.specs.Inside.Tallies.{figures_of};
+ghost use Rattle.pb_price.specs.Inside.Tallies.{IsTallyOf, figures_of};
 
-use crate::takings::{NO_MEMORY, take_certificate};
+use crate::explaining::findings_by;
+use crate::takings::{CertificateTally, NO_MEMORY, take_certificate};
 use crate::tally::ProjectSums;
-use crate::{Margins, ProjectMargins};
+use crate::{Findings, Margins, ProjectMargins};
 use pb_certificate::CertRefusal;
 use pb_election::{Election, Outcome};
 use pb_money::cost_grains;
@@ -41,6 +43,55 @@ pub fn margins_of(
     ensures only { (p : spec.Prices) → IsPriceText (certificate_records bytes.now) election.now p → MatchResult result (λ m. AreMargins election.now (outcome.now).marks p m) (λ r. r ≡ no_memory) }
 {
     let taken = take_certificate(alloc, election, bytes)?;
+    margins_in(alloc, election, outcome, &taken)
+}
+
+/// The findings of `findings_of` and the figures of `margins_of`, in one pass over the certificate for both. The
+/// outcome is to fit the election. A refusal is that of `Prices::read`.
+pub fn findings_and_margins_of(
+    alloc: Global,
+    election: &Election,
+    outcome: &Outcome,
+    bytes: &[u8],
+) -> Result<(Findings, Margins), CertRefusal>
+    requires { OutcomeFits outcome.now election.now }
+
+    // The bytes state prices, and the findings and the figures are those by them.
+    ensures found { IfOk result (λ both. (p : spec.Prices) × IsPriceText (certificate_records bytes.now) election.now p × (both.0 ≡ findings election.now (outcome.now).marks p) × AreMargins election.now (outcome.now).marks p both.1) }
+
+    // A refusal is the first fault, or want of memory.
+    ensures refused { IfErr result (λ r. (r ≡ no_memory) ⊎ Refuses (price_form election.now) bytes.now r) }
+
+    // Where the bytes state prices the findings and the figures are those by them, memory aside.
+    ensures only { (p : spec.Prices) → IsPriceText (certificate_records bytes.now) election.now p → MatchResult result (λ both. (both.0 ≡ findings election.now (outcome.now).marks p) × AreMargins election.now (outcome.now).marks p both.1) (λ r. r ≡ no_memory) }
+{
+    let taken = take_certificate(alloc, election, bytes)?;
+    let margins = margins_in(alloc, election, outcome, &taken)?;
+    let mut steps = 0;
+    let findings = findings_by(
+        election,
+        outcome,
+        taken.denominator,
+        &taken.tally,
+        &mut steps,
+    );
+    Ok((findings, margins))
+}
+
+// The figures by the tally of all rows of a certificate. A refusal is want of memory.
+fn margins_in(
+    alloc: Global,
+    election: &Election,
+    outcome: &Outcome,
+    taken: &CertificateTally,
+) -> Result<Margins, CertRefusal>
+    requires outcome { OutcomeFits outcome.now election.now }
+    requires low { 1 ≤ (taken.now).denominator }
+    requires high { (taken.now).denominator ≤ most_denominator }
+    requires sums { length (taken.now).tally.projects.items ≡ projects election.now }
+    ensures found { IfOk result (λ m. (p : spec.Prices) → p.denominator ≡ (taken.now).denominator → IsTallyOf election.now p (taken.now).tally → AreMargins election.now (outcome.now).marks p m) }
+    ensures memory { IfErr result (λ r. r ≡ no_memory) }
+{
     let grains_per_unit = 1_000_000 * u64::from(taken.denominator);
     let sums = &taken.tally.projects;
     let Ok(projects) = margins_by(alloc, election, outcome, taken.denominator, sums) else {

@@ -4,7 +4,6 @@
 #![tactic(auto)]
 
 mod checking;
-mod conditions;
 mod explaining;
 mod figures;
 pub mod laws;
@@ -16,7 +15,7 @@ mod telling;
 
 pub use checking::{check, check_rows};
 pub use explaining::findings_of;
-pub use figures::margins_of;
+pub use figures::{findings_and_margins_of, margins_of};
 
 /// What is asked of a price system.
 #[derive(Clone, Copy, Debug, PartialEq, Eq)]

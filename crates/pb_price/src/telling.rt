@@ -4,7 +4,6 @@ ghost use Rattle.std.specs.Prelude.{◌≡◌};
 ghost use Rattle.pb_price.specs.First.{verdict_of};
 ghost use Rattle.pb_price.specs.Told.{first_told, told_of_budgets, told_of_outcome, told_of_payments, told_of_supporters};
 
-use crate::checking::verdict_by;
 use crate::{Failure, Findings, Mode, Verdict};
 
 impl Findings {
@@ -14,7 +13,10 @@ impl Findings {
     pub fn verdict(&self, mode: Mode) -> Verdict
         ensures { result ≡ verdict_of (first_told mode self.now) }
     {
-        verdict_by(self.first_failure(mode))
+        match self.first_failure(mode) {
+            None => Verdict::Supported,
+            Some(failure) => Verdict::Failed(failure),
+        }
     }
 
     // The first condition of the mode that doesn't hold.

@@ -39,8 +39,7 @@ pub record IsTallied (e : Instance) (bytes : List ℕ) (t : CertificateTally) : 
   pub few_steps : t.tally.steps ≤ 2 ^ 61
   pub in_range : (c : ℕ) → IsProject e c → AreInRange (sums_of t.tally.projects.items c)
   -- with the passes over the projects, the steps are those that are promised
-  pub steps : (steps : ℕ) → t.tally.steps ≤ steps → steps ≤ t.tally.steps + 4 * projects e
-      → AreStepsOf e (row_count bytes) steps
+  pub steps : AreStepsOf e (row_count bytes) (t.tally.steps + 2 * projects e)
 
 -- what a voter pays for a project by the payments of the voters before i, and the first k of voter i
 abbrev pub pays_until : Prices → ℕ → ℕ → ℕ → ℕ → ℕ

@@ -1,6 +1,6 @@
 -- What the code's own sums of payments stand for, as far as the payments were taken. No claim on a certificate rests on
 -- this.
-use Rattle.std.specs.Prelude.{◌≡◌, ◌<◌, ◌≤◌, ◌+◌, ◌-◌, ◌*◌, ◌^◌, ◌==◌, ◌&&◌, ◌||◌, ◌++◌, not, nat_lt, if◌then◌else◌, ℕ, ℤ, pos, neg_ℤ, ◌+ℤ◌, ◌-ℤ◌, ◌≤ℤ◌, int_lt, Bool, false, true, List, length, take, filter, map, sum_by, slice_index_or, Option, Some, None}
+use Rattle.std.specs.Prelude.{◌≡◌, ◌<◌, ◌≤◌, ◌+◌, ◌-◌, ◌*◌, ◌^◌, ◌==◌, ◌&&◌, ◌||◌, not, nat_lt, if◌then◌else◌, ℕ, ℤ, pos, neg_ℤ, ◌+ℤ◌, ◌-ℤ◌, ◌≤ℤ◌, int_lt, Bool, false, true, List, length, take, filter, sum_by, slice_index_or, Option, Some, None}
 use Rattle.std.specs.Int.{int_max}
 use Rattle.std.specs.List.{list_any, range_with_len}
 use Rattle.pb_money.specs.Grains.{cost_grains, payment_grains}
@@ -13,8 +13,6 @@ use Rattle.pb_cohesion.specs.Amounts.{beta, largest_by, left, paid, spent}
 use Rattle.pb_cohesion.specs.Conditions.{culprits_of_C1, culprits_of_C2, most_of, sum_ℤ}
 use Rattle.pb_price.specs.Findings.{finding, payment_finding}
 use Rattle.pb_price.specs.Inside.Noted.{IsFindingTo}
-use Rattle.pb_price.specs.declared.Failure.{Failure}
-use Rattle.pb_price.specs.declared.Failure.TheVariants as failure
 use Rattle.pb_price.specs.declared.ProjectMargins.{ProjectMargins}
 use Rattle.pb_price.specs.declared.tally.ProjectSums.{ProjectSums}
 use Rattle.pb_price.specs.declared.tally.Tally.{Tally}
@@ -196,12 +194,6 @@ not_exactly e w d sums c = has w c && not ((sums_of sums c).paid == cost_grains 
 -- an unfunded project that is paid for
 abbrev pub in_vain : List Bool → List ProjectSums → ℕ → Bool
 in_vain w sums c = not (has w c) && not ((sums_of sums c).paid == 0)
-
--- the failures of C3 and then of C4, the lowest project first
-abbrev pub paid_wrongly : Instance → List Bool → ℕ → List ProjectSums → List Failure
-paid_wrongly e w d sums =
-    map failure.C3 (filter (not_exactly e w d sums) (all_projects e))
-    ++ map failure.C4 (filter (in_vain w sums) (all_projects e))
 
 -- an unfunded project whose supporters have more left, or in the stable form can offer more, than it costs
 abbrev pub has_more : Instance → List Bool → ℕ → Bool → List ProjectSums → ℕ → Bool

@@ -30,43 +30,43 @@ fn gives_each_task(rt: HostRuntime) -> Result<(), Fail> {
         ("pbaudit read -- -e.pb", "Read(Some(\"-e.pb\"))"),
         (
             "pbaudit prices e.pb c.csv --stable",
-            "Prices { election: \"e.pb\", certificate: \"c.csv\", outcome: None, mode: Mode { stable: true, exhaustive: true, cover: false } }",
+            "Prices { inputs: Inputs { election: \"e.pb\", certificate: \"c.csv\", outcome: None }, mode: Mode { stable: true, exhaustive: true, cover: false } }",
         ),
         (
             "pbaudit prices e.pb c.csv --cover",
-            "Prices { election: \"e.pb\", certificate: \"c.csv\", outcome: None, mode: Mode { stable: false, exhaustive: true, cover: true } }",
+            "Prices { inputs: Inputs { election: \"e.pb\", certificate: \"c.csv\", outcome: None }, mode: Mode { stable: false, exhaustive: true, cover: true } }",
         ),
         (
             "pbaudit prices --no-exhaustive --outcome o.csv -- -e.pb -c.csv",
-            "Prices { election: \"-e.pb\", certificate: \"-c.csv\", outcome: Some(\"o.csv\"), mode: Mode { stable: false, exhaustive: false, cover: false } }",
+            "Prices { inputs: Inputs { election: \"-e.pb\", certificate: \"-c.csv\", outcome: Some(\"o.csv\") }, mode: Mode { stable: false, exhaustive: false, cover: false } }",
         ),
         (
             "pbaudit violation e.pb v.csv --outcome=o.csv",
-            "Violation { election: \"e.pb\", certificate: \"v.csv\", outcome: Some(\"o.csv\") }",
+            "Violation(Inputs { election: \"e.pb\", certificate: \"v.csv\", outcome: Some(\"o.csv\") })",
         ),
         (
             "pbaudit both e.pb p.csv v.csv --stable --cover",
-            "Both { election: \"e.pb\", prices: \"p.csv\", violation: \"v.csv\", outcome: None, mode: Mode { stable: true, exhaustive: true, cover: true } }",
+            "Both { inputs: Inputs { election: \"e.pb\", certificate: \"p.csv\", outcome: None }, violation: \"v.csv\", mode: Mode { stable: true, exhaustive: true, cover: true } }",
         ),
         (
             "pbaudit both --no-exhaustive --outcome o.csv -- -e.pb -p.csv -v.csv",
-            "Both { election: \"-e.pb\", prices: \"-p.csv\", violation: \"-v.csv\", outcome: Some(\"o.csv\"), mode: Mode { stable: false, exhaustive: false, cover: false } }",
+            "Both { inputs: Inputs { election: \"-e.pb\", certificate: \"-p.csv\", outcome: Some(\"o.csv\") }, violation: \"-v.csv\", mode: Mode { stable: false, exhaustive: false, cover: false } }",
         ),
         (
             "pbaudit explain e.pb c.csv --stable --outcome=o.csv",
-            "Explain { election: \"e.pb\", certificate: \"c.csv\", outcome: Some(\"o.csv\"), mode: Mode { stable: true, exhaustive: true, cover: false } }",
+            "Explain { inputs: Inputs { election: \"e.pb\", certificate: \"c.csv\", outcome: Some(\"o.csv\") }, mode: Mode { stable: true, exhaustive: true, cover: false } }",
         ),
         (
             "pbaudit explain --no-exhaustive --cover -- -e.pb -c.csv",
-            "Explain { election: \"-e.pb\", certificate: \"-c.csv\", outcome: None, mode: Mode { stable: false, exhaustive: false, cover: true } }",
+            "Explain { inputs: Inputs { election: \"-e.pb\", certificate: \"-c.csv\", outcome: None }, mode: Mode { stable: false, exhaustive: false, cover: true } }",
         ),
         (
             "pbaudit margins e.pb c.csv --outcome o.csv",
-            "Margins { election: \"e.pb\", certificate: \"c.csv\", outcome: Some(\"o.csv\") }",
+            "Margins(Inputs { election: \"e.pb\", certificate: \"c.csv\", outcome: Some(\"o.csv\") })",
         ),
         (
             "pbaudit tidy e.pb c.csv",
-            "Tidy { election: \"e.pb\", certificate: \"c.csv\" }",
+            "Tidy(Inputs { election: \"e.pb\", certificate: \"c.csv\", outcome: None })",
         ),
         (
             "pbaudit folder town",

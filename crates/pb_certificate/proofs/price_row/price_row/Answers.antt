@@ -1,8 +1,7 @@
-use Rattle.std.proofs.Common.{◌≡◌, ◌∙◌, length, sym, ap, Some}
-use Rattle.std.proofs.lemmas.Bool.{eq-eqb}
+use Rattle.std.proofs.Common.{◌≡◌, ◌∙◌, sym, ap, Some}
 use Rattle.csv.specs.Records.{fields_of}
 use Rattle.pb_records.specs.Cells.{cell}
-use Rattle.pb_certificate.specs.Fields.{fields, project_in, voter_in, whole_in}
+use Rattle.pb_certificate.specs.Fields.{project_in, voter_in, whole_in}
 use Rattle.pb_certificate.specs.PriceText.{numerator_of}
 use Rattle.pb_certificate.proofs.Numbers.{voter-was}
 use Rattle.pb_certificate.proofs.PriceRows.{payment-of-cells}
@@ -17,8 +16,8 @@ returns-clause-row c =
     ∙ sym (voter-was c.in_ok-voter.voter c.cell.result.now e (whole_in c.cell.result.now) c.in_ok-voter.ensures)
     ∙ c.in_ok-voter-2.ensures.ok_part in
     let project : project_in e (cell 1 r) ≡ Some c.in_ok-project.project =
-    ap (project_in e) (sym c.cell-3.ensures) ∙ sym c.find.ensures.value ∙ c.in_ok-project.ensures.ok_part in
+    ap (project_in e) (sym c.cell-2.ensures) ∙ sym c.find.ensures.value ∙ c.in_ok-project.ensures.ok_part in
     let numerator : numerator_of (cell 2 r) ≡ Some c.in_ok-payment.payment =
-    ap numerator_of (sym c.cell-2.ensures) ∙ sym c.whole_within.ensures.value ∙ c.in_ok-payment.ensures.ok_part in
+    ap numerator_of (sym c.cell-payment.ensures) ∙ sym c.whole_within.ensures.value ∙ c.in_ok-payment.ensures.ok_part in
     payment-of-cells e r c.in_ok-voter-2.voter c.in_ok-project.project c.in_ok-payment.payment
-    (eq-eqb (length (fields r)) 3 (sym c.width.ensures ∙ c.if-width-ne3.false)) voter project numerator
+    (sym c.has_three_fields.ensures ∙ c.if-not-has_three_fields.false) voter project numerator

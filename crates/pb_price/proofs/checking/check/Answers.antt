@@ -1,7 +1,7 @@
 use Rattle.std.proofs.Common.{sym, arith}
 use Rattle.pb_price.specs.Inside.Tallies.{IsTallyOf}
 use Rattle.pb_price.specs.Answers.{IsVerdictOn}
-use Rattle.pb_price.proofs.Bounds.{steps-bound}
+use Rattle.pb_price.proofs.Bounds.{steps-bound, sums-of-bound}
 use Rattle.pb_price.proofs.Groups.{on-prices, same-answer}
 use Rattle.pb_price.proofs.Payments.{few-rows, takes-none, tally-of}
 use Rattle.pb_price.proofs.checking.check.Goals as goal
@@ -24,8 +24,9 @@ judge-checked-requires c =
       outcome = c.requires.outcome;
       low = c.denominator.ensures.low;
       high = c.denominator.ensures.high;
-      sums = whole.sums.as_many;
       budget = omega (arith, whole.budget, whole.taken.small_budget);
+      sums = whole.sums.as_many;
+      small = λ k ip. sums-of-bound c.args.election.now _ c.finish.new.self k whole ip;
       steps =
           omega (
             arith,

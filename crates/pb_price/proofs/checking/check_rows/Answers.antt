@@ -1,5 +1,6 @@
-use Rattle.std.proofs.Common.{arith}
+use Rattle.std.proofs.Common.{sym, subst, arith}
 use Rattle.pb_certificate.specs.Faults.{certificate_records}
+use Rattle.pb_price.specs.Answers.{AreStepsOf, row_count}
 use Rattle.pb_price.proofs.Certificates.{of-any, only-memory}
 use Rattle.pb_price.proofs.Groups.{on-prices}
 use Rattle.pb_price.proofs.checking.check_rows.Goals as goal
@@ -11,8 +12,9 @@ judge-requires c =
       outcome = c.requires;
       low = t.low;
       high = t.high;
-      sums = t.tally.sums.as_many;
       budget = t.small_budget;
+      sums = t.tally.sums.as_many;
+      small = t.in_range;
       steps = omega (arith, t.few_steps);
     }
 
@@ -23,7 +25,7 @@ returns c =
     (c.judge.ensures.verdict t.prices t.denominator t.tally) in
     record {
       found = (t.prices, t.text, on);
-      steps = t.steps c.judge.result.steps c.judge.ensures.fewest c.judge.ensures.most;
+      steps = subst (AreStepsOf c.args.election.now (row_count c.args.bytes.now)) (sym c.judge.ensures.steps) t.steps;
       refused = tt;
       only = of-any _ t on;
     }

@@ -9,8 +9,8 @@ use Rattle.pb_price.proofs.Explained.{are-findings, are-on}
 use Rattle.pb_price.proofs.Ranges.{grains-most}
 use Rattle.pb_price.proofs.explaining.findings_by.Goals as goal
 
-pub returns : goal.returns
-returns c = λ p is tally. (
+pub returns-clause-found : goal.returns-clause-found
+returns-clause-found c = λ p is tally. (
     let limit_is : c.cost_grains-limit.result ≡ cost_grains c.args.election.now.limit c.args.denominator =
     c.cost_grains-limit.ensures ∙ ap (λ x. cost_grains x c.args.denominator) c.limit.ensures.value in
     let total_is : c.cost_of_funded.result * c.from.result
@@ -30,7 +30,7 @@ returns c = λ p is tally. (
     subst (λ xs. AreSums c.args.election.now p xs) (sym c.deref.ensures.value) tally.sums in
     let on = are-on c.args.election.now c.args.outcome.now.marks p c.args.denominator c.deref.result.now _
     c.project_findings-of_projects.result is c.requires.low sums
-    (omega (arith, ints, limit_is, total_is, limit_small, total_small)) c.project_findings-of_projects.ensures in
+    (omega (arith, ints, limit_is, total_is, limit_small, total_small)) c.project_findings-of_projects.ensures.found in
     are-findings c.args.election.now c.args.outcome.now.marks p _
     (record {
       grains_per_unit = omega (arith, c.from-2.ensures, is);

@@ -1,3 +1,4 @@
+use Rattle.std.proofs.Common.{arith}
 use Rattle.pb_certificate.specs.Faults.{certificate_records}
 use Rattle.pb_price.proofs.Certificates.{of-any, only-memory}
 use Rattle.pb_price.proofs.explaining.findings_of.Goals as goal
@@ -12,12 +13,13 @@ findings_by-requires c =
       budget = t.small_budget;
       sums = t.tally.sums.as_many;
       small = t.in_range;
+      steps = omega arith;
     }
 
 pub returns : goal.returns
 returns c =
     let t = c.in_ok-taken.ensures.taken in
-    let told = c.findings_by.ensures t.prices t.denominator t.tally in
+    let told = c.findings_by.ensures.found t.prices t.denominator t.tally in
     record { found = (t.prices, t.text, told); refused = tt; only = of-any _ t told }
 
 pub returns-in_err-taken-clause-only : goal.returns-in_err-taken-clause-only

@@ -10,7 +10,7 @@ use Rattle.pb_price.proofs.explaining.project_findings.Goals as goal
 use Rattle.pb_price.proofs.explaining.project_findings.Goals.{then-has, else-has}
 
 pub loop-k-init : goal.loop-k-init
-loop-k-init c = record { found = found-none _ _ _ _ _; small = small-none }
+loop-k-init c = record { found = found-none _ _ _ _ _; small = small-none; steps = omega arith }
 
 pub loop-k-preserved : goal.loop-k-preserved
 loop-k-preserved c =
@@ -37,6 +37,7 @@ loop-k-preserved c =
                 subst (AreSmallFindings (c.loop-k.k + 1)) (sym (w.findings-is ∙ w.look_at_funded.ensures))
                 (small-funded c.loop-k.k _ _ (c.loop-k.k + 1) c.loop-k.findings
                 (record { bound = cost_small; amount = paid_small }) c.loop-k.invariant.small);
+            steps = omega (arith, c.loop-k.invariant.steps);
           }
       | else-has w ↦
           record {
@@ -48,11 +49,12 @@ loop-k-preserved c =
                 (small-unfunded c.loop-k.k (c.loop-k.k + 1) _ _ _ c.loop-k.findings cost_small
                 (subst (IsWithin (10 ^ 38)) (sym fits) c.requires.remaining) paid_small sums_small
                 c.loop-k.invariant.small);
+            steps = omega (arith, c.loop-k.invariant.steps);
           }
     ]
 
-pub returns : goal.returns
-returns c =
+pub returns-clause-found : goal.returns-clause-found
+returns-clause-found c =
     let end : c.loop-k.k ≡ projects c.args.election.now =
     omega (arith, c.loop-k-test.false, c.loop-k.auto.k-end, c.projects-k-end.ensures.value) in
     let fits : to_z w128 (of_z w128 c.args.remaining) ≡ c.args.remaining = search (rules, to_z-of_z) in

@@ -1,32 +1,20 @@
-use Rattle.std.proofs.Common.{◌*◌, length, sym, ◌∙◌, ap, subst}
 use Rattle.pb_certificate.specs.Faults.{certificate_records}
-use Rattle.pb_price.specs.Inside.Tallies.{AreSums}
 use Rattle.pb_price.proofs.Certificates.{of-any, only-memory}
-use Rattle.pb_price.proofs.Reading.{margins-are}
+use Rattle.pb_price.proofs.Reading.{margins-or-memory}
 use Rattle.pb_price.proofs.figures.margins_of.Goals as goal
 
-pub margins_by-requires : goal.margins_by-requires
-margins_by-requires c =
+pub margins_in-requires : goal.margins_in-requires
+margins_in-requires c =
     let t = c.in_ok-taken.ensures.taken in
-    record {
-      outcome = c.requires;
-      low = t.low;
-      high = t.high;
-      sums = ap length c.deref.ensures.value ∙ t.tally.sums.as_many;
-    }
+    record { outcome = c.requires; low = t.low; high = t.high; sums = t.tally.sums.as_many }
 
-pub returns : goal.returns
-returns c =
+pub returns-clause-only : goal.returns-clause-only
+returns-clause-only c =
     let t = c.in_ok-taken.ensures.taken in
-    let e = c.args.election.now in
-    let grains = ap (λ n. 1000000 * n) c.from-grains_per_unit.ensures in
-    let sums = subst (λ xs. AreSums c.args.election.now t.prices xs) (sym c.deref.ensures.value) t.tally.sums in
-    let are = margins-are e c.args.outcome.now.marks t.prices c.in_ok-taken.taken.denominator c.deref.result.now in
-    record {
-      found = (t.prices, t.text, are _ t.denominator sums grains c.in-Ok.ensures);
-      refused = tt;
-      only = of-any _ t (are _ t.denominator sums grains c.in-Ok.ensures);
-    }
+    of-any _ t
+    (margins-or-memory c.args.election.now c.args.outcome.now.marks t.prices c.in_ok-taken.taken.denominator
+    c.in_ok-taken.taken.tally c.margins_in.result t.denominator t.tally c.margins_in.ensures.found
+    c.margins_in.ensures.memory)
 
 pub returns-in_err-taken-clause-only : goal.returns-in_err-taken-clause-only
 returns-in_err-taken-clause-only c = λ p text.

@@ -43,6 +43,5 @@ returns-clause-taken c =
       small_budget = omega (arith, whole.budget, whole.taken.small_budget);
       few_steps = steps-bound _ _ _ whole (omega (arith, taken.few));
       in_range = λ k ip. sums-of-bound c.args.election.now _ c.finish.new.self k whole ip;
-      steps = λ steps fewest most. whole-steps c.args.election.now _ c.finish.new.self _ steps whole
-          c.finish.ensures.closed done.rows fewest most;
+      steps = whole-steps c.args.election.now _ c.finish.new.self _ whole c.finish.ensures.closed done.rows;
     }

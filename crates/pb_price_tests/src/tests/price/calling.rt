@@ -1,4 +1,4 @@
-//! A caller of these crates, which docs/CALLING.md shows.
+//! A caller of these crates, which docs/LIBRARY.md shows.
 
 ghost use Rattle.std.specs.Prelude.{◌≡◌, Bool, List, Some, false, true};
 ghost use Rattle.pb_election.specs.Instance.{Instance};
@@ -19,7 +19,7 @@ use std::test::Fail;
 const PLAIN: Mode = Mode::PLAIN;
 
 /// Whether the prices of a certificate support the outcome that an election's file states; nothing where a file is
-/// refused, or memory is wanted.
+/// refused, or memory runs out.
 fn is_supported(alloc: Global, election: &[u8], certificate: &[u8]) -> Option<bool>
     // After a yes no group of an unfunded project's supporters has more left than it costs, by what the files state.
     ensures yes { result ≡ Some true → (e : Instance) × (w : List Bool) × (p : spec.Prices) × IsTextOf election.now e × (e.selected ≡ Some w) × IsPriceText (certificate_records certificate.now) e p × NoGroupHasMoreLeft e w p }
