@@ -87,6 +87,34 @@ uint8_t pbaudit_tidy(const uint8_t *election, size_t election_length,
                      const uint8_t *certificate, size_t certificate_length,
                      uint8_t *out, size_t room, size_t *needed);
 
+/* A page about a certificate of either kind, for people, as one HTML file in UTF-8. The page shows the files by these
+ * names. language is a code: en, pl, de or fr. The rest is as for explain, and where a file is refused, the text is the
+ * line of the refusal. 0, 1, 2 or 4; 3 where there is no such language, and then *needed is 0 and nothing is written. */
+uint8_t pbaudit_page(const uint8_t *election, size_t election_length,
+                     const uint8_t *election_name, size_t election_name_length,
+                     const uint8_t *outcome, size_t outcome_length,
+                     const uint8_t *outcome_name, size_t outcome_name_length, bool has_outcome,
+                     const uint8_t *certificate, size_t certificate_length,
+                     const uint8_t *certificate_name, size_t certificate_name_length,
+                     bool stable, bool exhaustive, bool cover,
+                     const uint8_t *language, size_t language_length,
+                     uint8_t *out, size_t room, size_t *needed);
+
+/* Why a file is refused, for a person: as an example, for the refusal `refused certificate 24 UnknownVoter record 5`
+ *   there is no voter '7010'; the election has 3 voters
+ *   voters are named by their rows in VOTES, counted from 1, and not by voter_id; ..
+ * with 5 in *line. input is what the file has to be: 0 an election, 1 an outcome file, 2 a price certificate, 3 a
+ * violation certificate, 4 a certificate of either kind. number and record are those of the refusal's line. election is
+ * the one beside which the file was read, or an empty file with has_election false. *line is the line of the file on
+ * which the refused record begins, from 1, or 0 where there is none, as at the end of the file. The text has a sentence
+ * a line; one on another line of the file begins with `line N: `. It is empty where no refusal has this number, or
+ * input is none of these. The words are for people and may change. What is said above of files, out and *needed goes
+ * for these too, and *line is the caller's alone as *needed is; where memory ran out, *line is open. 0 or 4. */
+uint8_t pbaudit_hint(uint8_t input, uint32_t number, uint64_t record,
+                     const uint8_t *file, size_t file_length,
+                     const uint8_t *election, size_t election_length, bool has_election,
+                     uint64_t *line, uint8_t *out, size_t room, size_t *needed);
+
 #ifdef __cplusplus
 }
 #endif

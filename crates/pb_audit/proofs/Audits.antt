@@ -6,8 +6,8 @@ use Rattle.pb_records.specs.Loading.{Delivery}
 use Rattle.pb_records.specs.Loading as delivery
 use Rattle.pb_reply.specs.Replies.{Answer, Reply, refused, with_input}
 use Rattle.pb_audit.specs.Answers.{AnswersAudit, AnswersTidy, AuditRules}
-use Rattle.pb_reply.specs.Inputs.{InTurn, Stated, StatesElection, refusal_of}
-use Rattle.pb_reply.specs.Lines.{Refusal}
+use Rattle.pb_reply.specs.Inputs.{InTurn, Stated, StatesElection}
+use Rattle.pb_reply.specs.declared.input.Refusal.{Refusal}
 use Rattle.pb_audit.specs.Readers.{AuditReadings, ReadsAudit, ReadsTidy}
 use Rattle.pb_reply.specs.Readings.{Delivers, IsUntouched, Reading}
 use Rattle.pb_audit.specs.Inside.Certificates.{AnswersCertificate, Promised, TidiesPrices}
@@ -93,16 +93,16 @@ pub stopped_at_election : {A : Type 0} (rules : AuditRules A)
     (election : Delivery) (outcome : Option Delivery) (certificate : Delivery) (why : Stop)
     → IfTaken {A = Instance} (Err why) (StatesElection election)
     → IfSome (stopped why) (AnswersAudit rules election outcome certificate)
-stopped_at_election rules election outcome certificate (stop.Refused input fault) given =
-    election_refused rules election outcome certificate (refusal_of input fault) given
+stopped_at_election rules election outcome certificate (stop.Refused r) given =
+    election_refused rules election outcome certificate r given
 stopped_at_election rules election outcome certificate stop.Memory given = tt
 
 pub stopped_at_outcome : {A : Type 0} (rules : AuditRules A)
     (election : Delivery) (outcome : Option Delivery) (certificate : Delivery) (e : Instance) (why : Stop)
     → StatesElection election (Ok e) → IfTaken {A = List Bool} (Err why) (AuditsOutcome e outcome)
     → IfSome (stopped why) (AnswersAudit rules election outcome certificate)
-stopped_at_outcome rules election outcome certificate e (stop.Refused input fault) given taken =
-    outcome_refused rules election outcome certificate e (refusal_of input fault) given taken
+stopped_at_outcome rules election outcome certificate e (stop.Refused r) given taken =
+    outcome_refused rules election outcome certificate e r given taken
 stopped_at_outcome rules election outcome certificate e stop.Memory given taken = tt
 
 pub certificate_settled : {A : Type 0} (rules : AuditRules A)
@@ -122,11 +122,11 @@ unfoldable pub readers_stopped_at_election : {A : Type 0} (rules : AuditRules A)
     → IfTaken {A = Instance} (Err why) (Gives StatesElection inputs.election)
     → inputs.outcome.after ≡ inputs.outcome.before → IsUntouched inputs.certificate
     → IfSome (stopped why) (ReadsAudit rules inputs)
-readers_stopped_at_election rules inputs (stop.Refused input fault) given same untouched = record {
+readers_stopped_at_election rules inputs (stop.Refused r) given same untouched = record {
   of_election = given.delivery;
   of_outcome = None;
   of_certificate = delivery.Read;
-  answers = election_refused rules given.delivery None delivery.Read (refusal_of input fault)
+  answers = election_refused rules given.delivery None delivery.Read r
       given.stating;
   election_delivered = given.delivered;
   outcome_delivered = same;
@@ -138,11 +138,11 @@ unfoldable pub readers_stopped_at_outcome : {A : Type 0} (rules : AuditRules A)
     (inputs : AuditReadings) (e : Instance) (why : Stop)
     → Gives StatesElection inputs.election (Ok e) → IfTaken {A = List Bool} (Err why) (ReadsOutcome e inputs.outcome)
     → IsUntouched inputs.certificate → IfSome (stopped why) (ReadsAudit rules inputs)
-readers_stopped_at_outcome rules inputs e (stop.Refused input fault) given taken untouched = record {
+readers_stopped_at_outcome rules inputs e (stop.Refused r) given taken untouched = record {
   of_election = given.delivery;
   of_outcome = taken.delivery;
   of_certificate = delivery.Read;
-  answers = outcome_refused rules given.delivery taken.delivery delivery.Read e (refusal_of input fault)
+  answers = outcome_refused rules given.delivery taken.delivery delivery.Read e r
       given.stating taken.audits;
   election_delivered = given.delivered;
   outcome_delivered = taken.delivered;
@@ -176,10 +176,10 @@ readers_settled rules each inputs e w d (Some r) given taken delivered answered 
 pub tidy_stopped : (election certificate : Delivery) (why : Stop)
     → IfTaken {A = Instance} (Err why) (StatesElection election)
     → IfSome (settled_answer (Err why)) (AnswersTidy election certificate)
-tidy_stopped election certificate (stop.Refused input fault) given =
+tidy_stopped election certificate (stop.Refused r) given =
     record {
-      e = Err (refusal_of input fault);
-      p = Err (refusal_of input fault);
+      e = Err r;
+      p = Err r;
       election_states = given;
       certificate_states = tt;
       out = refl;
@@ -189,13 +189,13 @@ tidy_stopped election certificate stop.Memory given = tt
 pub readers_tidy_stopped : (election certificate : Reading) (why : Stop)
     → IfTaken {A = Instance} (Err why) (Gives StatesElection election) → IsUntouched certificate
     → IfSome (settled_answer (Err why)) (ReadsTidy election certificate)
-readers_tidy_stopped election certificate (stop.Refused input fault) given untouched = record {
+readers_tidy_stopped election certificate (stop.Refused r) given untouched = record {
   of_election = given.delivery;
   of_certificate = delivery.Read;
   answers =
       record {
-        e = Err (refusal_of input fault);
-        p = Err (refusal_of input fault);
+        e = Err r;
+        p = Err r;
         election_states = given.stating;
         certificate_states = tt;
         out = refl;
@@ -205,7 +205,7 @@ readers_tidy_stopped election certificate (stop.Refused input fault) given untou
 }
 readers_tidy_stopped election certificate stop.Memory given untouched = tt
 
-pub readers_tidy_answered : (election certificate : Reading) (e : Instance) (d : Delivery) (work : Result Answer Stop)
+pub readers_tidy_answered : (election certificate : Reading) (e : Instance) (d : Delivery) (work : Result (Answer Status) Stop)
     → Gives StatesElection election (Ok e) → Delivers certificate d → IfTaken work (TidiesPrices e d)
     → IfSome (settled_answer work) (ReadsTidy election certificate)
 readers_tidy_answered election certificate e d (Ok answer) given delivered tidied = record {
@@ -222,13 +222,13 @@ readers_tidy_answered election certificate e d (Ok answer) given delivered tidie
   election_delivered = given.delivered;
   certificate_delivered = delivered;
 }
-readers_tidy_answered election certificate e d (Err (stop.Refused input fault)) given delivered tidied = record {
+readers_tidy_answered election certificate e d (Err (stop.Refused r)) given delivered tidied = record {
   of_election = given.delivery;
   of_certificate = d;
   answers =
       record {
         e = Ok e;
-        p = Err (refusal_of input fault);
+        p = Err r;
         election_states = given.stating;
         certificate_states = tidied;
         out = refl;

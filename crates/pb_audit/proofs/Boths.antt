@@ -15,8 +15,8 @@ use Rattle.pb_price.specs.declared.Verdict.{Verdict}
 use Rattle.pb_reply.specs.Replies.{Reply, refused, with_input}
 use Rattle.pb_audit.specs.Answers.{price_reply, violation_reply}
 use Rattle.pb_audit.specs.Both.{BothPromise, GroupAndDemand, ReadsBoth, StatesBoth, beside, both_on, both_reply, both_rules, yes_where_both}
-use Rattle.pb_reply.specs.Inputs.{InTurn, Stated, StatesElection, StatesPrices, StatesViolation, refusal_of}
-use Rattle.pb_reply.specs.Lines.{Refusal}
+use Rattle.pb_reply.specs.Inputs.{InTurn, Stated, StatesElection, StatesPrices, StatesViolation}
+use Rattle.pb_reply.specs.declared.input.Refusal.{Refusal}
 use Rattle.pb_audit.specs.Readers.{AuditReadings}
 use Rattle.pb_reply.specs.Readings.{Delivers, IsUntouched, Reading}
 use Rattle.pb_audit.specs.Inside.Certificates.{AnswersCertificate, JudgesPrices, Promised}
@@ -32,7 +32,7 @@ use Rattle.pb_audit.proofs.Promises.{no-yes, prices_promise, violation_promises}
 both_yes : (first second : Status) → (yes_where_both first second ≡ Yes) ↔ ((first ≡ Yes) × (second ≡ Yes))
 both_yes Yes second = (λ h. (refl, h), λ h. h.1)
 both_yes No second = (λ h. no-yes h, λ h. no-yes h.0)
-both_yes Refused second = (λ h. cc, λ h. let no : Refused ≡ Yes = h.0 in cc)
+both_yes (Refused r) second = (λ h. cc, λ h. let no : Refused r ≡ Yes = h.0 in cc)
 
 -- what the reply on prices and a claim of sets promises
 both_promise : (m : Mode) (e : Instance) (w : List Bool) (p : Prices) (claim : GroupAndDemand) → IsGroup e claim.1
@@ -92,8 +92,8 @@ both_answered m e w prices violation verdict r judged answered = record {
 pub stopped_at_prices : (m : Mode) (e : Instance) (w : List Bool) (prices violation : Delivery) (why : Stop)
     → IfTaken {A = Verdict} (Err why) (JudgesPrices name.Prices m e w prices)
     → IfSome (stopped why) (AnswersCertificate (StatesBoth violation) (both_reply m) e w prices)
-stopped_at_prices m e w prices violation (stop.Refused input fault) judged =
-    prices_refused m e w prices violation (refusal_of input fault) judged
+stopped_at_prices m e w prices violation (stop.Refused r) judged =
+    prices_refused m e w prices violation r judged
 stopped_at_prices m e w prices violation stop.Memory judged = tt
 
 pub both_settled : (m : Mode) (e : Instance) (w : List Bool) (prices violation : Delivery) (verdict : Verdict)
@@ -111,10 +111,10 @@ pub both_stopped_at_election : (m : Mode) (inputs : AuditReadings) (violation : 
     → inputs.outcome.after ≡ inputs.outcome.before → IsUntouched inputs.certificate → IsUntouched violation
     → IfSome (stopped why) (ReadsBoth m inputs violation)
 unfolding readers_stopped_at_election
-both_stopped_at_election m inputs violation (stop.Refused input fault) given same untouched violation_same = record {
+both_stopped_at_election m inputs violation (stop.Refused r) given same untouched violation_same = record {
   of_violation = delivery.Read;
   reads = readers_stopped_at_election (both_rules m delivery.Read) inputs
-      (stop.Refused input fault) given same untouched;
+      (stop.Refused r) given same untouched;
   violation_delivered = violation_same;
 }
 both_stopped_at_election m inputs violation stop.Memory given same untouched violation_same = tt
@@ -124,10 +124,10 @@ pub both_stopped_at_outcome : (m : Mode) (inputs : AuditReadings) (violation : R
     → IsUntouched inputs.certificate → IsUntouched violation
     → IfSome (stopped why) (ReadsBoth m inputs violation)
 unfolding readers_stopped_at_outcome
-both_stopped_at_outcome m inputs violation e (stop.Refused input fault) given taken untouched violation_same = record {
+both_stopped_at_outcome m inputs violation e (stop.Refused r) given taken untouched violation_same = record {
   of_violation = delivery.Read;
   reads = readers_stopped_at_outcome (both_rules m delivery.Read) inputs e
-      (stop.Refused input fault) given taken untouched;
+      (stop.Refused r) given taken untouched;
   violation_delivered =
       subst (λ (o : Stated (List Bool)). InTurn o (λ w. IsUntouched violation) (IsUntouched violation)) taken.audits.is
       violation_same;
@@ -160,9 +160,9 @@ pub both_stopped_at_prices : (m : Mode) (inputs : AuditReadings) (violation : Re
     → IfTaken {A = Verdict} (Err why) (Gives (JudgesPrices name.Prices m e w) inputs.certificate)
     → IsUntouched violation
     → IfSome (stopped why) (ReadsBoth m inputs violation)
-both_stopped_at_prices m inputs violation e w (stop.Refused input fault) given taken judged same =
+both_stopped_at_prices m inputs violation e w (stop.Refused r) given taken judged same =
     both_read m inputs violation e w judged.delivery delivery.Read _ given taken judged.delivered
-    (prices_refused m e w judged.delivery delivery.Read (refusal_of input fault) judged.stating) same
+    (prices_refused m e w judged.delivery delivery.Read r judged.stating) same
 both_stopped_at_prices m inputs violation e w stop.Memory given taken judged same = tt
 
 pub both_read_settled : (m : Mode) (inputs : AuditReadings) (violation : Reading) (e : Instance) (w : List Bool)

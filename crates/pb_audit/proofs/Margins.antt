@@ -20,13 +20,14 @@ use Rattle.pb_price.specs.Margins.{AreMargins, margins_of_project}
 use Rattle.pb_price.specs.declared.Margins.{Margins}
 use Rattle.pb_price.specs.declared.ProjectMargins.{ProjectMargins}
 use Rattle.pb_reply.specs.Replies.{Answer, Reply, answer_of, refused, text_of, TellsReply}
-use Rattle.pb_reply.specs.Inputs.{StatesElection, StatesPrices, refusal_of}
+use Rattle.pb_reply.specs.Inputs.{StatesElection, StatesPrices}
 use Rattle.pb_audit.specs.Margins.{margin_rules, AnswersMargins, ReadsMargins, flag_of, margin_head, margin_rows, margins_reply, record_line, row_of, table_of}
 use Rattle.pb_audit.specs.Readers.{AuditReadings}
 use Rattle.pb_reply.specs.Readings.{Delivers}
 use Rattle.pb_audit.specs.Inside.Certificates.{AnswersCertificate, Promised, TablesMargins}
 use Rattle.pb_reply.specs.Inside.Taking.{AuditsOutcome, Gives, IfTaken, ReadsOutcome, settled_answer, stopped}
 use Rattle.pb_reply.specs.declared.input.InputName.TheVariants.{Certificate}
+use Rattle.pb_reply.specs.declared.status.Status.{Status}
 use Rattle.pb_reply.specs.declared.status.Status.TheVariants.{Yes}
 use Rattle.pb_reply.specs.declared.input.Stop.{Stop}
 use Rattle.pb_reply.specs.declared.input.Stop.TheVariants as stop
@@ -137,7 +138,7 @@ table_written e w p m c text are all is =
 
 -- The answers.
 
-abbrev answer_with : Text → Answer
+abbrev answer_with : Text → Answer Status
 answer_with text = record { text = text; status = Yes }
 
 pub text_told : (e : Instance) (w : List Bool) (p : Prices) (text : Text) → text ≡ lines (table_of e w p)
@@ -150,29 +151,29 @@ told is_reply reply of = record { reply = reply; of_inputs = of; out = refl }
 
 -- the work on the certificate as a reply, which the answer tells
 work_told : (is_reply : Reply → Type 0) (e : Instance) (w : List Bool) (certificate : Delivery)
-    (work : Result Answer Stop) → IfTaken work (TablesMargins e w certificate)
+    (work : Result (Answer Status) Stop) → IfTaken work (TablesMargins e w certificate)
     → ((r : Reply) → AnswersCertificate (StatesPrices Certificate) margins_reply e w certificate r → is_reply r)
     → IfSome (settled_answer work) (TellsReply is_reply)
 work_told is_reply e w certificate (Ok answer) tables each =
     let reply = margins_reply e w tables.0 in
     subst (TellsReply is_reply) (sym tables.1.1)
     (told is_reply reply (each reply (record { c = Ok tables.0; given = tables.1.0; out = refl })))
-work_told is_reply e w certificate (Err (stop.Refused input why)) tables each =
-    let reply = refused (refusal_of input why) in
-    told is_reply reply (each reply (record { c = Err (refusal_of input why); given = tables; out = refl }))
+work_told is_reply e w certificate (Err (stop.Refused r)) tables each =
+    let reply = refused r in
+    told is_reply reply (each reply (record { c = Err r; given = tables; out = refl }))
 work_told is_reply e w certificate (Err stop.Memory) tables each = tt
 
 -- an input that was refused before the certificate
 pub stop_told : (is_reply : Reply → Type 0) (why : Stop) → IfSome (stopped why) is_reply
     → IfSome (settled_answer (Err why)) (TellsReply is_reply)
-stop_told is_reply (stop.Refused input why) of = told is_reply (refused (refusal_of input why)) of
+stop_told is_reply (stop.Refused r) of = told is_reply (refused r) of
 stop_told is_reply stop.Memory of = tt
 
 always_yes : Promised margin_rules
 always_yes e w d p given = refl
 
 pub margins_answered : (election : Delivery) (outcome : Option Delivery) (certificate : Delivery) (e : Instance)
-    (w : List Bool) (work : Result Answer Stop)
+    (w : List Bool) (work : Result (Answer Status) Stop)
     → StatesElection election (Ok e) → AuditsOutcome e outcome (Ok w) → IfTaken work (TablesMargins e w certificate)
     → IfSome (settled_answer work) (AnswersMargins election outcome certificate)
 margins_answered election outcome certificate e w work given taken tables =
@@ -180,7 +181,7 @@ margins_answered election outcome certificate e w work given taken tables =
     (λ r answered. certificate_answered margin_rules always_yes election
     outcome certificate e w r given taken answered)
 
-pub margins_read : (inputs : AuditReadings) (e : Instance) (w : List Bool) (d : Delivery) (work : Result Answer Stop)
+pub margins_read : (inputs : AuditReadings) (e : Instance) (w : List Bool) (d : Delivery) (work : Result (Answer Status) Stop)
     → Gives StatesElection inputs.election (Ok e) → ReadsOutcome e inputs.outcome (Ok w) → Delivers inputs.certificate d
     → IfTaken work (TablesMargins e w d) → IfSome (settled_answer work) (ReadsMargins inputs)
 margins_read inputs e w d work given taken delivered tables =

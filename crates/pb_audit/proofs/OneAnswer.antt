@@ -18,6 +18,7 @@ use Rattle.pb_audit.proofs.Audits.{certificate_answered, election_refused, outco
 use Rattle.pb_audit.proofs.Boths.{both_promises}
 use Rattle.pb_audit.proofs.OneStated.{election-one, file-one, outcome-one, prices-one, violation-one}
 use Rattle.pb_audit.proofs.Promises.{prices_promise, violation_promises}
+use Rattle.pb_reply.specs.declared.status.Status.{Status}
 
 -- The read line.
 
@@ -29,10 +30,10 @@ read-one election = record {
 
 -- The canonical text.
 
-tidy-some : (election certificate : Delivery) → (answer : Answer) × AnswersTidy election certificate answer
+tidy-some : (election certificate : Delivery) → (answer : Answer Status) × AnswersTidy election certificate answer
 tidy-some election certificate = by (election-one election).one.0 (election-one election).one.1
   where
-    by : (e : Stated Instance) → StatesElection election e → (answer : Answer) × AnswersTidy election certificate answer
+    by : (e : Stated Instance) → StatesElection election e → (answer : Answer Status) × AnswersTidy election certificate answer
     by (Ok e) given =
         let p = (prices-one name.Certificate e certificate).one in (
           tidy_answer (Ok e) p.0,

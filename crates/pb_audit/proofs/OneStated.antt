@@ -28,7 +28,7 @@ use Rattle.pb_certificate.proofs.PriceClear.{price-clear}
 use Rattle.pb_certificate.proofs.Unique.{group-text-same, outcome-text-same, price-text-same}
 use Rattle.pb_audit.specs.Both.{GroupAndDemand}
 use Rattle.pb_reply.specs.Inputs.{IsRefusedElection, IsRefusedFile, Stated, States, StatesElection, StatesFile, StatesOutcome, StatesPrices, StatesViolation, refusal_of}
-use Rattle.pb_reply.specs.Lines.{Refusal}
+use Rattle.pb_reply.specs.declared.input.Refusal.{Refusal}
 use Rattle.pb_audit.specs.OneAnswer.{JustOne}
 use Rattle.pb_reply.specs.declared.input.InputFault.TheVariants as fault
 use Rattle.pb_reply.specs.declared.input.InputName.{InputName}

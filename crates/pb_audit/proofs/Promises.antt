@@ -12,7 +12,7 @@ use Rattle.pb_price.specs.First.{First, verdict_of}
 use Rattle.pb_price.specs.declared.Failure.{Failure}
 use Rattle.pb_price.specs.declared.Mode.{Mode}
 use Rattle.pb_price.proofs.Groups.{budgets, fair, no-violation, plain-no, plain-yes, stable-no, stable-yes}
-use Rattle.pb_price.proofs.Verdicts.{supports-iff}
+use Rattle.pb_price.proofs.FirstFalse.{supports-iff}
 use Rattle.pb_audit.specs.Answers.{price_reply, violation_reply}
 use Rattle.pb_reply.specs.Replies.{price_status, violation_status}
 use Rattle.pb_audit.specs.Promises.{PricesPromise, ViolationPromises}

@@ -39,7 +39,7 @@ reply_told sink is_reply reply result old new of written = record {
   untouched = written.untouched;
 }
   where
-    told : (answer : Answer) → answer ≡ answer_of reply → TellsReply is_reply answer
+    told : (answer : Answer Status) → answer ≡ answer_of reply → TellsReply is_reply answer
     told answer is = record { reply = reply; of_inputs = of; out = is }
 
 -- the lines on the files of an entry, one after the other

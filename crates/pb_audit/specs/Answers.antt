@@ -8,6 +8,7 @@ use Rattle.pb_certificate.specs.Prices.{Prices}
 use Rattle.pb_certificate.specs.declared.measure.Measure.{Measure}
 use Rattle.pb_cohesion.specs.FirstV.{FirstV, violation_verdict_of}
 use Rattle.pb_cohesion.specs.Satisfactions.{worth_by}
+use Rattle.pb_cohesion.specs.declared.ViolationVerdict.{ViolationVerdict}
 use Rattle.pb_price.specs.First.{First, verdict_of}
 use Rattle.pb_price.specs.declared.Mode.{Mode}
 use Rattle.pb_price.specs.declared.Verdict.{Verdict}
@@ -24,7 +25,7 @@ abbrev pub read_reply : Stated Instance → Reply
 read_reply election = with_input election (λ e. record { lines = read_line e ∷ notes e; status = Yes })
 
 -- the canonical text of the prices
-abbrev pub tidy_answer : Stated Instance → Stated Prices → Answer
+abbrev pub tidy_answer : Stated Instance → Stated Prices → Answer Status
 tidy_answer (Ok e) (Ok p) = record { text = Canon e p; status = Yes }
 tidy_answer (Ok e) (Err r) = answer_of (refused r)
 tidy_answer (Err r) certificate = answer_of (refused r)
@@ -47,9 +48,11 @@ abbrev pub price_rules : Mode → AuditRules Prices
 price_rules m = record { states = StatesPrices name.Certificate; reply = price_reply m; promises = PricesPromise m }
 
 -- the verdict on a group and its demand, by the measure that the certificate states
+abbrev pub group_reply : Instance → ViolationVerdict → Reply
+group_reply e v = record { lines = violation_line e v ∷ []; status = violation_status v }
+
 abbrev pub violation_reply : Instance → List Bool → Measure × List ℕ × List ℕ → Reply
-violation_reply e w v = let found = violation_verdict_of (FirstV (worth_by v.0 e) e w v.1 v.2) in
-    record { lines = violation_line e found ∷ []; status = violation_status found }
+violation_reply e w v = group_reply e (violation_verdict_of (FirstV (worth_by v.0 e) e w v.1 v.2))
 
 abbrev pub violation_rules : AuditRules (Measure × List ℕ × List ℕ)
 violation_rules =
@@ -69,7 +72,7 @@ pub record AnswersElection (election : Delivery) (r : Reply) : Type 0 where
 
 -- The answer on an election and a price certificate that is to be written in its canonical form. The certificate counts
 -- where the election is accepted.
-pub record AnswersTidy (election certificate : Delivery) (answer : Answer) : Type 0 where
+pub record AnswersTidy (election certificate : Delivery) (answer : Answer Status) : Type 0 where
   pub e : Stated Instance
   pub p : Stated Prices
   pub election_states : StatesElection election e
@@ -119,5 +122,5 @@ abbrev pub AnswersViolationFiles : List ℕ → Option (List ℕ) → List ℕ �
 AnswersViolationFiles election outcome certificate r =
     AnswersViolation (in_memory election) (option_map in_memory outcome) (in_memory certificate) r
 
-abbrev pub AnswersTidyFiles : List ℕ → List ℕ → Answer → Type 0
+abbrev pub AnswersTidyFiles : List ℕ → List ℕ → Answer Status → Type 0
 AnswersTidyFiles election certificate answer = AnswersTidy (in_memory election) (in_memory certificate) answer

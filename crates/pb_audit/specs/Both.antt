@@ -29,7 +29,7 @@ GroupAndDemand = Measure × List ℕ × List ℕ
 abbrev pub yes_where_both : Status → Status → Status
 yes_where_both Yes second = second
 yes_where_both No second = No
-yes_where_both Refused second = Refused
+yes_where_both (Refused r) second = Refused r
 
 abbrev pub joined : Reply → Reply → Reply
 joined first second = record { lines = first.lines ++ second.lines; status = yes_where_both first.status second.status }

@@ -61,15 +61,15 @@ margin_rules = record { states = StatesPrices name.Certificate; reply = margins_
 
 -- The answer on an election, an outcome file where one is given, and a price certificate: the text of the table, or of
 -- the line of the input that is refused.
-abbrev pub AnswersMargins : Delivery → Option Delivery → Delivery → Answer → Type 0
+abbrev pub AnswersMargins : Delivery → Option Delivery → Delivery → Answer Status → Type 0
 AnswersMargins election outcome certificate answer =
     TellsReply (AnswersAudit margin_rules election outcome certificate) answer
 
 -- the same over files in memory, by their bytes alone
-abbrev pub AnswersMarginFiles : List ℕ → Option (List ℕ) → List ℕ → Answer → Type 0
+abbrev pub AnswersMarginFiles : List ℕ → Option (List ℕ) → List ℕ → Answer Status → Type 0
 AnswersMarginFiles election outcome certificate answer =
     AnswersMargins (in_memory election) (option_map in_memory outcome) (in_memory certificate) answer
 
 -- the same on what readers delivered
-abbrev pub ReadsMargins : AuditReadings → Answer → Type 0
+abbrev pub ReadsMargins : AuditReadings → Answer Status → Type 0
 ReadsMargins inputs answer = TellsReply (ReadsAudit margin_rules inputs) answer

@@ -6,6 +6,7 @@ use Rattle.pb_records.specs.declared.loading.Source.{Ghosts as Source}
 use Rattle.pb_price.specs.declared.Mode.{Mode}
 use Rattle.pb_reply.specs.Readings.{Delivers, DeliversFile, FileReading, IsUntouched, Reading, file_reading, reading}
 use Rattle.pb_reply.specs.Replies.{Answer, Reply}
+use Rattle.pb_reply.specs.declared.status.Status.{Status}
 use Rattle.pb_audit.specs.Answers.{AnswersAudit, AnswersElection, AnswersTidy, AuditRules, price_rules, violation_rules}
 use Rattle.pb_reply.specs.Inputs.{InTurn, Stated, audited}
 
@@ -33,7 +34,7 @@ pub record ReadsElection (election : Reading) (r : Reply) : Type 0 where
 
 -- the answer on the election and the price certificate that readers delivered, the certificate where the election is
 -- accepted
-pub record ReadsTidy (election certificate : Reading) (answer : Answer) : Type 0 where
+pub record ReadsTidy (election certificate : Reading) (answer : Answer Status) : Type 0 where
   pub of_election : Delivery
   pub of_certificate : Delivery
   pub answers : AnswersTidy of_election of_certificate answer

@@ -6,6 +6,8 @@ use Rattle.pb_records.specs.Records.{Text}
 use Rattle.pb_reply.specs.Replies.{Answer, Reply, text_of}
 use Rattle.pb_audit.specs.Answers.{AnswersElection, AnswersPrices, AnswersViolation}
 use Rattle.pb_audit.specs.declared.total.Ending.{Ending}
+use Rattle.pb_audit.specs.declared.total.FolderStatus.{FolderStatus}
+use Rattle.pb_audit.specs.declared.total.FolderStatus.TheVariants.{AllYes, SomeNo, SomeRefused}
 use Rattle.pb_audit.specs.declared.total.Total.{Total}
 use Rattle.pb_reply.specs.declared.status.Status.{Status}
 use Rattle.pb_reply.specs.declared.status.Status.TheVariants.{Yes, No, Refused}
@@ -26,7 +28,7 @@ pub record Found : Type 0 where
 
 -- the certificates that are audited: those of an election that is accepted
 abbrev pub where_accepted : Status → Option Delivery → Option Delivery
-where_accepted Refused certificate = None
+where_accepted (Refused r) certificate = None
 where_accepted Yes certificate = certificate
 where_accepted No certificate = certificate
 
@@ -79,25 +81,31 @@ endings_on read prices violation =
 abbrev pub endings_of : Found → List Ending
 endings_of found = endings_on found.read found.prices found.violation
 
--- whether two statuses are the same
-abbrev pub has_status : Status → Status → Bool
-has_status Yes Yes = true
-has_status No No = true
-has_status Refused Refused = true
-has_status _ _ = false
+-- which status it is
+abbrev pub says_yes : Status → Bool
+says_yes Yes = true
+says_yes _ = false
+
+abbrev pub says_no : Status → Bool
+says_no No = true
+says_no _ = false
+
+abbrev pub says_refused : Status → Bool
+says_refused (Refused r) = true
+says_refused _ = false
 
 -- a line on an election; on a certificate that is answered yes, or no; on a file that is refused
 abbrev pub is_election : Ending → Bool
 is_election line = not line.of_certificate
 
 abbrev pub is_yes : Ending → Bool
-is_yes line = line.of_certificate && has_status Yes line.status
+is_yes line = line.of_certificate && says_yes line.status
 
 abbrev pub is_no : Ending → Bool
-is_no line = line.of_certificate && has_status No line.status
+is_no line = line.of_certificate && says_no line.status
 
 abbrev pub is_refused : Ending → Bool
-is_refused line = has_status Refused line.status
+is_refused line = says_refused line.status
 
 -- how many elections there are, how many certificates are answered yes and no, and how many files are refused
 abbrev pub total_of : List Ending → Total
@@ -115,18 +123,18 @@ total_line t =
     ++ decimal t.no ++ codes " no "
     ++ decimal t.refused ++ codes " refused"
 
-abbrev pub status_of : Total → Status
-status_of t = if nat_lt 0 t.refused then Refused else (if nat_lt 0 t.no then No else Yes)
+abbrev pub status_of : Total → FolderStatus
+status_of t = if nat_lt 0 t.refused then SomeRefused else (if nat_lt 0 t.no then SomeNo else AllYes)
 
 -- the report on what is found of each entry: the lines of each, and the line of the total
-abbrev pub report_on : List Found → Answer
+abbrev pub report_on : List Found → Answer FolderStatus
 report_on found = record {
   text = text_of (flat_map lines_of found ++ (total_line (total_of (flat_map endings_of found)) ∷ []));
   status = status_of (total_of (flat_map endings_of found));
 }
 
 -- the report on the entries of a folder
-pub record ReportOf (m : Mode) (entries : List Files) (report : Answer) : Type 0 where
+pub record ReportOf (m : Mode) (entries : List Files) (report : Answer FolderStatus) : Type 0 where
   pub found : List Found
   pub each : FindsEach m entries found
   pub out : report ≡ report_on found

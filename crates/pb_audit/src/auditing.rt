@@ -12,8 +12,8 @@ ghost use Rattle.pb_records.specs.Loading.{Delivery};
 
 use pb_election::{Election, Outcome, Sink, Source};
 use pb_reply::{
-    Fault, File, Loaded, Reply, Status, Stop, election_of, optional_file, outcome_of, settled,
-    take_election, take_outcome, write_reply,
+    Fault, File, Loaded, Reply, Status, Stop, election_of, optional_file, outcome_of, push_notes,
+    settled, take_election, take_outcome, write_reply,
 };
 use std::alloc::{AllocError, Global};
 
@@ -59,18 +59,20 @@ pub(crate) fn audit_reply<A: Audit>(
     settled(alloc, work)
 }
 
-/// Reads an election, an outcome file where one is given, and a certificate, and writes the text of the reply.
+/// Reads an election, an outcome file where one is given, and a certificate, and writes the text of the reply. The notes
+/// on the election, each as `read` prints it, are added to `notes`.
 pub(crate) fn run_audit<A: Audit, E: Source, O: Source, C: Source, W: Sink>(
     alloc: Global,
     audit: &A,
     election: &mut E,
     outcome: &mut Option<O>,
     certificate: &mut C,
+    notes: &mut Vec<String>,
     out: &mut W,
 ) -> Result<Status, Fault>
     ensures { WritesReply W.Sink (ReadsAudit (A.rules audit.now) (audit_readings E.Source election.old election.new O.Source outcome.old outcome.new C.Source certificate.old certificate.new)) result out.old out.new }
 {
-    let work = audit_readers(alloc, audit, election, outcome, certificate);
+    let work = audit_readers(alloc, audit, election, outcome, certificate, notes);
     let reply = settled(alloc, work)?;
     write_reply(alloc, &reply, out)
 }
@@ -110,10 +112,12 @@ fn audit_readers<A: Audit, E: Source, O: Source, C: Source>(
     election: &mut E,
     outcome: &mut Option<O>,
     certificate: &mut C,
+    notes: &mut Vec<String>,
 ) -> Result<Reply, Stop>
     ensures { IfSome (settled result) (ReadsAudit (A.rules audit.now) (audit_readings E.Source election.old election.new O.Source outcome.old outcome.new C.Source certificate.old certificate.new)) }
 {
     let election = take_election(alloc, election)?;
+    push_notes(alloc, notes, &election)?;
     let outcome = take_outcome(alloc, outcome, &election)?;
     let certificate = Loaded::load(alloc, certificate)?;
     audit.reply_on(alloc, &election, &outcome, certificate.lend())

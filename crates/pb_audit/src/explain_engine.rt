@@ -18,7 +18,7 @@ ghost use Rattle.pb_price.specs.Told.{first_told};
 
 use crate::auditing::{Audit, audit_reply, run_audit};
 use crate::price_engine::verdict_reply;
-use crate::violation_engine::group_reply;
+use crate::violation_engine::group_verdict_reply;
 use pb_certificate::{Violation, is_violation};
 use pb_cohesion::violation_findings;
 use pb_election::{Election, Outcome, Sink, Source};
@@ -52,13 +52,15 @@ pub fn explained_reply(
 /// Reads an election, an outcome file where one is given, and a certificate of either kind, of at most 2^28 bytes each,
 /// and writes the verdict and what each condition or test comes to, as `explained_reply` gives them, or why an input is
 /// refused. Without an outcome file the outcome is the election's own. An input after one that is refused is not
-/// touched. The whole text is made first and then written.
+/// touched. The whole text is made first and then written. The notes on the election, each as `read` prints it, are added
+/// to `notes` once it is read.
 pub fn run_explain<E: Source, O: Source, C: Source, W: Sink>(
     alloc: Global,
     election: &mut E,
     outcome: &mut Option<O>,
     certificate: &mut C,
     mode: Mode,
+    notes: &mut Vec<String>,
     out: &mut W,
 ) -> Result<Status, Fault>
     // The text of the reply on what the readers delivered is written, or a front of it where the writer failed. The
@@ -66,7 +68,7 @@ pub fn run_explain<E: Source, O: Source, C: Source, W: Sink>(
     ensures { WritesReply W.Sink (ReadsExplained mode (audit_readings E.Source election.old election.new O.Source outcome.old outcome.new C.Source certificate.old certificate.new)) result out.old out.new }
 {
     let audit = ExplainAudit { mode };
-    run_audit(alloc, &audit, election, outcome, certificate, out)
+    run_audit(alloc, &audit, election, outcome, certificate, notes, out)
 }
 
 /// The explanation of a verdict, on prices in a mode.
@@ -171,6 +173,7 @@ fn violation_on(
 }
 
 /// The verdict on a group and its demand, and the table of the tests.
+#[tactic(auto, using(crate::proofs::Culprits::violation_names_projects))]
 fn tests_reply(
     alloc: Global,
     election: &Election,
@@ -184,7 +187,7 @@ fn tests_reply(
 {
     let measure = violation.satisfaction();
     let findings = violation_findings(election, outcome, violation, &measure);
-    let mut reply = group_reply(alloc, election, outcome, violation)?;
+    let mut reply = group_verdict_reply(alloc, election, findings.verdict(election))?;
     reply.lines.push(String::new(alloc))?;
     push_violation_table(alloc, &mut reply.lines, election, measure, &findings)?;
     Ok(reply)

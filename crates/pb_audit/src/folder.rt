@@ -4,8 +4,9 @@ ghost use Rattle.pb_audit.specs.Inside.Folders.{files_of};
 ghost use Rattle.pb_audit.specs.Reports.{ReportOf};
 
 use crate::folder_report::FolderReport;
+use crate::total::FolderStatus;
 use pb_price::Mode;
-use pb_reply::{Loaded, Report};
+use pb_reply::{Answer, Loaded};
 use std::alloc::{AllocError, Global};
 
 /// The files of one name: an election, and its certificates where they are there.
@@ -23,7 +24,11 @@ pub struct Entry {
 
 /// The report on the entries of a folder, in the order given: a line for each file that is audited, and the line of the
 /// total. The outcomes are the elections' own. The error is want of memory.
-pub fn folder_text(alloc: Global, entries: &[Entry], mode: Mode) -> Result<Report, AllocError>
+pub fn folder_text(
+    alloc: Global,
+    entries: &[Entry],
+    mode: Mode,
+) -> Result<Answer<FolderStatus>, AllocError>
     ensures { IfOk result (ReportOf mode (map files_of entries.now)) }
 {
     let mut report = FolderReport::new(alloc, mode);

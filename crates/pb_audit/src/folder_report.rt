@@ -5,11 +5,12 @@ ghost use Rattle.pb_audit.specs.Inside.Folders.{files_of, found_as};
 ghost use Rattle.pb_audit.specs.Reports.{Files, HasTaken, ReportOf, certificate_endings, certificate_lines, file_lines};
 ghost use Rattle.pb_audit.specs.Reports as spec;
 
+use crate::endings::{ELECTION, PRICES, VIOLATION};
 use crate::folder::Entry;
 use crate::found::{Found, found_of};
-use crate::total::{Ending, Total};
+use crate::total::{Ending, FolderStatus, Total};
 use pb_price::Mode;
-use pb_reply::{Reply, Report, Status, push_line};
+use pb_reply::{Answer, Reply, Status, push_line};
 use std::alloc::{AllocError, Global};
 use std::marker::Model;
 
@@ -66,7 +67,7 @@ impl FolderReport {
     }
 
     /// The whole report, with the line of the total. The error is want of memory.
-    pub fn finish(self) -> Result<Report, AllocError>
+    pub fn finish(self) -> Result<Answer<FolderStatus>, AllocError>
         ensures { (entries : List Files) → HasTaken self entries → IfOk result (ReportOf self.mode entries) }
     {
         let FolderReport {
@@ -76,8 +77,8 @@ impl FolderReport {
         } = self;
         let total = Total::of(&endings);
         total.push_line(&mut text)?;
-        Ok(Report {
-            text,
+        Ok(Answer {
+            text: text.into_bytes(),
             status: total.status(),
         })
     }
@@ -88,9 +89,9 @@ fn push_found(text: &mut String, entry: &Entry, found: &Found) -> Result<(), All
     ensures { OnOk result (string_bytes text.new ≡ string_bytes text.old ++ text_of (spec.lines_of (found_as entry.now found.now))) }
 {
     let name = entry.name.as_str();
-    push_file(text, name, ".pb", &found.read)?;
-    push_certificate(text, name, ".prices.csv", &found.prices)?;
-    push_certificate(text, name, ".violation.csv", &found.violation)
+    push_file(text, name, ELECTION, &found.read)?;
+    push_certificate(text, name, PRICES, &found.prices)?;
+    push_certificate(text, name, VIOLATION, &found.violation)
 }
 
 /// Adds the line on a certificate, where one was audited.

@@ -4,6 +4,7 @@
 
 mod auditing;
 mod both_engine;
+pub mod endings;
 mod explain_engine;
 mod folder;
 mod folder_report;
@@ -22,9 +23,10 @@ pub use explain_engine::{explained_reply, run_explain};
 pub use folder::{Entry, folder_text};
 pub use folder_report::FolderReport;
 pub use margin_engine::{margins_answer, run_margins};
-pub use pb_command::{Task, UsageFault, task_of};
-pub use pb_reply::{Answer, Fault, Loaded, Reply, Report, Status};
+pub use pb_command::{Inputs, Task, UsageFault, task_of};
+pub use pb_reply::{Answer, Fault, InputFault, InputName, Loaded, Refusal, Reply, Status};
 pub use price_engine::{prices_reply, run_prices};
 pub use read_engine::{read_reply, run_read};
 pub use tidy_engine::{run_tidy, tidy_answer};
+pub use total::FolderStatus;
 pub use violation_engine::{run_violation, violation_reply};

@@ -27,7 +27,7 @@ pub fn margins_answer(
     election: &[u8],
     outcome: Option<&[u8]>,
     certificate: &[u8],
-) -> Result<Answer, AllocError>
+) -> Result<Answer<Status>, AllocError>
     // The answer is the one on these bytes.
     ensures { IfOk result (AnswersMarginFiles election.now (option_copied outcome.entry) certificate.now) }
 {
@@ -64,7 +64,7 @@ fn margins_work(
     election: File<'_>,
     outcome: Option<File<'_>>,
     certificate: File<'_>,
-) -> Result<Answer, Stop>
+) -> Result<Answer<Status>, Stop>
     ensures { IfSome (settled_answer result) (AnswersMargins (lent election.entry) (option_map lent outcome.entry) (lent certificate.entry)) }
 {
     let election = election_of(alloc, election)?;
@@ -78,7 +78,7 @@ fn take_work<E: Source, O: Source, C: Source>(
     election: &mut E,
     outcome: &mut Option<O>,
     certificate: &mut C,
-) -> Result<Answer, Stop>
+) -> Result<Answer<Status>, Stop>
     ensures { IfSome (settled_answer result) (ReadsMargins (audit_readings E.Source election.old election.new O.Source outcome.old outcome.new C.Source certificate.old certificate.new)) }
 {
     let election = take_election(alloc, election)?;
@@ -93,7 +93,7 @@ fn margins_on(
     election: &Election,
     outcome: &Outcome,
     certificate: File<'_>,
-) -> Result<Answer, Stop>
+) -> Result<Answer<Status>, Stop>
     requires { OutcomeFits outcome.now election.now }
     ensures { IfTaken result (TablesMargins election.now (outcome.now).marks (lent certificate.entry)) }
 {

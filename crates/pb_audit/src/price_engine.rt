@@ -42,12 +42,14 @@ pub fn prices_reply(
 /// Reads an election, an outcome file where one is given, and a price certificate, of at most 2^28 bytes each, and
 /// writes the line of the verdict on the prices, or why an input is refused. Without an outcome file the outcome is the
 /// election's own. An input after one that is refused is not touched. The whole text is made first and then written.
+/// The notes on the election, each as `read` prints it, are added to `notes` once it is read.
 pub fn run_prices<E: Source, O: Source, C: Source, W: Sink>(
     alloc: Global,
     election: &mut E,
     outcome: &mut Option<O>,
     certificate: &mut C,
     mode: Mode,
+    notes: &mut Vec<String>,
     out: &mut W,
 ) -> Result<Status, Fault>
     // The text of the reply on what the readers delivered is written, or a front of it where the writer failed. The
@@ -55,7 +57,7 @@ pub fn run_prices<E: Source, O: Source, C: Source, W: Sink>(
     ensures { WritesReply W.Sink (ReadsPrices mode (audit_readings E.Source election.old election.new O.Source outcome.old outcome.new C.Source certificate.old certificate.new)) result out.old out.new }
 {
     let audit = PriceAudit { mode };
-    run_audit(alloc, &audit, election, outcome, certificate, out)
+    run_audit(alloc, &audit, election, outcome, certificate, notes, out)
 }
 
 /// The audit of prices, in a mode.

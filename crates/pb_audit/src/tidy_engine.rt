@@ -18,7 +18,11 @@ use std::alloc::{AllocError, Global};
 
 /// The answer on an election and a price certificate for it, both in memory: the certificate's canonical text, or why a
 /// file is refused, the election first; more than 2^28 bytes are refused as too long. The error is want of memory.
-pub fn tidy_answer(alloc: Global, election: &[u8], certificate: &[u8]) -> Result<Answer, AllocError>
+pub fn tidy_answer(
+    alloc: Global,
+    election: &[u8],
+    certificate: &[u8],
+) -> Result<Answer<Status>, AllocError>
     // The answer is the one on these bytes.
     ensures { IfOk result (AnswersTidyFiles election.now certificate.now) }
 {
@@ -47,7 +51,11 @@ pub fn run_tidy<E: Source, C: Source, W: Sink>(
 }
 
 /// The answer on what files state.
-fn tidy_work(alloc: Global, election: File<'_>, certificate: File<'_>) -> Result<Answer, Stop>
+fn tidy_work(
+    alloc: Global,
+    election: File<'_>,
+    certificate: File<'_>,
+) -> Result<Answer<Status>, Stop>
     ensures { IfSome (settled_answer result) (AnswersTidy (lent election.entry) (lent certificate.entry)) }
 {
     let election = election_of(alloc, election)?;
@@ -59,7 +67,7 @@ fn take_work<E: Source, C: Source>(
     alloc: Global,
     election: &mut E,
     certificate: &mut C,
-) -> Result<Answer, Stop>
+) -> Result<Answer<Status>, Stop>
     ensures { IfSome (settled_answer result) (ReadsTidy (reading E.Source election.old election.new) (reading C.Source certificate.old certificate.new)) }
 {
     let election = take_election(alloc, election)?;
@@ -68,7 +76,7 @@ fn take_work<E: Source, C: Source>(
 }
 
 /// The canonical text of the prices that a certificate states, for an election that was accepted.
-fn tidied(alloc: Global, election: &Election, certificate: File<'_>) -> Result<Answer, Stop>
+fn tidied(alloc: Global, election: &Election, certificate: File<'_>) -> Result<Answer<Status>, Stop>
     ensures { IfTaken result (TidiesPrices election.now (lent certificate.entry)) }
 {
     let bytes = bytes_of(InputName::Certificate, certificate)?;

@@ -6,6 +6,17 @@ ghost use Rattle.pb_audit.specs.Reports as spec;
 use pb_reply::{Status, push_line, push_number};
 use std::alloc::AllocError;
 
+/// How the report on a folder ends.
+#[derive(Clone, Copy, Debug, PartialEq, Eq)]
+pub enum FolderStatus {
+    /// No file is refused, and each certificate is answered yes. So it is where there is none.
+    AllYes,
+    /// No file is refused, and a certificate is answered no.
+    SomeNo,
+    /// A file is refused.
+    SomeRefused,
+}
+
 /// How the line on a file ends, and whether the file is a certificate.
 #[derive(Clone, Copy)]
 pub(crate) struct Ending {
@@ -44,7 +55,7 @@ impl Ending {
     fn is_refused(&self) -> bool
         ensures { result ≡ spec.is_refused self.now }
     {
-        matches!(self.status, Status::Refused)
+        matches!(self.status, Status::Refused(_))
     }
 }
 
@@ -62,15 +73,15 @@ impl Total {
     }
 
     /// Refused where a file is, and else no where a certificate is answered so.
-    pub(crate) fn status(self) -> Status
+    pub(crate) fn status(self) -> FolderStatus
         ensures { result ≡ spec.status_of self }
     {
         if self.refused > 0 {
-            Status::Refused
+            FolderStatus::SomeRefused
         } else if self.no > 0 {
-            Status::No
+            FolderStatus::SomeNo
         } else {
-            Status::Yes
+            FolderStatus::AllYes
         }
     }
 

@@ -1,8 +1,10 @@
 //! Auditing violations: whether a group was treated worse than it deserves.
 ghost use Rattle.std.specs.Prelude.{◌≡◌, IfOk, option_copied};
+ghost use Rattle.pb_audit.specs.Answers as spec;
 ghost use Rattle.pb_audit.specs.Answers.{AnswersViolationFiles, violation_reply, violation_rules};
 ghost use Rattle.pb_audit.specs.Both.{GroupAndDemand};
 ghost use Rattle.pb_audit.specs.Readers.{ReadsViolation, audit_readings};
+ghost use Rattle.pb_reply.specs.Named.{ViolationNamesProject};
 ghost use Rattle.pb_reply.specs.Writing.{WritesReply};
 ghost use Rattle.pb_certificate.specs.Claim.{ClaimFits};
 ghost use Rattle.pb_election.specs.Instance.{IsSet, projects};
@@ -10,7 +12,7 @@ ghost use Rattle.pb_election.specs.Outcome.{OutcomeFits};
 
 use crate::auditing::{Audit, audit_reply, run_audit};
 use pb_certificate::Violation;
-use pb_cohesion::check_violation;
+use pb_cohesion::{ViolationVerdict, check_violation};
 use pb_election::{Election, Outcome, Sink, Source};
 use pb_reply::{
     Fault, File, InputName, Reply, Status, Stop, one_line, violation_line, violation_of,
@@ -38,19 +40,29 @@ pub fn violation_reply(
 /// Reads an election, an outcome file where one is given, and a violation certificate, of at most 2^28 bytes each, and
 /// writes the line of the verdict on the group, by the measure that the certificate states, or why an input is refused.
 /// Without an outcome file the outcome is the election's own. An input after one that is refused is not touched. The
-/// whole text is made first and then written.
+/// whole text is made first and then written. The notes on the election, each as `read` prints it, are added to `notes`
+/// once it is read.
 pub fn run_violation<E: Source, O: Source, C: Source, W: Sink>(
     alloc: Global,
     election: &mut E,
     outcome: &mut Option<O>,
     certificate: &mut C,
+    notes: &mut Vec<String>,
     out: &mut W,
 ) -> Result<Status, Fault>
     // The text of the reply on what the readers delivered is written, or a front of it where the writer failed. The
     // reply is that of `violation_reply`, with what its status promises.
     ensures { WritesReply W.Sink (ReadsViolation (audit_readings E.Source election.old election.new O.Source outcome.old outcome.new C.Source certificate.old certificate.new)) result out.old out.new }
 {
-    run_audit(alloc, &ViolationAudit, election, outcome, certificate, out)
+    run_audit(
+        alloc,
+        &ViolationAudit,
+        election,
+        outcome,
+        certificate,
+        notes,
+        out,
+    )
 }
 
 /// The audit of a violation.
@@ -88,6 +100,18 @@ pub(crate) fn group_reply(
     ensures { IfOk result (λ reply. reply ≡ violation_reply election.now (outcome.now).marks ((violation.now).measure, (violation.now).group, (violation.now).demand)) }
 {
     let verdict = check_violation(election, outcome, violation, &violation.satisfaction());
+    group_verdict_reply(alloc, election, verdict)
+}
+
+/// The line of a verdict on a group and its demand.
+pub(crate) fn group_verdict_reply(
+    alloc: Global,
+    election: &Election,
+    verdict: ViolationVerdict,
+) -> Result<Reply, AllocError>
+    requires { ViolationNamesProject election.now verdict }
+    ensures { IfOk result (λ reply. reply ≡ spec.group_reply election.now verdict) }
+{
     let line = violation_line(alloc, election, verdict)?;
     one_line(alloc, line, violation_status(verdict))
 }

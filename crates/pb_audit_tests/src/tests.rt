@@ -2,6 +2,7 @@
 mod both;
 mod cuts;
 mod elections;
+mod ends;
 mod engines;
 mod explained;
 mod failing;

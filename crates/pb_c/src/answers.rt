@@ -8,13 +8,14 @@ ghost use Rattle.pb_reply.specs.Replies.{TellsReply};
 ghost use Rattle.pb_c.specs.Files.{given_file};
 
 use pb_audit::{
-    Answer, both_reply, explained_reply, margins_answer, prices_reply, read_reply, violation_reply,
+    Answer, Status, both_reply, explained_reply, margins_answer, prices_reply, read_reply,
+    violation_reply,
 };
 use pb_price::Mode;
 use std::alloc::{AllocError, Global};
 
 /// The answer on an election.
-pub(crate) fn read_answer(alloc: Global, election: &[u8]) -> Result<Answer, AllocError>
+pub(crate) fn read_answer(alloc: Global, election: &[u8]) -> Result<Answer<Status>, AllocError>
     ensures { IfOk result (TellsReply (AnswersElectionFile election.now)) }
 {
     read_reply(alloc, election)?.answer(alloc)
@@ -28,7 +29,7 @@ pub(crate) fn prices_answer(
     has_outcome: bool,
     certificate: &[u8],
     mode: Mode,
-) -> Result<Answer, AllocError>
+) -> Result<Answer<Status>, AllocError>
     ensures { IfOk result (TellsReply (AnswersPriceFiles mode election.now (given_file has_outcome outcome.now) certificate.now)) }
 {
     let outcome = optional_file(outcome, has_outcome);
@@ -42,7 +43,7 @@ pub(crate) fn violation_answer(
     outcome: &[u8],
     has_outcome: bool,
     certificate: &[u8],
-) -> Result<Answer, AllocError>
+) -> Result<Answer<Status>, AllocError>
     ensures { IfOk result (TellsReply (AnswersViolationFiles election.now (given_file has_outcome outcome.now) certificate.now)) }
 {
     let outcome = optional_file(outcome, has_outcome);
@@ -58,7 +59,7 @@ pub(crate) fn both_answer(
     prices: &[u8],
     violation: &[u8],
     mode: Mode,
-) -> Result<Answer, AllocError>
+) -> Result<Answer<Status>, AllocError>
     ensures { IfOk result (TellsReply (AnswersBothFiles mode election.now (given_file has_outcome outcome.now) prices.now violation.now)) }
 {
     let outcome = optional_file(outcome, has_outcome);
@@ -73,7 +74,7 @@ pub(crate) fn explained_answer(
     has_outcome: bool,
     certificate: &[u8],
     mode: Mode,
-) -> Result<Answer, AllocError>
+) -> Result<Answer<Status>, AllocError>
     ensures { IfOk result (TellsReply (AnswersExplainedFiles mode election.now (given_file has_outcome outcome.now) certificate.now)) }
 {
     let outcome = optional_file(outcome, has_outcome);
@@ -87,7 +88,7 @@ pub(crate) fn figures_answer(
     outcome: &[u8],
     has_outcome: bool,
     certificate: &[u8],
-) -> Result<Answer, AllocError>
+) -> Result<Answer<Status>, AllocError>
     ensures { IfOk result (AnswersMarginFiles election.now (given_file has_outcome outcome.now) certificate.now) }
 {
     let outcome = optional_file(outcome, has_outcome);
@@ -95,7 +96,7 @@ pub(crate) fn figures_answer(
 }
 
 /// The file, where it is given.
-fn optional_file(bytes: &[u8], is_given: bool) -> Option<&[u8]>
+pub(crate) fn optional_file(bytes: &[u8], is_given: bool) -> Option<&[u8]>
     ensures { option_copied result ≡ given_file is_given bytes.now }
 {
     if is_given { Some(bytes) } else { None }

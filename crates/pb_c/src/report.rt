@@ -9,7 +9,11 @@ use std::alloc::AllocError;
 const MEMORY_CODE: u8 = 4;
 
 /// Reports an answer, or that memory ran out.
-pub(crate) fn report(answer: &Result<Answer, AllocError>, out: &mut [u8], needed: &mut usize) -> u8
+pub(crate) fn report(
+    answer: &Result<Answer<Status>, AllocError>,
+    out: &mut [u8],
+    needed: &mut usize,
+) -> u8
     ensures reported { IfOk answer.now (λ own. IsReported (λ a. a ≡ own) result out.old out.new needed.new) }
     ensures memory_out { IfErr answer.now (λ _. IsOutOfMemory result out.old out.new needed.new) }
 {
@@ -32,6 +36,6 @@ fn status_code(status: Status) -> u8
     match status {
         Status::Yes => 0,
         Status::No => 1,
-        Status::Refused => 2,
+        Status::Refused(_) => 2,
     }
 }

@@ -13,7 +13,7 @@ use Rattle.clap.specs.Faults.{check_fault, defaults_fault, entered_fault, fault_
 use Rattle.clap.specs.Walk.{Held, Names, Outcome, Row, Rule, Step, Text, Waiting, Walk, after_flag, after_step, answers_to, arg_by_index, arg_by_long, bundle, done, first_of, long_met, long_or_other, next, nothing_held, option, plain_word, rows_after, settled, short_or_plain, subcommand, subcommand_met, subcommand_or_other, to_positional, trailing, value, waits, walk, walk_from, walked, walked_from, word_met}
 use Rattle.pb_command.specs.Commands.{pbaudit}
 use Rattle.pb_command.proofs.Written.{commands_written}
-use Rattle.pb_command.specs.Tasks.{Asked, TaskOf, asked_by, asked_in, from_both, from_three}
+use Rattle.pb_command.specs.Tasks.{Asked, Paths, TaskOf, asked_by, asked_in, from_both, paths_in}
 use Rattle.pb_command.proofs.Places.{IsFull, IsPlaced, found_row_full, level_full}
 
 or_else_none : (a b : Kinds) → or_else a b ≡ [] → (a ≡ []) × (b ≡ [])
@@ -170,16 +170,11 @@ map_some : {X Y : Type 0} (f : X → Y) (o : Option X) → is_some o ≡ true �
 map_some f None e = cc
 map_some f (Some x) e = refl
 
-both_some : (f : Text → Text → Asked) (a b : Option Text) → is_some a ≡ true → is_some b ≡ true
+both_some : {A B C : Type 0} (f : A → B → C) (a : Option A) (b : Option B) → is_some a ≡ true → is_some b ≡ true
     → is_some (from_both f a b) ≡ true
 both_some f None b ea eb = cc
 both_some f (Some x) None ea eb = cc
 both_some f (Some x) (Some y) ea eb = refl
-
-three_some : (f : Text → Text → Text → Asked) (a b d : Option Text) → is_some a ≡ true → is_some b ≡ true
-    → is_some d ≡ true → is_some (from_three f a b d) ≡ true
-three_some f None b d ea eb ed = cc
-three_some f (Some x) b d ea eb ed = both_some (f x) b d eb ed
 
 one_given : (a : Bool) → (not a || false) ≡ false → a ≡ true
 one_given true e = refl
@@ -205,18 +200,28 @@ read_asks n met other rest e =
     let given = one_given (is_given (codes "election") rows) (last_passes false false _ (level_check s [] rest e)) in
     map_some _ (first_of (codes "election") rows) (given_first (codes "election") s rest refl given)
 
--- a command of two paths
-pair_asks : (make : Text → Text → Asked) (s : Shape) (rest : List Text) → IsPlaced (codes "election") s.rules
+-- the shared paths, where the election and the certificate are given
+paths_some : (certificate : Text) (s : Shape) (rest : List Text) → IsPlaced (codes "election") s.rules
+    → IsPlaced certificate s.rules
+    → is_given (codes "election") (rows_after s.rules [] rest) ≡ true
+    → is_given certificate (rows_after s.rules [] rest) ≡ true
+    → is_some (paths_in certificate (rows_after s.rules [] rest)) ≡ true
+paths_some certificate s rest election placed election_given given =
+    let rows = rows_after s.rules [] rest in
+    both_some _ (first_of (codes "election") rows) (first_of certificate rows)
+    (given_first (codes "election") s rest election election_given) (given_first certificate s rest placed given)
+
+-- a command of the shared paths
+pair_asks : (make : Paths → Asked) (s : Shape) (rest : List Text) → IsPlaced (codes "election") s.rules
     → IsPlaced (codes "certificate") s.rules
     → let rows = rows_after s.rules [] rest in
     (not (is_given (codes "election") rows) || (not (is_given (codes "certificate") rows) || false)) ≡ false
-    → is_some (from_both make (first_of (codes "election") rows) (first_of (codes "certificate") rows)) ≡ true
+    → is_some (option_map make (paths_in (codes "certificate") rows)) ≡ true
 pair_asks make s rest election certificate e =
     let rows = rows_after s.rules [] rest in
     let given = two_given (is_given (codes "election") rows) (is_given (codes "certificate") rows) e in
-    both_some make (first_of (codes "election") rows) (first_of (codes "certificate") rows)
-    (given_first (codes "election") s rest election given.0)
-    (given_first (codes "certificate") s rest certificate given.1)
+    map_some make (paths_in (codes "certificate") rows)
+    (paths_some (codes "certificate") s rest election certificate given.0 given.1)
 
 prices_asks : AsksByName (sub_of (codes "prices"))
 unfolding sub_of commands_written
@@ -238,14 +243,20 @@ both_asks n met other rest e =
     let given = three_given (is_given (codes "election") rows) (is_given (codes "prices") rows)
     (is_given (codes "violation") rows)
     (last_passes false false _ (level_check s [] rest e)) in
-    three_some _ (first_of (codes "election") rows) (first_of (codes "prices") rows) (first_of (codes "violation") rows)
-    (given_first (codes "election") s rest refl given.0) (given_first (codes "prices") s rest refl given.1.0)
+    both_some _ (paths_in (codes "prices") rows) (first_of (codes "violation") rows)
+    (paths_some (codes "prices") s rest refl refl given.0 given.1.0)
     (given_first (codes "violation") s rest refl given.1.1)
 
 explain_asks : AsksByName (sub_of (codes "explain"))
 unfolding sub_of commands_written
 explain_asks n met other rest e =
     let s = sub_of (codes "explain") in
+    pair_asks _ s rest refl refl (last_passes false false _ (level_check s [] rest e))
+
+page_asks : AsksByName (sub_of (codes "page"))
+unfolding sub_of commands_written
+page_asks n met other rest e =
+    let s = sub_of (codes "page") in
     pair_asks _ s rest refl refl (last_passes false false _ (level_check s [] rest e))
 
 margins_asks : AsksByName (sub_of (codes "margins"))
@@ -285,7 +296,7 @@ all_ask = (
   read_asks,
   (
     prices_asks,
-    (violation_asks, (both_asks, (explain_asks, (margins_asks, (tidy_asks, (folder_asks, (help_asks, tt))))))),
+    (violation_asks, (both_asks, (explain_asks, (page_asks, (margins_asks, (tidy_asks, (folder_asks, (help_asks, tt)))))))),
   ),
 )
 

@@ -30,7 +30,9 @@ abbrev stable_words : List Text
 stable_words = codes "pbaudit" ∷ codes "prices" ∷ codes "e.pb" ∷ codes "c.csv" ∷ codes "--stable" ∷ []
 
 stable_task : TaskOf stable_words
-    ≡ Some (prices (codes "e.pb") (codes "c.csv") None (record { stable = true; exhaustive = true; cover = false }))
+    ≡ Some
+    (prices (record { election = codes "e.pb"; certificate = codes "c.csv"; outcome = None })
+    (record { stable = true; exhaustive = true; cover = false }))
 unfolding clap_on_literals commands_written asked_in
 stable_task = refl
 
@@ -44,7 +46,7 @@ outcome_words = codes "pbaudit" ∷ codes "prices" ∷ codes "e.pb" ∷ codes "c
 
 outcome_task : TaskOf outcome_words
     ≡ Some
-    (prices (codes "e.pb") (codes "c.csv") (Some (codes "o.csv"))
+    (prices (record { election = codes "e.pb"; certificate = codes "c.csv"; outcome = Some (codes "o.csv") })
     (record { stable = false; exhaustive = false; cover = false }))
 unfolding clap_on_literals commands_written asked_in
 outcome_task = refl
@@ -57,7 +59,9 @@ abbrev violation_words : List Text
 violation_words = codes "pbaudit" ∷ codes "violation" ∷ codes "e.pb" ∷ codes "v.csv" ∷ codes "--outcome" ∷ codes "o.csv"
     ∷ []
 
-violation_task : TaskOf violation_words ≡ Some (violation (codes "e.pb") (codes "v.csv") (Some (codes "o.csv")))
+violation_task : TaskOf violation_words
+    ≡ Some
+    (violation (record { election = codes "e.pb"; certificate = codes "v.csv"; outcome = Some (codes "o.csv") }))
 unfolding clap_on_literals commands_written asked_in
 violation_task = refl
 
@@ -68,7 +72,8 @@ violation_taken = refl
 abbrev tidy_words : List Text
 tidy_words = codes "pbaudit" ∷ codes "tidy" ∷ codes "e.pb" ∷ codes "c.csv" ∷ []
 
-tidy_task : TaskOf tidy_words ≡ Some (tidy (codes "e.pb") (codes "c.csv"))
+tidy_task : TaskOf tidy_words
+    ≡ Some (tidy (record { election = codes "e.pb"; certificate = codes "c.csv"; outcome = None }))
 unfolding clap_on_literals commands_written asked_in
 tidy_task = refl
 

@@ -22,6 +22,10 @@ switch_rule name = record (new_rule name) { long = Some name; action = Some SetT
 abbrev pub outcome_rule : Rule
 outcome_rule = record (new_rule (codes "outcome")) { long = Some (codes "outcome"); value_names = 1 }
 
+-- `--language CODE`
+abbrev pub language_rule : Rule
+language_rule = record (new_rule (codes "language")) { long = Some (codes "language"); value_names = 1 }
+
 abbrev pub command_of : Text → List Rule → App
 command_of name rules = fold with_rule (new_app name) rules
 
@@ -57,6 +61,12 @@ explain_app = command_of (codes "explain") (path_rule (codes "election") ∷ pat
     ∷ switch_rule (codes "stable") ∷ switch_rule (codes "no-exhaustive") ∷ switch_rule (codes "cover") ∷ outcome_rule
     ∷ [])
 
+-- `page ELECTION CERTIFICATE [--stable] [--no-exhaustive] [--cover] [--outcome FILE] [--language CODE]`
+unfoldable pub page_app : App
+page_app = command_of (codes "page") (path_rule (codes "election") ∷ path_rule (codes "certificate")
+    ∷ switch_rule (codes "stable") ∷ switch_rule (codes "no-exhaustive") ∷ switch_rule (codes "cover") ∷ outcome_rule
+    ∷ language_rule ∷ [])
+
 -- `margins ELECTION CERTIFICATE [--outcome FILE]`
 unfoldable pub margins_app : App
 margins_app = command_of (codes "margins")
@@ -75,4 +85,4 @@ folder_app = command_of (codes "folder")
 -- `pbaudit`, with its commands
 unfoldable pub pbaudit : App
 pbaudit = fold (λ a (s : App). with_subcommand a s.top) (with_version (new_app (codes "pbaudit")))
-    (read_app ∷ prices_app ∷ violation_app ∷ both_app ∷ explain_app ∷ margins_app ∷ tidy_app ∷ folder_app ∷ [])
+    (read_app ∷ prices_app ∷ violation_app ∷ both_app ∷ explain_app ∷ page_app ∷ margins_app ∷ tidy_app ∷ folder_app ∷ [])

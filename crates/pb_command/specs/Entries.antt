@@ -1,7 +1,7 @@
 -- What an entry of the program's own table of commands stands for.
-use Rattle.std.specs.Prelude.{List, codes, fold}
+use Rattle.std.specs.Prelude.{fold}
 use Rattle.clap.specs.Words.{App, Rule, new_app, with_rule, with_subcommand}
-use Rattle.pb_command.specs.Commands.{outcome_rule, path_rule, switch_rule, with_version}
+use Rattle.pb_command.specs.Commands.{language_rule, outcome_rule, path_rule, switch_rule}
 use Rattle.pb_command.specs.declared.command.Entry.{Entry}
 use Rattle.pb_command.specs.declared.command.Parameter.{Parameter}
 use Rattle.pb_command.specs.declared.command.Parameter.TheVariants as parameter
@@ -10,6 +10,7 @@ abbrev pub rule_of_parameter : Parameter → Rule
 rule_of_parameter (parameter.Path id name help) = path_rule id.now
 rule_of_parameter (parameter.Switch name help) = switch_rule name.now
 rule_of_parameter parameter.Outcome = outcome_rule
+rule_of_parameter parameter.Language = language_rule
 
 abbrev pub with_parameter : App → Parameter → App
 with_parameter a p = with_rule a (rule_of_parameter p)
@@ -18,9 +19,6 @@ with_parameter a p = with_rule a (rule_of_parameter p)
 abbrev pub app_of_entry : Entry → App
 app_of_entry e = fold with_parameter (new_app e.name.now) e.parameters.now
 
+-- a program with one more command
 abbrev pub with_entry : App → Entry → App
 with_entry a e = with_subcommand a (app_of_entry e).top
-
--- `pbaudit`, with the commands of these entries in turn
-abbrev pub app_of_entries : List Entry → App
-app_of_entries entries = fold with_entry (with_version (new_app (codes "pbaudit"))) entries

@@ -8,30 +8,48 @@ use Rattle.clap.specs.declared.error.kind.ErrorKind.{ErrorKind}
 use Rattle.clap.specs.declared.error.kind.ErrorKind.TheVariants as kind
 use Rattle.pb_command.specs.Commands.{pbaudit}
 use Rattle.pb_price.specs.declared.Mode.{Mode}
+use Rattle.pb_command.specs.declared.task.Inputs.{Inputs}
 use Rattle.pb_command.specs.declared.task.Task.{Task}
 use Rattle.pb_command.specs.declared.task.Task.TheVariants as task
 use Rattle.pb_command.specs.declared.task.UsageFault.{UsageFault}
 use Rattle.pb_command.specs.declared.task.UsageFault.TheVariants as fault
 
--- a task, with its paths as text
+-- the paths that commands on a certificate share: of the election, of the certificate, and of an outcome file, where one
+-- is named
+pub record Paths : Type 0 where
+  pub election : Text
+  pub certificate : Text
+  pub outcome : Option Text
+
+-- a task, with its paths as text; `both` has the price certificate among the shared paths, and then the violation
+-- certificate
 pub data Asked : Type 0 where
   read : Option Text → Asked
-  prices : Text → Text → Option Text → Mode → Asked
-  violation : Text → Text → Option Text → Asked
-  both : Text → Text → Text → Option Text → Mode → Asked
-  explain : Text → Text → Option Text → Mode → Asked
-  margins : Text → Text → Option Text → Asked
-  tidy : Text → Text → Asked
+  prices : Paths → Mode → Asked
+  violation : Paths → Asked
+  both : Paths → Text → Mode → Asked
+  explain : Paths → Mode → Asked
+  page : Paths → Mode → Option Text → Asked
+  margins : Paths → Asked
+  tidy : Paths → Asked
   folder : Text → Mode → Asked
+
+abbrev pub paths : Inputs → Paths
+paths i = record {
+  election = string_bytes i.election;
+  certificate = string_bytes i.certificate;
+  outcome = option_map string_bytes i.outcome;
+}
 
 abbrev pub asked : Task → Asked
 asked (task.Read e) = read (option_map string_bytes e)
-asked (task.Prices e c o m) = prices (string_bytes e) (string_bytes c) (option_map string_bytes o) m
-asked (task.Violation e c o) = violation (string_bytes e) (string_bytes c) (option_map string_bytes o)
-asked (task.Both e p v o m) = both (string_bytes e) (string_bytes p) (string_bytes v) (option_map string_bytes o) m
-asked (task.Explain e c o m) = explain (string_bytes e) (string_bytes c) (option_map string_bytes o) m
-asked (task.Margins e c o) = margins (string_bytes e) (string_bytes c) (option_map string_bytes o)
-asked (task.Tidy e c) = tidy (string_bytes e) (string_bytes c)
+asked (task.Prices i m) = prices (paths i) m
+asked (task.Violation i) = violation (paths i)
+asked (task.Both i v m) = both (paths i) (string_bytes v) m
+asked (task.Explain i m) = explain (paths i) m
+asked (task.Page i m l) = page (paths i) m (option_map string_bytes l)
+asked (task.Margins i) = margins (paths i)
+asked (task.Tidy i) = tidy (paths i)
 asked (task.Folder f m) = folder (string_bytes f) m
 
 -- the switch is among the words
@@ -46,36 +64,35 @@ mode_in rows = record {
   cover = is_on rows (codes "cover");
 }
 
--- a task of two paths, where both are there
-abbrev pub from_both : (Text → Text → Asked) → Option Text → Option Text → Option Asked
+-- what is made of two things, where both are there
+abbrev pub from_both : {A B C : Type 0} → (A → B → C) → Option A → Option B → Option C
 from_both make (Some a) (Some b) = Some (make a b)
 from_both make _ _ = None
 
--- a task of three paths, where all are there
-abbrev pub from_three : (Text → Text → Text → Asked) → Option Text → Option Text → Option Text → Option Asked
-from_three make (Some a) b c = from_both (make a) b c
-from_three make None b c = None
+-- the shared paths, with that of the certificate by the name of this argument
+abbrev pub paths_in : Text → List Row → Option Paths
+paths_in certificate rows =
+    from_both (λ e c. record { election = e; certificate = c; outcome = first_of (codes "outcome") rows })
+    (first_of (codes "election") rows) (first_of certificate rows)
 
 -- the table of commands: what each asks for by its matches
 abbrev pub asked_by : Text → List Row → Option Asked
 asked_by name rows =
-    let election = first_of (codes "election") rows in
-    let certificate = first_of (codes "certificate") rows in
-    let outcome = first_of (codes "outcome") rows in
-    if bytes_eq name (codes "read") then option_map (λ e. read (Some e)) election
-    else (if bytes_eq name (codes "prices")
-    then from_both (λ e c. prices e c outcome (mode_in rows)) election certificate
-    else (if bytes_eq name (codes "violation") then from_both (λ e c. violation e c outcome) election certificate
+    let shared = paths_in (codes "certificate") rows in
+    if bytes_eq name (codes "read") then option_map (λ e. read (Some e)) (first_of (codes "election") rows)
+    else (if bytes_eq name (codes "prices") then option_map (λ p. prices p (mode_in rows)) shared
+    else (if bytes_eq name (codes "violation") then option_map violation shared
     else (if bytes_eq name (codes "both")
-    then from_three (λ e p v. both e p v outcome (mode_in rows)) election (first_of (codes "prices") rows)
+    then from_both (λ p v. both p v (mode_in rows)) (paths_in (codes "prices") rows)
     (first_of (codes "violation") rows)
-    else (if bytes_eq name (codes "explain")
-    then from_both (λ e c. explain e c outcome (mode_in rows)) election certificate
-    else (if bytes_eq name (codes "margins") then from_both (λ e c. margins e c outcome) election certificate
-    else (if bytes_eq name (codes "tidy") then from_both tidy election certificate
+    else (if bytes_eq name (codes "explain") then option_map (λ p. explain p (mode_in rows)) shared
+    else (if bytes_eq name (codes "page")
+    then option_map (λ p. page p (mode_in rows) (first_of (codes "language") rows)) shared
+    else (if bytes_eq name (codes "margins") then option_map margins shared
+    else (if bytes_eq name (codes "tidy") then option_map tidy shared
     else (if bytes_eq name (codes "folder")
     then option_map (λ f. folder f (mode_in rows)) (first_of (codes "folder") rows)
-    else None)))))))
+    else None))))))))
 
 -- without a command, standard input is read
 unfoldable pub asked_in : Option (Text × List Row) → Option Asked

@@ -1,12 +1,12 @@
 //! The commands of `pbaudit`, as clap reads them.
-ghost use Rattle.std.specs.Prelude.{◌≡◌, IfOk, false};
-ghost use Rattle.clap.specs.Words.{rule_of};
-ghost use Rattle.pb_command.specs.Commands.{IsCommand, pbaudit};
-ghost use Rattle.pb_command.specs.Entries.{app_of_entries, app_of_entry, rule_of_parameter};
+ghost use Rattle.std.specs.Prelude.{◌≡◌, IfOk, codes, false, fold};
+ghost use Rattle.clap.specs.Words.{App, new_app, rule_of};
+ghost use Rattle.pb_command.specs.Commands.{IsCommand, pbaudit, with_version};
+ghost use Rattle.pb_command.specs.Entries.{app_of_entry, rule_of_parameter, with_entry};
 
 use crate::help::{
-    BOTH_NOTES, EXPLAIN_NOTES, FOLDER_NOTES, MARGINS_NOTES, PRICES_NOTES, PROGRAM_NOTES,
-    READ_NOTES, TIDY_NOTES, VIOLATION_NOTES,
+    BOTH_NOTES, EXPLAIN_NOTES, FOLDER_NOTES, MARGINS_NOTES, PAGE_NOTES, PRICES_NOTES,
+    PROGRAM_NOTES, READ_NOTES, TIDY_NOTES, VIOLATION_NOTES,
 };
 use clap::{Arg, ArgAction, Command};
 use std::alloc::{AllocError, Global};
@@ -37,6 +37,8 @@ enum Parameter {
     },
     /// The path of an outcome file, where the column `selected` is not the outcome.
     Outcome,
+    /// The code of the language of a page.
+    Language,
 }
 
 const ELECTION: Parameter = Parameter::Path {
@@ -49,6 +51,12 @@ const PRICE_CERTIFICATE: Parameter = Parameter::Path {
     id: "certificate",
     name: "CERTIFICATE",
     help: "The price certificate, a CSV file",
+};
+
+const ANY_CERTIFICATE: Parameter = Parameter::Path {
+    id: "certificate",
+    name: "CERTIFICATE",
+    help: "The price certificate or the violation certificate, a CSV file",
 };
 
 const STABLE: Parameter = Parameter::Switch {
@@ -66,8 +74,8 @@ const COVER: Parameter = Parameter::Switch {
     help: "Add the condition Cover",
 };
 
-/// The commands, in the order of help.
-const COMMANDS: [Entry; 8] = [
+/// The commands that audit one outcome, in the order of help.
+const AUDITS: [Entry; 6] = [
     Entry {
         name: "read",
         about: "Read an election and print how many voters and projects it has",
@@ -128,11 +136,7 @@ const COMMANDS: [Entry; 8] = [
         about: "Check a certificate and print what each condition or test comes to",
         parameters: &[
             ELECTION,
-            Parameter::Path {
-                id: "certificate",
-                name: "CERTIFICATE",
-                help: "The price certificate or the violation certificate, a CSV file",
-            },
+            ANY_CERTIFICATE,
             STABLE,
             NO_EXHAUSTIVE,
             COVER,
@@ -140,6 +144,24 @@ const COMMANDS: [Entry; 8] = [
         ],
         notes: EXPLAIN_NOTES,
     },
+    Entry {
+        name: "page",
+        about: "Check a certificate and print a page for people, as HTML",
+        parameters: &[
+            ELECTION,
+            ANY_CERTIFICATE,
+            STABLE,
+            NO_EXHAUSTIVE,
+            COVER,
+            Parameter::Outcome,
+            Parameter::Language,
+        ],
+        notes: PAGE_NOTES,
+    },
+];
+
+/// The commands behind those, in the order of help.
+const OTHERS: [Entry; 3] = [
     Entry {
         name: "margins",
         about: "Print what each project costs, is paid and could be offered, as a CSV file",
@@ -173,20 +195,33 @@ const COMMANDS: [Entry; 8] = [
 pub(crate) fn pbaudit_command<'a>(alloc: Global) -> Result<Command<'a>, AllocError>
     ensures { IfOk result (IsCommand pbaudit) }
 {
-    program_of(alloc, &COMMANDS)
+    let audits = with_entries(alloc, bare_program(alloc), &AUDITS)?;
+    let all = with_entries(alloc, audits, &OTHERS)?;
+    Ok(all.after_help(PROGRAM_NOTES))
 }
 
-/// The program, with the commands of these entries.
-fn program_of<'a>(alloc: Global, entries: &[Entry]) -> Result<Command<'a>, AllocError>
-    ensures { IfOk result (IsCommand (app_of_entries entries.now)) }
+/// The program, without commands.
+fn bare_program<'a>(alloc: Global) -> Command<'a>
+    ensures { IsCommand (with_version (new_app (codes "pbaudit"))) result }
 {
-    let mut command = Command::new(alloc, "pbaudit").version(VERSION).about(
+    Command::new(alloc, "pbaudit").version(VERSION).about(
         "Audit the outcomes of participatory budgeting elections by exact arithmetic",
-    );
+    )
+}
+
+/// A command, with those of these entries beside its own.
+fn with_entries<'a>(
+    alloc: Global,
+    program: Command<'a>,
+    entries: &[Entry],
+) -> Result<Command<'a>, AllocError>
+    ensures { (app : App) → IsCommand app program.entry → IfOk result (IsCommand (fold with_entry app entries.now)) }
+{
+    let mut command = program;
     for entry in entries {
         command = command.subcommand(command_of(alloc, entry)?)?;
     }
-    Ok(command.after_help(PROGRAM_NOTES))
+    Ok(command)
 }
 
 /// The command of this entry.
@@ -218,5 +253,9 @@ fn arg_of<'a>(alloc: Global, parameter: &Parameter) -> Arg<'a>
             .long("outcome")
             .value_name("FILE")
             .help("Take the funded projects from this file, not from the column 'selected'"),
+        Parameter::Language => Arg::new(alloc, "language")
+            .long("language")
+            .value_name("CODE")
+            .help("Write the page in this language: en, pl, de or fr"),
     }
 }

@@ -21,6 +21,7 @@ Examples:
   pbaudit violation town.pb violation.csv
   pbaudit both town.pb prices.csv violation.csv --stable --cover
   pbaudit explain town.pb prices.csv --stable
+  pbaudit page town.pb prices.csv --stable > page.html
   pbaudit margins town.pb prices.csv > margins.csv
   pbaudit tidy town.pb prices.csv > canonical.csv
   pbaudit folder elections";
@@ -175,6 +176,25 @@ Examples:
   pbaudit explain town.pb prices.csv
   pbaudit explain town.pb prices.csv --stable --cover
   pbaudit explain town.pb violation.csv --outcome outcome.csv";
+
+/// What `page` prints.
+pub(crate) const PAGE_NOTES: &str = "\
+Prints one HTML file that tells people what 'explain' finds: the answer in a
+sentence, the projects with their figures, each condition or test, and the files
+with their SHA-256 sums. It has no script and loads nothing, so it can be opened
+in any browser, sent, or printed.
+
+The language is English unless another is named: en, pl, de or fr.
+
+The switches count for prices alone. The outcome is as for 'prices'. Where a
+file is refused, the line of 'prices' is printed, and no page.
+
+Exit statuses: 0 supported or a violation, 1 a condition or a test failed,
+2 refused, 3 usage, 4 fault.
+
+Examples:
+  pbaudit page town.pb prices.csv > page.html
+  pbaudit page town.pb violation.csv --language pl > page.html";
 
 /// What `margins` prints.
 pub(crate) const MARGINS_NOTES: &str = "\

@@ -12,7 +12,7 @@ ghost use Rattle.clap.specs.Words.{
 ghost use Rattle.clap.specs.declared.error.kind.ErrorKind.TheVariants.{OutOfMemory};
 ghost use Rattle.pb_command.specs.Commands.{pbaudit};
 ghost use Rattle.pb_command.specs.declared.task.UsageFault.TheVariants.{Memory};
-ghost use Rattle.pb_command.specs.Tasks.{FitsKind, IsFaultOf, TaskOf, asked, asked_by, asked_in, is_on, mode_in};
+ghost use Rattle.pb_command.specs.Tasks.{FitsKind, IsFaultOf, TaskOf, asked, asked_by, asked_in, is_on, mode_in, paths, paths_in};
 
 use crate::command::pbaudit_command;
 use clap::error::ErrorKind;
@@ -20,76 +20,63 @@ use clap::{ArgMatches, Error};
 use pb_price::Mode;
 use std::alloc::{AllocError, Global};
 
-/// What a line of words asks for. Each text is a path, as it stands among the words.
+/// The files that commands on a certificate share. Each text is a path, as it stands among the words.
+#[derive(Debug, Drop)]
+pub struct Inputs {
+    /// The election.
+    pub election: String,
+    /// The certificate.
+    pub certificate: String,
+    /// The outcome file. Where none is named, the outcome is the election's own.
+    pub outcome: Option<String>,
+}
+
+/// What a line of words asks for.
 #[derive(Debug, Drop)]
 pub enum Task {
-    /// Read this election, or the one on standard input.
+    /// Read the election at this path, or the one on standard input.
     Read(Option<String>),
-    /// Check a price certificate for the outcome of an outcome file, or for the election's own
-    /// outcome where none is named.
+    /// Check a price certificate.
     Prices {
-        /// The election.
-        election: String,
-        /// The price certificate.
-        certificate: String,
-        /// The outcome file.
-        outcome: Option<String>,
+        /// The files.
+        inputs: Inputs,
         /// Which conditions are asked for.
         mode: Mode,
     },
-    /// Check a violation certificate, with the outcome as for prices.
-    Violation {
-        /// The election.
-        election: String,
-        /// The violation certificate.
-        certificate: String,
-        /// The outcome file.
-        outcome: Option<String>,
-    },
-    /// Check a price certificate and a violation certificate, with the outcome as for prices.
+    /// Check a violation certificate.
+    Violation(Inputs),
+    /// Check a price certificate and a violation certificate.
     Both {
-        /// The election.
-        election: String,
-        /// The price certificate.
-        prices: String,
-        /// The violation certificate.
+        /// The files, with the price certificate.
+        inputs: Inputs,
+        /// The path of the violation certificate.
         violation: String,
-        /// The outcome file.
-        outcome: Option<String>,
         /// Which conditions are asked for.
         mode: Mode,
     },
-    /// Check a certificate of either kind and write what each condition or test comes to, with the outcome as for
-    /// prices.
+    /// Check a certificate of either kind and write what each condition or test comes to.
     Explain {
-        /// The election.
-        election: String,
-        /// The price certificate or the violation certificate.
-        certificate: String,
-        /// The outcome file.
-        outcome: Option<String>,
+        /// The files.
+        inputs: Inputs,
         /// Which conditions on prices are asked for.
         mode: Mode,
     },
-    /// Write the figures of each project by a price certificate, with the outcome as for prices.
-    Margins {
-        /// The election.
-        election: String,
-        /// The price certificate.
-        certificate: String,
-        /// The outcome file.
-        outcome: Option<String>,
+    /// Check a certificate of either kind and write a page for people.
+    Page {
+        /// The files.
+        inputs: Inputs,
+        /// Which conditions on prices are asked for.
+        mode: Mode,
+        /// The code of the language, where one is named.
+        language: Option<String>,
     },
-    /// Write a price certificate in its canonical form.
-    Tidy {
-        /// The election.
-        election: String,
-        /// The price certificate.
-        certificate: String,
-    },
+    /// Write the figures of each project by a price certificate.
+    Margins(Inputs),
+    /// Write a price certificate in its canonical form. No outcome file is named.
+    Tidy(Inputs),
     /// Audit the elections of a folder with their certificates.
     Folder {
-        /// The folder.
+        /// The path of the folder.
         folder: String,
         /// Which conditions are asked for.
         mode: Mode,
@@ -178,6 +165,7 @@ fn command_task(
         "violation" => violation_task(alloc, matches),
         "both" => both_task(alloc, matches),
         "explain" => explain_task(alloc, matches),
+        "page" => page_task(alloc, matches),
         "margins" => margins_task(alloc, matches),
         "tidy" => tidy_task(alloc, matches),
         "folder" => folder_task(alloc, matches),
@@ -197,49 +185,31 @@ fn read_task(alloc: Global, matches: &ArgMatches<'_>) -> Result<Option<Task>, Al
 fn prices_task(alloc: Global, matches: &ArgMatches<'_>) -> Result<Option<Task>, AllocError>
     ensures { IfOk result (λ t. option_map asked t ≡ asked_by (codes "prices") (rows_of (found_of matches.now))) }
 {
-    let election = path_of(alloc, matches, "election")?;
-    let certificate = path_of(alloc, matches, "certificate")?;
-    let outcome = path_of(alloc, matches, "outcome")?;
-    match (election, certificate) {
-        (Some(election), Some(certificate)) => Ok(Some(Task::Prices {
-            election,
-            certificate,
-            outcome,
-            mode: mode_of(matches),
-        })),
-        _ => Ok(None),
+    let mode = mode_of(matches);
+    match inputs_of(alloc, matches, "certificate")? {
+        Some(inputs) => Ok(Some(Task::Prices { inputs, mode })),
+        None => Ok(None),
     }
 }
 
 fn violation_task(alloc: Global, matches: &ArgMatches<'_>) -> Result<Option<Task>, AllocError>
     ensures { IfOk result (λ t. option_map asked t ≡ asked_by (codes "violation") (rows_of (found_of matches.now))) }
 {
-    let election = path_of(alloc, matches, "election")?;
-    let certificate = path_of(alloc, matches, "certificate")?;
-    let outcome = path_of(alloc, matches, "outcome")?;
-    match (election, certificate) {
-        (Some(election), Some(certificate)) => Ok(Some(Task::Violation {
-            election,
-            certificate,
-            outcome,
-        })),
-        _ => Ok(None),
+    match inputs_of(alloc, matches, "certificate")? {
+        Some(inputs) => Ok(Some(Task::Violation(inputs))),
+        None => Ok(None),
     }
 }
 
 fn both_task(alloc: Global, matches: &ArgMatches<'_>) -> Result<Option<Task>, AllocError>
     ensures { IfOk result (λ t. option_map asked t ≡ asked_by (codes "both") (rows_of (found_of matches.now))) }
 {
-    let election = path_of(alloc, matches, "election")?;
-    let prices = path_of(alloc, matches, "prices")?;
+    let inputs = inputs_of(alloc, matches, "prices")?;
     let violation = path_of(alloc, matches, "violation")?;
-    let outcome = path_of(alloc, matches, "outcome")?;
-    match (election, prices, violation) {
-        (Some(election), Some(prices), Some(violation)) => Ok(Some(Task::Both {
-            election,
-            prices,
+    match (inputs, violation) {
+        (Some(inputs), Some(violation)) => Ok(Some(Task::Both {
+            inputs,
             violation,
-            outcome,
             mode: mode_of(matches),
         })),
         _ => Ok(None),
@@ -249,47 +219,43 @@ fn both_task(alloc: Global, matches: &ArgMatches<'_>) -> Result<Option<Task>, Al
 fn explain_task(alloc: Global, matches: &ArgMatches<'_>) -> Result<Option<Task>, AllocError>
     ensures { IfOk result (λ t. option_map asked t ≡ asked_by (codes "explain") (rows_of (found_of matches.now))) }
 {
-    let election = path_of(alloc, matches, "election")?;
-    let certificate = path_of(alloc, matches, "certificate")?;
-    let outcome = path_of(alloc, matches, "outcome")?;
-    match (election, certificate) {
-        (Some(election), Some(certificate)) => Ok(Some(Task::Explain {
-            election,
-            certificate,
-            outcome,
-            mode: mode_of(matches),
+    let mode = mode_of(matches);
+    match inputs_of(alloc, matches, "certificate")? {
+        Some(inputs) => Ok(Some(Task::Explain { inputs, mode })),
+        None => Ok(None),
+    }
+}
+
+fn page_task(alloc: Global, matches: &ArgMatches<'_>) -> Result<Option<Task>, AllocError>
+    ensures { IfOk result (λ t. option_map asked t ≡ asked_by (codes "page") (rows_of (found_of matches.now))) }
+{
+    let mode = mode_of(matches);
+    let language = path_of(alloc, matches, "language")?;
+    match inputs_of(alloc, matches, "certificate")? {
+        Some(inputs) => Ok(Some(Task::Page {
+            inputs,
+            mode,
+            language,
         })),
-        _ => Ok(None),
+        None => Ok(None),
     }
 }
 
 fn margins_task(alloc: Global, matches: &ArgMatches<'_>) -> Result<Option<Task>, AllocError>
     ensures { IfOk result (λ t. option_map asked t ≡ asked_by (codes "margins") (rows_of (found_of matches.now))) }
 {
-    let election = path_of(alloc, matches, "election")?;
-    let certificate = path_of(alloc, matches, "certificate")?;
-    let outcome = path_of(alloc, matches, "outcome")?;
-    match (election, certificate) {
-        (Some(election), Some(certificate)) => Ok(Some(Task::Margins {
-            election,
-            certificate,
-            outcome,
-        })),
-        _ => Ok(None),
+    match inputs_of(alloc, matches, "certificate")? {
+        Some(inputs) => Ok(Some(Task::Margins(inputs))),
+        None => Ok(None),
     }
 }
 
 fn tidy_task(alloc: Global, matches: &ArgMatches<'_>) -> Result<Option<Task>, AllocError>
     ensures { IfOk result (λ t. option_map asked t ≡ asked_by (codes "tidy") (rows_of (found_of matches.now))) }
 {
-    let election = path_of(alloc, matches, "election")?;
-    let certificate = path_of(alloc, matches, "certificate")?;
-    match (election, certificate) {
-        (Some(election), Some(certificate)) => Ok(Some(Task::Tidy {
-            election,
-            certificate,
-        })),
-        _ => Ok(None),
+    match inputs_of(alloc, matches, "certificate")? {
+        Some(inputs) => Ok(Some(Task::Tidy(inputs))),
+        None => Ok(None),
     }
 }
 
@@ -305,7 +271,28 @@ fn folder_task(alloc: Global, matches: &ArgMatches<'_>) -> Result<Option<Task>, 
     }
 }
 
-/// The path that the words give for the argument.
+/// The files that the words name, with the path that they give for this argument as that of the certificate.
+fn inputs_of(
+    alloc: Global,
+    matches: &ArgMatches<'_>,
+    certificate: &str,
+) -> Result<Option<Inputs>, AllocError>
+    ensures { IfOk result (λ inputs. option_map paths inputs ≡ paths_in certificate.now (rows_of (found_of matches.now))) }
+{
+    let election = path_of(alloc, matches, "election")?;
+    let certificate = path_of(alloc, matches, certificate)?;
+    let outcome = path_of(alloc, matches, "outcome")?;
+    match (election, certificate) {
+        (Some(election), Some(certificate)) => Ok(Some(Inputs {
+            election,
+            certificate,
+            outcome,
+        })),
+        _ => Ok(None),
+    }
+}
+
+/// The text that the words give for the argument, such as a path.
 fn path_of(alloc: Global, matches: &ArgMatches<'_>, id: &str) -> Result<Option<String>, AllocError>
     ensures { IfOk result (λ o. option_map string_bytes o ≡ first_of id.now (rows_of (found_of matches.now))) }
 {

@@ -1,11 +1,10 @@
-//! What often causes that a file isn't read at all: it isn't text as it should be, or is another file.
-use crate::Kind;
-use crate::remark::{Remark, text};
-use csv::StringRecord;
+//! What the bytes of a file tell that isn't what it has to be: they aren't text, or are another file.
+use crate::FileKind;
+use crate::remark::Remark;
 use std::alloc::{AllocError, Global};
 
-/// The marks with which files begin that aren't plain text, and what to say of them.
-const MARKS: [(&[u8], &str); 10] = [
+/// How files begin that aren't plain text, and what to say of them.
+const BEGINNINGS: [(&[u8], &str); 10] = [
     (b"\xFF\xFE", UTF_16),
     (b"\xFE\xFF", UTF_16),
     (b"\x1F\x8B", COMPRESSED),
@@ -31,10 +30,15 @@ const WEB_PAGE: &str = "the file is a web page";
 
 const OLDER: &str = "the text may be in an older encoding, such as Windows-1252; save it as UTF-8";
 
+const PATH: &str = "this looks like the path of a file; the contents of the file are expected";
+
+/// No path is longer than so many bytes.
+const MOST_OF_PATH: usize = 4_096;
+
 /// What the first bytes tell of a file that isn't plain text.
-fn mark_of(bytes: &[u8]) -> Option<&'static str> {
-    for (mark, words) in MARKS {
-        if bytes.starts_with(mark) {
+fn beginning_of(bytes: &[u8]) -> Option<&'static str> {
+    for (beginning, words) in BEGINNINGS {
+        if bytes.starts_with(beginning) {
             return Some(words);
         }
     }
@@ -46,61 +50,39 @@ fn mark_of(bytes: &[u8]) -> Option<&'static str> {
 }
 
 /// The cause of a field that isn't UTF-8.
-pub(crate) fn encoding_cause(alloc: Global, bytes: &[u8]) -> Result<Remark, AllocError> {
-    Ok(Remark::on_file(text(alloc, mark_of(bytes).unwrap_or(OLDER))?))
+pub(crate) fn encoding_cause(bytes: &[u8]) -> &'static str {
+    beginning_of(bytes).unwrap_or(OLDER)
 }
 
-/// The cause of a first record that isn't that of the wanted file.
+/// The cause of a first record, with this first field, that isn't that of the wanted file.
 pub(crate) fn first_record_cause(
     alloc: Global,
     bytes: &[u8],
-    row: &StringRecord,
-    wanted: Kind,
+    field: &str,
+    wanted: FileKind,
 ) -> Result<Option<Remark>, AllocError> {
-    if let Some(words) = mark_of(bytes) {
-        return Ok(Some(Remark::on_file(text(alloc, words)?)));
+    if let Some(words) = beginning_of(bytes) {
+        return Ok(Some(Remark::new(alloc, None, words)?));
     }
-    match Kind::of_first(row.get(0).unwrap_or("")) {
+    if is_path(bytes) {
+        return Ok(Some(Remark::new(alloc, None, PATH)?));
+    }
+    match FileKind::of_first(field) {
         Some(kind) if !wanted.has(kind) => {
             let (found, wanted) = (kind.name(), wanted.name());
-            let sentence = format!(in alloc; "this is {found}, and {wanted} is wanted")?;
-            Ok(Some(Remark::on_file(sentence)))
+            let sentence = format!(in alloc; "this is {found}, not {wanted}")?;
+            Ok(Some(Remark {
+                line: None,
+                sentence,
+            }))
         }
         _ => Ok(None),
     }
 }
 
-/// The cause where a record has one field alone, since its fields are divided in another way.
-pub(crate) fn divider_cause(
-    alloc: Global,
-    line: u64,
-    row: &StringRecord,
-    delimiter: u8,
-) -> Result<Option<Remark>, AllocError> {
-    let Some(other) = other_divider(row, delimiter) else {
-        return Ok(None);
-    };
-    let wanted = char::from(delimiter);
-    let sentence = format!(in alloc;
-        "the fields are divided by {other} here, and '{wanted}' is wanted"
-    )?;
-    Ok(Some(Remark::at(line, sentence)))
-}
-
-/// By what the fields of a record of one field seem to be divided.
-pub(crate) fn other_divider(row: &StringRecord, delimiter: u8) -> Option<&'static str> {
-    if row.len() != 1 {
-        return None;
-    }
-    let field = row.get(0).unwrap_or("").as_bytes();
-    if delimiter != b';' && field.contains(&b';') {
-        return Some("';'");
-    }
-    if delimiter != b',' && field.contains(&b',') {
-        return Some("','");
-    }
-    if field.contains(&b'\t') {
-        return Some("tabs");
-    }
-    None
+/// Whether all bytes of a file look like the path of one.
+fn is_path(bytes: &[u8]) -> bool {
+    bytes.len() <= MOST_OF_PATH
+        && (bytes.ends_with(b".pb") || bytes.ends_with(b".csv"))
+        && bytes.iter().all(|byte| *byte >= b' ')
 }

@@ -46,7 +46,7 @@ fn push_excerpt(text: &mut String, bytes: &[u8]) -> Result<(), AllocError> {
 }
 
 /// Adds all of a text, with its control characters shown by their numbers.
-pub(crate) fn push_shown(text: &mut String, shown: &str) -> Result<(), AllocError> {
+pub fn push_shown(text: &mut String, shown: &str) -> Result<(), AllocError> {
     for letter in shown.chars() {
         push_letter(text, letter)?;
     }

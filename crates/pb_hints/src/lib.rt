@@ -1,22 +1,23 @@
-//! Hints: what a person is told of a refusal beside its line. No contract says what a hint says. Proved is that making
-//! one is safe and ends, and that a number is taken for the fault that has it; the words are tested.
+//! Hints: why a file is refused, in sentences for a person, and the lines of the file on which they are. No contract
+//! says what a hint says. Proved is that making one is safe and ends; the words are tested.
 #![tactic(auto)]
 
 mod causes;
 mod certificates;
 mod elections;
 mod excerpt;
-mod head;
+mod file_kind;
 mod lines;
-mod prior;
+mod lookup;
+mod oddity;
 mod quotes;
-mod refusal;
-mod refused_file;
 mod remark;
 mod scene;
 mod story;
-mod voters;
+mod telling;
 mod walk;
 
-pub use refusal::{Fault, Refusal};
-pub use refused_file::{Kind, RefusedFile, hint};
+pub use excerpt::push_shown;
+pub use file_kind::FileKind;
+pub use remark::Remark;
+pub use telling::hint;

@@ -1,6 +1,7 @@
 //! Fields in quotes that go over the ends of their lines, which often causes what is reported elsewhere.
 use crate::lines::{is_line_end, line_at};
-use crate::remark::{Remark, text};
+use crate::remark::Remark;
+use csv::StringRecord;
 use std::alloc::{AllocError, Global};
 
 /// Where a quote is opened, and where it is closed: how many bytes of the text stand before it.
@@ -65,7 +66,7 @@ fn step(stand: Stand, place: usize, byte: u8, delimiter: u8) -> Option<Stand> {
     }
 }
 
-/// The remark on the first long quote of a record, if it has one.
+/// The remark on the first long quote of the record that begins at `start`, if it has one.
 pub(crate) fn quote_remark(
     alloc: Global,
     file: &[u8],
@@ -75,12 +76,33 @@ pub(crate) fn quote_remark(
     let Some(quote) = long_quote(file, start, delimiter) else {
         return Ok(None);
     };
+    let line = line_at(file, quote.opened);
     let sentence = match quote.closed {
         Some(closed) => {
-            let line = line_at(file, closed);
-            format!(in alloc; "a quote is opened here and closed at line {line}")?
+            let last = line_at(file, closed);
+            format!(in alloc;
+                "a quote is opened here and closed on line {last}, so lines {line} to {last} are one record"
+            )?
         }
-        None => text(alloc, "a quote is opened here and never closed")?,
+        None => format!(in alloc;
+            "a quote is opened here and never closed, so the rest of the file is one record"
+        )?,
     };
-    Ok(Some(Remark::at(line_at(file, quote.opened), sentence)))
+    Ok(Some(Remark {
+        line: Some(line),
+        sentence,
+    }))
+}
+
+/// Whether a record seems to hold others in its quotes: in a field, what divides fields stands behind the end of a line.
+pub(crate) fn swallows(row: &StringRecord, delimiter: u8) -> bool {
+    row.iter()
+        .any(|field| holds_records(field.as_bytes(), delimiter))
+}
+
+fn holds_records(field: &[u8], delimiter: u8) -> bool {
+    match field.iter().position(|byte| is_line_end(*byte)) {
+        Some(end) => field[end..].contains(&delimiter),
+        None => false,
+    }
 }

@@ -4,24 +4,19 @@ use csv::StringRecord;
 use pb_records::{Cursor, Next};
 use std::alloc::{AllocError, Global};
 
-/// What is told of the records that stand before a place.
-pub(crate) trait Before {
-    /// One more record, and where it begins: how many bytes of the text stand before it.
-    fn take(&mut self, row: &StringRecord, start: usize) -> Result<(), AllocError>;
-}
-
 /// A place between the records of a file.
 #[derive(Drop)]
 pub(crate) struct Walk<'a> {
-    // The file without the byte order marks at its start.
-    text: &'a [u8],
+    /// The file without the byte order marks at its start.
+    pub text: &'a [u8],
     cursor: Box<Cursor<'a>>,
+    met: Next,
 }
 
 const MARK: [u8; 3] = [0xEF, 0xBB, 0xBF];
 
 /// A file without the byte order marks at its start.
-pub(crate) fn without_marks(bytes: &[u8]) -> &[u8] {
+fn without_marks(bytes: &[u8]) -> &[u8] {
     let mut text = bytes;
     for _ in 0..bytes.len() {
         match text.strip_prefix(&MARK) {
@@ -33,33 +28,34 @@ pub(crate) fn without_marks(bytes: &[u8]) -> &[u8] {
 }
 
 impl<'a> Walk<'a> {
-    /// Before the first record of a text without byte order marks, whose fields are divided by the delimiter.
-    pub fn open(alloc: Global, text: &'a [u8], delimiter: u8) -> Result<Walk<'a>, AllocError> {
+    /// Before the first record of a file whose fields are divided by the delimiter.
+    pub fn open(alloc: Global, bytes: &'a [u8], delimiter: u8) -> Result<Walk<'a>, AllocError> {
+        let text = without_marks(bytes);
         Ok(Walk {
             text,
             cursor: Box::new(alloc, Cursor::open(alloc, text, delimiter))?,
+            met: Next::End,
         })
     }
 
-    /// Goes behind the record at a place, and tells what was met there: that record, or the end of the file, which has
-    /// the place after the last record. What stands before it, blank records aside, goes to `before`. None where the
-    /// file has no such place, or a blank record stands there.
-    pub fn go_to<B: Before>(
-        &mut self,
-        place: u64,
-        before: &mut B,
-    ) -> Result<Option<Next>, AllocError> {
-        for _ in 0..u64::MAX {
-            let met = self.cursor.advance()?;
-            let at = self.cursor.place();
-            match met {
-                Next::Record if at < place => before.take(self.row(), self.start())?,
-                Next::End if at + 1 == place => return Ok(Some(met)),
-                Next::Record | Next::NotText if at == place => return Ok(Some(met)),
-                _ => return Ok(None),
-            }
+    /// Goes behind the next record that isn't blank, and tells whether it is one before this place.
+    pub fn advance_before(&mut self, place: u64) -> Result<bool, AllocError> {
+        self.met = self.cursor.advance()?;
+        Ok(self.met == Next::Record && self.cursor.place() < place)
+    }
+
+    /// Whether what was met last is at this place: a record, or the end of the file, which has the place after the last
+    /// record.
+    pub fn is_at(&self, place: u64) -> bool {
+        match self.met {
+            Next::End => self.cursor.place() + 1 == place,
+            Next::Record | Next::NotText => self.cursor.place() == place,
         }
-        Ok(None)
+    }
+
+    /// Whether the end of the file was met.
+    pub fn is_end(&self) -> bool {
+        self.met == Next::End
     }
 
     /// The record that was met last, where it is text.

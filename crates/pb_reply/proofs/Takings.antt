@@ -8,7 +8,7 @@ use Rattle.pb_certificate.specs.Faults.{certificate_records}
 use Rattle.pb_certificate.specs.ViolationText.{IsViolationText}
 use Rattle.pb_certificate.specs.declared.measure.Measure.{Measure}
 use Rattle.pb_certificate.proofs.Unique.{group-text-sets}
-use Rattle.pb_reply.specs.Inputs.{StatesOutcome, refusal_of}
+use Rattle.pb_reply.specs.Inputs.{StatesOutcome}
 use Rattle.pb_reply.specs.Readings.{file_reading, reading}
 use Rattle.pb_reply.specs.Inside.Taking.{AuditsOutcome, Gives, IfTaken, ReadsOutcome}
 use Rattle.pb_reply.specs.declared.input.Stop.{Stop}
@@ -27,7 +27,7 @@ file_audited e outcome d taken is states =
   where
     go : (r : Result (List Bool) Stop) → IfTaken r (StatesOutcome e d) → IfTaken r (AuditsOutcome e (Some d))
     go (Ok marks) s = record { file = Some (Ok marks); given = s; is = refl }
-    go (Err (stop.Refused input why)) s = record { file = Some (Err (refusal_of input why)); given = s; is = refl }
+    go (Err (stop.Refused r)) s = record { file = Some (Err r); given = s; is = refl }
     go (Err stop.Memory) s = tt
 
 -- the same with a reader of the outcome file
@@ -46,10 +46,10 @@ file_read {R} source e old file new taken is from =
           delivered = g.delivered;
           audits = record { file = Some (Ok marks); given = g.stating; is = refl };
         }
-    go (Err (stop.Refused input why)) g =
+    go (Err (stop.Refused r)) g =
         record {
           delivery = Some g.delivery;
           delivered = g.delivered;
-          audits = record { file = Some (Err (refusal_of input why)); given = g.stating; is = refl };
+          audits = record { file = Some (Err r); given = g.stating; is = refl };
         }
     go (Err stop.Memory) g = tt

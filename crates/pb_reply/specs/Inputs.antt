@@ -1,5 +1,5 @@
 -- What the inputs state, by what is delivered of them.
-use Rattle.std.specs.Prelude.{◌≡◌, ◌^◌, nat_lt, if◌then◌else◌, Bool, ℕ, List, length, Option, Some, None, Result, Ok, Err, codes}
+use Rattle.std.specs.Prelude.{◌≡◌, ◌^◌, nat_lt, if◌then◌else◌, Bool, ℕ, List, length, Option, Some, None, Result, Ok, Err}
 use Rattle.pb_records.specs.FirstFault.{Form}
 use Rattle.pb_election.specs.Instance.{Instance}
 use Rattle.pb_election.specs.Text.{IsTextOf}
@@ -17,8 +17,7 @@ use Rattle.pb_certificate.specs.PriceText.{IsPriceText}
 use Rattle.pb_certificate.specs.declared.measure.Measure.{Measure}
 use Rattle.pb_certificate.specs.declared.refusal.CertFault.{CertFault}
 use Rattle.pb_certificate.specs.declared.refusal.CertRefusal.{CertRefusal}
-use Rattle.pb_records.specs.Records.{Text}
-use Rattle.pb_reply.specs.Lines.{Refusal}
+use Rattle.pb_reply.specs.declared.input.Refusal.{Refusal}
 use Rattle.pb_reply.specs.declared.input.InputFault.{InputFault}
 use Rattle.pb_reply.specs.declared.input.InputFault.TheVariants as fault
 use Rattle.pb_reply.specs.declared.input.InputName.{InputName}
@@ -28,32 +27,9 @@ use Rattle.pb_reply.specs.declared.input.InputName.TheVariants as name
 abbrev pub Stated : Type 0 → Type 0
 Stated A = Result A Refusal
 
--- the names of the inputs
-abbrev pub name_of : InputName → Text
-name_of name.Election = codes "election"
-name_of name.Outcome = codes "outcome"
-name_of name.Certificate = codes "certificate"
-name_of name.Prices = codes "prices"
-name_of name.Violation = codes "violation"
-
 -- the refusal of an input for a fault
 abbrev pub refusal_of : InputName → InputFault → Refusal
-refusal_of input fault.Unread = record { input = name_of input; number = 18; name = codes "Read"; place = 0 }
-refusal_of input fault.TooLong = record { input = name_of input; number = 19; name = codes "TooLong"; place = 0 }
-refusal_of input (fault.Election r) =
-    record {
-      input = name_of input;
-      number = elections.fault_number r.fault;
-      name = elections.fault_name r.fault;
-      place = r.place;
-    }
-refusal_of input (fault.Certificate r) =
-    record {
-      input = name_of input;
-      number = certificates.fault_number r.fault;
-      name = certificates.fault_name r.fault;
-      place = r.place;
-    }
+refusal_of input why = record { input = input; fault = why }
 
 -- the most bytes of an input
 abbrev pub most_bytes : ℕ

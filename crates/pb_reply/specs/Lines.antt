@@ -1,6 +1,8 @@
 -- The printed lines, without their ends.
 use Rattle.std.specs.Prelude.{◌==◌, if◌then◌else◌, Bool, ℕ, List, [], ◌∷◌, ◌++◌, count_by, Option, Some, None, codes, decimal}
 use Rattle.std.specs.Option.{option_map}
+use Rattle.pb_certificate.specs.Faults as certificates
+use Rattle.pb_election.specs.Faults as elections
 use Rattle.pb_election.specs.Instance.{Instance, id_of, projects, voters}
 use Rattle.pb_cohesion.specs.declared.ViolationFailure.{ViolationFailure}
 use Rattle.pb_cohesion.specs.declared.ViolationFailure.TheVariants.{V1, V2, V3, V4}
@@ -11,6 +13,11 @@ use Rattle.pb_price.specs.declared.Failure.TheVariants as failure
 use Rattle.pb_price.specs.declared.Verdict.{Verdict}
 use Rattle.pb_price.specs.declared.Verdict.TheVariants as verdict
 use Rattle.pb_records.specs.Records.{Text}
+use Rattle.pb_reply.specs.declared.input.InputFault.{InputFault}
+use Rattle.pb_reply.specs.declared.input.InputFault.TheVariants as fault
+use Rattle.pb_reply.specs.declared.input.InputName.{InputName}
+use Rattle.pb_reply.specs.declared.input.InputName.TheVariants as name
+use Rattle.pb_reply.specs.declared.input.Refusal.{Refusal}
 
 -- how many projects are funded, where the election says which
 abbrev pub number_of_funded : Instance → Option ℕ
@@ -91,14 +98,35 @@ abbrev pub violation_line : Instance → ViolationVerdict → Text
 violation_line e violation_verdict.Violation = codes "violation"
 violation_line e (violation_verdict.Failed f) = failed_line e (violation_failed f)
 
--- why an input was refused: its name, the number and the name of the fault, and its record
-pub record Refusal : Type 0 where
-  pub input : Text
-  pub number : ℕ
-  pub name : Text
-  pub place : ℕ
+-- the names of the inputs
+abbrev pub name_of : InputName → Text
+name_of name.Election = codes "election"
+name_of name.Outcome = codes "outcome"
+name_of name.Certificate = codes "certificate"
+name_of name.Prices = codes "prices"
+name_of name.Violation = codes "violation"
+name_of name.Folder = codes "folder"
+
+-- the number of a fault, its name, and the record at which it stands
+abbrev pub fault_number : InputFault → ℕ
+fault_number fault.Unread = 18
+fault_number fault.TooLong = 19
+fault_number (fault.Election r) = elections.fault_number r.fault
+fault_number (fault.Certificate r) = certificates.fault_number r.fault
+
+abbrev pub fault_name : InputFault → Text
+fault_name fault.Unread = codes "Read"
+fault_name fault.TooLong = codes "TooLong"
+fault_name (fault.Election r) = elections.fault_name r.fault
+fault_name (fault.Certificate r) = certificates.fault_name r.fault
+
+abbrev pub fault_place : InputFault → ℕ
+fault_place fault.Unread = 0
+fault_place fault.TooLong = 0
+fault_place (fault.Election r) = r.place
+fault_place (fault.Certificate r) = r.place
 
 -- the line of a refusal
 abbrev pub refusal_line : Refusal → Text
-refusal_line r = codes "refused " ++ r.input ++ codes " " ++ decimal r.number ++ codes " " ++ r.name ++ codes " record "
-    ++ decimal r.place
+refusal_line r = codes "refused " ++ name_of r.input ++ codes " " ++ decimal (fault_number r.fault) ++ codes " "
+    ++ fault_name r.fault ++ codes " record " ++ decimal (fault_place r.fault)

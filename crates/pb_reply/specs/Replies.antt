@@ -7,7 +7,8 @@ use Rattle.pb_cohesion.specs.declared.ViolationVerdict.TheVariants as violation_
 use Rattle.pb_price.specs.declared.Verdict.{Verdict}
 use Rattle.pb_price.specs.declared.Verdict.TheVariants as verdict
 use Rattle.pb_reply.specs.Inputs.{Stated}
-use Rattle.pb_reply.specs.Lines.{Refusal, refusal_line}
+use Rattle.pb_reply.specs.Lines.{refusal_line}
+use Rattle.pb_reply.specs.declared.input.Refusal.{Refusal}
 use Rattle.pb_reply.specs.declared.status.Status.{Status}
 use Rattle.pb_reply.specs.declared.status.Status.TheVariants.{Yes, No, Refused}
 
@@ -16,20 +17,21 @@ pub record Reply : Type 0 where
   pub lines : List Text
   pub status : Status
 
--- an answer: its text, and how it ends
-pub record Answer : Type 0 where
+-- an answer: its text, and how it ends, by a status of some kind
+pub record Answer (S : Type 0) : Type 0 where
   pub text : Text
-  pub status : Status
+  pub status : S
 
 -- each line with its end, LF
 abbrev pub text_of : List Text → Text
 text_of lines = flat_map (λ l. l ++ (line_end ∷ [])) lines
 
-abbrev pub answer_of : Reply → Answer
+abbrev pub answer_of : Reply → Answer Status
 answer_of reply = record { text = text_of reply.lines; status = reply.status }
 
+-- the reply on an input that is refused: the line of the refusal, and the refusal
 abbrev pub refused : Refusal → Reply
-refused r = record { lines = refusal_line r ∷ []; status = Refused }
+refused r = record { lines = refusal_line r ∷ []; status = Refused r }
 
 -- the reply on an input: the first that is refused decides
 abbrev pub with_input : {A : Type 0} → Stated A → (A → Reply) → Reply
@@ -46,7 +48,7 @@ violation_status violation_verdict.Violation = Yes
 violation_status (violation_verdict.Failed f) = No
 
 -- the answer is the text of one of these replies
-pub record TellsReply (is_reply : Reply → Type 0) (answer : Answer) : Type 0 where
+pub record TellsReply (is_reply : Reply → Type 0) (answer : Answer Status) : Type 0 where
   pub reply : Reply
   pub of_inputs : is_reply reply
   pub out : answer ≡ answer_of reply

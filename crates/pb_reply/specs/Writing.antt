@@ -16,8 +16,8 @@ pub record Writer : Type 0 where
 
 -- one of these answers was written, whole and with nothing else, and has this status; nothing failed, and the writer
 -- was flushed after the last write
-pub record IsWritten (is_answer : Answer → Type 0) (status : Status) (old new : Writer) : Type 0 where
-  pub answer : Answer
+pub record IsWritten {S : Type 0} (is_answer : Answer S → Type 0) (status : S) (old new : Writer) : Type 0 where
+  pub answer : Answer S
   pub of_inputs : is_answer answer
   pub text : Appends old.holds new.holds answer.text
   pub ends : status ≡ answer.status
@@ -25,8 +25,8 @@ pub record IsWritten (is_answer : Answer → Type 0) (status : Status) (old new 
   pub calm : new.counts.failures ≡ old.counts.failures
 
 -- a front of one of these answers was written, with nothing else, and the writer failed
-pub record IsCutShort (is_answer : Answer → Type 0) (old new : Writer) : Type 0 where
-  pub answer : Answer
+pub record IsCutShort {S : Type 0} (is_answer : Answer S → Type 0) (old new : Writer) : Type 0 where
+  pub answer : Answer S
   pub of_inputs : is_answer answer
   pub front : AppendsFront old.holds new.holds answer.text
   pub failed : Rises old.counts.failures new.counts.failures
@@ -36,7 +36,7 @@ writer sink w = record { holds = sink.holds w; counts = sink.counts w }
 
 -- How a call ends that writes one of these answers: it is written, or it is cut short, or memory was wanted and the
 -- writer is as it was.
-pub record Writes {W : Type 0} (sink : Sink W) (is_answer : Answer → Type 0) (result : Result Status Fault)
+pub record Writes {W S : Type 0} (sink : Sink W) (is_answer : Answer S → Type 0) (result : Result S Fault)
     (old new : W) : Type 0 where
   pub written : IfOk result (λ status. IsWritten is_answer status (writer sink old) (writer sink new))
   pub cut_short : IsErrOf result fault.Write → IsCutShort is_answer (writer sink old) (writer sink new)

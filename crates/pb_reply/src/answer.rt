@@ -1,10 +1,11 @@
 //! Replies, the texts that are made of them, and how a text is written.
 ghost use Rattle.std.specs.Prelude.{◌≡◌, ◌∷◌, ◌++◌, [], IfOk, OnOk, Some, map, string_bytes};
 ghost use Rattle.pb_reply.specs.Replies.{answer_of, text_of};
+ghost use Rattle.pb_reply.specs.Replies as replies;
 ghost use Rattle.pb_reply.specs.Inside.Taking as spec;
 ghost use Rattle.pb_reply.specs.Writing.{Writes};
 
-use crate::input::Stop;
+use crate::input::{Refusal, Stop};
 use crate::lines::{push_line, refusal_line};
 use crate::{Fault, Status};
 use pb_election::{Sink, put};
@@ -31,7 +32,7 @@ impl Model for Reply {
 
 impl Reply {
     /// The text of the reply: each line with its end, LF.
-    pub fn answer(&self, alloc: Global) -> Result<Answer, AllocError>
+    pub fn answer(&self, alloc: Global) -> Result<Answer<Status>, AllocError>
         ensures { IfOk result (λ answer. answer ≡ answer_of self.now) }
     {
         let mut text = String::new(alloc);
@@ -53,26 +54,26 @@ pub(crate) fn push_lines(text: &mut String, lines: &[String]) -> Result<(), Allo
     Ok(())
 }
 
-/// A whole text, and how it ends.
+/// A whole text, and how it ends: with the `Status` of a command on an election, or with that of a folder.
 #[derive(Drop)]
-pub struct Answer {
+pub struct Answer<S> {
     /// The text.
     pub text: Vec<u8>,
     /// How it ends.
-    pub status: Status,
+    pub status: S,
 }
 
-impl Model for Answer {
+impl<S> Model for Answer<S> {
     ghost use Rattle.pb_reply.specs.Replies.{Answer};
 
-    ghost Value = { Answer };
+    ghost Value = { Answer S };
 
     ghost view = { λ a. record { text = a.text.items; status = a.status } };
 }
 
-impl Answer {
+impl<S: Copy> Answer<S> {
     /// Writes the text, the whole of which is there, and flushes.
-    pub fn write<W: Sink>(&self, out: &mut W) -> Result<Status, Fault>
+    pub fn write<W: Sink>(&self, out: &mut W) -> Result<S, Fault>
         ensures { Writes W.Sink (λ answer. answer ≡ self.now) result out.old out.new }
     {
         put(&self.text, out)?;
@@ -98,7 +99,10 @@ pub fn settled(alloc: Global, work: Result<Reply, Stop>) -> Result<Reply, AllocE
 }
 
 /// The answer that the work came to: its own, or the line of the input that was refused.
-pub fn settled_answer(alloc: Global, work: Result<Answer, Stop>) -> Result<Answer, AllocError>
+pub fn settled_answer(
+    alloc: Global,
+    work: Result<Answer<Status>, Stop>,
+) -> Result<Answer<Status>, AllocError>
     ensures { IfOk result (λ answer. spec.settled_answer work ≡ Some answer) }
 {
     match work {
@@ -111,10 +115,18 @@ pub fn settled_answer(alloc: Global, work: Result<Answer, Stop>) -> Result<Answe
 pub fn stopped(alloc: Global, stop: &Stop) -> Result<Reply, AllocError>
     ensures { IfOk result (λ reply. spec.stopped stop.now ≡ Some reply) }
 {
-    let Stop::Refused { input, fault } = stop else {
-        return Err(AllocError {});
-    };
-    one_line(alloc, refusal_line(alloc, *input, fault)?, Status::Refused)
+    match stop {
+        Stop::Refused(refusal) => refused(alloc, *refusal),
+        Stop::Memory => Err(AllocError {}),
+    }
+}
+
+/// The reply on an input that is refused: its line, and the refusal itself as the status.
+pub fn refused(alloc: Global, refusal: Refusal) -> Result<Reply, AllocError>
+    ensures { IfOk result (λ reply. reply ≡ replies.refused refusal) }
+{
+    let line = refusal_line(alloc, &refusal)?;
+    one_line(alloc, line, Status::Refused(refusal))
 }
 
 /// A reply of one line.

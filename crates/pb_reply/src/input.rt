@@ -1,16 +1,16 @@
 //! Inputs: their names, and why the work on them stops.
 ghost use Rattle.std.specs.Prelude.{◌≡◌};
-ghost use Rattle.pb_reply.specs.Inputs.{name_of, refusal_of};
+ghost use Rattle.pb_reply.specs.Lines.{fault_name, fault_number, fault_place, name_of};
 ghost use Rattle.pb_reply.specs.Inside.Taking.{wants_memory};
 ghost use Rattle.pb_reply.specs.Inside.Taking as spec;
 ghost use Rattle.pb_reply.specs.declared.input.Stop.TheVariants.{Memory};
 
 use pb_certificate::{CertFault, CertRefusal};
-use pb_election::{ElectionFault, Refusal};
+use pb_election::{ElectionFault, Refusal as ElectionRefusal};
 use std::alloc::AllocError;
 
 /// The inputs, by the names that refusals are printed with.
-#[derive(Clone, Copy)]
+#[derive(Clone, Copy, Debug, PartialEq, Eq)]
 pub enum InputName {
     Election,
     Outcome,
@@ -19,26 +19,37 @@ pub enum InputName {
     Prices,
     /// The violation certificate, where a price certificate stands beside it.
     Violation,
+    /// The folder of elections.
+    Folder,
 }
 
 /// Why an input is refused.
-#[derive(Clone, Copy)]
+#[derive(Clone, Copy, Debug, PartialEq, Eq)]
 pub enum InputFault {
-    /// The reader failed.
+    /// It can't be read, or a folder can't be listed.
     Unread,
     /// It has more than 2^28 bytes.
     TooLong,
     /// It is no election, or an election without an outcome of its own.
-    Election(Refusal),
+    Election(ElectionRefusal),
     /// It is no certificate, or no outcome file, for the election.
     Certificate(CertRefusal),
+}
+
+/// An input that is refused, and why.
+#[derive(Clone, Copy, Debug, PartialEq, Eq)]
+pub struct Refusal {
+    /// Which input is refused.
+    pub input: InputName,
+    /// Why, and at which of its records.
+    pub fault: InputFault,
 }
 
 /// Why the work on the inputs ended early.
 #[derive(Clone, Copy)]
 pub enum Stop {
-    /// This input is refused, for this fault.
-    Refused { input: InputName, fault: InputFault },
+    /// An input is refused.
+    Refused(Refusal),
     /// Memory was wanted.
     Memory,
 }
@@ -62,14 +73,15 @@ impl InputName {
             InputName::Certificate => "certificate",
             InputName::Prices => "prices",
             InputName::Violation => "violation",
+            InputName::Folder => "folder",
         }
     }
 }
 
 impl InputFault {
-    /// The number that the fault is printed with, whichever the input is.
+    /// The number that the fault is printed with.
     pub fn number(&self) -> u32
-        ensures { result ≡ (refusal_of InputName.Election self.now).number }
+        ensures { result ≡ fault_number self.now }
     {
         match self {
             InputFault::Unread => 18,
@@ -79,9 +91,9 @@ impl InputFault {
         }
     }
 
-    /// The name that the fault is printed with, whichever the input is.
+    /// The name that the fault is printed with.
     pub fn name(&self) -> &'static str
-        ensures { result.now ≡ (refusal_of InputName.Election self.now).name }
+        ensures { result.now ≡ fault_name self.now }
     {
         match self {
             InputFault::Unread => "Read",
@@ -93,7 +105,7 @@ impl InputFault {
 
     /// The record at which the fault stands, from 1, or 0 where it stands at none.
     pub fn place(&self) -> u64
-        ensures { result ≡ (refusal_of InputName.Election self.now).place }
+        ensures { result ≡ fault_place self.now }
     {
         match self {
             InputFault::Unread | InputFault::TooLong => 0,
@@ -121,5 +133,5 @@ pub fn stop_at(input: InputName, fault: InputFault) -> Stop
     if fault.wants_memory() {
         return Stop::Memory;
     }
-    Stop::Refused { input, fault }
+    Stop::Refused(Refusal { input, fault })
 }

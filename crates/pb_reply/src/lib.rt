@@ -5,16 +5,14 @@ mod answer;
 mod input;
 mod lines;
 mod loaded;
-mod report;
 mod status;
 mod taking;
 mod verdict_lines;
 
-pub use answer::{Answer, Reply, one_line, settled, settled_answer, stopped, write_reply};
-pub use input::{InputFault, InputName, Stop, stop_at};
+pub use answer::{Answer, Reply, one_line, refused, settled, settled_answer, stopped, write_reply};
+pub use input::{InputFault, InputName, Refusal, Stop, stop_at};
 pub use lines::{push_line, push_notes, push_number, read_line};
 pub use loaded::{File, Loaded, bytes_of, optional_file};
-pub use report::Report;
 pub use status::{Fault, Status};
 pub use taking::{election_of, outcome_of, take_election, take_outcome, violation_of};
 pub use verdict_lines::{price_line, price_status, violation_line, violation_status};

@@ -1,10 +1,9 @@
 //! The lines of the answers.
 ghost use Rattle.std.specs.Prelude.{◌≡◌, ◌∷◌, ◌++◌, [], IfOk, OnOk, decimal, map, string_bytes};
 ghost use Rattle.pb_reply.specs.Replies.{text_of};
-ghost use Rattle.pb_reply.specs.Inputs.{refusal_of};
 ghost use Rattle.pb_reply.specs.Lines as spec;
 
-use crate::input::{InputFault, InputName};
+use crate::input::Refusal;
 use itoa::Buffer;
 use pb_election::Election;
 use std::alloc::{AllocError, Global};
@@ -131,14 +130,11 @@ fn selected_words(alloc: Global, count: u32) -> Result<String, AllocError>
     Ok(line)
 }
 
-/// The line of a refusal of an input.
-pub(crate) fn refusal_line(
-    alloc: Global,
-    input: InputName,
-    fault: &InputFault,
-) -> Result<String, AllocError>
-    ensures { IfOk result (λ line. string_bytes line ≡ spec.refusal_line (refusal_of input fault.now)) }
+/// The line of a refusal.
+pub(crate) fn refusal_line(alloc: Global, refusal: &Refusal) -> Result<String, AllocError>
+    ensures { IfOk result (λ line. string_bytes line ≡ spec.refusal_line refusal.now) }
 {
+    let Refusal { input, fault } = refusal;
     let mut line = String::from_str(alloc, "refused ")?;
     line.push_str(input.name())?;
     line.push_str(" ")?;

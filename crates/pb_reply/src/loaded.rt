@@ -6,7 +6,7 @@ ghost use Rattle.pb_reply.specs.Inputs.{in_memory, most_bytes};
 ghost use Rattle.pb_reply.specs.Inside.Loaded.{delivery_of, lent};
 ghost use Rattle.pb_reply.specs.Inside.Taking.{IsUnloaded};
 
-use crate::input::{InputFault, InputName, Stop};
+use crate::input::{InputFault, InputName, Refusal, Stop};
 use pb_election::{LoadFault, Source, load};
 use std::alloc::{AllocError, Global};
 
@@ -87,13 +87,13 @@ pub fn bytes_of<'a>(input: InputName, file: File<'a>) -> Result<&'a [u8], Stop>
 {
     match file {
         File::Bytes(bytes) => Ok(bytes),
-        File::Unread => Err(Stop::Refused {
+        File::Unread => Err(Stop::Refused(Refusal {
             input,
             fault: InputFault::Unread,
-        }),
-        File::TooLong => Err(Stop::Refused {
+        })),
+        File::TooLong => Err(Stop::Refused(Refusal {
             input,
             fault: InputFault::TooLong,
-        }),
+        })),
     }
 }

@@ -2,6 +2,7 @@
 ghost use Rattle.std.specs.Prelude.{◌≡◌};
 ghost use Rattle.pb_reply.specs.declared.status.Fault.TheVariants.{Memory, Write};
 
+use crate::input::Refusal;
 use pb_election::PutFault;
 use std::alloc::AllocError;
 use thiserror::Error;
@@ -13,8 +14,8 @@ pub enum Status {
     Yes,
     /// The inputs are what they should be, and something that was asked does not hold.
     No,
-    /// An input is not what it should be.
-    Refused,
+    /// This input is not what it should be.
+    Refused(Refusal),
 }
 
 /// Why an answer was not written whole.

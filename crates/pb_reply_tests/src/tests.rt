@@ -2,5 +2,6 @@
 //! `replies` those of `pb_audit` over files in memory.
 mod explain;
 mod lines;
+mod refusals;
 mod replies;
 mod reply;

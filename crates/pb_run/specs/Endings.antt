@@ -1,8 +1,9 @@
 -- How a run of the program ends: its exit status, and what is written on standard output then.
 use Rattle.std.specs.Prelude.{◌≡◌, ◌⊎◌, ⊤, ℕ}
+use Rattle.pb_audit.specs.declared.total.FolderStatus.TheVariants.{AllYes, SomeNo, SomeRefused}
 use Rattle.pb_reply.specs.declared.status.Status.TheVariants.{Yes, No, Refused}
 use Rattle.pb_run.specs.declared.end.End.{End}
-use Rattle.pb_run.specs.declared.end.End.TheVariants.{Answered, Help, Usage, NotText, Faulted}
+use Rattle.pb_run.specs.declared.end.End.TheVariants.{Answered, Reported, Help, Usage, NotText, Faulted}
 
 -- A run that ends so has this exit status: 0 after a yes, 1 after a no, 2 where an input was refused, 3 where the words
 -- were not understood, and 4 where the answer was not written whole. After help it is 0 or 4; which one isn't said here,
@@ -10,7 +11,10 @@ use Rattle.pb_run.specs.declared.end.End.TheVariants.{Answered, Help, Usage, Not
 abbrev pub HasStatus : End → ℕ → Type 0
 HasStatus (Answered Yes) status = status ≡ 0
 HasStatus (Answered No) status = status ≡ 1
-HasStatus (Answered Refused) status = status ≡ 2
+HasStatus (Answered (Refused r)) status = status ≡ 2
+HasStatus (Reported AllYes) status = status ≡ 0
+HasStatus (Reported SomeNo) status = status ≡ 1
+HasStatus (Reported SomeRefused) status = status ≡ 2
 HasStatus (Help _) status = (status ≡ 0) ⊎ (status ≡ 4)
 HasStatus (Usage _) status = status ≡ 3
 HasStatus NotText status = status ≡ 3
@@ -19,6 +23,7 @@ HasStatus (Faulted _) status = status ≡ 4
 -- Nothing is written on standard output at the end, unless help was asked for. Here O is the type of that output.
 abbrev pub WritesOnlyHelp : {O : Type 0} → End → O → O → Type 0
 WritesOnlyHelp (Answered _) old new = new ≡ old
+WritesOnlyHelp (Reported _) old new = new ≡ old
 WritesOnlyHelp (Help _) old new = ⊤
 WritesOnlyHelp (Usage _) old new = new ≡ old
 WritesOnlyHelp NotText old new = new ≡ old

@@ -2,7 +2,7 @@
 ghost use Rattle.std.specs.Prelude.{◌≡◌};
 ghost use Rattle.pb_run.specs.Endings.{HasStatus, WritesOnlyHelp};
 
-use pb_audit::{Fault, Status, UsageFault};
+use pb_audit::{Fault, FolderStatus, Status, UsageFault};
 use pb_election::{Output, put};
 use std::io::Write;
 
@@ -11,6 +11,8 @@ use std::io::Write;
 pub enum End {
     /// An answer was written, and ends so.
     Answered(Status),
+    /// The report on a folder was written, and ends so.
+    Reported(FolderStatus),
     /// The words ask for this text.
     Help(String),
     /// The words are not understood, as this text says.
@@ -40,7 +42,10 @@ impl End {
         match self {
             End::Answered(Status::Yes) => 0,
             End::Answered(Status::No) => 1,
-            End::Answered(Status::Refused) => 2,
+            End::Answered(Status::Refused(_)) => 2,
+            End::Reported(FolderStatus::AllYes) => 0,
+            End::Reported(FolderStatus::SomeNo) => 1,
+            End::Reported(FolderStatus::SomeRefused) => 2,
             End::Help(text) => match put(text.as_bytes(), &mut Output::new(out)) {
                 Ok(()) => 0,
                 Err(fault) => tell_fault(Fault::from(fault), err),

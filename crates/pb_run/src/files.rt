@@ -2,13 +2,25 @@
 use crate::file::FileReader;
 use crate::noted::NotedReader;
 use pb_audit::{
-    Fault, Status, run_both, run_explain, run_margins, run_prices, run_read, run_tidy,
+    Fault, Inputs, Status, run_both, run_explain, run_margins, run_prices, run_read, run_tidy,
     run_violation,
 };
 use pb_election::{Input, Sink};
+use pb_page::{Language, PageNames, run_page};
 use pb_price::Mode;
 use std::cell::Cell;
 use std::io::Read;
+
+/// The files that commands on a certificate share, as readers.
+#[derive(Drop)]
+struct Opened<'a> {
+    election: NamedFile<'a>,
+    outcome: Option<NamedFile<'a>>,
+    certificate: NamedFile<'a>,
+}
+
+/// A file at a path, whose failure is noted.
+type NamedFile<'a> = Input<NotedReader<'a, FileReader<'a>>>;
 
 /// Files that are opened for one task, with the failure of the one that couldn't be read.
 #[derive(Clone, Copy)]
@@ -19,18 +31,19 @@ pub struct Files<'a> {
 
 impl<'a> Files<'a> {
     /// The file at a path.
-    fn open(self, path: &'a str) -> Input<NotedReader<'a, FileReader<'a>>> {
+    fn open(self, path: &'a str) -> NamedFile<'a> {
         Input::new(NotedReader::new(FileReader::new(self.rt, path), self.failure))
     }
 
-    /// The file at a path, where one is given.
-    fn open_given(
-        self,
-        path: &'a Option<String>,
-    ) -> Option<Input<NotedReader<'a, FileReader<'a>>>> {
-        match path {
-            Some(path) => Some(self.open(path)),
-            None => None,
+    /// The files that commands on a certificate share.
+    fn open_shared(self, inputs: &'a Inputs) -> Opened<'a> {
+        Opened {
+            election: self.open(&inputs.election),
+            outcome: match &inputs.outcome {
+                Some(path) => Some(self.open(path)),
+                None => None,
+            },
+            certificate: self.open(&inputs.certificate),
         }
     }
 
@@ -45,38 +58,48 @@ impl<'a> Files<'a> {
         run_read(self.rt.alloc(), &mut self.open(election), out)
     }
 
-    /// Answers `prices`.
+    /// Answers `prices`, and adds the notes on the election to `notes`.
     pub fn prices<O: Sink>(
         self,
-        election: &'a str,
-        outcome: &'a Option<String>,
-        certificate: &'a str,
+        inputs: &'a Inputs,
         mode: Mode,
+        notes: &mut Vec<String>,
         out: &mut O,
     ) -> Result<Status, Fault> {
+        let Opened {
+            mut election,
+            mut outcome,
+            mut certificate,
+        } = self.open_shared(inputs);
         run_prices(
             self.rt.alloc(),
-            &mut self.open(election),
-            &mut self.open_given(outcome),
-            &mut self.open(certificate),
+            &mut election,
+            &mut outcome,
+            &mut certificate,
             mode,
+            notes,
             out,
         )
     }
 
-    /// Answers `violation`.
+    /// Answers `violation`, and adds the notes on the election to `notes`.
     pub fn violation<O: Sink>(
         self,
-        election: &'a str,
-        outcome: &'a Option<String>,
-        certificate: &'a str,
+        inputs: &'a Inputs,
+        notes: &mut Vec<String>,
         out: &mut O,
     ) -> Result<Status, Fault> {
+        let Opened {
+            mut election,
+            mut outcome,
+            mut certificate,
+        } = self.open_shared(inputs);
         run_violation(
             self.rt.alloc(),
-            &mut self.open(election),
-            &mut self.open_given(outcome),
-            &mut self.open(certificate),
+            &mut election,
+            &mut outcome,
+            &mut certificate,
+            notes,
             out,
         )
     }
@@ -84,72 +107,115 @@ impl<'a> Files<'a> {
     /// Answers `both`.
     pub fn both<O: Sink>(
         self,
-        election: &'a str,
-        outcome: &'a Option<String>,
-        prices: &'a str,
+        inputs: &'a Inputs,
         violation: &'a str,
         mode: Mode,
         out: &mut O,
     ) -> Result<Status, Fault> {
+        let Opened {
+            mut election,
+            mut outcome,
+            mut certificate,
+        } = self.open_shared(inputs);
         run_both(
             self.rt.alloc(),
-            &mut self.open(election),
-            &mut self.open_given(outcome),
-            &mut self.open(prices),
+            &mut election,
+            &mut outcome,
+            &mut certificate,
             &mut self.open(violation),
             mode,
             out,
         )
     }
 
-    /// Answers `explain`.
+    /// Answers `explain`, and adds the notes on the election to `notes`.
     pub fn explain<O: Sink>(
         self,
-        election: &'a str,
-        outcome: &'a Option<String>,
-        certificate: &'a str,
+        inputs: &'a Inputs,
         mode: Mode,
+        notes: &mut Vec<String>,
         out: &mut O,
     ) -> Result<Status, Fault> {
+        let Opened {
+            mut election,
+            mut outcome,
+            mut certificate,
+        } = self.open_shared(inputs);
         run_explain(
             self.rt.alloc(),
-            &mut self.open(election),
-            &mut self.open_given(outcome),
-            &mut self.open(certificate),
+            &mut election,
+            &mut outcome,
+            &mut certificate,
             mode,
+            notes,
+            out,
+        )
+    }
+
+    /// Answers `page`.
+    pub fn page<O: Sink>(
+        self,
+        inputs: &'a Inputs,
+        mode: Mode,
+        language: Language,
+        out: &mut O,
+    ) -> Result<Status, Fault> {
+        let Opened {
+            mut election,
+            mut outcome,
+            mut certificate,
+        } = self.open_shared(inputs);
+        let names = PageNames {
+            election: name_of(&inputs.election),
+            outcome: match &inputs.outcome {
+                Some(path) => Some(name_of(path)),
+                None => None,
+            },
+            certificate: name_of(&inputs.certificate),
+        };
+        run_page(
+            self.rt.alloc(),
+            names,
+            &mut election,
+            &mut outcome,
+            &mut certificate,
+            mode,
+            language,
             out,
         )
     }
 
     /// Answers `margins`.
-    pub fn margins<O: Sink>(
-        self,
-        election: &'a str,
-        outcome: &'a Option<String>,
-        certificate: &'a str,
-        out: &mut O,
-    ) -> Result<Status, Fault> {
+    pub fn margins<O: Sink>(self, inputs: &'a Inputs, out: &mut O) -> Result<Status, Fault> {
+        let Opened {
+            mut election,
+            mut outcome,
+            mut certificate,
+        } = self.open_shared(inputs);
         run_margins(
             self.rt.alloc(),
-            &mut self.open(election),
-            &mut self.open_given(outcome),
-            &mut self.open(certificate),
+            &mut election,
+            &mut outcome,
+            &mut certificate,
             out,
         )
     }
 
     /// Answers `tidy`.
-    pub fn tidy<O: Sink>(
-        self,
-        election: &'a str,
-        certificate: &'a str,
-        out: &mut O,
-    ) -> Result<Status, Fault> {
-        run_tidy(
-            self.rt.alloc(),
-            &mut self.open(election),
-            &mut self.open(certificate),
-            out,
-        )
+    pub fn tidy<O: Sink>(self, inputs: &'a Inputs, out: &mut O) -> Result<Status, Fault> {
+        let Opened {
+            mut election,
+            outcome: _,
+            mut certificate,
+        } = self.open_shared(inputs);
+        run_tidy(self.rt.alloc(), &mut election, &mut certificate, out)
+    }
+}
+
+/// The name of the file at a path, without its folders.
+fn name_of(path: &str) -> &str {
+    match path.rsplit_once('/') {
+        Some((_, name)) => name,
+        None => path,
     }
 }

@@ -1,28 +1,45 @@
 //! The audit of a folder of elections.
+use crate::end::End;
 use crate::file::FileReader;
-use crate::listing::{ELECTION, ListFault, Listing, PRICES, VIOLATION};
+use crate::listing::{ListFault, Listing};
 use crate::progress::Progress;
-use pb_audit::{Entry, Fault, FolderReport, Loaded, Report, Status};
-use pb_election::{Input, Sink, put};
+use crate::refusals::tell_unlisted;
+use pb_audit::endings::{ELECTION, PRICES, VIOLATION};
+use pb_audit::{
+    Answer, Entry, Fault, FolderReport, FolderStatus, InputFault, InputName, Loaded, Refusal,
+};
+use pb_election::{Input, Sink};
+use pb_hints::push_shown;
 use pb_price::Mode;
+use pb_reply::{refused, write_reply};
 use std::alloc::AllocError;
 use std::io::{IsTerminal, Write};
 
+/// How many files are named that aren't audited.
+const MOST_NAMED: usize = 5;
+
 /// Writes the report on a folder of elections on `out`, once the whole of it is there. Where `err` is a terminal, it
-/// tells there how far it is. That the folder has no election is told on `err` as well.
+/// tells there how far it is. That the folder has no election, or can't be listed, is told on `err` as well, and so are
+/// files that may be meant to be audited and aren't.
 pub fn run_folder<W: Sink, E: Write + IsTerminal>(
     rt: &HostRuntime,
     folder: &str,
     mode: Mode,
     out: &mut W,
     err: &mut E,
-) -> Result<Status, Fault> {
+) -> Result<End, Fault> {
     let listing = match Listing::read(rt, folder) {
         Ok(listing) => listing,
         Err(ListFault::Memory) => return Err(Fault::Memory),
-        Err(ListFault::Unlisted) => {
-            put(b"refused folder 18 Read record 0\n", out)?;
-            return Ok(Status::Refused);
+        Err(ListFault::Unlisted(failure)) => {
+            let unlisted = Refusal {
+                input: InputName::Folder,
+                fault: InputFault::Unread,
+            };
+            let reply = refused(rt.alloc(), unlisted)?;
+            let status = write_reply(rt.alloc(), &reply, out)?;
+            tell_unlisted(rt, folder, failure, err);
+            return Ok(End::Answered(status));
         }
     };
     let mut progress = Progress::new(err);
@@ -32,13 +49,44 @@ pub fn run_folder<W: Sink, E: Write + IsTerminal>(
         return Err(Fault::Memory);
     };
     let status = report.write(out)?;
+    tell_beside(rt, &listing, err);
+    Ok(End::Reported(status))
+}
+
+/// Tells that there is no election, and in one line which files may be meant to be audited and aren't. What `err` does
+/// not take is lost, and the files are not told where memory is wanted.
+fn tell_beside<E: Write>(rt: &HostRuntime, listing: &Listing, err: &mut E) {
     if listing.elections().is_empty() {
         let _ = writeln!(
             err,
             "pbaudit: no election was found: no file of the folder is named NAME.pb"
         );
     }
-    Ok(status)
+    if let Ok(Some(line)) = overlooked_line(rt, listing) {
+        let _ = err.write_all(line.as_bytes());
+    }
+}
+
+/// The line that names the files that may be meant to be audited and aren't, if there are any.
+fn overlooked_line(rt: &HostRuntime, listing: &Listing) -> Result<Option<String>, AllocError> {
+    let names = listing.overlooked(rt.alloc())?;
+    if names.is_empty() {
+        return Ok(None);
+    }
+    let mut line = String::from_str(rt.alloc(), "pbaudit: not audited: ")?;
+    for (place, name) in names.iter().take(MOST_NAMED).enumerate() {
+        if place > 0 {
+            line.push_str(", ")?;
+        }
+        push_shown(&mut line, name)?;
+    }
+    if names.len() > MOST_NAMED {
+        write!(line, " and {} more", names.len() - MOST_NAMED)?;
+    }
+    line.push_str(
+        "; an election is NAME.pb, and its certificates are NAME.prices.csv and NAME.violation.csv, in these letters\n",
+    )?;
+    Ok(Some(line))
 }
 
 /// The report on what a folder lists. One entry after the other is loaded, audited and let go.
@@ -48,7 +96,7 @@ pub fn report<E: Write + IsTerminal>(
     listing: &Listing,
     mode: Mode,
     progress: &mut Progress<'_, E>,
-) -> Result<Report, AllocError> {
+) -> Result<Answer<FolderStatus>, AllocError> {
     let names = listing.elections();
     let mut report = FolderReport::new(rt.alloc(), mode);
     for (done, name) in names.iter().enumerate() {

@@ -1,14 +1,9 @@
 //! What a folder lists.
+use pb_audit::endings::{ELECTION, PRICES, VIOLATION};
 use std::alloc::{AllocError, Global};
 use std::fs::DirEntry;
 use std::io::ErrorKind;
 use std::{fs, io};
-
-pub const ELECTION: &str = ".pb";
-
-pub const PRICES: &str = ".prices.csv";
-
-pub const VIOLATION: &str = ".violation.csv";
 
 /// The elections and the certificates of a folder, by their names without these endings, in byte order.
 #[derive(Drop)]
@@ -16,6 +11,8 @@ pub struct Listing {
     elections: Vec<String>,
     prices: Vec<String>,
     violations: Vec<String>,
+    /// The names, with their endings, of files whose endings are the same but for small and capital letters.
+    misnamed: Vec<String>,
 }
 
 /// What a file of a folder is.
@@ -31,8 +28,9 @@ enum Kind {
 pub enum ListFault {
     /// Memory was wanted.
     Memory,
-    /// It can't be listed, or lists a name that is not UTF-8.
-    Unlisted,
+    /// It can't be listed, for which the operating system has this number; or, with none, it lists a name that is not
+    /// UTF-8.
+    Unlisted(Option<i32>),
 }
 
 /// What a file is by the ending of its name.
@@ -52,7 +50,7 @@ impl From<io::Error> for ListFault {
     fn from(error: io::Error) -> ListFault {
         match error.kind() {
             ErrorKind::OutOfMemory => ListFault::Memory,
-            _ => ListFault::Unlisted,
+            _ => ListFault::Unlisted(error.raw_os_error()),
         }
     }
 }
@@ -65,6 +63,7 @@ impl Listing {
             elections: Vec::new(alloc),
             prices: Vec::new(alloc),
             violations: Vec::new(alloc),
+            misnamed: Vec::new(alloc),
         };
         for entry in fs::read_dir(rt, folder)? {
             listing.take(alloc, &entry?)?;
@@ -75,9 +74,14 @@ impl Listing {
         Ok(listing)
     }
 
-    /// Takes what is listed, where it is an election or a certificate.
+    /// Takes what is listed, where it is an election or a certificate, or has such a name but for capital letters.
     fn take(&mut self, alloc: Global, entry: &DirEntry) -> Result<(), ListFault> {
-        let Some((kind, name)) = split(entry.file_name()) else {
+        let file_name = entry.file_name();
+        let Some((kind, name)) = split(file_name) else {
+            if is_misnamed(file_name) && is_file(entry)? {
+                let name = String::from_str(alloc, file_name)?;
+                self.misnamed.push(name).map_err(AllocError::from)?;
+            }
             return Ok(());
         };
         if !is_entry_name(name) || !is_file(entry)? {
@@ -91,6 +95,44 @@ impl Listing {
         };
         taken.map_err(AllocError::from)?;
         Ok(())
+    }
+
+    /// The names, with their endings and in byte order, of the files that may be meant to be audited and aren't: those
+    /// whose endings are right but for small and capital letters, and certificates beside which there is no election.
+    /// One whose name begins with that of an election and a point, as `town.stable.prices.csv` beside `town.pb`, is
+    /// taken for another one that was put there on purpose.
+    pub fn overlooked(&self, alloc: Global) -> Result<Vec<String>, AllocError> {
+        let mut names = Vec::new(alloc);
+        for name in &self.misnamed {
+            names.push(name.clone()?)?;
+        }
+        for (certificates, ending) in [(&self.prices, PRICES), (&self.violations, VIOLATION)] {
+            for name in certificates {
+                if !self.has_election_of(name) {
+                    names.push(format!(in alloc; "{name}{ending}")?)?;
+                }
+            }
+        }
+        names.sort_unstable();
+        Ok(names)
+    }
+
+    /// Whether an election has this name, or the front of it before a point.
+    fn has_election_of(&self, name: &str) -> bool {
+        let mut front = name;
+        for _ in 0..=name.len() {
+            let found = self
+                .elections
+                .binary_search_by(|other| other.as_str().cmp(front));
+            if found.is_ok() {
+                return true;
+            }
+            match front.rsplit_once('.') {
+                Some((rest, _)) => front = rest,
+                None => return false,
+            }
+        }
+        false
     }
 
     /// The names of the elections, in byte order.
@@ -117,6 +159,15 @@ fn split(file_name: &str) -> Option<(Kind, &str)> {
         }
     }
     None
+}
+
+/// Whether a file's name has one of the endings but for small and capital letters.
+fn is_misnamed(file_name: &str) -> bool {
+    let name = file_name.as_bytes();
+    KINDS.into_iter().any(|(ending, _)| {
+        let front = name.len().saturating_sub(ending.len());
+        front > 0 && name[front..].eq_ignore_ascii_case(ending.as_bytes())
+    })
 }
 
 /// Whether an entry may have this name: it isn't empty and holds no control byte.

@@ -1,135 +1,155 @@
-//! What people are told of a refusal beside its line.
+//! What people are told beside an answer: notes on the election, and why a file is refused.
 use crate::file::FileReader;
-use pb_audit::{Loaded, Task};
-use pb_certificate::is_violation;
+use pb_audit::{InputFault, InputName, Loaded, Refusal, Task};
+use pb_certificate::CertFault;
 use pb_election::Input;
-use pb_hints::{Kind, Refusal, RefusedFile, hint};
-use std::alloc::{AllocError, Global};
+use pb_hints::{FileKind, Remark, hint, push_shown};
+use std::alloc::AllocError;
 use std::io::Write;
 use std::{fs, io};
 
-/// Tells on `err` why an input of a task was refused, whose line, without its end, is this. Where the input couldn't be
-/// read, the operating system's number for that is `failure`. What `err` does not take is lost, and nothing is told
-/// where memory is wanted, where there is no such line, or of a folder, whose lines name their files.
+/// Tells on `err` why an input of a task was refused. Where the input couldn't be read, the operating system's number
+/// for that is `failure`. What `err` does not take is lost, and nothing is told where memory is wanted.
 pub fn tell_hint<E: Write>(
     rt: &HostRuntime,
     task: &Task,
-    line: &[u8],
+    refusal: Refusal,
     failure: Option<i32>,
     err: &mut E,
 ) {
-    let Ok(line) = str::from_utf8(line) else {
-        return;
-    };
-    let Some(refusal) = Refusal::parse(line) else {
-        return;
-    };
-    if let Ok(hint) = hint_on(rt, task, &refusal, failure) {
-        let _ = err.write_all(hint.as_bytes());
-    }
-}
-
-/// The hint on a refusal, which is empty where the task has no such input.
-fn hint_on(
-    rt: &HostRuntime,
-    task: &Task,
-    refusal: &Refusal<'_>,
-    failure: Option<i32>,
-) -> Result<String, AllocError> {
-    let alloc = rt.alloc();
-    let Some((kind, path)) = input_of(task, refusal.input) else {
-        return Ok(String::new(alloc));
-    };
-    let bytes = match path {
-        Some(path) if refusal.place > 0 => bytes_at(rt, path)?,
-        _ => None,
-    };
-    let election = match input_of(task, "election") {
-        Some((_, Some(path))) if refusal.asks_for_election() => bytes_at(rt, path)?,
-        _ => None,
-    };
-    let reason = match failure {
-        Some(number) => Some(reason_of(rt, number)?),
-        None => None,
-    };
-    let kind = match &bytes {
-        Some(bytes) if explains_violation(alloc, task, refusal, bytes)? => Kind::Violation,
-        _ => kind,
-    };
-    let file = RefusedFile {
-        name: path.unwrap_or("standard input"),
-        kind,
-        bytes,
-        election,
-        reason,
-    };
-    hint(alloc, refusal, &file)
-}
-
-/// Whether the bytes of a refused input are a certificate that `explain` takes as that of a violation.
-fn explains_violation(
-    alloc: Global,
-    task: &Task,
-    refusal: &Refusal<'_>,
-    bytes: &[u8],
-) -> Result<bool, AllocError> {
-    match task {
-        Task::Explain { .. } if refusal.input == "certificate" => is_violation(alloc, bytes),
-        _ => Ok(false),
-    }
-}
-
-/// What an input of a task is to be, as far as the task tells, by its name in refusals, and its path; none for standard
-/// input.
-fn input_of<'a>(task: &'a Task, input: &str) -> Option<(Kind, Option<&'a str>)> {
-    match input {
-        "election" => Some((Kind::Election, election_of(task)?)),
-        "outcome" => Some((Kind::Outcome, Some(outcome_of(task)?))),
-        _ => {
-            let (kind, path) = certificate_of(task, input == "violation")?;
-            Some((kind, Some(path)))
+    if let Some((kind, path)) = input_of(task, refusal.input) {
+        let remarks = match refusal.fault {
+            InputFault::Unread => unread(rt, path, failure, "reading it failed"),
+            _ => remarks_on(rt, task, refusal, kind, path),
+        };
+        if let Ok(remarks) = remarks {
+            tell_remarks(rt, path.unwrap_or("standard input"), &remarks, err);
         }
     }
 }
 
-/// The election of a task, by its path, or by none where it is on standard input. The task on a folder has no such
-/// input.
-fn election_of(task: &Task) -> Option<Option<&str>> {
-    match task {
-        Task::Read(election) => Some(election.as_deref()),
-        Task::Prices { election, .. }
-        | Task::Violation { election, .. }
-        | Task::Both { election, .. }
-        | Task::Explain { election, .. }
-        | Task::Margins { election, .. }
-        | Task::Tidy { election, .. } => Some(Some(election)),
-        Task::Folder { .. } => None,
+/// Tells on `err` the notes on the election of a task, a line for each. What `err` does not take is lost, and nothing is
+/// told where memory is wanted.
+pub fn tell_notes<E: Write>(rt: &HostRuntime, task: &Task, notes: &[String], err: &mut E) {
+    let Some((_, Some(path))) = input_of(task, InputName::Election) else {
+        return;
+    };
+    let mut text = String::new(rt.alloc());
+    let pushed = notes
+        .iter()
+        .try_for_each(|note| push_note(&mut text, path, note));
+    if pushed.is_ok() {
+        let _ = err.write_all(text.as_bytes());
     }
 }
 
-/// The path of the file from which a task takes the outcome, where one is given.
-fn outcome_of(task: &Task) -> Option<&str> {
-    match task {
-        Task::Prices { outcome, .. }
-        | Task::Violation { outcome, .. }
-        | Task::Both { outcome, .. }
-        | Task::Explain { outcome, .. }
-        | Task::Margins { outcome, .. } => outcome.as_deref(),
-        Task::Read(_) | Task::Tidy { .. } | Task::Folder { .. } => None,
+fn push_note(text: &mut String, path: &str, note: &str) -> Result<(), AllocError> {
+    push_shown(text, path)?;
+    text.push_str(": ")?;
+    text.push_str(note)?;
+    text.push('\n')
+}
+
+/// Tells on `err` why a folder was not listed.
+pub fn tell_unlisted<E: Write>(rt: &HostRuntime, folder: &str, failure: Option<i32>, err: &mut E) {
+    let words = "the name of a file in it isn't UTF-8";
+    if let Ok(remarks) = unread(rt, Some(folder), failure, words) {
+        tell_remarks(rt, folder, &remarks, err);
     }
 }
 
-/// What a task's certificate is to be, and its path. Of two it is that of a violation where that is asked for.
-fn certificate_of(task: &Task, of_violation: bool) -> Option<(Kind, &str)> {
-    match task {
-        Task::Prices { certificate, .. }
-        | Task::Margins { certificate, .. }
-        | Task::Tidy { certificate, .. } => Some((Kind::Prices, certificate)),
-        Task::Explain { certificate, .. } => Some((Kind::Certificate, certificate)),
-        Task::Violation { certificate, .. } => Some((Kind::Violation, certificate)),
-        Task::Both { violation, .. } if of_violation => Some((Kind::Violation, violation)),
-        Task::Both { prices, .. } => Some((Kind::Prices, prices)),
-        Task::Read(_) | Task::Folder { .. } => None,
+fn tell_remarks<E: Write>(rt: &HostRuntime, name: &str, remarks: &[Remark], err: &mut E) {
+    let name = if name.is_empty() { "''" } else { name };
+    let mut text = String::new(rt.alloc());
+    let pushed = remarks
+        .iter()
+        .try_for_each(|remark| remark.push(&mut text, name));
+    if pushed.is_ok() {
+        let _ = err.write_all(text.as_bytes());
+    }
+}
+
+/// Why an input couldn't be read, or these words where the operating system gives no number for it.
+fn unread(
+    rt: &HostRuntime,
+    path: Option<&str>,
+    failure: Option<i32>,
+    words: &str,
+) -> Result<Vec<Remark>, AllocError> {
+    let sentence = match (path, failure) {
+        (Some(""), _) => String::from_str(rt.alloc(), "the path is empty")?,
+        (_, Some(number)) => reason_of(rt, number)?,
+        (_, None) => String::from_str(rt.alloc(), words)?,
+    };
+    let mut remarks = Vec::new(rt.alloc());
+    remarks.push(Remark {
+        line: None,
+        sentence,
+    })?;
+    Ok(remarks)
+}
+
+/// What is told of an input of this kind and path, by what it holds now.
+fn remarks_on(
+    rt: &HostRuntime,
+    task: &Task,
+    refusal: Refusal,
+    kind: FileKind,
+    path: Option<&str>,
+) -> Result<Vec<Remark>, AllocError> {
+    let bytes = match path {
+        Some(path) if refusal.fault.place() > 0 => bytes_at(rt, path)?,
+        _ => None,
+    };
+    let election = match input_of(task, InputName::Election) {
+        Some((_, Some(path))) if asks_for_election(refusal.fault) => bytes_at(rt, path)?,
+        _ => None,
+    };
+    hint(
+        rt.alloc(),
+        kind,
+        refusal.fault,
+        bytes.as_deref(),
+        election.as_deref(),
+    )
+}
+
+/// Whether a hint tells more where the election is there beside which the refused file was read.
+fn asks_for_election(fault: InputFault) -> bool {
+    match fault {
+        InputFault::Certificate(refusal) => matches!(
+            refusal.fault,
+            CertFault::UnknownVoter | CertFault::UnknownProject | CertFault::BadNumber
+        ),
+        _ => false,
+    }
+}
+
+/// What an input of a task is to be, as far as the task tells, and its path; none for standard input.
+fn input_of(task: &Task, input: InputName) -> Option<(FileKind, Option<&str>)> {
+    let (inputs, kind) = match task {
+        Task::Read(election) => return Some((FileKind::Election, election.as_deref())),
+        Task::Folder { .. } => return None,
+        Task::Prices { inputs, .. } | Task::Margins(inputs) | Task::Tidy(inputs) => {
+            (inputs, FileKind::Prices)
+        }
+        Task::Violation(inputs) => (inputs, FileKind::Violation),
+        Task::Both {
+            inputs,
+            violation,
+            ..
+        } => match input {
+            InputName::Violation => return Some((FileKind::Violation, Some(violation))),
+            _ => (inputs, FileKind::Prices),
+        },
+        Task::Explain { inputs, .. } | Task::Page { inputs, .. } => {
+            (inputs, FileKind::Certificate)
+        }
+    };
+    match input {
+        InputName::Election => Some((FileKind::Election, Some(&inputs.election))),
+        InputName::Outcome => Some((FileKind::Outcome, Some(inputs.outcome.as_deref()?))),
+        _ => Some((kind, Some(&inputs.certificate))),
     }
 }
 

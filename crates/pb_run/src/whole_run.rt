@@ -33,7 +33,7 @@ fn end_of<I: Read, O: Write, E: Write + IsTerminal>(
         Err(fault) => return End::from(fault),
     };
     match run_task(rt, &task, input, out, err) {
-        Ok(status) => End::Answered(status),
+        Ok(end) => end,
         Err(fault) => End::Faulted(fault),
     }
 }

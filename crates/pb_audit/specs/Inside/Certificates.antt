@@ -13,6 +13,7 @@ use Rattle.pb_reply.specs.Inputs.{Stated, StatesPrices}
 use Rattle.pb_reply.specs.Replies.{Answer, Reply, answer_of, with_input}
 use Rattle.pb_reply.specs.declared.input.InputName.{InputName}
 use Rattle.pb_reply.specs.declared.input.InputName.TheVariants as name
+use Rattle.pb_reply.specs.declared.status.Status.{Status}
 use Rattle.pb_audit.specs.Answers.{AuditRules, tidy_answer}
 use Rattle.pb_audit.specs.Margins.{margins_reply}
 
@@ -41,12 +42,12 @@ JudgesPrices input m e w certificate stated =
     MadeOfPrices (λ p. verdict_of (First m e w p)) input e certificate stated
 
 -- their canonical text
-abbrev pub TidiesPrices : Instance → Delivery → Stated Answer → Type 0
+abbrev pub TidiesPrices : Instance → Delivery → Stated (Answer Status) → Type 0
 TidiesPrices e certificate stated =
     MadeOfPrices (λ p. tidy_answer (Ok e) (Ok p)) name.Certificate e certificate stated
 
 -- the table of margins by them
-abbrev pub TablesMargins : Instance → List Bool → Delivery → Stated Answer → Type 0
+abbrev pub TablesMargins : Instance → List Bool → Delivery → Stated (Answer Status) → Type 0
 TablesMargins e w certificate stated =
     MadeOfPrices (λ p. answer_of (margins_reply e w p)) name.Certificate e certificate stated
 

@@ -1,6 +1,6 @@
 //! What is printed on a price certificate and a violation certificate together.
+use super::ends::Ends;
 use super::engines;
-use pb_audit::Status;
 use pb_price::Mode;
 use pb_samples::fakes::InterruptedReader;
 use pb_samples::files::{
@@ -18,7 +18,7 @@ fn audit(
     mut prices: &[u8],
     mut violation: &[u8],
     mode: Mode,
-) -> Result<(String, Status), Fail> {
+) -> Result<(String, Ends), Fail> {
     let outcome: Option<&mut &[u8]> = None;
     engines::both(
         alloc,
@@ -43,7 +43,7 @@ fn one_no_of_two_is_a_no(rt: HostRuntime) -> Result<(), Fail> {
         printed.as_str() == "supported stable\nfailed V4 voter 1\n",
         "{printed}"
     );
-    assert!(rt; status == Status::No);
+    assert!(rt; status == Ends::No);
     Ok(())
 }
 
@@ -51,9 +51,9 @@ fn one_no_of_two_is_a_no(rt: HostRuntime) -> Result<(), Fail> {
 #[test]
 fn mode_counts_for_the_prices_alone(rt: HostRuntime) -> Result<(), Fail> {
     for (mode, want, wanted) in [
-        (PLAIN, "supported priceable\nviolation\n", Status::Yes),
-        (STABLE, "failed S5 project x1\nviolation\n", Status::No),
-        (COVER, "failed Cover\nviolation\n", Status::No),
+        (PLAIN, "supported priceable\nviolation\n", Ends::Yes),
+        (STABLE, "failed S5 project x1\nviolation\n", Ends::No),
+        (COVER, "failed Cover\nviolation\n", Ends::No),
     ] {
         let (printed, status) = audit(
             rt.alloc(),
@@ -75,17 +75,17 @@ fn outcome_file_is_taken_for_both(rt: HostRuntime) -> Result<(), Fail> {
         (
             "pb-outcome,1\n",
             "failed Exhaustive project x1\nviolation\n",
-            Status::No,
+            Ends::No,
         ),
         (
             "pb-outcome,1\nproject,x1\nproject,x2\n",
             "failed C3 project x1\nfailed V4 voter 1\n",
-            Status::No,
+            Ends::No,
         ),
         (
             "pb-outcome,2\n",
             "refused outcome 21 BadHead record 1\n",
-            Status::Refused,
+            Ends::Refused,
         ),
     ] {
         let mut outcome = file.as_bytes();
@@ -122,7 +122,7 @@ fn first_refused_input_is_named(rt: HostRuntime) -> Result<(), Fail> {
     ] {
         let (printed, status) = audit(alloc, election.as_bytes(), prices, b"", PLAIN)?;
         assert!(rt; printed.as_str() == want, "{printed}");
-        assert!(rt; status == Status::Refused, "{printed}");
+        assert!(rt; status == Ends::Refused, "{printed}");
     }
     Ok(())
 }

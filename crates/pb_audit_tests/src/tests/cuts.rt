@@ -1,6 +1,6 @@
 //! Files that are cut short, after each of their bytes.
+use super::ends::Ends;
 use super::engines;
-use pb_audit::Status;
 use pb_samples::files::{ELECTION, PRICES};
 use pb_samples::modes::PLAIN;
 use std::alloc::{AllocError, Global};
@@ -64,16 +64,13 @@ fn cut_election_is_answered_by_its_lines(rt: HostRuntime) -> Result<(), Fail> {
         let left = String::from_utf8(Vec::from_slice(alloc, front.bytes)?)?;
         let is_header = front.whole_lines == 13 && left.as_str().ends_with("\nvote");
         if front.begun && front.whole_lines < 14 && !is_header {
-            assert!(rt; status == Status::Refused, "{left}");
+            assert!(rt; status == Ends::Refused, "{left}");
             assert!(rt; printed.as_str().starts_with("refused election "), "{left}");
         } else {
             let lines = front.whole_lines.saturating_add(usize::from(front.begun));
             let want = answer_on_lines(alloc, lines)?;
             assert!(rt; printed.as_str() == want.as_str(), "{left}: {printed}");
-            assert!(rt;
-                (status == Status::Yes) == (lines >= 14),
-                "{left}: {printed}"
-            );
+            assert!(rt; (status == Ends::Yes) == (lines >= 14), "{left}: {printed}");
         }
     }
     Ok(())
@@ -94,15 +91,15 @@ fn cut_row_of_prices_is_refused(rt: HostRuntime) -> Result<(), Fail> {
         let (want, wanted) = match (front.whole_lines, front.begun) {
             (0..=3, _) => (
                 format!(in alloc; "refused certificate 21 BadHead record {record}\n")?,
-                Status::Refused,
+                Ends::Refused,
             ),
             (_, true) => (
                 format!(in alloc; "refused certificate 22 BadRow record {record}\n")?,
-                Status::Refused,
+                Ends::Refused,
             ),
-            (4..=6, false) => (format!(in alloc; "failed C3 project a\n")?, Status::No),
-            (7, false) => (format!(in alloc; "failed C3 project b\n")?, Status::No),
-            _ => (format!(in alloc; "supported priceable\n")?, Status::Yes),
+            (4..=6, false) => (format!(in alloc; "failed C3 project a\n")?, Ends::No),
+            (7, false) => (format!(in alloc; "failed C3 project b\n")?, Ends::No),
+            _ => (format!(in alloc; "supported priceable\n")?, Ends::Yes),
         };
         let left = String::from_utf8(Vec::from_slice(alloc, front.bytes)?)?;
         assert!(rt; printed.as_str() == want.as_str(), "{left}: {printed}");

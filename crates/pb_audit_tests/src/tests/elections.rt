@@ -1,12 +1,12 @@
 //! What is printed on election files.
+use super::ends::Ends;
 use super::engines;
-use pb_audit::Status;
 use pb_samples::files::{ELECTION, FILLED_ELECTION, NO_VOTERS, with_lines};
 use std::alloc::Global;
 use std::test::Fail;
 
 /// What is printed on an election's file, and how it ends.
-fn read(alloc: Global, mut file: &[u8]) -> Result<(String, Status), Fail> {
+fn read(alloc: Global, mut file: &[u8]) -> Result<(String, Ends), Fail> {
     engines::read(alloc, &mut file)
 }
 
@@ -20,7 +20,7 @@ fn marks_line_ends_and_filled_lines_change_no_count(rt: HostRuntime) -> Result<(
     ] {
         let (printed, status) = read(alloc, file.as_bytes())?;
         assert!(rt; printed.as_str() == want, "{printed}");
-        assert!(rt; status == Status::Yes, "{printed}");
+        assert!(rt; status == Ends::Yes, "{printed}");
     }
     Ok(())
 }
@@ -57,7 +57,7 @@ fn counts_that_differ_are_noted(rt: HostRuntime) -> Result<(), Fail> {
         let file = with_lines(alloc, ELECTION, kept, removed, new.as_bytes())?;
         let (printed, status) = read(alloc, &file)?;
         assert!(rt; printed.as_str() == want, "{new}: {printed}");
-        assert!(rt; status == Status::Yes, "{new}: {printed}");
+        assert!(rt; status == Ends::Yes, "{new}: {printed}");
     }
     Ok(())
 }
@@ -102,7 +102,7 @@ fn first_fault_of_an_election_is_told_with_its_record(rt: HostRuntime) -> Result
         let (printed, status) = read(alloc, &file)?;
         let line = format!(in alloc; "refused election {want}\n")?;
         assert!(rt; printed.as_str() == line.as_str(), "{new}: {printed}");
-        assert!(rt; status == Status::Refused, "{new}: {printed}");
+        assert!(rt; status == Ends::Refused, "{new}: {printed}");
     }
     Ok(())
 }
@@ -116,6 +116,6 @@ fn project_that_is_not_utf8_is_refused_at_its_record(rt: HostRuntime) -> Result<
         printed.as_str() == "refused election 1 NotUtf8 record 10\n",
         "{printed}"
     );
-    assert!(rt; status == Status::Refused);
+    assert!(rt; status == Ends::Refused);
     Ok(())
 }

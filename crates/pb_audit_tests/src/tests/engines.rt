@@ -1,4 +1,5 @@
 //! What the engines print on what readers give, and how they end.
+use super::ends::{Ends, ending_of};
 use pb_audit::{
     Status, run_both, run_explain, run_margins, run_prices, run_read, run_tidy, run_violation,
 };
@@ -16,15 +17,22 @@ fn input_of<O: Read + Drop>(outcome: Option<O>) -> Option<Input<O>> {
     }
 }
 
+/// What was written, and how it ends.
+fn ended(alloc: Global, written: Vec<u8>, status: Status) -> Result<(String, Ends), Fail> {
+    let text = String::from_utf8(written)?;
+    let ends = ending_of(alloc, &text, status)?;
+    Ok((text, ends))
+}
+
 /// On an election.
-pub fn read<E: Read>(alloc: Global, election: &mut E) -> Result<(String, Status), Fail> {
+pub fn read<E: Read>(alloc: Global, election: &mut E) -> Result<(String, Ends), Fail> {
     let mut written = Vec::new(alloc);
     let status = run_read(
         alloc,
         &mut Input::new(election),
         &mut Output::new(&mut written),
     )?;
-    Ok((String::from_utf8(written)?, status))
+    ended(alloc, written, status)
 }
 
 /// On a price certificate.
@@ -34,7 +42,7 @@ pub fn prices<E: Read, O: Read + Drop, C: Read>(
     outcome: Option<O>,
     certificate: &mut C,
     mode: Mode,
-) -> Result<(String, Status), Fail> {
+) -> Result<(String, Ends), Fail> {
     let mut outcome = input_of(outcome);
     let mut written = Vec::new(alloc);
     let status = run_prices(
@@ -43,9 +51,10 @@ pub fn prices<E: Read, O: Read + Drop, C: Read>(
         &mut outcome,
         &mut Input::new(certificate),
         mode,
+        &mut Vec::new(alloc),
         &mut Output::new(&mut written),
     )?;
-    Ok((String::from_utf8(written)?, status))
+    ended(alloc, written, status)
 }
 
 /// On a violation certificate.
@@ -54,7 +63,7 @@ pub fn violation<E: Read, O: Read + Drop, C: Read>(
     election: &mut E,
     outcome: Option<O>,
     certificate: &mut C,
-) -> Result<(String, Status), Fail> {
+) -> Result<(String, Ends), Fail> {
     let mut outcome = input_of(outcome);
     let mut written = Vec::new(alloc);
     let status = run_violation(
@@ -62,9 +71,10 @@ pub fn violation<E: Read, O: Read + Drop, C: Read>(
         &mut Input::new(election),
         &mut outcome,
         &mut Input::new(certificate),
+        &mut Vec::new(alloc),
         &mut Output::new(&mut written),
     )?;
-    Ok((String::from_utf8(written)?, status))
+    ended(alloc, written, status)
 }
 
 /// On a price certificate and a violation certificate.
@@ -75,7 +85,7 @@ pub fn both<E: Read, O: Read + Drop, P: Read, V: Read>(
     prices: &mut P,
     violation: &mut V,
     mode: Mode,
-) -> Result<(String, Status), Fail> {
+) -> Result<(String, Ends), Fail> {
     let mut outcome = input_of(outcome);
     let mut written = Vec::new(alloc);
     let status = run_both(
@@ -87,7 +97,7 @@ pub fn both<E: Read, O: Read + Drop, P: Read, V: Read>(
         mode,
         &mut Output::new(&mut written),
     )?;
-    Ok((String::from_utf8(written)?, status))
+    ended(alloc, written, status)
 }
 
 /// On a certificate of either kind that is to be explained.
@@ -97,7 +107,7 @@ pub fn explain<E: Read, O: Read + Drop, C: Read>(
     outcome: Option<O>,
     certificate: &mut C,
     mode: Mode,
-) -> Result<(String, Status), Fail> {
+) -> Result<(String, Ends), Fail> {
     let mut outcome = input_of(outcome);
     let mut written = Vec::new(alloc);
     let status = run_explain(
@@ -106,9 +116,10 @@ pub fn explain<E: Read, O: Read + Drop, C: Read>(
         &mut outcome,
         &mut Input::new(certificate),
         mode,
+        &mut Vec::new(alloc),
         &mut Output::new(&mut written),
     )?;
-    Ok((String::from_utf8(written)?, status))
+    ended(alloc, written, status)
 }
 
 /// On a price certificate whose margins are asked for.
@@ -117,7 +128,7 @@ pub fn margins<E: Read, O: Read + Drop, C: Read>(
     election: &mut E,
     outcome: Option<O>,
     certificate: &mut C,
-) -> Result<(String, Status), Fail> {
+) -> Result<(String, Ends), Fail> {
     let mut outcome = input_of(outcome);
     let mut written = Vec::new(alloc);
     let status = run_margins(
@@ -127,7 +138,7 @@ pub fn margins<E: Read, O: Read + Drop, C: Read>(
         &mut Input::new(certificate),
         &mut Output::new(&mut written),
     )?;
-    Ok((String::from_utf8(written)?, status))
+    ended(alloc, written, status)
 }
 
 /// On a price certificate that is to be written in its canonical form.
@@ -135,7 +146,7 @@ pub fn tidy<E: Read, C: Read>(
     alloc: Global,
     election: &mut E,
     certificate: &mut C,
-) -> Result<(String, Status), Fail> {
+) -> Result<(String, Ends), Fail> {
     let mut written = Vec::new(alloc);
     let status = run_tidy(
         alloc,
@@ -143,5 +154,5 @@ pub fn tidy<E: Read, C: Read>(
         &mut Input::new(certificate),
         &mut Output::new(&mut written),
     )?;
-    Ok((String::from_utf8(written)?, status))
+    ended(alloc, written, status)
 }

@@ -1,6 +1,6 @@
 //! What is printed of a certificate that is explained.
+use super::ends::Ends;
 use super::engines;
-use pb_audit::Status;
 use pb_price::Mode;
 use pb_samples::files::{
     ELECTION, EXPLAINED, FAIR_VIOLATION, NO_VOTERS, POOL_OUTCOME, PRICES, UNFAIR_ELECTION,
@@ -17,7 +17,7 @@ fn explain(
     outcome: Option<&[u8]>,
     mut certificate: &[u8],
     mode: Mode,
-) -> Result<(String, Status), Fail> {
+) -> Result<(String, Ends), Fail> {
     engines::explain(alloc, &mut election, outcome, &mut certificate, mode)
 }
 
@@ -26,7 +26,7 @@ fn table_of_prices_that_support(rt: HostRuntime) -> Result<(), Fail> {
     let alloc = rt.alloc();
     let (printed, status) = explain(alloc, ELECTION.as_bytes(), None, PRICES.as_bytes(), PLAIN)?;
     assert!(rt; printed.as_str() == EXPLAINED, "{printed}");
-    assert!(rt; status == Status::Yes);
+    assert!(rt; status == Ends::Yes);
     Ok(())
 }
 
@@ -53,7 +53,7 @@ S5          not asked  with --stable it holds: project c, the closest, costs 9.0
 ",
         "{printed}"
     );
-    assert!(rt; status == Status::No);
+    assert!(rt; status == Ends::No);
     Ok(())
 }
 
@@ -88,7 +88,7 @@ S5          holds      project b, the closest, costs 4.00, and its supporters' o
 ",
         "{printed}"
     );
-    assert!(rt; status == Status::No);
+    assert!(rt; status == Ends::No);
     Ok(())
 }
 
@@ -116,7 +116,7 @@ S5          not asked  with --stable it holds: every project is funded
 ",
         "{printed}"
     );
-    assert!(rt; status == Status::Yes);
+    assert!(rt; status == Ends::Yes);
     Ok(())
 }
 
@@ -135,7 +135,7 @@ V2          holds      each member approves each demanded project
 V3          holds      the group's share of the limit is 4.00; the demanded projects cost 4.00
 V4          holds      by count the demanded projects are worth 2, and each member gets at most 0
 ",
-            Status::Yes,
+            Ends::Yes,
         ),
         (
             ELECTION,
@@ -148,7 +148,7 @@ V2          holds      each member approves each demanded project
 V3          holds      the group's share of the limit is 6 2/3; the demanded projects cost 4.00
 V4          fails      by count the demanded projects are worth 1, and voter 1 gets 2 (members who get enough: 2)
 ",
-            Status::No,
+            Ends::No,
         ),
         (
             ELECTION,
@@ -161,7 +161,7 @@ V2          fails      voter 3 doesn't approve project a (such pairs of a member
 V3          fails      the group's share of the limit is 3 1/3; the demanded projects cost 15.00
 V4          holds      by cost the demanded projects are worth 15.00, and each member gets at most 4.00
 ",
-            Status::No,
+            Ends::No,
         ),
     ] {
         let (printed, status) = explain(
@@ -233,7 +233,7 @@ fn file_of_neither_kind_is_refused_as_prices(rt: HostRuntime) -> Result<(), Fail
             PLAIN,
         )?;
         assert!(rt; printed.as_str() == want, "{printed}");
-        assert!(rt; status == Status::Refused, "{printed}");
+        assert!(rt; status == Ends::Refused, "{printed}");
     }
     Ok(())
 }

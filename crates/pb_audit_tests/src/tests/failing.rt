@@ -1,4 +1,5 @@
 //! Readers and writers that fail.
+use super::ends::Ends;
 use super::engines;
 use pb_audit::{Fault, Status, run_read};
 use pb_election::{Input, LoadFault, Output, PutFault, load, put};
@@ -18,7 +19,7 @@ fn reader_that_fails_is_refused_though_it_gave_bytes(rt: HostRuntime) -> Result<
         printed.as_str() == "refused election 18 Read record 0\n",
         "{printed}"
     );
-    assert!(rt; status == Status::Refused);
+    assert!(rt; status == Ends::Refused);
     Ok(())
 }
 
@@ -34,7 +35,7 @@ fn short_reads_are_no_end(rt: HostRuntime) -> Result<(), Fail> {
         printed.as_str() == "read 3 voters 3 projects 2 funded\n",
         "{printed}"
     );
-    assert!(rt; status == Status::Yes);
+    assert!(rt; status == Ends::Yes);
     Ok(())
 }
 

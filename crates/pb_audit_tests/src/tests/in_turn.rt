@@ -1,8 +1,9 @@
 //! Each read and each write of each command, made to fail one after the other.
+use super::ends::Ends;
 use super::engines;
 use pb_audit::{
-    Fault, Status, folder_text, run_both, run_explain, run_margins, run_prices, run_read, run_tidy,
-    run_violation,
+    Fault, FolderStatus, Status, folder_text, run_both, run_explain, run_margins, run_prices,
+    run_read, run_tidy, run_violation,
 };
 use pb_certificate::{Prices, WriteFault};
 use pb_election::{Election, Input, Output};
@@ -60,7 +61,7 @@ impl Command {
         self,
         alloc: Global,
         interrupted_at: [usize; 3],
-    ) -> Result<(String, Status, [usize; 3]), Fail> {
+    ) -> Result<(String, Ends, [usize; 3]), Fail> {
         let [election, outcome, certificate] = self.texts();
         let [at_election, at_outcome, at_certificate] = interrupted_at;
         let mut election = InterruptedReader::new(election, PIECE, at_election);
@@ -112,7 +113,7 @@ fn expect_refused(
 ) -> Result<(), Fail> {
     let want = format!(in rt.alloc(); "refused {name} 18 Read record 0\n")?;
     let (printed, status, reads) = command.run(rt.alloc(), interrupted_at)?;
-    if printed == want && status == Status::Refused && reads == wanted {
+    if printed == want && status == Ends::Refused && reads == wanted {
         return Ok(());
     }
     Err(Fail::new(format_args!("{interrupted_at:?} {reads:?}, wanted {wanted:?}: {printed}")))
@@ -196,6 +197,7 @@ impl Written {
                 &mut no_input(),
                 &mut prices,
                 PLAIN,
+                &mut Vec::new(alloc),
                 &mut out,
             ),
             Written::Violation => run_violation(
@@ -203,6 +205,7 @@ impl Written {
                 &mut input(UNFAIR_ELECTION),
                 &mut no_input(),
                 &mut input(VIOLATION),
+                &mut Vec::new(alloc),
                 &mut out,
             ),
             Written::Both => run_both(
@@ -220,6 +223,7 @@ impl Written {
                 &mut no_input(),
                 &mut prices,
                 PLAIN,
+                &mut Vec::new(alloc),
                 &mut out,
             ),
             Written::Margins => run_margins(
@@ -230,7 +234,11 @@ impl Written {
                 &mut out,
             ),
             Written::Tidy => run_tidy(alloc, &mut election, &mut prices, &mut out),
-            Written::Folder => folder_text(alloc, &[], PLAIN)?.write(&mut out),
+            Written::Folder => match folder_text(alloc, &[], PLAIN)?.write(&mut out) {
+                Ok(FolderStatus::AllYes) => Ok(Status::Yes),
+                Ok(_) => Ok(Status::No),
+                Err(fault) => Err(fault),
+            },
             Written::Canonical => write_canonical(alloc, &mut out)?,
         })
     }

@@ -1,7 +1,7 @@
 //! Numbers at their limits and one past them, and files of some length. All of them are answered, since memory is
 //! ample. The largest files are made by tests/limits.py.
+use super::ends::Ends;
 use super::engines;
-use pb_audit::Status;
 use pb_samples::files::{
     ELECTION, LARGEST_ELECTION, NO_MONEY, NO_VOTERS, PRICES, certificate, with_lines,
 };
@@ -27,7 +27,7 @@ fn election(alloc: Global, projects: u32, voters: u32, ballot: &str) -> Result<S
 }
 
 /// An answer is to be this line.
-fn expect(answer: (String, Status), line: &str) -> Result<(), Fail> {
+fn expect(answer: (String, Ends), line: &str) -> Result<(), Fail> {
     let (printed, _) = answer;
     if printed.as_str().strip_suffix('\n') == Some(line) {
         return Ok(());

@@ -1,6 +1,6 @@
 //! The table of margins that is printed on a price certificate.
+use super::ends::Ends;
 use super::engines;
-use pb_audit::Status;
 use pb_samples::fakes::EndlessReader;
 use pb_samples::files::{
     ELECTION, MARGINS, NO_VOTERS, POOL_OUTCOME, PRICES, QUOTED_ELECTION, QUOTED_PRICES,
@@ -15,7 +15,7 @@ fn margins(
     mut election: &[u8],
     outcome: Option<&[u8]>,
     mut certificate: &[u8],
-) -> Result<(String, Status), Fail> {
+) -> Result<(String, Ends), Fail> {
     engines::margins(alloc, &mut election, outcome, &mut certificate)
 }
 
@@ -50,7 +50,7 @@ x,1,0,0,0,0,0
     ] {
         let (printed, status) = margins(alloc, election.as_bytes(), None, certificate.as_bytes())?;
         assert!(rt; printed.as_str() == want, "{printed}");
-        assert!(rt; status == Status::Yes, "{printed}");
+        assert!(rt; status == Ends::Yes, "{printed}");
     }
     Ok(())
 }
@@ -74,7 +74,7 @@ c,0,1,18000000,0,-1000000,2000000
 ",
         "{printed}"
     );
-    assert!(rt; status == Status::Yes);
+    assert!(rt; status == Ends::Yes);
     Ok(())
 }
 
@@ -99,7 +99,7 @@ c,1,1,9000000,0,2000000,2000000
 ",
         "{printed}"
     );
-    assert!(rt; status == Status::Yes);
+    assert!(rt; status == Ends::Yes);
     Ok(())
 }
 
@@ -136,7 +136,7 @@ fn first_refused_input_is_named(rt: HostRuntime) -> Result<(), Fail> {
     ] {
         let (printed, status) = margins(alloc, election, outcome, certificate)?;
         assert!(rt; printed.as_str() == want, "{printed}");
-        assert!(rt; status == Status::Refused, "{printed}");
+        assert!(rt; status == Ends::Refused, "{printed}");
     }
     Ok(())
 }
@@ -148,7 +148,7 @@ fn certificate_of_a_refused_election_is_not_read(rt: HostRuntime) -> Result<(), 
     let mut certificate = EndlessReader { reads: 0 };
     let none: Option<&[u8]> = None;
     let (_, status) = engines::margins(alloc, &mut election, none, &mut certificate)?;
-    assert!(rt; status == Status::Refused);
+    assert!(rt; status == Ends::Refused);
     assert!(rt; certificate.reads == 0);
     Ok(())
 }

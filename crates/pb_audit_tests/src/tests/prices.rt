@@ -1,6 +1,6 @@
 //! What is printed on price certificates.
+use super::ends::Ends;
 use super::engines;
-use pb_audit::Status;
 use pb_price::Mode;
 use pb_samples::fakes::EndlessReader;
 use pb_samples::files::{
@@ -19,7 +19,7 @@ fn audit(
     outcome: Option<&str>,
     mut certificate: &[u8],
     mode: Mode,
-) -> Result<(String, Status), Fail> {
+) -> Result<(String, Ends), Fail> {
     let mut outcome = outcome.map(|text| text.as_bytes());
     engines::prices(
         alloc,
@@ -31,13 +31,13 @@ fn audit(
 }
 
 /// How an answer ends that has this line.
-fn status_of(line: &str) -> Status {
+fn status_of(line: &str) -> Ends {
     if line.starts_with("supported") {
-        Status::Yes
+        Ends::Yes
     } else if line.starts_with("failed") {
-        Status::No
+        Ends::No
     } else {
-        Status::Refused
+        Ends::Refused
     }
 }
 
@@ -291,7 +291,7 @@ fn outcome_is_wanted_and_a_file_can_give_it(rt: HostRuntime) -> Result<(), Fail>
         PLAIN,
     )?;
     assert!(rt; printed.as_str() == "supported priceable\n", "{printed}");
-    assert!(rt; status == Status::Yes);
+    assert!(rt; status == Ends::Yes);
     Ok(())
 }
 
@@ -328,7 +328,7 @@ fn certificate_of_a_refused_outcome_is_not_read(rt: HostRuntime) -> Result<(), F
         &mut certificate,
         PLAIN,
     )?;
-    assert!(rt; status == Status::Refused);
+    assert!(rt; status == Ends::Refused);
     assert!(rt; printed.as_str() == "refused outcome 21 BadHead record 1\n");
     assert!(rt; certificate.reads == 0);
     Ok(())

@@ -1,6 +1,6 @@
 //! What is printed on a price certificate that is to be written in its canonical form.
+use super::ends::Ends;
 use super::engines;
-use pb_audit::Status;
 use pb_samples::fakes::EndlessReader;
 use pb_samples::files::{
     ELECTION, PRICES, QUOTED_ELECTION, QUOTED_PRICES, UNTIDY_PRICES, with_lines,
@@ -13,7 +13,7 @@ fn tidy(
     alloc: Global,
     mut election: &[u8],
     mut certificate: &[u8],
-) -> Result<(String, Status), Fail> {
+) -> Result<(String, Ends), Fail> {
     engines::tidy(alloc, &mut election, &mut certificate)
 }
 
@@ -26,7 +26,7 @@ fn untidy_prices_are_put_in_order_and_quotes_kept(rt: HostRuntime) -> Result<(),
     ] {
         let (printed, status) = tidy(alloc, election.as_bytes(), certificate.as_bytes())?;
         assert!(rt; printed.as_str() == want, "{printed}");
-        assert!(rt; status == Status::Yes, "{printed}");
+        assert!(rt; status == Ends::Yes, "{printed}");
     }
     Ok(())
 }
@@ -60,7 +60,7 @@ fn first_fault_of_prices_is_told_with_its_record(rt: HostRuntime) -> Result<(), 
         let (printed, status) = tidy(alloc, ELECTION.as_bytes(), &certificate)?;
         let line = format!(in alloc; "refused certificate {want}\n")?;
         assert!(rt; printed.as_str() == line.as_str(), "{new}: {printed}");
-        assert!(rt; status == Status::Refused, "{new}: {printed}");
+        assert!(rt; status == Ends::Refused, "{new}: {printed}");
     }
     Ok(())
 }
@@ -74,7 +74,7 @@ fn row_that_is_not_utf8_is_refused_at_its_record(rt: HostRuntime) -> Result<(), 
         printed.as_str() == "refused certificate 20 NotUtf8 record 5\n",
         "{printed}"
     );
-    assert!(rt; status == Status::Refused);
+    assert!(rt; status == Ends::Refused);
     Ok(())
 }
 
@@ -84,7 +84,7 @@ fn certificate_of_a_refused_election_is_not_read(rt: HostRuntime) -> Result<(), 
     let mut election = b"".as_slice();
     let mut certificate = EndlessReader { reads: 0 };
     let (printed, status) = engines::tidy(alloc, &mut election, &mut certificate)?;
-    assert!(rt; status == Status::Refused);
+    assert!(rt; status == Ends::Refused);
     assert!(rt; printed.as_str() == "refused election 2 NoMeta record 1\n");
     assert!(rt; certificate.reads == 0);
     Ok(())

@@ -1,6 +1,6 @@
 //! What is printed on violation certificates.
+use super::ends::Ends;
 use super::engines;
-use pb_audit::Status;
 use pb_samples::files::{
     DEAR_ELECTION, SMALL_SHARE_ELECTION, UNFAIR_ELECTION, VIOLATION, with_lines,
 };
@@ -12,7 +12,7 @@ fn audit(
     alloc: Global,
     mut election: &[u8],
     mut certificate: &[u8],
-) -> Result<(String, Status), Fail> {
+) -> Result<(String, Ends), Fail> {
     let outcome: Option<&mut &[u8]> = None;
     engines::violation(alloc, &mut election, outcome, &mut certificate)
 }
@@ -35,9 +35,9 @@ fn first_test_that_fails_is_told(rt: HostRuntime) -> Result<(), Fail> {
         let certificate = with_lines(alloc, VIOLATION, kept, removed, new.as_bytes())?;
         let (printed, status) = audit(alloc, UNFAIR_ELECTION.as_bytes(), &certificate)?;
         let wanted = if want == "violation\n" {
-            Status::Yes
+            Ends::Yes
         } else {
-            Status::No
+            Ends::No
         };
         assert!(rt; printed.as_str() == want, "{new}: {printed}");
         assert!(rt; status == wanted, "{new}: {printed}");
@@ -52,7 +52,7 @@ fn member_that_gets_as_much_is_told(rt: HostRuntime) -> Result<(), Fail> {
     let certificate = with_lines(alloc, VIOLATION, 2, 1, b"")?;
     let (printed, status) = audit(alloc, &election, &certificate)?;
     assert!(rt; printed.as_str() == "failed V4 voter 2\n", "{printed}");
-    assert!(rt; status == Status::No);
+    assert!(rt; status == Ends::No);
     Ok(())
 }
 
@@ -62,16 +62,16 @@ fn one_dear_project_is_enough_by_cost_alone(rt: HostRuntime) -> Result<(), Fail>
     let alloc = rt.alloc();
     let election = SMALL_SHARE_ELECTION.as_bytes();
     for (head, want, wanted) in [
-        ("pb-violation,1\n", "violation\n", Status::Yes),
+        ("pb-violation,1\n", "violation\n", Ends::Yes),
         (
             "pb-violation,2\nsatisfaction,count\n",
             "violation\n",
-            Status::Yes,
+            Ends::Yes,
         ),
         (
             "pb-violation,2\nsatisfaction,cost\n",
             "failed V4 voter 1\n",
-            Status::No,
+            Ends::No,
         ),
     ] {
         let certificate = with_lines(alloc, VIOLATION, 0, 1, head.as_bytes())?;
@@ -89,12 +89,12 @@ fn one_cheap_project_is_enough_by_count_alone(rt: HostRuntime) -> Result<(), Fai
         (
             "pb-violation,2\nsatisfaction,count\nproject,t\nvoter,1\n",
             "failed V4 voter 1\n",
-            Status::No,
+            Ends::No,
         ),
         (
             "pb-violation,2\nsatisfaction,cost\nproject,t\nvoter,1\n",
             "violation\n",
-            Status::Yes,
+            Ends::Yes,
         ),
     ] {
         let (printed, status) = audit(alloc, DEAR_ELECTION.as_bytes(), certificate.as_bytes())?;
@@ -136,7 +136,7 @@ fn first_fault_of_a_violation_is_told_with_its_record(rt: HostRuntime) -> Result
         let (printed, status) = audit(alloc, UNFAIR_ELECTION.as_bytes(), &certificate)?;
         let line = format!(in alloc; "refused certificate {want}\n")?;
         assert!(rt; printed.as_str() == line.as_str(), "{new}: {printed}");
-        assert!(rt; status == Status::Refused, "{new}: {printed}");
+        assert!(rt; status == Ends::Refused, "{new}: {printed}");
     }
     Ok(())
 }

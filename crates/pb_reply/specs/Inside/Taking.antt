@@ -20,18 +20,19 @@ use Rattle.pb_reply.specs.declared.input.InputFault.TheVariants as fault
 use Rattle.pb_reply.specs.declared.input.InputName.{InputName}
 use Rattle.pb_reply.specs.declared.input.Stop.{Stop}
 use Rattle.pb_reply.specs.declared.input.Stop.TheVariants as stop
+use Rattle.pb_reply.specs.declared.status.Status.{Status}
 
 -- what an input that was taken states, memory aside
 abbrev pub IfTaken : {A : Type 0} → Result A Stop → (Stated A → Type 0) → Type 0
 IfTaken (Ok a) is_stated = is_stated (Ok a)
-IfTaken (Err (stop.Refused input why)) is_stated = is_stated (Err (refusal_of input why))
+IfTaken (Err (stop.Refused r)) is_stated = is_stated (Err r)
 IfTaken (Err stop.Memory) is_stated = Unit {0}
 
 -- an input of this name was not delivered whole, and the work on it stops so
 abbrev pub IsUnloaded : InputName → Delivery → Stop → Type 0
 IsUnloaded input (delivery.Bytes bytes) why = ⊥
-IsUnloaded input delivery.Read why = why ≡ stop.Refused input fault.Unread
-IsUnloaded input delivery.TooLong why = why ≡ stop.Refused input fault.TooLong
+IsUnloaded input delivery.Read why = why ≡ stop.Refused (refusal_of input fault.Unread)
+IsUnloaded input delivery.TooLong why = why ≡ stop.Refused (refusal_of input fault.TooLong)
 
 -- whether a fault is want of memory, and not one of the input
 abbrev pub is_election_memory : ElectionFault → Bool
@@ -50,7 +51,7 @@ wants_memory (fault.Certificate r) = is_certificate_memory r.fault
 
 -- what the work on an input stops for
 abbrev pub stop_at : InputName → InputFault → Stop
-stop_at input why = if wants_memory why then stop.Memory else stop.Refused input why
+stop_at input why = if wants_memory why then stop.Memory else stop.Refused (refusal_of input why)
 
 -- an outcome that was taken as its marks, and a claim as its measure, its group and its demand
 abbrev pub as_marks : Result Funding Stop → Result (List Bool) Stop
@@ -82,7 +83,7 @@ pub record ReadsOutcome (e : Instance) (outcome : FileReading) (stated : Stated 
 -- the reply that some work came to: its own, or the line of the input that was refused; there is none where memory was
 -- wanted
 abbrev pub stopped : Stop → Option Reply
-stopped (stop.Refused input why) = Some (refused (refusal_of input why))
+stopped (stop.Refused r) = Some (refused r)
 stopped stop.Memory = None
 
 abbrev pub settled : Result Reply Stop → Option Reply
@@ -90,6 +91,6 @@ settled (Ok own) = Some own
 settled (Err why) = stopped why
 
 -- the same of an answer
-abbrev pub settled_answer : Result Answer Stop → Option Answer
+abbrev pub settled_answer : Result (Answer Status) Stop → Option (Answer Status)
 settled_answer (Ok own) = Some own
 settled_answer (Err why) = option_map answer_of (stopped why)

@@ -1,15 +1,26 @@
 //! Exit statuses, and what is said on standard output and standard error at the end, where no words are at fault.
 use super::fakes::FakeWriter;
-use pb_audit::{Fault, Status};
+use pb_audit::{Fault, FolderStatus, InputFault, InputName, Refusal, Status};
 use pb_run::End;
 use std::test::Fail;
 
 #[test]
 fn answers_leave_nothing_to_say(rt: HostRuntime) -> Result<(), Fail> {
-    for (status, want) in [(Status::Yes, 0), (Status::No, 1), (Status::Refused, 2)] {
+    let refused = Status::Refused(Refusal {
+        input: InputName::Certificate,
+        fault: InputFault::TooLong,
+    });
+    for (end, want) in [
+        (End::Answered(Status::Yes), 0),
+        (End::Answered(Status::No), 1),
+        (End::Answered(refused), 2),
+        (End::Reported(FolderStatus::AllYes), 0),
+        (End::Reported(FolderStatus::SomeNo), 1),
+        (End::Reported(FolderStatus::SomeRefused), 2),
+    ] {
         let mut out = FakeWriter::new(rt.alloc());
         let mut err = FakeWriter::new(rt.alloc());
-        let got = End::Answered(status).tell(&mut out, &mut err);
+        let got = end.tell(&mut out, &mut err);
         assert_eq!(rt; got, want);
         assert!(rt; out.written.is_empty() && err.written.is_empty());
     }

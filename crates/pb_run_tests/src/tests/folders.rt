@@ -2,7 +2,7 @@
 use super::fakes::{FakeTerminal, FakeWriter};
 use super::room::Room;
 use super::runs::{Ending, command, expect, expect_line, told};
-use pb_audit::Status;
+use pb_audit::FolderStatus;
 use pb_price::Mode;
 use pb_run::{ListFault, Listing, Progress, report, run};
 use pb_samples::files::{
@@ -16,6 +16,10 @@ use std::test::Fail;
 use std::{fs, io};
 
 const READ: &str = "read 3 voters 3 projects 2 funded";
+
+/// What stands behind the names of files that aren't audited.
+const NAMES: &str =
+    "; an election is NAME.pb, and its certificates are NAME.prices.csv and NAME.violation.csv, in these letters";
 
 const REFUSED: &str = "refused election 2 NoMeta record 1";
 
@@ -70,6 +74,13 @@ fn mode_of_a_folder_is_that_of_the_words(rt: HostRuntime) -> Result<(), Fail> {
         (
             " --stable",
             "failed S5 project x1",
+            "failed Exhaustive project c",
+            "0 yes 2 no",
+            1,
+        ),
+        (
+            " --cover",
+            "failed Cover",
             "failed Exhaustive project c",
             "0 yes 2 no",
             1,
@@ -169,8 +180,46 @@ fn only_regular_files_with_clean_names_are_entries(rt: HostRuntime) -> Result<()
         room.write(name, ELECTION.as_bytes())?;
     }
     make_folders_and_links(&rt, &room)?;
+    let folder = room.path()?;
+    let told = told(&rt, &["folder", &folder])?;
     let text = "a.pb: read 3 voters 3 projects 2 funded\ntotal 1 elections 0 yes 0 no 0 refused\n";
-    expect_folder(&rt, &room, "", 0, text)
+    assert!(rt;
+        told.status == 0 && told.printed.as_str() == text,
+        "{}",
+        told.printed
+    );
+    let text = format!(in rt.alloc(); "pbaudit: not audited: b.PB, c.prices.csv{NAMES}\n")?;
+    assert!(rt; told.complaint == text, "{}", told.complaint);
+    Ok(())
+}
+
+#[test]
+fn files_whose_names_are_near_misses_are_told_in_one_line(rt: HostRuntime) -> Result<(), Fail> {
+    let room = Room::new(&rt, "misses")?;
+    for name in [
+        "a.pb",
+        "a.Prices.csv",
+        "a.stable.prices.csv",
+        "a.violation.CSV",
+        "b.PB",
+        "b\n.PB",
+        "c.prices.csv",
+        "c.violation.csv",
+        "notes.txt",
+        "pb",
+    ] {
+        room.write(name, ELECTION.as_bytes())?;
+    }
+    let folder = room.path()?;
+    let told = told(&rt, &["folder", &folder])?;
+    let listed = "a.Prices.csv, a.violation.CSV, b\\n.PB, b.PB, c.prices.csv and 1 more";
+    let text = format!(in rt.alloc(); "pbaudit: not audited: {listed}{NAMES}\n")?;
+    assert!(rt;
+        told.status == 0 && told.complaint == text,
+        "{}",
+        told.complaint
+    );
+    Ok(())
 }
 
 #[test]
@@ -212,7 +261,7 @@ fn reported(
     rt: &HostRuntime,
     room: &Room<'_>,
     listing: &Listing,
-) -> Result<(String, Status), Fail> {
+) -> Result<(String, FolderStatus), Fail> {
     let mut err = FakeWriter::new(rt.alloc());
     let folder = room.path()?;
     let report = report(
@@ -222,7 +271,7 @@ fn reported(
         Mode::PLAIN,
         &mut Progress::new(&mut err),
     )?;
-    Ok((report.text, report.status))
+    Ok((String::from_utf8(report.text)?, report.status))
 }
 
 #[test]
@@ -244,7 +293,7 @@ fn files_that_vanish_after_the_listing_are_refused(rt: HostRuntime) -> Result<()
         here.prices.csv: refused certificate 18 Read record 0\n\
         total 2 elections 0 yes 0 no 2 refused\n";
     assert!(rt; text.as_str() == wanted, "{text}");
-    assert!(rt; status == Status::Refused);
+    assert!(rt; status == FolderStatus::SomeRefused);
     Ok(())
 }
 
@@ -294,12 +343,18 @@ fn long_names_are_cut_on_a_terminal(rt: HostRuntime) -> Result<(), Fail> {
 
 #[test]
 fn want_of_memory_in_a_listing_is_told_apart(rt: HostRuntime) -> Result<(), Fail> {
-    for (kind, fault) in [
-        (ErrorKind::OutOfMemory, ListFault::Memory),
-        (ErrorKind::NotFound, ListFault::Unlisted),
-        (ErrorKind::InvalidFilename, ListFault::Unlisted),
+    for (error, fault) in [
+        (io::Error::from(ErrorKind::OutOfMemory), ListFault::Memory),
+        (
+            io::Error::from_raw_os_error(2),
+            ListFault::Unlisted(Some(2)),
+        ),
+        (
+            io::Error::from(ErrorKind::InvalidFilename),
+            ListFault::Unlisted(None),
+        ),
     ] {
-        assert_eq!(rt; ListFault::from(io::Error::from(kind)), fault);
+        assert_eq!(rt; ListFault::from(error), fault);
     }
     Ok(())
 }

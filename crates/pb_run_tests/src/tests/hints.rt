@@ -5,17 +5,79 @@ use pb_samples::files::{ELECTION, PRICES, with_lines};
 use std::alloc::{AllocError, Global};
 use std::test::Fail;
 
-/// A change to a sample file, and what is to be told of the changed one.
-pub struct Row<'a> {
-    /// How many of its lines are kept, and how many behind them are removed.
-    pub kept: usize,
-    pub removed: usize,
-    /// What is put in their place.
-    pub new: &'a [u8],
-    /// The line of the refusal, without its first word.
-    pub line: &'a str,
-    /// What stands behind the file's name in each line of the hint.
-    pub hint: &'a [&'a str],
+/// Changes to a sample file, and what is to be told of each changed file.
+#[derive(Clone, Copy)]
+pub struct Cases<'a> {
+    /// The sample file, and the name that a changed one gets.
+    pub sample: &'a str,
+    pub name: &'a str,
+    /// The commands that are to tell so, in which words with a dot are files of the folder. There are `e.pb`,
+    /// the sample election in which the voters have the voter_id 7001, 7002 and 7010, and `p.csv`, the sample prices.
+    pub commands: &'a [&'a str],
+    /// The changes, each in such a text:
+    ///
+    /// ```text
+    /// @ 5 1
+    /// + budget;ten
+    /// election 9 BadMoney record 6
+    /// :6: the budget isn't an amount: 'ten'
+    /// ```
+    ///
+    /// 5 lines of the sample are kept, and 1 behind them is removed; those behind `+` stand in its place. Then comes what
+    /// is to be printed, but for its first word, and last what is to be told, but for the file's name.
+    pub changes: &'a str,
+}
+
+/// One of the changes.
+#[derive(Drop)]
+struct Change<'a> {
+    bytes: Vec<u8>,
+    printed: &'a str,
+    hint: Vec<&'a str>,
+}
+
+impl Cases<'_> {
+    /// Each command is to refuse each changed file so.
+    pub fn run(&self, rt: &HostRuntime, name: &str) -> Result<(), Fail> {
+        let alloc = rt.alloc();
+        let room = Room::new(rt, name)?;
+        let ids = b"7001;a,b\n7002;a\n7010;b,c\n";
+        room.write("e.pb", &with_lines(alloc, ELECTION, 14, 3, ids)?)?;
+        room.write("p.csv", PRICES.as_bytes())?;
+        for text in self.changes.split("@ ").skip(1) {
+            let change = self.change_of(alloc, text)?;
+            let path = room.write(self.name, &change.bytes)?;
+            for command in self.commands {
+                let line = room.line_of(command)?;
+                let words: Vec<&str> = line.split(' ').collect(alloc)?;
+                expect_hint(rt, &words, change.printed, &path, &change.hint)?;
+            }
+        }
+        Ok(())
+    }
+
+    fn change_of<'b>(&self, alloc: Global, text: &'b str) -> Result<Change<'b>, Fail> {
+        let mut lines = text.lines();
+        let Some((kept, removed)) = lines.next().and_then(|line| line.split_once(' ')) else {
+            return Err(Fail::new("no change"));
+        };
+        let (mut new, mut told) = (String::new(alloc), Vec::new(alloc));
+        for line in lines {
+            match line.strip_prefix('+') {
+                Some(line) => writeln!(new, "{}", line.strip_prefix(' ').unwrap_or(line))?,
+                None => told.push(line)?,
+            }
+        }
+        if told.is_empty() {
+            return Err(Fail::new("no refusal"));
+        }
+        let (kept, removed) = (kept.parse::<usize>()?, removed.parse::<usize>()?);
+        Ok(Change {
+            bytes: with_lines(alloc, self.sample, kept, removed, new.as_bytes())?,
+            printed: told.remove(0),
+            hint: told,
+        })
+    }
 }
 
 /// A hint on a file of this name, by what stands behind the name in each line.
@@ -42,47 +104,4 @@ pub fn expect_hint(
         return Ok(());
     }
     Err(Fail::new(format_args!("{} {line} {} wanted {wanted}", told.printed, told.complaint)))
-}
-
-/// `read` is to refuse the sample election with each of these changes.
-pub fn expect_on_elections(rt: &HostRuntime, name: &str, rows: &[Row<'_>]) -> Result<(), Fail> {
-    let room = Room::new(rt, name)?;
-    for row in rows {
-        let bytes = with_lines(rt.alloc(), ELECTION, row.kept, row.removed, row.new)?;
-        let path = room.write("e.pb", &bytes)?;
-        expect_hint(rt, &["read", &path], row.line, &path, row.hint)?;
-    }
-    Ok(())
-}
-
-/// `prices` and `tidy` are to refuse the sample prices with each of these changes. The voters have the voter_id 7001,
-/// 7002 and 7010.
-pub fn expect_on_prices(rt: &HostRuntime, name: &str, rows: &[Row<'_>]) -> Result<(), Fail> {
-    expect_by(rt, name, &["prices", "tidy"], rows)
-}
-
-/// `explain` is to refuse the sample prices with each of these changes.
-pub fn expect_on_explained(rt: &HostRuntime, name: &str, rows: &[Row<'_>]) -> Result<(), Fail> {
-    expect_by(rt, name, &["explain"], rows)
-}
-
-fn expect_by(
-    rt: &HostRuntime,
-    name: &str,
-    commands: &[&str],
-    rows: &[Row<'_>],
-) -> Result<(), Fail> {
-    let alloc = rt.alloc();
-    let room = Room::new(rt, name)?;
-    let ids = b"7001;a,b\n7002;a\n7010;b,c\n";
-    let election = room.write("e.pb", &with_lines(alloc, ELECTION, 14, 3, ids)?)?;
-    for row in rows {
-        let bytes = with_lines(alloc, PRICES, row.kept, row.removed, row.new)?;
-        let path = room.write("p.csv", &bytes)?;
-        for command in commands {
-            let words = [*command, &election, &path];
-            expect_hint(rt, &words, row.line, &path, row.hint)?;
-        }
-    }
-    Ok(())
 }

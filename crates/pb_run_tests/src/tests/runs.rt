@@ -3,8 +3,8 @@ use super::fakes::FakeWriter;
 use super::room::Room;
 use pb_run::run;
 use pb_samples::files::{
-    ELECTION, EVEN_PRICES, POOL_OUTCOME, POOL_PRICES, PRICES, SMALL_SHARE_ELECTION, SPLIT_ELECTION,
-    SPLIT_PRICES, UNTIDY_PRICES, VIOLATION,
+    ELECTION, EVEN_PRICES, MARGINS, POOL_OUTCOME, POOL_PRICES, PRICES, SMALL_SHARE_ELECTION,
+    SPLIT_ELECTION, SPLIT_PRICES, UNTIDY_PRICES, VIOLATION,
 };
 use std::alloc::{AllocError, Global};
 use std::fs;
@@ -50,7 +50,7 @@ pub fn told(rt: &HostRuntime, words: &[&str]) -> Result<Ending, Fail> {
 /// but a hint where a file is refused that the words name.
 pub fn expect(rt: &HostRuntime, words: &[&str], status: u8, text: &str) -> Result<(), Fail> {
     let told = told(rt, words)?;
-    let is_hinted = text.starts_with("refused ") && !text.starts_with("refused folder");
+    let is_hinted = text.starts_with("refused ");
     if told.status == status
         && told.printed.as_str() == text
         && told.complaint.is_empty() != is_hinted
@@ -253,6 +253,31 @@ fn takes_the_files_of_tidy_in_their_places(rt: HostRuntime) -> Result<(), Fail> 
     expect_each(&rt, &room, &runs)
 }
 
+/// By the outcome file the pool alone is funded; the sums are the same.
+#[test]
+fn takes_the_files_of_margins_in_their_places(rt: HostRuntime) -> Result<(), Fail> {
+    let room = Room::new(&rt, "margins")?;
+    room.write("e.pb", ELECTION.as_bytes())?;
+    room.write("p.csv", PRICES.as_bytes())?;
+    room.write("o.csv", POOL_OUTCOME.as_bytes())?;
+    let runs = [
+        ("margins e.pb p.csv", 0, MARGINS),
+        (
+            "margins e.pb p.csv --outcome o.csv",
+            0,
+            "pb-margins,1\n\
+             grains_per_unit,1000000\n\
+             project,funded,supporters,cost,paid,left,offer\n\
+             a,0,2,6000000,6000000,0,6000000\n\
+             b,0,2,4000000,4000000,2000000,4000000\n\
+             c,1,1,9000000,0,2000000,2000000\n",
+        ),
+        ("margins p.csv e.pb", 2, NO_META),
+        ("margins e.pb p.csv --outcome p.csv", 2, NO_OUTCOME_HEAD),
+    ];
+    expect_each(&rt, &room, &runs)
+}
+
 /// Each command on a file u.csv that can't be read in place of an election, of an outcome and of a certificate.
 fn expect_unread(rt: &HostRuntime, room: &Room<'_>) -> Result<(), Fail> {
     room.write("e.pb", ELECTION.as_bytes())?;
@@ -260,15 +285,18 @@ fn expect_unread(rt: &HostRuntime, room: &Room<'_>) -> Result<(), Fail> {
     for (words, input) in [
         ("read u.csv", "election"),
         ("tidy u.csv u.csv", "election"),
+        ("margins u.csv u.csv --outcome u.csv", "election"),
         ("prices u.csv u.csv --outcome u.csv", "election"),
         ("violation u.csv u.csv --outcome u.csv", "election"),
         ("both u.csv u.csv u.csv --outcome u.csv", "election"),
         ("prices e.pb u.csv --outcome u.csv", "outcome"),
         ("violation e.pb u.csv --outcome u.csv", "outcome"),
+        ("margins e.pb u.csv --outcome u.csv", "outcome"),
         ("both e.pb u.csv u.csv --outcome u.csv", "outcome"),
         ("prices e.pb u.csv", "certificate"),
         ("violation e.pb u.csv", "certificate"),
         ("tidy e.pb u.csv", "certificate"),
+        ("margins e.pb u.csv", "certificate"),
         ("both e.pb u.csv u.csv", "prices"),
         ("both e.pb p.csv u.csv", "violation"),
     ] {

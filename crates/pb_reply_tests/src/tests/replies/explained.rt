@@ -1,6 +1,9 @@
 //! The replies that explain a certificate, over files in memory.
 use super::files::{bytes_of, expect};
-use pb_audit::{Status, explained_reply};
+use crate::tests::refusals::{bad_head, empty_election, in_certificate, in_election, refused};
+use pb_audit::{InputName, Status, explained_reply};
+use pb_certificate::CertFault;
+use pb_election::ElectionFault;
 use pb_samples::files::{
     ELECTION, FAIR_VIOLATION, POOL_OUTCOME, POOL_PRICES, PRICES, without_outcome,
 };
@@ -161,43 +164,64 @@ fn violation_is_explained_by_its_measure_and_the_outcome(rt: HostRuntime) -> Res
 fn file_of_neither_kind_is_refused_as_prices(rt: HostRuntime) -> Result<(), Fail> {
     let alloc = rt.alloc();
     let no_outcome = without_outcome(alloc)?;
-    for (election, outcome, certificate, want) in [
-        ("", None, "", "refused election 2 NoMeta record 1"),
+    for (election, outcome, certificate, want, status) in [
+        (
+            "",
+            None,
+            "",
+            "refused election 2 NoMeta record 1",
+            empty_election(),
+        ),
         (
             no_outcome.as_str(),
             None,
             "",
             "refused election 17 NoOutcome record 0",
+            refused(
+                InputName::Election,
+                in_election(ElectionFault::NoOutcome, 0),
+            ),
         ),
         (
             ELECTION,
             Some("pb-outcome,2\n"),
             "",
             "refused outcome 21 BadHead record 1",
+            bad_head(InputName::Outcome),
         ),
         (
             ELECTION,
             None,
             "pb-prices,1\n",
             "refused certificate 21 BadHead record 2",
+            refused(
+                InputName::Certificate,
+                in_certificate(CertFault::BadHead, 2),
+            ),
         ),
         (
             ELECTION,
             None,
             "pb-violation,1\nvoter,9\n",
             "refused certificate 24 UnknownVoter record 2",
+            refused(
+                InputName::Certificate,
+                in_certificate(CertFault::UnknownVoter, 2),
+            ),
         ),
         (
             ELECTION,
             None,
             POOL_OUTCOME,
             "refused certificate 21 BadHead record 1",
+            bad_head(InputName::Certificate),
         ),
         (
             ELECTION,
             None,
             "",
             "refused certificate 21 BadHead record 1",
+            bad_head(InputName::Certificate),
         ),
     ] {
         let reply = explained_reply(
@@ -207,7 +231,7 @@ fn file_of_neither_kind_is_refused_as_prices(rt: HostRuntime) -> Result<(), Fail
             certificate.as_bytes(),
             PLAIN,
         )?;
-        expect(&rt, &reply, &[want], Status::Refused);
+        expect(&rt, &reply, &[want], status);
     }
     Ok(())
 }

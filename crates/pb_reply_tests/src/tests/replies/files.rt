@@ -1,9 +1,11 @@
 //! The replies on files in memory.
 use crate::tests::lines::expect_lines;
+use crate::tests::refusals::{bad_head, empty_election, in_election, refused};
 use pb_audit::{
-    Reply, Status, both_reply, margins_answer, prices_reply, read_reply, tidy_answer,
+    InputName, Reply, Status, both_reply, margins_answer, prices_reply, read_reply, tidy_answer,
     violation_reply,
 };
+use pb_election::ElectionFault;
 use pb_samples::files::{
     ELECTION, FAIR_VIOLATION, MARGINS, OUTCOME, POOL_OUTCOME, POOL_PRICES, PRICES, UNTIDY_PRICES,
     without_outcome,
@@ -15,7 +17,7 @@ use std::test::Fail;
 /// A reply has these lines and this status.
 pub fn expect(rt: &impl Abort, reply: &Reply, lines: &[&str], status: Status) {
     expect_lines(rt, &reply.lines, lines);
-    assert!(rt; reply.status == status);
+    assert_eq!(rt; reply.status, status);
 }
 
 /// The bytes of a text, where one is given.
@@ -41,7 +43,7 @@ fn counts_that_differ_are_noted(rt: HostRuntime) -> Result<(), Fail> {
         &rt,
         &reply,
         &["refused election 2 NoMeta record 1"],
-        Status::Refused,
+        empty_election(),
     );
     let more_votes = ELECTION.replace(alloc, "num_votes;3", "num_votes;4")?;
     let reply = read_reply(alloc, more_votes.as_bytes())?;
@@ -98,7 +100,10 @@ fn mode_and_outcome_decide_on_prices(rt: HostRuntime) -> Result<(), Fail> {
             PRICES,
             PLAIN,
             "refused election 17 NoOutcome record 0",
-            Status::Refused,
+            refused(
+                InputName::Election,
+                in_election(ElectionFault::NoOutcome, 0),
+            ),
         ),
         (
             no_outcome.as_str(),
@@ -114,7 +119,7 @@ fn mode_and_outcome_decide_on_prices(rt: HostRuntime) -> Result<(), Fail> {
             "",
             PLAIN,
             "refused outcome 21 BadHead record 1",
-            Status::Refused,
+            bad_head(InputName::Outcome),
         ),
         (
             ELECTION,
@@ -122,7 +127,7 @@ fn mode_and_outcome_decide_on_prices(rt: HostRuntime) -> Result<(), Fail> {
             "",
             PLAIN,
             "refused certificate 21 BadHead record 1",
-            Status::Refused,
+            bad_head(InputName::Certificate),
         ),
     ] {
         let reply = prices_reply(
@@ -173,21 +178,21 @@ fn both_are_answered_where_no_input_is_refused(rt: HostRuntime) -> Result<(), Fa
             "",
             "",
             &["refused outcome 21 BadHead record 1"],
-            Status::Refused,
+            bad_head(InputName::Outcome),
         ),
         (
             None,
             "",
             "",
             &["refused prices 21 BadHead record 1"],
-            Status::Refused,
+            bad_head(InputName::Prices),
         ),
         (
             None,
             PRICES,
             PRICES,
             &["refused violation 21 BadHead record 1"],
-            Status::Refused,
+            bad_head(InputName::Violation),
         ),
     ] {
         let reply = both_reply(
@@ -214,7 +219,7 @@ fn table_of_margins_has_the_sums_of_each_project(rt: HostRuntime) -> Result<(), 
             Some("pb-outcome,2\n"),
             PRICES,
             "refused outcome 21 BadHead record 1\n",
-            Status::Refused,
+            bad_head(InputName::Outcome),
         ),
     ] {
         let answer = margins_answer(
@@ -238,13 +243,13 @@ fn untidy_prices_are_put_in_canonical_form(rt: HostRuntime) -> Result<(), Fail> 
             "",
             PRICES,
             "refused election 2 NoMeta record 1\n",
-            Status::Refused,
+            empty_election(),
         ),
         (
             ELECTION,
             "",
             "refused certificate 21 BadHead record 1\n",
-            Status::Refused,
+            bad_head(InputName::Certificate),
         ),
     ] {
         let answer = tidy_answer(alloc, election.as_bytes(), certificate.as_bytes())?;

@@ -1,5 +1,5 @@
 //! The reports on entries of a folder.
-use pb_audit::{Entry, FolderReport, Loaded, Status, folder_text};
+use pb_audit::{Entry, FolderReport, FolderStatus, Loaded, folder_text};
 use pb_election::Output;
 use pb_samples::files::{ELECTION, FAIR_VIOLATION, PRICES, without_outcome};
 use pb_samples::modes::PLAIN;
@@ -28,17 +28,17 @@ fn expect(
     alloc: Global,
     entries: &[Entry],
     want: &str,
-    status: Status,
+    status: FolderStatus,
 ) -> Result<(), Fail> {
     let report = folder_text(alloc, entries, PLAIN)?;
-    assert!(rt; report.text.as_str() == want);
+    assert!(rt; report.text.as_slice() == want.as_bytes());
     assert!(rt; report.status == status);
     let mut one_by_one = FolderReport::new(alloc, PLAIN);
     for entry in entries {
         one_by_one = one_by_one.add(alloc, entry)?;
     }
     let report = one_by_one.finish()?;
-    assert!(rt; report.text.as_str() == want);
+    assert!(rt; report.text.as_slice() == want.as_bytes());
     assert!(rt; report.status == status);
     let mut written = Vec::new(alloc);
     assert!(rt; report.write(&mut Output::new(&mut written))? == status);
@@ -67,7 +67,7 @@ one.violation.csv: failed V4 voter 1
 two.pb: refused election 2 NoMeta record 1
 total 2 elections 1 yes 1 no 1 refused
 ",
-        Status::Refused,
+        FolderStatus::SomeRefused,
     )
 }
 
@@ -75,7 +75,7 @@ total 2 elections 1 yes 1 no 1 refused
 fn total_of_no_entries_is_a_yes(rt: HostRuntime) -> Result<(), Fail> {
     let alloc = rt.alloc();
     let want = "total 0 elections 0 yes 0 no 0 refused\n";
-    expect(&rt, alloc, &[], want, Status::Yes)
+    expect(&rt, alloc, &[], want, FolderStatus::AllYes)
 }
 
 #[test]
@@ -94,7 +94,7 @@ three.pb: read 3 voters 3 projects no outcome
 three.prices.csv: refused election 17 NoOutcome record 0
 total 1 elections 0 yes 0 no 1 refused
 ",
-        Status::Refused,
+        FolderStatus::SomeRefused,
     )
 }
 
@@ -113,7 +113,7 @@ four.pb: read 3 voters 3 projects 2 funded
 four.prices.csv: refused certificate 19 TooLong record 0
 total 1 elections 0 yes 0 no 1 refused
 ",
-        Status::Refused,
+        FolderStatus::SomeRefused,
     )
 }
 
@@ -131,7 +131,7 @@ fn certificate_of_a_refused_election_is_left_out(rt: HostRuntime) -> Result<(), 
 five.pb: refused election 18 Read record 0
 total 1 elections 0 yes 0 no 1 refused
 ",
-        Status::Refused,
+        FolderStatus::SomeRefused,
     )
 }
 
@@ -151,6 +151,6 @@ six.pb: read 3 voters 3 projects 2 funded
 six.violation.csv: failed V4 voter 1
 total 1 elections 0 yes 1 no 0 refused
 ",
-        Status::No,
+        FolderStatus::SomeNo,
     )
 }

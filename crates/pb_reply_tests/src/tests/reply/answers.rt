@@ -1,9 +1,10 @@
 //! Replies, and the texts that are made of them.
 use crate::tests::lines::expect_lines;
-use pb_certificate::{CertFault, CertRefusal};
-use pb_election::{ElectionFault, Refusal};
+use crate::tests::refusals::{in_certificate, in_election, refused};
+use pb_certificate::CertFault;
+use pb_election::ElectionFault;
 use pb_reply::{
-    Answer, Fault, InputFault, InputName, Reply, Status, Stop, one_line, settled, settled_answer,
+    Answer, Fault, InputFault, InputName, Reply, Status, one_line, settled, settled_answer,
     stop_at, stopped,
 };
 use std::alloc::{AllocError, Global};
@@ -25,7 +26,7 @@ fn expect_reply(rt: &impl Abort, reply: &Reply, lines: &[&str], status: Status) 
 }
 
 /// An answer has this text and this status.
-fn expect_answer(rt: &impl Abort, answer: &Answer, text: &str, status: Status) {
+fn expect_answer(rt: &impl Abort, answer: &Answer<Status>, text: &str, status: Status) {
     assert!(rt; answer.text.as_slice() == text.as_bytes(), "{text}");
     assert_eq!(rt; answer.status, status);
 }
@@ -55,19 +56,16 @@ fn work_that_came_to_its_end_is_settled_as_it_is(rt: HostRuntime) -> Result<(), 
     Ok(())
 }
 
-/// An election's fault at a record.
-fn in_election(fault: ElectionFault, place: u64) -> InputFault {
-    InputFault::Election(Refusal { fault, place })
-}
-
-/// A fault of another file at a record.
-fn in_certificate(fault: CertFault, place: u64) -> InputFault {
-    InputFault::Certificate(CertRefusal { fault, place })
-}
-
 /// What stopped the work is told by this line alone.
-fn expect_stopped(rt: &impl Abort, alloc: Global, stop: Stop, line: &str) -> Result<(), Fail> {
-    let status = Status::Refused;
+fn expect_stopped(
+    rt: &impl Abort,
+    alloc: Global,
+    input: InputName,
+    fault: InputFault,
+    line: &str,
+) -> Result<(), Fail> {
+    let stop = stop_at(input, fault);
+    let status = refused(input, fault);
     expect_reply(rt, &stopped(alloc, &stop)?, &[line], status);
     expect_reply(rt, &settled(alloc, Err(stop))?, &[line], status);
     let text = format!(in alloc; "{line}\n")?;
@@ -108,8 +106,13 @@ fn refused_input_is_told_in_a_line(rt: HostRuntime) -> Result<(), Fail> {
             InputFault::Unread,
             "refused violation 18 Read record 0",
         ),
+        (
+            InputName::Folder,
+            InputFault::Unread,
+            "refused folder 18 Read record 0",
+        ),
     ] {
-        expect_stopped(&rt, rt.alloc(), stop_at(input, fault), line)?;
+        expect_stopped(&rt, rt.alloc(), input, fault, line)?;
     }
     Ok(())
 }

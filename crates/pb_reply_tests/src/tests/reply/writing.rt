@@ -1,6 +1,6 @@
 //! How a text is written.
 use pb_election::Output;
-use pb_reply::{Fault, Report, Status, one_line, write_reply};
+use pb_reply::{Fault, Status, one_line, write_reply};
 use pb_samples::fakes::{Lapse, LapsingWriter};
 use std::alloc::{AllocError, Global};
 use std::process::Abort;
@@ -15,7 +15,6 @@ const TEXT: &str = "failed V4 voter 1\n";
 enum Call {
     Reply,
     Answer,
-    Report,
 }
 
 impl Call {
@@ -30,14 +29,6 @@ impl Call {
         Ok(match self {
             Call::Reply => write_reply(alloc, &reply, &mut out),
             Call::Answer => reply.answer(alloc)?.write(&mut out),
-            Call::Report => {
-                let text = String::from_str(alloc, TEXT)?;
-                let report = Report {
-                    text,
-                    status: Status::No,
-                };
-                report.write(&mut out)
-            }
         })
     }
 }
@@ -62,7 +53,7 @@ fn text_is_written_whole_or_a_front_of_it(rt: HostRuntime) -> Result<(), Fail> {
         (Lapse::Interrupted(3), cut, "failed V4 voter ", 3, 0),
         (Lapse::Unflushed, cut, TEXT, 3, 1),
     ] {
-        for call in [Call::Reply, Call::Answer, Call::Report] {
+        for call in [Call::Reply, Call::Answer] {
             let mut writer = LapsingWriter::new(rt.alloc(), 8, lapse);
             let got = call.write(rt.alloc(), &mut writer)?;
             assert_eq!(rt; got, want, "{call:?}");

@@ -1,0 +1,29 @@
+//! Refusals, for what is wanted.
+use pb_certificate::{CertFault, CertRefusal};
+use pb_election::{ElectionFault, Refusal as ElectionRefusal};
+use pb_reply::{InputFault, InputName, Refusal, Status};
+
+/// The status of a reply on an input that is refused for this fault.
+pub fn refused(input: InputName, fault: InputFault) -> Status {
+    Status::Refused(Refusal { input, fault })
+}
+
+/// An election's fault at a record.
+pub fn in_election(fault: ElectionFault, place: u64) -> InputFault {
+    InputFault::Election(ElectionRefusal { fault, place })
+}
+
+/// A fault of another file at a record.
+pub fn in_certificate(fault: CertFault, place: u64) -> InputFault {
+    InputFault::Certificate(CertRefusal { fault, place })
+}
+
+/// The status of a reply on an input whose first record is not the head that it has to be.
+pub fn bad_head(input: InputName) -> Status {
+    refused(input, in_certificate(CertFault::BadHead, 1))
+}
+
+/// The status of a reply on an election that is empty.
+pub fn empty_election() -> Status {
+    refused(InputName::Election, in_election(ElectionFault::NoMeta, 1))
+}
