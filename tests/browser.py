@@ -2,35 +2,43 @@
 """Opens pages of `python -m pbaudit page` in Chromium without a window, and measures what it shows of them.
 
 usage: tests/browser.py [FOLDER]     writes a picture of each page at two widths, and those of docs/, into the folder
+       tests/browser.py --mutations  tries only whether wrong pages are caught
 
+Then it turns pages as page_mutations.py says, and sees that the check named there fails: each check has to fail once.
 The package is taken from the PYTHONPATH, or else from this repository. Chromium is driven by Selenium (on Debian the
-packages chromium, chromium-driver and python3-selenium); where these aren't installed, or Chromium doesn't start, a line
-says so and nothing is run.
+packages chromium, chromium-driver and python3-selenium); where these aren't installed, or Chromium doesn't start, a
+line says so and nothing is run. Rules of accessibility are checked by axe as well, which Chromium has in its developer
+tools, and what is printed by pdftotext and pdfinfo (poppler-utils); a line says where these are missing.
 """
 import base64
 import http.server
 import json
 import os
 import pathlib
+import re
 import shutil
+import subprocess
 import sys
 import tempfile
 import threading
+from collections import Counter
 
 TOP = pathlib.Path(__file__).resolve().parent.parent
 SYSTEM_PYTHON = "/usr/bin/python3"
 BROWSERS = ("chromium", "chromium-browser", "google-chrome")
-PHONE, SCREEN = 360, 1100
+PHONE, SCREEN = 390, 1100
 HIGHEST_PICTURE = 6000
 # The pictures of docs/: a page, a width, the element at which they begin, and their height.
 SHOWN = {
-    "page-phone.png": ("stable", PHONE, "h1", 740),
-    "page-projects.png": ("stable", SCREEN, "h2:nth-of-type(3)", 830),
+    "page-phone.png": ("stable", PHONE, "header", 860),
+    "page-projects.png": ("stable", SCREEN, ".sorted", 800),
 }
 
 try:
     from selenium import webdriver
-    from selenium.common.exceptions import WebDriverException
+    from selenium.common.exceptions import JavascriptException, WebDriverException
+    from selenium.webdriver.common.action_chains import ActionChains
+    from selenium.webdriver.common.keys import Keys
     from selenium.webdriver.chrome.service import Service
 except ImportError:
     webdriver = None
@@ -38,69 +46,35 @@ except ImportError:
 sys.path.append(str(TOP / "python"))
 
 import pbaudit  # noqa: E402 (where the package is)
-from pages import SHARE_OF_DEMAND, Figures, cases  # noqa: E402
+from axe import faults_by_axe, source_of_axe  # noqa: E402
+from page_mutations import MUTATIONS  # noqa: E402
+from page_scripts import (  # noqa: E402
+    BARE_AMOUNTS, BARS, FAINT, FOCUS, LOOKS, LOOSE_NAMES, OWN_WORDS, SEEN_ORDER, STRANGE, TOO_WIDE, UNREADABLE,
+)  # fmt: skip
+from pages import GroupBars, PriceBars, cases, language_of, shortened, shown  # noqa: E402
+from pixels import Picture, contrast  # noqa: E402
 
-# What a page has that doesn't fit: elements that reach out of the window, or have more inside than they show.
-TOO_WIDE = """
-return [...document.body.querySelectorAll('*')].filter(element => {
-  const box = element.getBoundingClientRect();
-  const hidden = element.closest('thead') && getComputedStyle(element.closest('thead')).position === 'absolute';
-  const inline = getComputedStyle(element).display === 'inline';
-  const scrolls = innerWidth > 960 && element.closest('.scroll');
-  return !hidden && !scrolls && (box.left < -0.5 || box.right > innerWidth + 0.5
-                     || (!inline && element.scrollWidth > element.clientWidth + 1));
-}).map(element => element.outerHTML.slice(0, 200)).concat(
-  document.documentElement.scrollWidth > innerWidth ? ['the page is ' + document.documentElement.scrollWidth] : []);
-"""
-SCROLLING = """
-return [...document.querySelectorAll('.scroll')].filter(room => room.scrollWidth > room.clientWidth).length;
-"""
-# The bars with the ids in whose rows they stand: the width of the room, of each part, and where the mark is.
-BARS = """
-return [...document.querySelectorAll('.bar')].map(bar => {
-  const row = bar.closest('tr'), room = bar.getBoundingClientRect();
-  const mark = bar.querySelector('.mark').getBoundingClientRect();
-  return {id: row && row.querySelector('.id bdi').textContent, room: room.width,
-          mark: mark.left + mark.width / 2 - room.left,
-          parts: [...bar.querySelectorAll('.part')].map(part => part.getBoundingClientRect().width)};
-});
-"""
-RODS = """
-return [...document.querySelectorAll('.room')].map(room => [room.clientHeight,
-        room.querySelector('.rod').getBoundingClientRect().height]);
-"""
-# Pieces of text with less contrast to what is behind them than 4.5 to 1.
-FAINT = """
-const parse = colour => colour.match(/[\\d.]+/g).map(Number);
-const light = colour => {
-  const [r, g, b] = parse(colour).map(part => part / 255).map(
-    part => part <= 0.04045 ? part / 12.92 : ((part + 0.055) / 1.055) ** 2.4);
-  return 0.2126 * r + 0.7152 * g + 0.0722 * b + 0.05;
-};
-const behind = element => {
-  for (; element; element = element.parentElement) {
-    const colour = getComputedStyle(element).backgroundColor;
-    if ((parse(colour)[3] ?? 1) > 0) return colour;
-  }
-  return 'rgb(255, 255, 255)';
-};
-return [...document.body.querySelectorAll('*')].filter(element => {
-  const own = [...element.childNodes].some(node => node.nodeType === 3 && node.data.trim());
-  const two = [light(getComputedStyle(element).color), light(behind(element))].sort((a, b) => a - b);
-  return own && two[1] / two[0] < 4.5;
-}).map(element => element.outerHTML.slice(0, 200));
-"""
-
-HEADS = {
-    False: ["Do these payments support the funded projects?", "What this is about", "Conditions", "Projects", "Voters",
-            "What this doesn\u2019t say"],
-    True: ["Was this group treated worse than it deserves?", "What this is about", "Conditions", "The group",
-           "The demand", "What each member gets", "What this doesn\u2019t say"],
-}
-# How each page is opened: a width, a scheme of colours, and a medium.
+HEADS = {"prices": 10, "violation": 9}
+NO = "The prices don\u2019t support this outcome"
+HEADLINES = {
+    "yes": "The prices support this outcome", "stable": NO,
+    "sturdy": "The prices support this outcome in the stable form", "over": NO,
+    "violation": "This group was treated worse than it deserves",
+    "small": "This certificate proves no unfair treatment",
+    "polish": "Ceny uzasadniaj\u0105 ten wynik", "german": "Die Preise st\u00fctzen dieses Ergebnis nicht",
+    "french": "Ce certificat ne prouve aucun traitement injuste",
+    "many": "The prices support this outcome", "hostile": NO,
+}  # fmt: skip
+# How each page is opened: a width, a scheme of colours, and a medium. 550 is 1100 zoomed to 200 %.
 WAYS = [(PHONE, "light", "screen"), (PHONE, "dark", "screen"), (SCREEN, "light", "screen"), (SCREEN, "dark", "screen"),
-        (970, "light", "screen"), (700, "light", "screen"), (680, "dark", "print")]
+        (550, "light", "screen"), (320, "dark", "screen"), (680, "light", "print")]
 PICTURED = (PHONE, SCREEN)
+# A page of more projects than these is opened in every third way, and isn't given to axe.
+MOST_ROWS = 100
+# What is painted is looked at so much larger, and so far to both sides of an edge.
+SCALE, ASIDE = 3, 24
+# The line of a row of a table, on paper, in which the project's id stands.
+ROW_ON_PAPER = re.compile(r"^\s*(project|projekt|Projekt|projet) \S+(\s{2,}.*)?$", re.MULTILINE)
 
 
 class Failed(Exception):
@@ -113,16 +87,18 @@ def check(is_right, what):
 
 
 class Page:
-    """A page that was made, and what has to stand on it. That on a violation has no figures."""
+    """A page that was made, and what has to stand on it."""
 
-    def __init__(self, name, files, switches, folder):
-        self.name, self.file = name, f"{name}.html"
-        self.figures = None if name == "violation" else Figures(files, switches)
-        self.bars = [(None, [SHARE_OF_DEMAND])]
-        if self.figures:
-            self.bars = [(project, self.figures.parts(project)) for project in self.figures.order()]
+    def __init__(self, name, files, asked, folder):
+        self.name, self.file, self.files = name, f"{name}.html", files
+        self.language = asked.get("language", "en")
+        switches = {key: value for key, value in asked.items() if key != "language"}
         self.line = str(pbaudit.explain(*files, **switches).verdict)
-        pbaudit.write_page(*files, path=folder / self.file, **switches)
+        self.is_violation = "violation" in files[1].name
+        figures = (GroupBars if self.is_violation else PriceBars)(files, switches)
+        self.town, self.bars = figures.town, list(figures.bars())
+        self.headline = HEADLINES[name]
+        pbaudit.write_page(*files[:2], outcome=files[2] if files[2:] else None, path=folder / self.file, **asked)
 
 
 class Browser:
@@ -135,10 +111,12 @@ class Browser:
             options.add_argument(word)
         options.set_capability("goog:loggingPrefs", {"performance": "ALL"})
         self.driver = webdriver.Chrome(service=Service(driver), options=options)
+        self.axe = source_of_axe(self.driver)
 
     def open(self, url, width, scheme="light", media="screen"):
         features = [{"name": "prefers-color-scheme", "value": scheme}]
         self.driver.execute_cdp_cmd("Emulation.setEmulatedMedia", {"media": media, "features": features})
+        self.is_paper = media == "print"
         self.resize(width, 800)
         self.driver.get_log("performance")
         self.driver.get(url)
@@ -147,8 +125,25 @@ class Browser:
         size = {"width": width, "height": height, "deviceScaleFactor": 1, "mobile": width < 500}
         self.driver.execute_cdp_cmd("Emulation.setDeviceMetricsOverride", size)
 
-    def ask(self, script):
-        return self.driver.execute_script(script)
+    def ask(self, script, *words):
+        try:
+            return self.driver.execute_script(script, *words)
+        except JavascriptException as why:
+            raise Failed(f"what is asked for isn't there: {str(why).splitlines()[0]}") from why
+
+    def press(self, key):
+        ActionChains(self.driver).send_keys(key).perform()
+
+    def painted(self, left, top, right, bottom):
+        """What is painted in a part of the page, larger."""
+        clip = {"x": left, "y": top, "width": right - left, "height": bottom - top, "scale": SCALE}
+        taken = self.driver.execute_cdp_cmd("Page.captureScreenshot", {"clip": clip, "captureBeyondViewport": True})
+        return Picture(base64.b64decode(taken["data"]))
+
+    def printed(self):
+        """The page as a PDF."""
+        made = self.driver.execute_cdp_cmd("Page.printToPDF", {"preferCSSPageSize": True})
+        return base64.b64decode(made["data"])
 
     def requests(self):
         """The addresses that were asked for since the page was opened."""
@@ -184,54 +179,69 @@ class Server:
 
 
 def test_nothing_is_fetched(browser, url, page):
-    check(browser.requests() in ([url], [url, "data:,"]), f"asked for {browser.requests()}")
+    asked = [each for each in browser.requests() if not each.endswith("/favicon.ico")]
+    check(asked == [url], f"asked for {asked}")
     check(browser.ask("return performance.getEntriesByType('resource').length") == 0, "resources were loaded")
 
 
+def test_answer(browser, url, page):
+    """The answer, the line of the program, and the language."""
+    title = f"{shortened(shown(page.town.meta.get('description', page.files[0].name)))} \u2013 {page.headline}"
+    check(browser.driver.title == title, f"the title is {browser.driver.title}")
+    told = browser.ask("return document.querySelector('.answer h2').textContent")
+    check(told == page.headline, f"the answer is {told}")
+    line = browser.ask("return [...document.querySelectorAll('footer code')].pop().textContent")
+    check(line == page.line, f"the line is {line}")
+    check(browser.ask("return document.documentElement.lang") == page.language, "the page is in another language")
+
+
 def test_nothing_is_changed(browser, url, page):
-    check(browser.driver.title.endswith(" \u2013 an audit by pbaudit"), f"the title is {browser.driver.title}")
-    strange = browser.ask("return document.querySelectorAll('script, img, iframe, object, a, form, body style').length")
+    strange = browser.ask(STRANGE)
     check(strange == 0, f"{strange} strange elements")
-    heads = browser.ask("return [...document.querySelectorAll('h1, h2')].map(head => head.textContent)")
-    check(heads == HEADS[page.figures is None], f"the heads are {heads}")
-    rows = browser.ask("return document.querySelectorAll('.id bdi').length")
-    check(rows == (len(page.figures.projects) if page.figures else 2), f"{rows} projects")
-    told = browser.ask("return document.querySelector('main > p code').textContent")
-    check(told == page.line or page.name == "hostile", f"the line is {told}")
+    heads = browser.ask("return document.querySelectorAll('h1, h2').length")
+    check(heads == HEADS["violation" if page.is_violation else "prices"], f"{heads} heads")
+    own = browser.ask(OWN_WORDS)
+    check("{" not in own and "}" not in own, "a placeholder is left")
+
+
+def test_names(browser, url, page):
+    """Each project stands there by its id and name as they are shown, isolated and in the language of the election."""
+    rows = browser.ask("return [...document.querySelectorAll('tbody th')].map(head => "
+                       "[...head.querySelectorAll('.name, .id bdi')].map(each => each.textContent))")
+    for (project, _, _), told in zip(page.bars[2:], rows):
+        wanted = [shortened(shown(text)) for text in (page.town.names[project], project) if text]
+        check(told == wanted, f"{project} is shown as {told}")
+    loose = browser.ask(LOOSE_NAMES)
+    check(loose == 0, f"{loose} names may turn the text around them")
+    found = browser.ask("return [...document.querySelectorAll('th .name bdi, .id bdi, h1 bdi')].map(each => each.lang)")
+    check(set(found) == {language_of(page.town.meta)}, f"names are in {set(found)}")
+
+
+def test_currency(browser, url, page):
+    """Beside each amount stands the currency, where the election has one."""
+    currency = page.town.meta.get("currency")
+    bare = browser.ask(BARE_AMOUNTS, currency) if currency else []
+    check(not bare, f"{len(bare)} without a currency: {bare[:3]}")
 
 
 def test_it_fits(browser, url, page):
-    """On a phone nothing is wider than it. On wide screens a table may be, where amounts are absurd, and then
-    scrolls."""
     wide = browser.ask(TOO_WIDE)
     check(not wide, f"{len(wide)} too wide: {wide[:3]}")
-    scrolling = browser.ask(SCROLLING)
-    check(not scrolling or page.name == "hostile", f"{scrolling} tables are wider than the page")
 
 
 def test_bars(browser, url, page):
-    bars, wanted = browser.ask(BARS), page.bars
-    check(len(bars) == len(wanted), f"{len(bars)} bars")
-    in_order = page.name == "hostile" or [bar["id"] for bar in bars] == [project for project, _ in wanted]
-    check(in_order, "the projects are in another order")
-    for bar, (project, parts) in zip(bars, wanted):
-        check(abs(bar["mark"] - 0.75 * bar["room"]) <= 1, f"a mark is at {bar['mark']}: {bar['id']}")
-        check(len(parts) == len(bar["parts"]), f"{len(bar['parts'])} parts: {bar['id']}")
-        left = bar["room"]
-        for part, drawn in zip(parts, bar["parts"]):
-            length = min(0.75 * float(part) * bar["room"], left)
-            left -= length
-            check(abs(length - drawn) <= 1, f"a part is {drawn} long, and not {length}: {bar['id']}")
-
-
-def test_upright_bars(browser, url, page):
-    if page.figures is None:
-        return
-    heights = page.figures.heights()
-    rods = browser.ask(RODS)
-    check(len(rods) == len(heights), f"{len(rods)} upright bars")
-    for (room, drawn), voters in zip(rods, heights):
-        check(abs(drawn - voters / max(heights) * room) <= 1, f"an upright bar is {drawn} high of {room} for {voters}")
+    bars = browser.ask(BARS)
+    check(len(bars) == len(page.bars), f"{len(bars)} bars")
+    for bar, (project, part, has_mark) in zip(bars, page.bars):
+        wanted = project and shortened(shown(project))
+        check(bar["id"] == wanted, f"{bar['id']} stands in the place of {project}")
+        length = min(float(part), 1) * bar["room"]
+        check(abs(length - bar["part"]) <= 1, f"a part is {bar['part']} long, and not {length}: {project}")
+        check(bar["cut"] == (part > 1), f"a bar doesn't say whether it is cut: {project}")
+        check((bar["mark"] is not None) == has_mark, f"a mark: {project}")
+        check(not has_mark or abs(bar["mark"] - 0.75 * bar["room"]) <= 1, f"a mark is at {bar['mark']}: {project}")
+        is_named = bar["name"] is None or bar["label"].startswith(bar["name"])
+        check(is_named, f"the label {bar['label']} doesn't name {bar['name']}")
 
 
 def test_contrast(browser, url, page):
@@ -239,14 +249,145 @@ def test_contrast(browser, url, page):
     check(not faint, f"{len(faint)} faint: {faint[:3]}")
 
 
-TESTS = (test_nothing_is_fetched, test_nothing_is_changed, test_it_fits, test_bars, test_upright_bars, test_contrast)
+def test_painted(browser, url, page):
+    """What is painted of a bar is told apart: the part from the room, stripes from each other, the edge, the mark."""
+    for bar in browser.ask(LOOKS):
+        whole, part, mark = bar["whole"], bar["part"], bar["mark"]
+        end = min(part["right"], whole["right"])
+        if bar["is_clear"]:
+            check_around(browser.painted(end - ASIDE, whole["top"] - 4, end + ASIDE, whole["bottom"] + 4))
+        if bar["is_over"]:
+            left = whole["left"] + 2
+            stripes = browser.painted(left, whole["top"] + 2, left + ASIDE, whole["bottom"] - 2).colours()
+            check(len(stripes) == 2 and contrast(*stripes) >= 3, f"stripes of {stripes}")
+        if mark:
+            middle = (mark["left"] + mark["right"]) / 2
+            across = browser.painted(middle - 4, whole["top"] + 4, middle + 4, whole["bottom"] - 4)
+            columns = [across.colours(left=at, right=at + 1)[0] for at in range(across.width)]
+            ink = columns[len(columns) // 2]
+            check(columns[0] != ink and columns[-1] != ink, "a mark isn't seen")
+            beside = [next(each for each in side if each != ink) for side in (columns[len(columns) // 2::-1],
+                                                                             columns[len(columns) // 2:])]
+            faint = [each for each in beside if contrast(ink, each) < 3]
+            check(not faint, f"a mark of {ink} beside {faint}")
+
+
+def check_around(around):
+    """The picture of the end of a part in a bar, with the page above it."""
+    middle, edge = around.width // 2, 4 * SCALE
+    inside = {"top": edge + 2 * SCALE, "bottom": around.height - edge - 2 * SCALE}
+    page = around.colours(bottom=2 * SCALE)[0]
+    line = around.colours(left=middle + 3 * SCALE, top=edge, bottom=edge + SCALE)[0]
+    room = around.colours(left=middle + 3 * SCALE, **inside)[0]
+    part = around.colours(right=middle - 3 * SCALE, **inside)
+    check(contrast(line, page) >= 3, f"an edge of {line} on {page}")
+    check(max(contrast(each, room) for each in part) >= 3, f"a part of {part} in a room of {room}")
+
+
+def test_it_can_be_heard(browser, url, page):
+    wrong = browser.ask(UNREADABLE)
+    check(not wrong, f"{wrong}")
+    nodes = browser.driver.execute_cdp_cmd("Accessibility.getFullAXTree", {})["nodes"]
+    roles = Counter(node["role"]["value"] for node in nodes if not node["ignored"])
+    rows = browser.ask("return document.querySelectorAll('tr').length")
+    check(roles["row"] == rows and roles["rowheader"] == len(page.bars) - 2, f"rows are heard as {roles}")
+
+
+def test_axe(browser, url, page):
+    """The rules of axe."""
+    if browser.axe is None or len(page.bars) > MOST_ROWS:
+        return
+    wrong, kept = faults_by_axe(browser.driver, browser.axe)
+    check(not wrong and kept > 10, f"axe finds {wrong}, and {kept} rules kept")
+
+
+def test_orders(browser, url, page):
+    """A choice puts the rows in another order, by the style alone."""
+    if page.is_violation or browser.is_paper:
+        return
+    ids = [project for project, _, has_mark in page.bars if has_mark]
+    if not ids:
+        check(not browser.ask("return document.querySelectorAll('.sort').length"), "an order of nothing")
+        return
+    supporters = Counter(project for ballot in page.town.ballots for project in ballot)
+    for choice, key in (("closest", None), ("dearest", page.town.costs), ("supported", supporters)):
+        browser.ask(f"document.querySelector('.{choice}').click()")
+        wanted = sorted(ids, key=lambda project: -key[project]) if key else ids
+        check(browser.ask(SEEN_ORDER) == [shortened(shown(project)) for project in wanted], f"the order by {choice}")
+    browser.ask("document.querySelector('.closest').click()")
+
+
+def test_focus(browser, url, page):
+    """The keyboard reaches the choice of an order and nothing else, and it is seen where it is."""
+    if browser.is_paper:
+        return
+    browser.ask("document.activeElement.blur()")
+    browser.press(Keys.TAB)
+    reached = browser.ask(FOCUS)
+    if page.is_violation or not browser.ask("return document.querySelectorAll('.sort').length"):
+        check(reached["at"] == "BODY", f"the keyboard reaches {reached}")
+        return
+    check(reached["at"] == "closest" and reached["checked"], f"the keyboard reaches {reached}")
+    check(reached["width"] >= 2 and reached["contrast"] >= 3, f"the focus is seen as {reached}")
+    browser.press(Keys.ARROW_RIGHT)
+    reached = browser.ask(FOCUS)
+    check(reached["at"] == "dearest" and reached["checked"], f"an arrow leads to {reached}")
+    browser.ask("document.querySelector('.closest').click()")
+    browser.ask("document.activeElement.blur()")
+
+
+def test_print(browser, url, page):
+    """On paper each sheet has its number, and those with rows of a table the table's heads."""
+    if not browser.is_paper or not shutil.which("pdftotext"):
+        return
+    pdf = browser.printed()
+    title = asked_of_pdf(pdf, "pdfinfo", "-").splitlines()[0]
+    check(title == f"Title:           {browser.driver.title}", f"the PDF has the {title}")
+    *sheets, rest = asked_of_pdf(pdf, "pdftotext", "-layout", "-", "-").split("\f")
+    check(len(sheets) > 1 and not rest.strip(), f"{len(sheets)} sheets")
+    numbers = [(sheet.split() or [""])[-1] for sheet in sheets]
+    check(numbers == [str(at) for at in range(1, len(sheets) + 1)], f"the numbers of sheets are {numbers}")
+    head = re.escape(browser.ask("return document.querySelector('thead th').textContent"))
+    for sheet in sheets:
+        is_headed = re.search(rf"^\s*{head}\s{{2,}}", sheet, re.MULTILINE)
+        check(is_headed or not ROW_ON_PAPER.search(sheet), f"rows without heads: {sheet[:300]}")
+
+
+def asked_of_pdf(pdf, *words):
+    return subprocess.run(words, input=pdf, capture_output=True, check=True).stdout.decode()
+
+
+TESTS = (test_nothing_is_fetched, test_answer, test_nothing_is_changed, test_names, test_currency, test_it_fits,
+         test_bars, test_contrast, test_painted, test_it_can_be_heard, test_axe, test_orders, test_focus, test_print)
+
+
+def try_mutations(browser, server, folder, pages):
+    """Turns pages, and sees that the named check fails on each; answers how many were caught and what wasn't."""
+    caught, failures = set(), []
+    tests = {test.__name__: test for test in TESTS}
+    for at, mutation in enumerate(MUTATIONS):
+        page, turned = pages[mutation.page], f"turned.{at}.html"
+        text = (folder / page.file).read_bytes().decode()
+        if mutation.old not in text:
+            failures.append(f"{mutation.what}: {mutation.old} isn't on the page")
+            continue
+        (folder / turned).write_bytes(text.replace(mutation.old, mutation.new, mutation.times).encode())
+        url = f"{server.address}/{turned}"
+        browser.open(url, *mutation.way)
+        try:
+            tests[mutation.test](browser, url, page)
+            failures.append(f"{mutation.what}: {mutation.test} passes")
+        except Failed:
+            caught.add(mutation)
+    failures += [f"{name} was never seen to fail" for name in sorted(set(tests) - {each.test for each in caught})]
+    return len(caught), failures
 
 
 def look_at(browser, server, page, pictures):
     """Runs each test on a page in each way; answers how many passed and what failed."""
     passed, failures = 0, []
     url = f"{server.address}/{page.file}"
-    for width, scheme, medium in WAYS:
+    for width, scheme, medium in WAYS if len(page.bars) <= MOST_ROWS else WAYS[::3]:
         browser.open(url, width, scheme, medium)
         for test in TESTS:
             try:
@@ -254,10 +395,10 @@ def look_at(browser, server, page, pictures):
                 passed += 1
             except Failed as why:
                 failures.append(f"{page.name} {width} {scheme} {medium}: {test.__name__}: {why}")
-        if pictures and width in PICTURED:
+        if pictures and width in PICTURED and len(page.bars) <= MOST_ROWS:
             browser.picture(pictures / f"{page.name}-{width}-{scheme}.png", width)
-        for name, (shown, wide, first, height) in SHOWN.items() if pictures else ():
-            if (shown, wide, "light") == (page.name, width, scheme):
+        for name, (pictured, wide, first, height) in SHOWN.items() if pictures else ():
+            if (pictured, wide, "light") == (page.name, width, scheme):
                 browser.picture(pictures / name, width, first, height)
     return passed, failures
 
@@ -266,8 +407,21 @@ def found_program(names):
     return next(filter(None, map(shutil.which, names)), None)
 
 
+def look_at_all(browser, folder, words):
+    """Looks at each page, unless only mutations are asked for, and then turns them."""
+    server, pages, passed, failures = Server(folder), {}, 0, []
+    pictures = next((pathlib.Path(word) for word in words if not word.startswith("--")), None)
+    for name, files, asked in cases(folder):
+        pages[name] = Page(name, files, asked, folder)
+        if "--mutations" not in words:
+            done, failed = look_at(browser, server, pages[name], pictures)
+            passed, failures = passed + done, failures + failed
+    failures += [f"asked for {path}" for path in sorted(set(server.asked)) if not path.endswith((".html", ".ico"))]
+    caught, missed = try_mutations(browser, server, folder, pages)
+    return passed + caught, failures + missed
+
+
 def main():
-    pictures = pathlib.Path(sys.argv[1]) if len(sys.argv) > 1 else None
     browser, driver = found_program(BROWSERS), shutil.which("chromedriver")
     if not (webdriver and browser and driver):
         print("tests/browser.py was not run: Chromium, chromedriver or Selenium for Python is not installed")
@@ -277,18 +431,15 @@ def main():
     except WebDriverException as why:
         print(f"tests/browser.py was not run: Chromium doesn't start here: {str(why).splitlines()[0]}")
         return 0
-    passed, failures = 0, []
+    if chromium.axe is None:
+        print("the rules of axe were not checked: this Chromium doesn't have it where it is looked for")
+    if not shutil.which("pdftotext"):
+        print("what is printed was not checked: pdftotext is not installed")
     with tempfile.TemporaryDirectory() as room:
-        folder = pathlib.Path(room)
-        server = Server(folder)
         try:
-            for name, files, switches in cases(folder):
-                done, failed = look_at(chromium, server, Page(name, files, switches, folder), pictures)
-                passed, failures = passed + done, failures + failed
+            passed, failures = look_at_all(chromium, pathlib.Path(room), sys.argv[1:])
         finally:
             chromium.driver.quit()
-    strange = sorted(set(path for path in server.asked if not path.endswith(".html")))
-    failures += [f"asked for {path}" for path in strange]
     for failure in failures:
         print(failure)
     print(f"{passed} passed, {len(failures)} failed")

@@ -5,14 +5,18 @@ Everything here is made from the files by itself, slowly, and without the packag
 import csv
 import pathlib
 import random
-from collections import Counter, defaultdict
+import unicodedata
+from collections import Counter
 from fractions import Fraction
 
 import pbaudit
 
 EXAMPLES = pathlib.Path(__file__).resolve().parent.parent / "examples"
-# Nine of the 60 voters of the district demand projects for 16437.50; the limit is 111000.00.
-SHARE_OF_DEMAND = Fraction(9 * 111000, 60) / Fraction("16437.5")
+# Where the mark of a bound stands in a bar.
+MARK = Fraction(3, 4)
+# The kinds of characters that a page shows by their numbers, how much of a name it shows, and the languages of names.
+HIDDEN, MOST_SHOWN = ("Cc", "Cf", "Zl", "Zp"), 80
+LANGUAGES = {"de": "de", "Poland": "pl"}
 # Ids and names that try to break the page, to fake a part of it, or to turn the text around them.
 TITLE = "\"><script>document.title='x'</script>"
 HOSTILE = [
@@ -33,7 +37,8 @@ def hostile_files(room):
     """An election whose ids and names are hostile, with prices in which the first one is paid for."""
     ids = [project for project, _ in HOSTILE]
     rows = [["META"], ["key", "value"], ["description", TITLE + "\u202e" + "d" * 9_000], ["currency", "<b>\u20ac</b>"],
-            ["budget", "20"], ["vote_type", "approval"], ["PROJECTS"], ["project_id", "cost", "name", "selected"]]
+            ["country", "Poland"], ["budget", "20"], ["vote_type", "approval"],
+            ["PROJECTS"], ["project_id", "cost", "name", "selected"]]
     costs = {3: "999999999999.999999", 5: "0"}
     rows += [[project, costs.get(at, "6"), name, str(int(at < 3))] for at, (project, name) in enumerate(HOSTILE)]
     ballots = [[project for project in ids if "," not in project], [], ids[:2]]
@@ -75,58 +80,149 @@ def many_files(room, projects=1000, voters=2000, seed=7):
     return election, certificate
 
 
+def all_funded(election, room):
+    """An outcome file in which every project is funded, which costs more than the limit."""
+    path = room / "all.outcome.csv"
+    rows = [["pb-outcome", "1"], *(["project", project] for project in Town(election).costs)]
+    path.write_text("".join(",".join(row) + "\n" for row in rows), encoding="utf-8")
+    return path
+
+
+def group_of_one(election, room):
+    """A violation certificate of one voter who demands all that it approves, for which its share is too small."""
+    path = room / "small.violation.csv"
+    ballot = Town(election).ballots[0]
+    rows = [["pb-violation", "1"], *(["project", project] for project in Town(election).costs if project in ballot)]
+    path.write_text("".join(",".join(row) + "\n" for row in [*rows, ["voter", "1"]]), encoding="utf-8")
+    return path
+
+
 def cases(room):
-    """The pages: a name, the files, and the switches."""
+    """The pages: a name, the files, and what else is asked for."""
     district, prices = EXAMPLES / "district.pb", EXAMPLES / "district.prices.csv"
-    outcome = EXAMPLES / "district.other.outcome.csv"
+    violation, outcome = EXAMPLES / "district.violation.csv", EXAMPLES / "district.other.outcome.csv"
+    sturdy = [district, EXAMPLES / "district.stable.prices.csv", EXAMPLES / "district.stable.outcome.csv"]
     return [
         ("yes", [district, prices], {}),
         ("stable", [district, prices], {"stable": True}),
-        ("violation", [district, EXAMPLES / "district.violation.csv", outcome], {}),
+        ("sturdy", sturdy, {"stable": True, "cover": True}),
+        ("over", [district, prices, all_funded(district, room)], {}),
+        ("small", [district, group_of_one(district, room)], {}),
+        ("violation", [district, violation, outcome], {}),
+        ("polish", [district, prices], {"language": "pl"}),
+        ("german", [district, prices, outcome], {"language": "de"}),
+        ("french", [district, violation], {"language": "fr"}),
         ("many", [*many_files(room)], {}),
         ("hostile", [*hostile_files(room)], {}),
     ]
 
 
-class Figures:
-    """What the bars of a page on prices have to show, from `margins` and from the rows of the certificate."""
+class Town:
+    """What an election file states, read by itself: the keys of META, the limit, the costs and names by id, the funded
+    projects, and the ballots."""
+
+    def __init__(self, election, outcome=None):
+        self.meta, self.costs, self.names, self.funded, self.ballots, section = {}, {}, {}, set(), [], None
+        with open(election, encoding="utf-8-sig", newline="") as file:
+            for row in filter(None, csv.reader(file, delimiter=";")):
+                if len(row) == 1 and row[0] in ("META", "PROJECTS", "VOTES"):
+                    section, header = row[0], None
+                elif header is None:
+                    header = row
+                else:
+                    self.take(section, dict(zip(header, row)))
+        if outcome:
+            with open(outcome, encoding="utf-8", newline="") as file:
+                self.funded = {row[1] for row in csv.reader(file) if row and row[0] == "project"}
+
+    def take(self, section, row):
+        if section == "META":
+            self.meta[row["key"]] = row["value"]
+            self.limit = amount(self.meta.get("budget", "0"))
+        elif section == "PROJECTS":
+            self.costs[row["project_id"]] = amount(row["cost"])
+            self.names[row["project_id"]] = row.get("name", "")
+            self.funded |= {row["project_id"]} if row["selected"] == "1" else set()
+        elif section == "VOTES":
+            self.ballots.append(set(filter(None, map(str.strip, row["vote"].split(",")))))
+
+
+def shown(text):
+    """A name as a page shows it: what can't be seen, or turns what follows, by its number."""
+    return "".join(f"\\u{{{ord(c):x}}}" if unicodedata.category(c) in HIDDEN else c for c in text)
+
+
+def shortened(text):
+    return text if len(text) <= MOST_SHOWN else text[:MOST_SHOWN] + "\u2026"
+
+
+def language_of(meta):
+    """The code of the language of names, as far as these elections tell it: else nothing."""
+    return LANGUAGES.get(meta.get("language") or meta.get("country"), "")
+
+
+def amount(text):
+    return Fraction(text.replace(",", "."))
+
+
+class PriceBars:
+    """What the bars of a page on prices have to show, from the election and the rows of the certificate."""
 
     def __init__(self, files, switches):
-        self.projects = {project.project: project for project in pbaudit.margins(*files)}
         self.is_stable = bool(switches.get("stable"))
+        self.town = Town(files[0], *files[2:])
         _, (_, denominator), (_, budget), _, *rows = csv.reader(pbaudit.tidy(*files[:2]).decode().splitlines())
-        self.budget, self.payments, spent = Fraction(int(budget), int(denominator)), defaultdict(list), Counter()
+        self.budget, self.paid = Fraction(int(budget), int(denominator)), Counter()
+        spent, self.top = Counter(), Counter()
         for voter, project, payment in rows:
-            self.payments[project].append(Fraction(int(payment), int(denominator)))
-            spent[int(voter)] += self.payments[project][-1]
-        self.left = [self.budget - spent[voter] for voter in range(1, pbaudit.read(files[0]).voters + 1)]
+            payment = Fraction(int(payment), int(denominator))
+            self.paid[project] += payment
+            spent[int(voter)] += payment
+            self.top[int(voter)] = max(self.top[int(voter)], payment)
+        self.left = {voter: self.budget - spent[voter] for voter in range(1, len(self.town.ballots) + 1)}
 
     def has(self, project):
         """What the supporters of a project have left, or in the stable form could offer."""
-        return project.offer if self.is_stable else project.left
+        supporters = [voter for voter, ballot in enumerate(self.town.ballots, 1) if project in ballot]
+        if self.is_stable:
+            return sum(max(self.left[voter], self.top[voter]) for voter in supporters)
+        return sum(self.left[voter] for voter in supporters)
 
-    def order(self):
-        """The ids in the order of the page: the unfunded that miss the least first, then the funded ones, those paid
-        with the largest fault first and then by cost."""
-        unfunded = [project for project in self.projects.values() if not project.funded]
-        funded = [project for project in self.projects.values() if project.funded]
-        unfunded.sort(key=lambda project: project.cost - self.has(project))
-        funded.sort(key=lambda project: (abs(project.paid - project.cost), project.cost), reverse=True)
-        return [project.project for project in unfunded + funded]
-
-    def parts(self, project):
-        """The parts of a project's bar, each as a ratio to its cost."""
-        margins = self.projects[project]
-        if not margins.funded:
+    def bars(self):
+        """The bars in the order of the page: the id of the project, the part of the width, and whether there is a
+        mark."""
+        town = self.town
+        has = {project: self.has(project) for project in town.costs if project not in town.funded}
+        unfunded = sorted(has, key=lambda project: town.costs[project] - has[project])
+        funded = sorted((project for project in town.costs if project in town.funded),
+                        key=lambda project: (-abs(self.paid[project] - town.costs[project]), -town.costs[project]))
+        total = sum(town.costs[project] for project in funded)
+        yield None, total / town.limit, False
+        yield None, sum(self.paid.values()) / (self.budget * len(town.ballots)), False
+        for project in unfunded:
             # Where the cost is 0, any amount is longer than the bar.
-            return [max(Fraction(0), self.has(margins)) / (margins.cost or Fraction(1, 10**9))]
-        # Each payer four times, so that quarters have whole numbers of them.
-        fourfold = [payment for payment in sorted(self.payments[project]) for _ in range(4)]
-        payers = len(fourfold) // 4
-        return [sum(fourfold[at * payers:(at + 1) * payers]) / 4 / margins.cost for at in range(4)] if payers else []
+            yield project, MARK * max(0, has[project]) / (town.costs[project] or Fraction(1, 10**9)), True
+        for project in funded:
+            yield project, town.costs[project] / town.limit, False
 
-    def heights(self):
-        """How many voters have nothing left, how many up to each tenth of the budget, and how many all of it."""
-        parts = [10 * left / self.budget for left in self.left]
-        tenths = [sum(at < part <= at + 1 and part < 10 for part in parts) for at in range(10)]
-        return [self.left.count(0), *tenths, self.left.count(self.budget)]
+
+class GroupBars:
+    """What the bars of a page on a violation by counting have to show."""
+
+    def __init__(self, files, switches):
+        self.town = Town(files[0], *files[2:])
+        with open(files[1], encoding="utf-8", newline="") as file:
+            rows = [row for row in csv.reader(file) if len(row) == 2]
+        self.demand = [value for key, value in rows if key == "project"]
+        self.group = sorted(int(value) for key, value in rows if key == "voter")
+
+    def bars(self):
+        town = self.town
+        share = town.limit * len(self.group) / len(town.ballots)
+        gets = [len(town.ballots[voter - 1] & town.funded) for voter in self.group]
+        # The first member that gets enough, or else the most that one gets.
+        shown = next((get for get in gets if get >= len(self.demand)), max(gets))
+        yield None, MARK * share / sum(town.costs[project] for project in self.demand), True
+        yield None, MARK * Fraction(shown, len(self.demand)), True
+        for project in (project for project in town.costs if project in self.demand):
+            yield project, town.costs[project] / share, False

@@ -1,0 +1,4 @@
+pub mod Pages
+pub mod Plain
+pub mod Tells
+pub mod Texts

@@ -1,0 +1,111 @@
+-- The answer on the inputs of a page.
+use Rattle.std.proofs.Common.{◌≡◌, ◌∙◌, Bool, List, Option, ap, refl, subst}
+use Rattle.std.specs.Prelude.{IfOk, IfSome, Ok, Err, None}
+use Rattle.pb_election.specs.Instance.{Instance}
+use Rattle.pb_records.specs.Loading.{Delivery}
+use Rattle.pb_price.specs.declared.Mode.{Mode}
+use Rattle.pb_reply.specs.Inputs.{Stated, StatesElection}
+use Rattle.pb_reply.specs.Replies.{Answer, answer_of, price_status, refused, violation_status}
+use Rattle.pb_reply.specs.Inside.Taking.{AuditsOutcome, IfTaken, settled_answer}
+use Rattle.pb_reply.specs.declared.input.Stop.{Stop}
+use Rattle.pb_reply.specs.declared.input.Stop.TheVariants as stop
+use Rattle.pb_reply.specs.declared.status.Status.{Status}
+use Rattle.pb_audit.specs.Explained.{Certificate, OfPrices, OfViolation, StatesCertificate, explained_reply}
+use Rattle.pb_page.specs.Answers.{AnswersPage, IsPage, PageOnOutcome, Tells}
+use Rattle.pb_page.specs.Taken.{RendersTold, TellsCertificate}
+use Rattle.pb_page.specs.Told.{status_of}
+use Rattle.pb_page.specs.declared.language.Language.{Language}
+use Rattle.pb_page.specs.declared.told.Found.{Found}
+use Rattle.pb_page.specs.declared.told.Told.{Told}
+
+-- where the election is refused, the others may state anything
+pub stopped-at-election : (m : Mode) (l : Language) (election : Delivery) (outcome : Option Delivery)
+    (certificate : Delivery) (why : Stop) → IfTaken {A = Instance} (Err why) (StatesElection election)
+    → IfSome (settled_answer (Err why)) (AnswersPage m l election outcome certificate)
+stopped-at-election m l election outcome certificate (stop.Refused r) given = record {
+  e = Err r;
+  o = None;
+  c = Err r;
+  given = record { election_states = given; outcome_states = tt; certificate_states = tt };
+  out = refl;
+}
+stopped-at-election m l election outcome certificate stop.Memory given = tt
+
+-- where the outcome is, the certificate may
+pub stopped-at-outcome : (m : Mode) (l : Language) (election : Delivery) (outcome : Option Delivery)
+    (certificate : Delivery) (e : Instance) (why : Stop) → StatesElection election (Ok e)
+    → IfTaken {A = List Bool} (Err why) (AuditsOutcome e outcome)
+    → IfSome (settled_answer (Err why)) (AnswersPage m l election outcome certificate)
+stopped-at-outcome m l election outcome certificate e (stop.Refused r) given taken = record {
+  e = Ok e;
+  o = taken.file;
+  c = Err r;
+  given = record {
+    election_states = given;
+    outcome_states = taken.given;
+    certificate_states =
+        subst (λ (o : Stated (List Bool)). IfOk o (λ w. StatesCertificate e certificate (Err r))) taken.is tt;
+  };
+  out =
+      subst (λ (o : Stated (List Bool)). PageOnOutcome m l e o (Err r) (answer_of (refused r))) taken.is refl;
+}
+stopped-at-outcome m l election outcome certificate e stop.Memory given taken = tt
+
+-- the certificate is refused
+pub stopped-at-certificate : (m : Mode) (l : Language) (election : Delivery) (outcome : Option Delivery)
+    (certificate : Delivery) (e : Instance) (w : List Bool) (why : Stop) → StatesElection election (Ok e)
+    → AuditsOutcome e outcome (Ok w) → IfTaken {A = Told} (Err why) (TellsCertificate m e w certificate)
+    → IfSome (settled_answer (Err why)) (AnswersPage m l election outcome certificate)
+stopped-at-certificate m l election outcome certificate e w (stop.Refused r) given taken states = record {
+  e = Ok e;
+  o = taken.file;
+  c = Err r;
+  given = record {
+    election_states = given;
+    outcome_states = taken.given;
+    certificate_states =
+        subst (λ (o : Stated (List Bool)). IfOk o (λ marks. StatesCertificate e certificate (Err r))) taken.is states;
+  };
+  out =
+      subst (λ (o : Stated (List Bool)). PageOnOutcome m l e o (Err r) (answer_of (refused r))) taken.is refl;
+}
+stopped-at-certificate m l election outcome certificate e w stop.Memory given taken states = tt
+
+-- the status of what is told is that of `explain`
+told-status : (m : Mode) (e : Instance) (w : List Bool) (c : Certificate) (t : Told) → Tells m e w c t
+    → status_of t.mode t.found ≡ (explained_reply m e w c).status
+told-status m e w (OfPrices p) t tells =
+    ap (λ (f : Found). status_of t.mode f) tells.found ∙ ap price_status tells.verdict
+told-status m e w (OfViolation v) t tells =
+    ap (λ (f : Found). status_of t.mode f) tells.1 ∙ ap violation_status tells.2.verdict
+
+-- all are accepted
+pub page-answered : (m : Mode) (l : Language) (election : Delivery) (outcome : Option Delivery)
+    (certificate : Delivery) (e : Instance) (w : List Bool) (t : Told) (a : Answer Status)
+    → StatesElection election (Ok e) → AuditsOutcome e outcome (Ok w)
+    → TellsCertificate m e w certificate (Ok t) → t.style.language ≡ l → RendersTold t a
+    → AnswersPage m l election outcome certificate a
+page-answered m l election outcome certificate e w t a given taken tells language renders = record {
+  e = Ok e;
+  o = taken.file;
+  c = Ok tells.0;
+  given = record {
+    election_states = given;
+    outcome_states = taken.given;
+    certificate_states =
+        subst (λ (o : Stated (List Bool)). IfOk o (λ marks. StatesCertificate e certificate (Ok tells.0))) taken.is
+        tells.1;
+  };
+  out = subst (λ (o : Stated (List Bool)). PageOnOutcome m l e o (Ok tells.0) a) taken.is page;
+}
+  where
+    page : IsPage m l e w tells.0 a
+    page = record {
+      told = t;
+      pieces = renders.pieces;
+      tells = tells.2;
+      in_language = language;
+      answers = renders.answers;
+      text = renders.text;
+      status = renders.status ∙ told-status m e w tells.0 t tells.2;
+    }

@@ -1,0 +1,7 @@
+use Rattle.std.proofs.Common.{rules}
+use Rattle.std.specs.Char.{encode_utf8}
+use Rattle.pb_page.proofs.headlines.english.Goals as goal
+
+pub returns-in-NotSupported : goal.returns-in-NotSupported
+unfolding encode_utf8
+returns-in-NotSupported c = search rules

@@ -1,0 +1,31 @@
+use Rattle.std.proofs.Common.{◌∙◌, ap, refl, subst, sym}
+use Rattle.pb_price.specs.declared.Verdict.{Verdict}
+use Rattle.pb_reply.specs.Inside.Loaded.{lent}
+use Rattle.pb_reply.specs.Lines.{price_line}
+use Rattle.pb_reply.specs.Named.{PricesNameProject}
+use Rattle.pb_audit.proofs.Explained.{denominator-low, told_names_project}
+use Rattle.pb_page.specs.declared.told.Found.TheVariants.{Prices}
+use Rattle.pb_page.proofs.Tells.{tells-prices}
+use Rattle.pb_page.proofs.telling.prices_told.Goals as goal
+
+pub price_line-requires : goal.price_line-requires
+price_line-requires c =
+    let found = c.in_ok-figures.ensures in
+    let low = denominator-low c.args.election.now (lent c.args.certificate) found.0 found.1 in
+    subst (λ (v : Verdict). PricesNameProject c.args.election.now v) (sym c.verdict-verdict.ensures)
+    (told_names_project c.args.mode c.args.election.now c.args.outcome.now.marks found.0
+    c.in_ok-figures.figures.findings low found.2)
+
+pub returns-clause-told : goal.returns-clause-told
+returns-clause-told c kind =
+    let found = c.in_ok-figures.ensures in
+    tells-prices c.args.mode c.args.election.now c.args.outcome.now.marks (lent c.args.certificate) found.0
+    (record {
+      style = c.args.style;
+      mode = c.args.mode;
+      line = c.in_ok-price_line.field-0;
+      found = Prices c.in_ok-figures.figures;
+    })
+    c.in_ok-figures.figures found.1 refl refl
+    (c.in_ok-price_line.ensures ∙ ap (price_line c.args.mode.stable c.args.election.now) c.verdict-verdict.ensures)
+    found.2 found.3 kind

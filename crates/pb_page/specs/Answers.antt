@@ -1,0 +1,105 @@
+-- What a page answers, by what its inputs state.
+use Rattle.std.specs.Prelude.{◌≡◌, ℕ, Bool, List, [], ◌∷◌, ◌++◌, Option, Ok, Err, map, string_bytes}
+use Rattle.pb_records.specs.Loading.{Delivery}
+use Rattle.pb_election.specs.Instance.{Instance, all_projects, cost_of, voters}
+use Rattle.pb_certificate.specs.Prices.{Prices}
+use Rattle.pb_certificate.specs.declared.measure.Measure.{Measure}
+use Rattle.pb_cohesion.specs.FirstV.{FirstV, violation_verdict_of}
+use Rattle.pb_cohesion.specs.Satisfactions.{worth_by}
+use Rattle.pb_cohesion.specs.ViolationFindings.{violation_findings}
+use Rattle.pb_price.specs.Findings.{findings}
+use Rattle.pb_price.specs.First.{First, verdict_of}
+use Rattle.pb_price.specs.Margins.{AreMargins}
+use Rattle.pb_price.specs.Told.{first_told}
+use Rattle.pb_price.specs.declared.Mode.{Mode}
+use Rattle.pb_reply.specs.Inputs.{Stated, audited}
+use Rattle.pb_reply.specs.Lines.{price_line, violation_line}
+use Rattle.pb_reply.specs.Replies.{Answer, answer_of, refused}
+use Rattle.pb_reply.specs.declared.status.Status.{Status}
+use Rattle.pb_audit.specs.Answers.{FilesState}
+use Rattle.pb_audit.specs.Explained.{Certificate, OfPrices, OfViolation, StatesCertificate, explained_reply}
+use Rattle.pb_page.specs.Pieces.{Close, Headline, Line, Open, Piece, rendering}
+use Rattle.pb_page.specs.Told.{shows_of}
+use Rattle.pb_page.specs.declared.language.Language.{Language}
+use Rattle.pb_page.specs.declared.tag.Tag.TheVariants as tag
+use Rattle.pb_page.specs.declared.told.Found.TheVariants as found
+use Rattle.pb_page.specs.declared.told.PriceFigures.{PriceFigures}
+use Rattle.pb_page.specs.declared.told.Told.{Told}
+use Rattle.pb_page.specs.declared.told.ViolationFigures.{ViolationFigures}
+
+-- What a page tells of prices in a mode: the line that the program prints, the findings, and the figures of each
+-- project.
+pub record TellsPrices (m : Mode) (e : Instance) (w : List Bool) (p : Prices) (t : Told) : Type 0 where
+  pub figures : PriceFigures
+  pub found : t.found ≡ found.Prices figures
+  pub mode : t.mode ≡ m
+  pub verdict : verdict_of (first_told t.mode figures.findings) ≡ verdict_of (First m e w p)
+  pub line : string_bytes t.line ≡ price_line m.stable e (verdict_of (First m e w p))
+  pub findings : figures.findings ≡ findings e w p
+  pub margins : AreMargins e w p figures.margins
+
+-- what it tells of a group and its demand, by the measure that the certificate states: that line, and the figures
+pub record TellsGroup (e : Instance) (w : List Bool) (v : Measure × List ℕ × List ℕ) (l : List ℕ)
+    (figures : ViolationFigures) : Type 0 where
+  pub line : l ≡ violation_line e (violation_verdict_of (FirstV (worth_by v.0 e) e w v.1 v.2))
+  pub verdict : figures.verdict ≡ violation_verdict_of (FirstV (worth_by v.0 e) e w v.1 v.2)
+  pub findings : figures.findings ≡ violation_findings (worth_by v.0 e) e w v.1 v.2
+  pub measure : figures.violation.measure ≡ v.0
+  pub costs : figures.costs.items ≡ map (cost_of e) (all_projects e)
+  pub limit : figures.limit ≡ e.limit
+  pub voters : figures.voters ≡ voters e
+
+abbrev pub TellsViolation : Instance → List Bool → Measure × List ℕ × List ℕ → Told → Type 0
+TellsViolation e w v t =
+    (figures : ViolationFigures) × (t.found ≡ found.Violation figures) × TellsGroup e w v (string_bytes t.line) figures
+
+abbrev pub Tells : Mode → Instance → List Bool → Certificate → Told → Type 0
+Tells m e w (OfPrices p) t = TellsPrices m e w p t
+Tells m e w (OfViolation v) t = TellsViolation e w v t
+
+-- the answer in a sentence, and the line that the program prints, as the page has them
+abbrev pub headline_box : List Piece
+headline_box = Open tag.H2 [] ∷ Headline ∷ Close ∷ []
+
+abbrev pub line_box : List Piece
+line_box = Open tag.Code [] ∷ Line ∷ Close ∷ []
+
+pub record HasAnswer (pieces : List Piece) : Type 0 where
+  pub front : List Piece
+  pub middle : List Piece
+  pub back : List Piece
+  pub is : pieces ≡ front ++ (headline_box ++ (middle ++ (line_box ++ back)))
+
+-- the page about a certificate, in a language: what the pieces show is what is told, and the status that of `explain`
+pub record IsPage (m : Mode) (language : Language) (e : Instance) (w : List Bool) (c : Certificate) (a : Answer Status)
+    : Type 0 where
+  pub told : Told
+  pub pieces : List Piece
+  pub tells : Tells m e w c told
+  pub in_language : told.style.language ≡ language
+  pub answers : HasAnswer pieces
+  pub text : a.text ≡ rendering (shows_of told) pieces
+  pub status : a.status ≡ (explained_reply m e w c).status
+
+-- the page, or the line of the first input that is refused
+abbrev pub PageOnCertificate : Mode → Language → Instance → List Bool → Stated Certificate → Answer Status → Type 0
+PageOnCertificate m language e w (Err r) a = a ≡ answer_of (refused r)
+PageOnCertificate m language e w (Ok c) a = IsPage m language e w c a
+
+abbrev pub PageOnOutcome : Mode → Language → Instance → Stated (List Bool) → Stated Certificate → Answer Status → Type 0
+PageOnOutcome m language e (Err r) c a = a ≡ answer_of (refused r)
+PageOnOutcome m language e (Ok w) c a = PageOnCertificate m language e w c a
+
+abbrev pub PageOf : Mode → Language → Stated Instance → Option (Stated (List Bool)) → Stated Certificate → Answer Status
+    → Type 0
+PageOf m language (Err r) o c a = a ≡ answer_of (refused r)
+PageOf m language (Ok e) o c a = PageOnOutcome m language e (audited e o) c a
+
+-- The answer on an election, an outcome file where one is given, and a certificate of either kind.
+pub record AnswersPage (m : Mode) (language : Language) (election : Delivery) (outcome : Option Delivery)
+    (certificate : Delivery) (a : Answer Status) : Type 0 where
+  pub e : Stated Instance
+  pub o : Option (Stated (List Bool))
+  pub c : Stated Certificate
+  pub given : FilesState StatesCertificate election outcome certificate e o c
+  pub out : PageOf m language e o c a

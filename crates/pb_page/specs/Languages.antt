@@ -1,0 +1,13 @@
+-- The languages of a page, by their codes.
+use Rattle.std.specs.Prelude.{if◌then◌else◌, ℕ, List, Option, Some, None, codes}
+use Rattle.std.specs.Str.{bytes_eq}
+use Rattle.pb_page.specs.declared.language.Language.{Language}
+use Rattle.pb_page.specs.declared.language.Language.TheVariants.{English, French, German, Polish}
+
+abbrev pub language_of : List ℕ → Option Language
+language_of code =
+    if bytes_eq code (codes "en") then Some English
+    else if bytes_eq code (codes "pl") then Some Polish
+    else if bytes_eq code (codes "de") then Some German
+    else if bytes_eq code (codes "fr") then Some French
+    else None

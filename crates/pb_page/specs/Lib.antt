@@ -1,0 +1,10 @@
+pub mod Amounts
+pub mod Answers
+pub mod Escapes
+pub mod Headlines
+pub mod Languages
+pub mod Names
+pub mod PieceList
+pub mod Pieces
+pub mod Taken
+pub mod Told

@@ -1,0 +1,44 @@
+-- What the values stand for that the code makes of a certificate on the way to a page. What a page answers is said
+-- without them, in `Answers`.
+use Rattle.std.specs.Prelude.{◌≡◌, Bool, List, Ok, Err}
+use Rattle.pb_records.specs.Loading.{Delivery}
+use Rattle.pb_election.specs.Instance.{Instance}
+use Rattle.pb_certificate.specs.Prices.{Prices}
+use Rattle.pb_price.specs.Findings.{findings}
+use Rattle.pb_price.specs.Margins.{AreMargins}
+use Rattle.pb_price.specs.declared.Mode.{Mode}
+use Rattle.pb_reply.specs.Inputs.{Stated, StatesPrices}
+use Rattle.pb_reply.specs.Inside.Loaded.{lent}
+use Rattle.pb_reply.specs.Replies.{Answer}
+use Rattle.pb_reply.specs.declared.status.Status.{Status}
+use Rattle.pb_reply.specs.declared.input.InputName.TheVariants as name
+use Rattle.pb_audit.specs.Explained.{Certificate, StatesCertificate}
+use Rattle.pb_page.specs.Answers.{HasAnswer, Tells}
+use Rattle.pb_page.specs.Pieces.{Piece, rendering}
+use Rattle.pb_page.specs.Told.{shows_of, status_of}
+use Rattle.pb_page.specs.declared.entry.PageFile.{PageFile}
+use Rattle.pb_page.specs.declared.told.PriceFigures.{PriceFigures}
+use Rattle.pb_page.specs.declared.told.Told.{Told}
+
+-- what is found of the prices that a certificate states
+abbrev pub FindsFigures : Instance → List Bool → Delivery → Stated PriceFigures → Type 0
+FindsFigures e w d (Ok f) =
+    (p : Prices) × StatesPrices name.Certificate e d (Ok p) × (f.findings ≡ findings e w p)
+    × AreMargins e w p f.margins
+FindsFigures e w d (Err r) = StatesPrices name.Certificate e d (Err r)
+
+-- what is told of a certificate of either kind
+abbrev pub TellsCertificate : Mode → Instance → List Bool → Delivery → Stated Told → Type 0
+TellsCertificate m e w d (Ok t) = (c : Certificate) × StatesCertificate e d (Ok c) × Tells m e w c t
+TellsCertificate m e w d (Err r) = StatesCertificate e d (Err r)
+
+-- what is delivered of a file that is given with its name
+abbrev pub file_of : PageFile → Delivery
+file_of given = lent given.file
+
+-- the page shows what is told
+pub record RendersTold (t : Told) (a : Answer Status) : Type 0 where
+  pub pieces : List Piece
+  pub answers : HasAnswer pieces
+  pub text : a.text ≡ rendering (shows_of t) pieces
+  pub status : a.status ≡ status_of t.mode t.found

@@ -1,0 +1,132 @@
+//! Amounts as they are shown.
+ghost use Rattle.std.specs.Prelude.{◌≡◌, ◌<◌, ◌^◌, ◌++◌, OnOk, decimal, string_bytes};
+ghost use Rattle.pb_page.specs.Amounts as spec;
+
+use crate::language::Language;
+use itoa::Buffer;
+use std::alloc::AllocError;
+
+/// How amounts are shown: with so many decimals, and the sign of the language before them.
+#[derive(Clone, Copy)]
+pub(crate) struct Style {
+    pub(crate) language: Language,
+    /// At most 6.
+    pub(crate) decimals: u32,
+}
+
+/// An amount in grains that may be negative.
+#[derive(Clone, Copy)]
+pub(crate) struct Balance {
+    pub(crate) negative: bool,
+    pub(crate) grains: u128,
+}
+
+impl Balance {
+    /// Nothing.
+    pub(crate) const NOTHING: Balance = Balance {
+        negative: false,
+        grains: 0,
+    };
+
+    /// An amount that is not negative.
+    pub(crate) fn of(grains: u128) -> Balance
+        ensures { result ≡ spec.of grains }
+    {
+        Balance {
+            negative: false,
+            grains,
+        }
+    }
+
+    /// An amount that may be negative.
+    pub(crate) fn signed(grains: i128) -> Balance
+        ensures { result ≡ spec.signed grains }
+    {
+        Balance {
+            negative: grains < 0,
+            grains: grains.unsigned_abs(),
+        }
+    }
+}
+
+/// Adds an amount, where one unit of the currency has so many grains. One that has more decimals than are shown is cut,
+/// and ends with an ellipsis.
+pub(crate) fn push_amount(
+    text: &mut String,
+    style: Style,
+    grains_per_unit: u64,
+    amount: Balance,
+) -> Result<(), AllocError>
+    ensures { OnOk result (string_bytes text.new ≡ string_bytes text.old ++ spec.amount_text style grains_per_unit amount) }
+{
+    if amount.negative {
+        text.push_str("\u{2212}")?;
+    }
+    let unit = u128::from(grains_per_unit.max(1));
+    push_grouped(text, amount.grains / unit)?;
+    push_decimals(text, style, unit, amount.grains % unit)
+}
+
+// Adds the part of an amount that is less than a unit.
+fn push_decimals(
+    text: &mut String,
+    style: Style,
+    unit: u128,
+    grains: u128,
+) -> Result<(), AllocError>
+    requires rest { grains < unit }
+    requires unit { unit < 2 ^ 64 }
+    ensures { OnOk result (string_bytes text.new ≡ string_bytes text.old ++ spec.decimals style unit grains) }
+{
+    if style.decimals > 0 {
+        text.push_str(style.language.decimal_sign())?;
+    }
+    push_places(text, style.decimals, unit, grains)
+}
+
+// Adds the first decimals of less than a unit.
+#[tactic(auto, unfolding(crate::specs::Amounts::places))]
+fn push_places(text: &mut String, count: u32, unit: u128, grains: u128) -> Result<(), AllocError>
+    requires rest { grains < unit }
+    requires unit { unit < 2 ^ 64 }
+    ensures { OnOk result (string_bytes text.new ≡ string_bytes text.old ++ spec.places count unit grains) }
+{
+    if count == 0 {
+        if grains != 0 {
+            text.push_str("\u{2026}")?;
+        }
+        return Ok(());
+    }
+    push_number(text, grains * 10 / unit)?;
+    push_places(text, count - 1, unit, grains * 10 % unit)
+}
+
+/// Adds a whole number, with a narrow space between thousands.
+pub(crate) fn push_grouped(text: &mut String, number: u128) -> Result<(), AllocError>
+    ensures { OnOk result (string_bytes text.new ≡ string_bytes text.old ++ spec.grouped number) }
+{
+    push_groups(text, 13, number)
+}
+
+// Adds a whole number, with spaces before so many of its last threes of digits.
+#[tactic(auto, unfolding(crate::specs::Amounts::groups))]
+fn push_groups(text: &mut String, count: u32, number: u128) -> Result<(), AllocError>
+    ensures { OnOk result (string_bytes text.new ≡ string_bytes text.old ++ spec.groups count number) }
+{
+    if count == 0 || number < 1000 {
+        return push_number(text, number);
+    }
+    push_groups(text, count - 1, number / 1000)?;
+    text.push_str("\u{202f}")?;
+    push_number(text, number / 100 % 10)?;
+    push_number(text, number / 10 % 10)?;
+    push_number(text, number % 10)
+}
+
+fn push_number(text: &mut String, number: u128) -> Result<(), AllocError>
+    ensures { OnOk result (string_bytes text.new ≡ string_bytes text.old ++ decimal number) }
+{
+    let mut digits = Buffer::new();
+    text.push_str(digits.format(number))?;
+    Ok(())
+}

@@ -1,0 +1,65 @@
+//! What a page is about: the files, and what was found of them.
+use crate::amounts::push_amount;
+use crate::figure::Figure;
+use crate::labels::Labels;
+use crate::saying::Words;
+use crate::told::Told;
+use pb_election::{Election, Outcome};
+use std::alloc::{AllocError, Global};
+
+/// What a page is about. Names and facts of files are there as they are shown: with what can't be seen made visible.
+#[derive(Drop)]
+pub(crate) struct Case<'a> {
+    pub(crate) words: Words,
+    pub(crate) election: &'a Election,
+    pub(crate) outcome: &'a Outcome,
+    pub(crate) files: Files,
+    pub(crate) labels: Labels,
+    /// The currency, as it stands behind amounts. Empty where the election's file names none.
+    pub(crate) currency: String,
+    /// The code of the language in which the election's file names things. Empty where that isn't known.
+    pub(crate) names_in: &'static str,
+    /// The answer, and what was found.
+    pub(crate) told: Told,
+}
+
+/// The files that were audited.
+#[derive(Drop)]
+pub(crate) struct Files {
+    pub(crate) election: InputFile,
+    pub(crate) outcome: Option<InputFile>,
+    pub(crate) certificate: InputFile,
+}
+
+/// A file that was audited.
+#[derive(Drop)]
+pub(crate) struct InputFile {
+    pub(crate) name: String,
+    /// How many bytes it has.
+    pub(crate) length: usize,
+    /// Its SHA-256, as 64 hexadecimal digits.
+    pub(crate) sum: String,
+}
+
+impl Case<'_> {
+    /// Whether a project, which is numbered from 1, is funded.
+    pub(crate) fn is_funded(&self, j: u32) -> bool {
+        self.outcome.fits(self.election)
+            && j != 0
+            && j <= self.election.projects()
+            && self.outcome.has(j)
+    }
+
+    /// The text of a figure, for where no piece of the page can stand, as in an attribute.
+    pub(crate) fn figure_text(&self, alloc: Global, figure: Figure) -> Result<String, AllocError> {
+        let mut text = String::new(alloc);
+        let amount = self.told.amount_of(figure);
+        push_amount(
+            &mut text,
+            self.told.style,
+            self.told.grains_per_unit(),
+            amount,
+        )?;
+        Ok(text)
+    }
+}

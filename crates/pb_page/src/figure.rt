@@ -1,0 +1,62 @@
+//! The figures that a page shows, by name.
+
+/// An amount that a page shows. Projects are numbered from 1; one that the election has not shows 0.
+#[derive(Clone, Copy, Debug, PartialEq, Eq)]
+pub enum Figure {
+    /// The budget limit.
+    Limit,
+    /// What the funded projects cost together.
+    Funded,
+    /// What remains of the limit, or by how much the funded projects are over it, which is shown without a sign.
+    Remains,
+    /// The budget of each voter.
+    VoterBudget,
+    /// The budgets of all voters together.
+    Budgets,
+    /// What is paid for all projects together.
+    Spent,
+    /// By how much what is paid for all projects is over or under the budgets, without a sign.
+    Unspent,
+    /// What this project costs.
+    Cost(u32),
+    /// What is paid for this project.
+    Paid(u32),
+    /// What the supporters of this project have left together.
+    Left(u32),
+    /// What the supporters of this project can offer together.
+    Offer(u32),
+    /// By how much what is paid for this project is over or under its cost, without a sign.
+    PaidOff(u32),
+    /// By how much what the supporters of this project have left is over or under its cost, without a sign.
+    LeftOff(u32),
+    /// By how much what the supporters of this project can offer is over or under its cost, without a sign.
+    OfferOff(u32),
+    /// The bound of this condition at the place that its finding shows.
+    Bound(Compared),
+    /// What this condition compares with the bound at that place.
+    Amount(Compared),
+    /// By how much that is over or under the bound, without a sign.
+    AmountOff(Compared),
+    /// What the demanded projects cost together.
+    Demand,
+    /// The group's share of the limit, cut to millionths.
+    Share,
+    /// By how much the cost of the demand is over or under the share, without a sign.
+    ShareOff,
+    /// What a member of the group gets: the first that gets what is demanded, or else the one that gets most. Nothing
+    /// where projects are counted.
+    Gets,
+    /// What the demanded projects are worth. Nothing where projects are counted.
+    Worth,
+}
+
+/// The conditions whose findings show two sums.
+#[derive(Clone, Copy, Debug, PartialEq, Eq)]
+pub enum Compared {
+    Exhaustive,
+    C2,
+    C3,
+    C4,
+    C5,
+    S5,
+}

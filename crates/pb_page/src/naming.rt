@@ -1,0 +1,122 @@
+//! What files say, as it stands on the page: isolated from the words around it, cut where it is long, and marked with
+//! its language where that is known.
+use crate::attributes::Attributes;
+use crate::case::Case;
+use crate::labels::Labels;
+use crate::markup::Page;
+use crate::tag::{Name, Tag};
+use std::alloc::{AllocError, Global};
+
+// A label is cut behind so many characters, and what it shows under the pointer behind so many.
+const MOST_SHOWN: usize = 80;
+
+const MOST_IN_TITLE: usize = 2_000;
+
+const MOST_OF_A_CURRENCY: usize = 12;
+
+/// Adds what a file says, as it is shown. Where it is long it is cut, with the whole under the pointer.
+pub(crate) fn push_label(
+    page: &mut Page,
+    case: &Case<'_>,
+    class: &str,
+    label: &str,
+) -> Result<(), AllocError> {
+    let alloc = case.words.alloc;
+    let mut attributes = Attributes::none(alloc);
+    if !class.is_empty() {
+        attributes = attributes.and(Name::Class, class)?;
+    }
+    if !case.names_in.is_empty() {
+        attributes = attributes.and(Name::Lang, case.names_in)?;
+    }
+    if is_longer(label, MOST_SHOWN) {
+        attributes = attributes.and(Name::Title, &cut(alloc, label, MOST_IN_TITLE)?)?;
+    }
+    page.open_with(Tag::Bdi, attributes)?;
+    page.text(&shortened(alloc, label)?)?;
+    page.close()
+}
+
+/// A label, cut where it is long.
+pub(crate) fn shortened(alloc: Global, label: &str) -> Result<String, AllocError> {
+    cut(alloc, label, MOST_SHOWN)
+}
+
+/// The currency that the election's file names, cut where it is long. Empty where it names none.
+pub(crate) fn currency_of(alloc: Global, labels: &Labels) -> Result<String, AllocError> {
+    cut(alloc, labels.fact("currency"), MOST_OF_A_CURRENCY)
+}
+
+/// The code of the language in which the election's file names things, by what it says of its language or its country.
+/// Empty where that isn't known.
+pub(crate) fn language_of(labels: &Labels) -> &'static str {
+    let stated = code_of(labels.fact("language"));
+    if stated.is_empty() {
+        code_of(labels.fact("country"))
+    } else {
+        stated
+    }
+}
+
+// The code of a language, by its code or by a country.
+fn code_of(fact: &str) -> &'static str {
+    match fact {
+        "pl" | "Poland" | "Polska" => "pl",
+        "de" | "Germany" | "Deutschland" | "Austria" | "Österreich" => "de",
+        "fr" | "France" => "fr",
+        "en" | "United Kingdom" | "UK" | "United States" | "USA" | "Ireland" => "en",
+        "nl" | "Netherlands" => "nl",
+        "cs" | "Czechia" | "Czech Republic" => "cs",
+        "es" | "Spain" => "es",
+        "pt" | "Portugal" | "Brazil" => "pt",
+        "it" | "Italy" => "it",
+        _ => "",
+    }
+}
+
+fn is_longer(text: &str, most: usize) -> bool {
+    text.chars().nth(most).is_some()
+}
+
+// A text, cut behind so many characters.
+fn cut(alloc: Global, text: &str, most: usize) -> Result<String, AllocError> {
+    let mut shown = String::new(alloc);
+    for c in text.chars().take(most) {
+        shown.push(c)?;
+    }
+    if is_longer(text, most) {
+        shown.push_str("\u{2026}")?;
+    }
+    Ok(shown)
+}
+
+impl Case<'_> {
+    /// The id of a project, which is numbered from 1, as it is shown.
+    pub(crate) fn id(&self, j: u32) -> Result<String, AllocError> {
+        if j == 0 || j > self.election.projects() {
+            return Ok(String::new(self.words.alloc));
+        }
+        crate::shown::visible(self.words.alloc, self.election.id(j).as_bytes())
+    }
+
+    /// A project by its id, and its name where it has one.
+    pub(crate) fn project(&self, j: u32) -> Result<String, AllocError> {
+        let mut text = shortened(self.words.alloc, &self.id(j)?)?;
+        let name = self.labels.name(j);
+        if !name.is_empty() {
+            text.push_str(" \u{b7} ")?;
+            text.push_str(name)?;
+        }
+        Ok(text)
+    }
+
+    /// A project by its name, or by its id where it has none.
+    pub(crate) fn project_name(&self, j: u32) -> Result<String, AllocError> {
+        let name = self.labels.name(j);
+        if name.is_empty() {
+            self.id(j)
+        } else {
+            String::from_str(self.words.alloc, name)
+        }
+    }
+}

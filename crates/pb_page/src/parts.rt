@@ -1,0 +1,146 @@
+//! The parts of the page, in the order in which it shows them.
+ghost use Rattle.std.specs.Prelude.{◌≡◌, ◌++◌, IfOk, OnOk};
+ghost use Rattle.pb_page.specs.Answers.{HasAnswer, headline_box, line_box};
+
+mod answer;
+mod asked;
+mod bars;
+mod closing;
+mod conditions;
+mod files;
+mod found;
+mod funded;
+mod glance;
+mod group;
+mod places;
+mod rows;
+mod tests_of_group;
+mod top;
+mod unfunded;
+
+use crate::attributes::Attributes;
+use crate::case::Case;
+use crate::markup::Page;
+use crate::style::STYLE;
+use crate::tag::{Name, Tag};
+use crate::told::{Found, PriceFigures, ViolationFigures};
+use std::alloc::{AllocError, Global};
+
+// Nothing may be fetched and nothing may run, whatever stands in the page.
+const POLICY: &str =
+    "default-src 'none'; style-src 'unsafe-inline'; base-uri 'none'; form-action 'none'";
+
+/// The whole page: the answer in a sentence and the line that the program prints, with what stands around them.
+pub(crate) fn whole_page(alloc: Global, case: &Case<'_>) -> Result<Page, AllocError>
+    ensures { IfOk result HasAnswer }
+{
+    let mut page = up_to_answer(alloc, case)?;
+    push_headline(&mut page)?;
+    page.append(behind_answer(alloc, case)?)?;
+    push_line(&mut page)?;
+    page.append(behind_line(alloc, case)?)?;
+    Ok(page)
+}
+
+// Adds the answer in a sentence.
+fn push_headline(page: &mut Page) -> Result<(), AllocError>
+    ensures { OnOk result (page.new ≡ page.old ++ headline_box) }
+{
+    page.open(Tag::H2)?;
+    page.headline()?;
+    page.close()
+}
+
+// Adds the line that the program prints.
+fn push_line(page: &mut Page) -> Result<(), AllocError>
+    ensures { OnOk result (page.new ≡ page.old ++ line_box) }
+{
+    page.open(Tag::Code)?;
+    page.line()?;
+    page.close()
+}
+
+// The page up to the answer in a sentence, which stands in a box.
+fn up_to_answer(alloc: Global, case: &Case<'_>) -> Result<Page, AllocError> {
+    let mut page = Page::new(alloc);
+    let language = Attributes::of(alloc, Name::Lang, case.words.language.code())?;
+    page.open_with(Tag::Html, language)?;
+    push_head(alloc, &mut page, case)?;
+    page.open(Tag::Body)?;
+    top::push_top(&mut page, case)?;
+    page.open(Tag::Main)?;
+    answer::open_answer(&mut page, case)?;
+    Ok(page)
+}
+
+// The page behind the answer in a sentence, and up to the line that the program prints.
+fn behind_answer(alloc: Global, case: &Case<'_>) -> Result<Page, AllocError> {
+    let mut page = Page::new(alloc);
+    answer::close_answer(&mut page, case)?;
+    match &case.told.found {
+        Found::Prices(figures) => push_prices(&mut page, case, figures)?,
+        Found::Violation(figures) => push_violation(&mut page, case, figures)?,
+    }
+    closing::push_closing(&mut page, case)?;
+    page.close()?;
+    files::push_files(&mut page, case)?;
+    Ok(page)
+}
+
+// The page behind the line that the program prints.
+fn behind_line(alloc: Global, case: &Case<'_>) -> Result<Page, AllocError> {
+    let mut page = Page::new(alloc);
+    files::push_behind_line(&mut page, case)?;
+    Ok(page)
+}
+
+fn push_head(alloc: Global, page: &mut Page, case: &Case<'_>) -> Result<(), AllocError> {
+    page.open(Tag::Head)?;
+    page.open_with(Tag::Meta, Attributes::of(alloc, Name::Charset, "utf-8")?)?;
+    push_meta(
+        alloc,
+        page,
+        Name::HttpEquiv,
+        "Content-Security-Policy",
+        POLICY,
+    )?;
+    push_meta(
+        alloc,
+        page,
+        Name::Name,
+        "viewport",
+        "width=device-width, initial-scale=1",
+    )?;
+    push_meta(alloc, page, Name::Name, "generator", "pbaudit")?;
+    top::push_browser_title(page, case)?;
+    page.element(Tag::Style, STYLE)?;
+    page.close()
+}
+
+fn push_meta(
+    alloc: Global,
+    page: &mut Page,
+    kind: Name,
+    name: &str,
+    content: &str,
+) -> Result<(), AllocError> {
+    let attributes = Attributes::of(alloc, kind, name)?.and(Name::Content, content)?;
+    page.open_with(Tag::Meta, attributes)
+}
+
+fn push_prices(page: &mut Page, case: &Case<'_>, figures: &PriceFigures) -> Result<(), AllocError> {
+    glance::push_glance(page, case, figures)?;
+    unfunded::push_unfunded(page, case, figures)?;
+    funded::push_funded(page, case, figures)?;
+    conditions::push_conditions(page, case, figures)
+}
+
+fn push_violation(
+    page: &mut Page,
+    case: &Case<'_>,
+    figures: &ViolationFigures,
+) -> Result<(), AllocError> {
+    group::push_group(page, case, figures)?;
+    group::push_demand(page, case, figures)?;
+    tests_of_group::push_tests(page, case, figures)
+}

@@ -1,0 +1,69 @@
+//! The answer box.
+use crate::case::Case;
+use crate::condition::Condition;
+use crate::markup::Page;
+use crate::parts::asked::push_asked;
+use crate::parts::found::push_found;
+use crate::parts::places::push_places;
+use crate::parts::tests_of_group::push_failed_test;
+use crate::saying::Fillings;
+use crate::sentence::Sentence;
+use crate::tag::Tag;
+use crate::told::{Found, Headline, PriceFigures};
+use pb_price::Verdict;
+use std::alloc::AllocError;
+
+/// Begins the box, up to the answer in a sentence.
+pub(crate) fn open_answer(page: &mut Page, case: &Case<'_>) -> Result<(), AllocError> {
+    page.open_class(Tag::Section, class_of(case.told.headline()))
+}
+
+/// Adds the reason and what was asked, and ends the box.
+pub(crate) fn close_answer(page: &mut Page, case: &Case<'_>) -> Result<(), AllocError> {
+    push_reason(page, case)?;
+    push_asked(page, case)?;
+    page.close()
+}
+
+// A supported outcome is good news, and a violation isn't.
+fn class_of(headline: Headline) -> &'static str {
+    match headline {
+        Headline::Supported | Headline::SupportedStable | Headline::NoViolation => "answer",
+        Headline::NotSupported | Headline::Violation => "answer bad",
+    }
+}
+
+fn push_reason(page: &mut Page, case: &Case<'_>) -> Result<(), AllocError> {
+    page.open_class(Tag::P, "why")?;
+    match case.told.headline() {
+        Headline::Supported => push_plain(page, case, Sentence::WhySupported)?,
+        Headline::SupportedStable => push_plain(page, case, Sentence::WhyStable)?,
+        Headline::Violation => push_plain(page, case, Sentence::WhyViolation)?,
+        Headline::NotSupported | Headline::NoViolation => push_failure(page, case)?,
+    }
+    page.close()
+}
+
+fn push_plain(page: &mut Page, case: &Case<'_>, sentence: Sentence) -> Result<(), AllocError> {
+    case.say(page, sentence, &Fillings::none(case.words.alloc))
+}
+
+fn push_failure(page: &mut Page, case: &Case<'_>) -> Result<(), AllocError> {
+    match &case.told.found {
+        Found::Prices(figures) => push_failed_condition(page, case, figures),
+        Found::Violation(figures) => push_failed_test(page, case, figures),
+    }
+}
+
+fn push_failed_condition(
+    page: &mut Page,
+    case: &Case<'_>,
+    figures: &PriceFigures,
+) -> Result<(), AllocError> {
+    let Verdict::Failed(failure) = figures.findings.verdict(case.told.mode) else {
+        return Ok(());
+    };
+    let condition = Condition::of(failure);
+    push_found(page, case, figures, condition)?;
+    push_places(page, case, figures, condition)
+}

@@ -1,0 +1,88 @@
+//! What was asked, in plain words, and what the stable form would answer.
+use crate::case::Case;
+use crate::markup::Page;
+use crate::saying::Fillings;
+use crate::sentence::Sentence;
+use crate::tag::Tag;
+use crate::told::{Found, PriceFigures};
+use pb_certificate::Measure;
+use pb_price::{Mode, Verdict};
+use std::alloc::AllocError;
+
+/// Adds what was asked.
+pub(crate) fn push_asked(page: &mut Page, case: &Case<'_>) -> Result<(), AllocError> {
+    page.open_class(Tag::Ul, "asked")?;
+    match &case.told.found {
+        Found::Prices(figures) => push_asked_of_prices(page, case, figures)?,
+        Found::Violation(figures) => {
+            let measure = figures.violation.satisfaction();
+            page.element(Tag::Li, case.words.say(measure_asked(measure)))?;
+        }
+    }
+    page.close()
+}
+
+fn measure_asked(measure: Measure) -> Sentence {
+    match measure {
+        Measure::ByCount => Sentence::AskedByCount,
+        Measure::ByCost => Sentence::AskedByCost,
+    }
+}
+
+fn push_asked_of_prices(
+    page: &mut Page,
+    case: &Case<'_>,
+    figures: &PriceFigures,
+) -> Result<(), AllocError> {
+    push_stable_answer(page, case, figures)?;
+    let mode = case.told.mode;
+    for sentence in [form_asked(mode), exhaustive_asked(mode), cover_asked(mode)] {
+        page.element(Tag::Li, case.words.say(sentence))?;
+    }
+    Ok(())
+}
+
+fn form_asked(mode: Mode) -> Sentence {
+    if mode.stable {
+        Sentence::AskedStable
+    } else {
+        Sentence::AskedPlain
+    }
+}
+
+fn exhaustive_asked(mode: Mode) -> Sentence {
+    if mode.exhaustive {
+        Sentence::AskedExhaustive
+    } else {
+        Sentence::UnaskedExhaustive
+    }
+}
+
+fn cover_asked(mode: Mode) -> Sentence {
+    if mode.cover {
+        Sentence::AskedCover
+    } else {
+        Sentence::UnaskedCover
+    }
+}
+
+// Where the plain form holds: whether the stable one would hold as well, and for how many projects it would not.
+fn push_stable_answer(
+    page: &mut Page,
+    case: &Case<'_>,
+    figures: &PriceFigures,
+) -> Result<(), AllocError> {
+    let mode = case.told.mode;
+    if mode.stable || figures.findings.verdict(mode) != Verdict::Supported {
+        return Ok(());
+    }
+    let count = u64::from(figures.findings.s5.count);
+    let sentence = match count {
+        0 => Sentence::StableToo,
+        _ => Sentence::NotStable(case.words.plural(count)),
+    };
+    page.open_class(Tag::Li, "stable")?;
+    let fillings = Fillings::none(case.words.alloc).and_number("count", count)?;
+    case.say(page, sentence, &fillings)?;
+    page.close()
+}

@@ -1,0 +1,87 @@
+//! Bars.
+use crate::attributes::Attributes;
+use crate::markup::Page;
+use crate::tag::{Name, Tag};
+use itoa::Buffer;
+use std::alloc::{AllocError, Global};
+
+/// The whole width of a bar, in hundredths of a percent.
+pub(crate) const WIDTH: u32 = 10_000;
+/// Where the mark of a bound stands, in hundredths of a percent of the width.
+pub(crate) const MARK: u32 = 7_500;
+// What is longer than a bar.
+const BEYOND: u32 = 20_000;
+
+/// How a bar looks.
+#[derive(Clone, Copy, Debug, PartialEq, Eq)]
+pub(crate) enum Look {
+    /// A part of a whole.
+    Part,
+    /// What should be a part of a whole, and is more than it.
+    Beyond,
+    /// An amount against a bound, which has a mark.
+    Against,
+    /// The same where the amount is over the bound and may not be.
+    Over,
+}
+
+/// A part of a whole, where the whole is so many hundredths of a percent of the width. Where there is no whole, a part
+/// that isn't nothing is longer than the bar.
+pub(crate) fn length_of(part: u128, whole: u128, width_of_whole: u32) -> u32 {
+    if whole == 0 {
+        return if part == 0 { 0 } else { BEYOND };
+    }
+    let length = part.saturating_mul(u128::from(width_of_whole)) / whole;
+    u32::try_from(length).unwrap_or(BEYOND).min(BEYOND)
+}
+
+/// Adds a bar of a length in hundredths of a percent of the width, with the words for who can't see it. One that is
+/// longer than the width is cut, and ends in a sign that says so.
+pub(crate) fn push_bar(
+    alloc: Global,
+    page: &mut Page,
+    look: Look,
+    label: &str,
+    length: u32,
+) -> Result<(), AllocError> {
+    let attributes = Attributes::of(alloc, Name::Class, class_of(look))?
+        .and(Name::Role, "img")?
+        .and(Name::AriaLabel, label)?;
+    page.open_with(Tag::Div, attributes)?;
+    push_part(alloc, page, length.min(WIDTH))?;
+    if look == Look::Against || look == Look::Over {
+        page.element_class(Tag::Span, "mark", "")?;
+    }
+    if length > WIDTH {
+        page.element_class(Tag::Span, "cut", "\u{bb}")?;
+    }
+    page.close()
+}
+
+fn class_of(look: Look) -> &'static str {
+    match look {
+        Look::Part | Look::Against => "bar",
+        Look::Beyond | Look::Over => "bar over",
+    }
+}
+
+fn push_part(alloc: Global, page: &mut Page, length: u32) -> Result<(), AllocError> {
+    let share = percent(alloc, length, ".")?;
+    let attributes = Attributes::of(alloc, Name::Class, "part")?.and(Name::Share, &share)?;
+    page.open_with(Tag::Span, attributes)?;
+    page.close()
+}
+
+/// Hundredths of a percent in percent, with two decimals behind a sign.
+pub(crate) fn percent(
+    alloc: Global,
+    hundredths: u32,
+    decimal_sign: &str,
+) -> Result<String, AllocError> {
+    let mut text = String::new(alloc);
+    text.push_str(Buffer::new().format(hundredths / 100))?;
+    text.push_str(decimal_sign)?;
+    text.push_str(Buffer::new().format(hundredths / 10 % 10))?;
+    text.push_str(Buffer::new().format(hundredths % 10))?;
+    Ok(text)
+}

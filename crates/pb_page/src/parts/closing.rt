@@ -1,0 +1,118 @@
+//! What the answer doesn't say, what it lets one say in public, and the words of the page.
+use crate::case::Case;
+use crate::condition::Condition;
+use crate::markup::Page;
+use crate::sentence::Sentence;
+use crate::tag::Tag;
+use crate::told::{Found, Headline, PriceFigures};
+use pb_price::Verdict;
+use std::alloc::AllocError;
+
+/// Adds the parts behind the figures.
+pub(crate) fn push_closing(page: &mut Page, case: &Case<'_>) -> Result<(), AllocError> {
+    push_not_said(page, case)?;
+    push_claim(page, case)?;
+    push_words(page, case)
+}
+
+fn push_not_said(page: &mut Page, case: &Case<'_>) -> Result<(), AllocError> {
+    page.open(Tag::Section)?;
+    page.element(Tag::H2, case.words.say(Sentence::NotSaid))?;
+    page.open(Tag::Ul)?;
+    page.element(Tag::Li, case.words.say(not_said(case)))?;
+    page.element(Tag::Li, case.words.say(Sentence::NotSaidFiles))?;
+    page.close()?;
+    page.close()
+}
+
+fn not_said(case: &Case<'_>) -> Sentence {
+    match case.told.headline() {
+        Headline::Supported | Headline::SupportedStable => Sentence::NotSaidOthers,
+        Headline::NotSupported if is_of_outcome(case) => Sentence::NotSaidOutcome,
+        Headline::NotSupported => Sentence::NotSaidPayments,
+        Headline::Violation => Sentence::NotSaidWhich,
+        Headline::NoViolation => Sentence::NotSaidGroup,
+    }
+}
+
+fn push_claim(page: &mut Page, case: &Case<'_>) -> Result<(), AllocError> {
+    page.open(Tag::Section)?;
+    page.element(Tag::H2, case.words.say(Sentence::Claim))?;
+    page.element_class(Tag::P, "claim", case.words.say(claim(case)))?;
+    page.element(Tag::P, case.words.say(Sentence::ClaimHow))?;
+    page.close()
+}
+
+fn claim(case: &Case<'_>) -> Sentence {
+    match case.told.headline() {
+        Headline::Supported => Sentence::ClaimSupported,
+        Headline::SupportedStable => Sentence::ClaimStable,
+        Headline::NotSupported if is_of_outcome(case) => Sentence::ClaimOutcome,
+        Headline::NotSupported => Sentence::ClaimNotSupported,
+        Headline::Violation => Sentence::ClaimViolation,
+        Headline::NoViolation => Sentence::ClaimNoViolation,
+    }
+}
+
+// Whether what fails is of the outcome alone, which no payments change.
+fn is_of_outcome(case: &Case<'_>) -> bool {
+    match &case.told.found {
+        Found::Prices(figures) => fails_by_outcome(case, figures),
+        Found::Violation(_) => false,
+    }
+}
+
+fn fails_by_outcome(case: &Case<'_>, figures: &PriceFigures) -> bool {
+    match figures.findings.verdict(case.told.mode) {
+        Verdict::Supported => false,
+        Verdict::Failed(failure) => matches!(
+            Condition::of(failure),
+            Condition::Feasible | Condition::Exhaustive
+        ),
+    }
+}
+
+fn push_words(page: &mut Page, case: &Case<'_>) -> Result<(), AllocError> {
+    page.open(Tag::Section)?;
+    page.element(Tag::H2, case.words.say(Sentence::Words))?;
+    page.open_class(Tag::Dl, "words")?;
+    push_word(
+        page,
+        case,
+        Sentence::WordCertificate,
+        Sentence::MeansCertificate,
+    )?;
+    match &case.told.found {
+        Found::Prices(_) => push_words_of_prices(page, case)?,
+        Found::Violation(_) => push_words_of_violations(page, case)?,
+    }
+    page.close()?;
+    page.close()
+}
+
+fn push_words_of_prices(page: &mut Page, case: &Case<'_>) -> Result<(), AllocError> {
+    push_word(page, case, Sentence::WordPrices, Sentence::MeansPrices)?;
+    push_word(
+        page,
+        case,
+        Sentence::WordSupporter,
+        Sentence::MeansSupporter,
+    )?;
+    push_word(page, case, Sentence::WordLeftover, Sentence::MeansLeftover)?;
+    push_word(page, case, Sentence::WordOffer, Sentence::MeansOffer)
+}
+
+fn push_words_of_violations(page: &mut Page, case: &Case<'_>) -> Result<(), AllocError> {
+    push_word(page, case, Sentence::WordShare, Sentence::MeansShare)?;
+    push_word(page, case, Sentence::WordDemand, Sentence::MeansDemand)
+}
+
+fn push_word(
+    page: &mut Page,
+    case: &Case<'_>,
+    word: Sentence,
+    meaning: Sentence,
+) -> Result<(), AllocError> {
+    page.element(Tag::Dt, case.words.say(word))?;
+    page.element(Tag::Dd, case.words.say(meaning))
+}

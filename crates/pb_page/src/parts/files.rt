@@ -1,0 +1,128 @@
+//! The files that the page is about, and how to check it.
+use crate::case::{Case, InputFile};
+use crate::markup::Page;
+use crate::naming::push_label;
+use crate::saying::Fillings;
+use crate::sentence::Sentence;
+use crate::tag::Tag;
+use crate::told::Found;
+use pb_price::Mode;
+use std::alloc::AllocError;
+
+const VERSION: &str = "0.1.0";
+
+/// Adds the files with their sizes and sums, and how to check the page, up to the line that the program prints.
+pub(crate) fn push_files(page: &mut Page, case: &Case<'_>) -> Result<(), AllocError> {
+    page.open(Tag::Footer)?;
+    page.element(Tag::H2, case.words.say(Sentence::Files))?;
+    page.open_class(Tag::Dl, "files")?;
+    push_file(page, case, Sentence::ElectionFile, &case.files.election)?;
+    if let Some(outcome) = &case.files.outcome {
+        push_file(page, case, Sentence::OutcomeFile, outcome)?;
+    }
+    push_file(
+        page,
+        case,
+        Sentence::CertificateFile,
+        &case.files.certificate,
+    )?;
+    page.close()?;
+    push_checks(page, case)
+}
+
+/// Adds what stands behind that line, and ends the part.
+pub(crate) fn push_behind_line(page: &mut Page, case: &Case<'_>) -> Result<(), AllocError> {
+    page.close()?;
+    page.element(Tag::P, case.words.say(Sentence::CheckBrowser))?;
+    page.element_class(Tag::P, "note", case.words.say(Sentence::Trust))?;
+    let fillings = Fillings::none(case.words.alloc).and("version", VERSION)?;
+    case.say_in(page, Tag::P, "note", Sentence::MadeBy, &fillings)?;
+    page.close()
+}
+
+fn push_file(
+    page: &mut Page,
+    case: &Case<'_>,
+    role: Sentence,
+    file: &InputFile,
+) -> Result<(), AllocError> {
+    let bytes = file.length as u64;
+    page.open(Tag::Div)?;
+    page.element(Tag::Dt, case.words.say(role))?;
+    page.open(Tag::Dd)?;
+    push_label(page, case, "named", base_name(file))?;
+    page.text(", ")?;
+    let fillings = Fillings::none(case.words.alloc).and_number("count", bytes)?;
+    case.say(page, Sentence::Bytes(case.words.plural(bytes)), &fillings)?;
+    page.open(Tag::Br)?;
+    page.text("SHA-256 ")?;
+    page.element(Tag::Code, &file.sum)?;
+    page.close()?;
+    page.close()
+}
+
+fn push_checks(page: &mut Page, case: &Case<'_>) -> Result<(), AllocError> {
+    page.open(Tag::P)?;
+    page.text(case.words.say(Sentence::CheckProgram))?;
+    page.open(Tag::Br)?;
+    page.open(Tag::Code)?;
+    push_command(page, case)?;
+    page.close()?;
+    page.open(Tag::Br)?;
+    page.text(case.words.say(Sentence::CheckAnswer))?;
+    page.text(" ")
+}
+
+// Adds the command that gives the same answer.
+fn push_command(page: &mut Page, case: &Case<'_>) -> Result<(), AllocError> {
+    page.text("pbaudit explain ")?;
+    push_word(page, case, &case.files.election)?;
+    page.text(" ")?;
+    push_word(page, case, &case.files.certificate)?;
+    if let Some(outcome) = &case.files.outcome {
+        page.text(" --outcome ")?;
+        push_word(page, case, outcome)?;
+    }
+    match case.told.found {
+        Found::Prices(_) => push_options(page, case.told.mode),
+        Found::Violation(_) => Ok(()),
+    }
+}
+
+fn push_options(page: &mut Page, mode: Mode) -> Result<(), AllocError> {
+    if mode.stable {
+        page.text(" --stable")?;
+    }
+    if !mode.exhaustive {
+        page.text(" --no-exhaustive")?;
+    }
+    if mode.cover {
+        page.text(" --cover")?;
+    }
+    Ok(())
+}
+
+// Adds the name of a file as a word of a command: in quotes, unless it has plain letters alone.
+fn push_word(page: &mut Page, case: &Case<'_>, file: &InputFile) -> Result<(), AllocError> {
+    let name = base_name(file);
+    if name.chars().all(is_plain) {
+        return push_label(page, case, "", name);
+    }
+    let mut word = String::new(case.words.alloc);
+    word.push_str("\u{27}")?;
+    word.push_str(&name.replace(case.words.alloc, '\'', "'\\''")?)?;
+    word.push_str("\u{27}")?;
+    push_label(page, case, "", &word)
+}
+
+// The name of a file without its folders.
+fn base_name(file: &InputFile) -> &str {
+    match file.name.rsplit_once('/') {
+        Some((_, name)) => name,
+        None => &file.name,
+    }
+}
+
+fn is_plain(c: char) -> bool {
+    c.is_ascii_alphanumeric() || c == '.' || c == '_' || c == '-'
+}

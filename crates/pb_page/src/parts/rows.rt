@@ -1,0 +1,165 @@
+//! Tables of projects. A row is a row of a table also where the style makes a card of it, which its roles say.
+use crate::attributes::Attributes;
+use crate::case::Case;
+use crate::markup::Page;
+use crate::naming::push_label;
+use crate::saying::Fillings;
+use crate::sentence::Sentence;
+use crate::tag::{Name, Tag};
+use std::alloc::AllocError;
+
+/// A table is cut behind so many rows, so that a browser can show it.
+pub(crate) const MOST_ROWS: usize = 1000;
+
+/// A column.
+#[derive(Clone, Copy)]
+pub(crate) struct Column {
+    pub(crate) head: Sentence,
+    pub(crate) kind: Kind,
+}
+
+/// What a column has.
+#[derive(Clone, Copy, Debug, PartialEq, Eq)]
+pub(crate) enum Kind {
+    /// Words.
+    Words,
+    /// A bar, which needs no head where rows are cards.
+    Bar,
+    /// Whole numbers.
+    Number,
+    /// Amounts.
+    Money,
+}
+
+impl Kind {
+    fn is_figure(self) -> bool {
+        matches!(self, Kind::Number | Kind::Money)
+    }
+}
+
+/// The numbers by which a row is put in another order: what comes first has the least.
+#[derive(Clone, Copy)]
+pub(crate) struct Order {
+    pub(crate) cost: u32,
+    pub(crate) supporters: u32,
+}
+
+/// Begins a table with a name for who can't see it, and its heads.
+pub(crate) fn begin_table(
+    page: &mut Page,
+    case: &Case<'_>,
+    name: Sentence,
+    class: &str,
+    columns: &[Column],
+) -> Result<(), AllocError> {
+    let alloc = case.words.alloc;
+    let attributes = Attributes::of(alloc, Name::Role, "table")?
+        .and(Name::Class, class)?
+        .and(Name::AriaLabel, case.words.say(name))?;
+    page.open_with(Tag::Table, attributes)?;
+    page.open_with(Tag::Thead, Attributes::of(alloc, Name::Role, "rowgroup")?)?;
+    page.open_with(Tag::Tr, Attributes::of(alloc, Name::Role, "row")?)?;
+    for column in columns {
+        push_head(page, case, *column)?;
+    }
+    page.close()?;
+    page.close()?;
+    page.open_with(Tag::Tbody, Attributes::of(alloc, Name::Role, "rowgroup")?)
+}
+
+/// Ends a table.
+pub(crate) fn end_table(page: &mut Page) -> Result<(), AllocError> {
+    page.close()?;
+    page.close()
+}
+
+fn push_head(page: &mut Page, case: &Case<'_>, column: Column) -> Result<(), AllocError> {
+    let mut attributes = Attributes::of(case.words.alloc, Name::Role, "columnheader")?;
+    if column.kind.is_figure() {
+        attributes = attributes.and(Name::Class, "number")?;
+    }
+    page.open_with(Tag::Th, attributes)?;
+    push_head_words(page, case, column)?;
+    page.close()
+}
+
+fn push_head_words(page: &mut Page, case: &Case<'_>, column: Column) -> Result<(), AllocError> {
+    page.text(case.words.say(column.head))?;
+    if column.kind == Kind::Money && !case.currency.is_empty() {
+        page.text(", ")?;
+        page.element(Tag::Bdi, &case.currency)?;
+    }
+    Ok(())
+}
+
+/// Begins the row of a project, with its name and its id.
+pub(crate) fn begin_row(
+    page: &mut Page,
+    case: &Case<'_>,
+    j: u32,
+    order: Order,
+) -> Result<(), AllocError> {
+    let alloc = case.words.alloc;
+    let row = Attributes::of(alloc, Name::Role, "row")?.and(
+        Name::Order,
+        &order_text(case, order)?,
+    )?;
+    page.open_with(Tag::Tr, row)?;
+    page.open_with(Tag::Th, Attributes::of(alloc, Name::Role, "rowheader")?)?;
+    push_project(page, case, j)?;
+    page.close()
+}
+
+// The first number, and the other with its property.
+fn order_text(case: &Case<'_>, order: Order) -> Result<String, AllocError> {
+    let cost = order.cost;
+    let supporters = order.supporters;
+    format!(in case.words.alloc; "-{cost};--supporters:-{supporters}")
+}
+
+fn push_project(page: &mut Page, case: &Case<'_>, j: u32) -> Result<(), AllocError> {
+    let name = case.labels.name(j);
+    if !name.is_empty() {
+        page.open_class(Tag::Span, "name")?;
+        push_label(page, case, "", name)?;
+        page.close()?;
+    }
+    let fillings = Fillings::none(case.words.alloc).and_label("id", &case.id(j)?)?;
+    case.say_in(page, Tag::Span, "id", Sentence::ProjectId, &fillings)
+}
+
+/// Begins a cell. Its head stands in it as well, for where rows are cards.
+pub(crate) fn begin_cell(
+    page: &mut Page,
+    case: &Case<'_>,
+    column: Column,
+) -> Result<(), AllocError> {
+    let alloc = case.words.alloc;
+    let mut cell = Attributes::of(alloc, Name::Role, "cell")?;
+    if column.kind.is_figure() {
+        cell = cell.and(Name::Class, "number")?;
+    }
+    page.open_with(Tag::Td, cell)?;
+    if column.kind == Kind::Bar {
+        return Ok(());
+    }
+    let head = Attributes::of(alloc, Name::Class, "head")?.and(Name::AriaHidden, "true")?;
+    page.open_with(Tag::Span, head)?;
+    push_head_words(page, case, column)?;
+    page.close()
+}
+
+/// Adds a line on how many rows were left out, where some were.
+pub(crate) fn push_left_out(
+    page: &mut Page,
+    case: &Case<'_>,
+    rows: usize,
+) -> Result<(), AllocError> {
+    let count = rows.saturating_sub(MOST_ROWS) as u64;
+    if count == 0 {
+        return Ok(());
+    }
+    let fillings = Fillings::none(case.words.alloc).and_number("count", count)?;
+    let sentence = Sentence::LeftOut(case.words.plural(count));
+    case.say_in(page, Tag::P, "fails", sentence, &fillings)
+}

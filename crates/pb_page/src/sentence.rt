@@ -1,0 +1,238 @@
+//! The sentences of a page, by name.
+use crate::language::Language;
+
+/// A sentence, or a word that stands by itself. What it says in each language stands in `wording`, with placeholders
+/// in braces. One that speaks of a number of things has a form for each way to say that.
+#[derive(Clone, Copy, Debug, PartialEq, Eq)]
+pub enum Sentence {
+    // The head of the page.
+    Kicker,
+    Place,
+    VotingDates,
+    FromTo,
+    Rule,
+    Voters,
+    Turnout,
+    Currency,
+    // The answer.
+    WhySupported,
+    WhyStable,
+    WhyViolation,
+    // What is asked.
+    AskedPlain,
+    AskedStable,
+    AskedExhaustive,
+    UnaskedExhaustive,
+    AskedCover,
+    UnaskedCover,
+    AskedByCount,
+    AskedByCost,
+    StableToo,
+    NotStable(Plural),
+    // At how many places a condition fails, and where by most.
+    AtProjects(Plural),
+    AtVoters(Plural),
+    AtPayments(Plural),
+    AtApprovals(Plural),
+    LargestAt,
+    LargestHere,
+    OverBy,
+    UnderBy,
+    JustTheCost,
+    // The summary.
+    Glance,
+    ProjectsFunded,
+    SomeOfAll,
+    Limit,
+    VoterBudget,
+    OfTheLimit,
+    LimitFunded,
+    LimitLeft,
+    LimitOver,
+    OfTheBudgets,
+    BudgetsSpent,
+    BudgetsLeft,
+    BudgetsOver,
+    // The projects.
+    Unfunded,
+    Funded,
+    AllFunded,
+    NoneFunded,
+    HowUnfunded,
+    HowUnfundedStable,
+    HowFunded,
+    Order,
+    OrderClosest,
+    OrderDearest,
+    OrderSupporters,
+    Project,
+    ProjectId,
+    Cost,
+    Supporters,
+    HaveLeft,
+    CanOffer,
+    AgainstCost,
+    CostPerSupporter,
+    PartOfLimit,
+    PaidExactly,
+    PaidOver,
+    PaidUnder,
+    PaidInVain,
+    LabelLeft,
+    LabelOffer,
+    LabelPart,
+    LeftOut(Plural),
+    // The group of a violation.
+    Group,
+    Members,
+    GroupShare,
+    DemandCost,
+    BarShare,
+    BarGets,
+    BarEnough,
+    AmountOfAmount,
+    Demand,
+    NoDemand,
+    State,
+    IsFunded,
+    IsUnfunded,
+    PartOfShare,
+    // The conditions, by plain names.
+    Conditions,
+    Tests,
+    Holds,
+    Fails,
+    NotAsked,
+    NameFeasible,
+    NameExhaustive,
+    NameCover,
+    NameC1,
+    NameC2,
+    NameC3,
+    NameC4,
+    NameC5,
+    NameS5,
+    NameV1,
+    NameV2,
+    NameV3,
+    NameV4,
+    // What each condition asks, and why.
+    AsksFeasible,
+    AsksExhaustive,
+    AsksCover,
+    AsksC1,
+    AsksC2,
+    AsksC3,
+    AsksC4,
+    AsksC5,
+    AsksS5,
+    AsksV1,
+    AsksV2,
+    AsksV3,
+    AsksV4,
+    // What the conditions come to.
+    FoundFeasible,
+    BrokenFeasible,
+    FoundExhaustive,
+    BrokenExhaustive,
+    FoundCover,
+    BrokenCover,
+    FoundC1,
+    BrokenC1,
+    FoundC2,
+    BrokenC2,
+    NoVoters,
+    FoundC3,
+    BrokenC3,
+    FoundC4,
+    BrokenC4,
+    FoundC5,
+    BrokenC5,
+    FoundS5,
+    BrokenS5,
+    FoundV1,
+    BrokenV1,
+    FoundV2,
+    BrokenV2,
+    FoundV3,
+    BrokenV3,
+    FoundV4,
+    BrokenV4,
+    // What the page doesn't say, and what may be said.
+    NotSaid,
+    NotSaidOthers,
+    NotSaidPayments,
+    NotSaidOutcome,
+    NotSaidGroup,
+    NotSaidWhich,
+    NotSaidFiles,
+    Claim,
+    ClaimSupported,
+    ClaimStable,
+    ClaimNotSupported,
+    ClaimOutcome,
+    ClaimViolation,
+    ClaimNoViolation,
+    ClaimHow,
+    // Words explained.
+    Words,
+    WordCertificate,
+    MeansCertificate,
+    WordPrices,
+    MeansPrices,
+    WordSupporter,
+    MeansSupporter,
+    WordLeftover,
+    MeansLeftover,
+    WordOffer,
+    MeansOffer,
+    WordShare,
+    MeansShare,
+    WordDemand,
+    MeansDemand,
+    // The files, and how to check.
+    Files,
+    ElectionFile,
+    OutcomeFile,
+    CertificateFile,
+    Bytes(Plural),
+    CheckProgram,
+    CheckAnswer,
+    CheckBrowser,
+    Trust,
+    MadeBy,
+}
+
+/// How a language speaks of a number of things. English, German and French have one way for one thing and another for
+/// more, which is that of `Few` and `Many`.
+#[derive(Clone, Copy, Debug, PartialEq, Eq)]
+pub enum Plural {
+    One,
+    Few,
+    Many,
+}
+
+impl Plural {
+    /// How a language speaks of so many things.
+    pub fn of(language: Language, count: u64) -> Plural {
+        match language {
+            Language::English | Language::German => Plural::one_if(count == 1),
+            Language::French => Plural::one_if(count < 2),
+            Language::Polish => Plural::in_polish(count),
+        }
+    }
+
+    fn one_if(is_one: bool) -> Plural {
+        if is_one { Plural::One } else { Plural::Many }
+    }
+
+    // As 1 projekt; 2, 3, 4, 22 projekty; 0, 5, 12, 21 projektów.
+    fn in_polish(count: u64) -> Plural {
+        let is_teen = matches!(count % 100, 12..=14);
+        match count % 10 {
+            1 if count == 1 => Plural::One,
+            2..=4 if !is_teen => Plural::Few,
+            _ => Plural::Many,
+        }
+    }
+}

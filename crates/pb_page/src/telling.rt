@@ -1,0 +1,167 @@
+//! What is told of a certificate.
+ghost use Rattle.std.specs.Prelude.{◌≡◌, IfOk, false, map, string_bytes, true};
+ghost use Rattle.pb_election.specs.Instance.{IsSet, all_projects, cost_of, projects};
+ghost use Rattle.pb_election.specs.Outcome.{OutcomeFits};
+ghost use Rattle.pb_certificate.specs.Claim.{ClaimFits};
+ghost use Rattle.pb_reply.specs.Inside.Loaded.{lent};
+ghost use Rattle.pb_reply.specs.Inside.Taking.{IfTaken};
+ghost use Rattle.pb_audit.specs.Explained.{is_violation};
+ghost use Rattle.pb_page.specs.Answers.{TellsGroup};
+ghost use Rattle.pb_page.specs.Taken.{FindsFigures, TellsCertificate};
+ghost use Rattle.pb_page.specs.Told as spec;
+
+use crate::amounts::Style;
+use crate::told::{Found, PriceFigures, Told, ViolationFigures};
+use pb_certificate::{Violation, is_violation};
+use pb_cohesion::violation_findings;
+use pb_election::{Election, Outcome};
+use pb_price::{Mode, findings_and_margins_of};
+use pb_reply::{
+    File, InputFault, InputName, Status, Stop, bytes_of, price_line, price_status, stop_at,
+    violation_line, violation_of, violation_status,
+};
+use std::alloc::{AllocError, Global};
+
+/// What is told of a certificate of either kind.
+pub(crate) fn told_of(
+    alloc: Global,
+    election: &Election,
+    outcome: &Outcome,
+    certificate: File<'_>,
+    mode: Mode,
+    style: Style,
+) -> Result<Told, Stop>
+    requires { OutcomeFits outcome.now election.now }
+    ensures told { IfTaken result (TellsCertificate mode election.now (outcome.now).marks (lent certificate.entry)) }
+    ensures style { IfOk result (λ t. t.style ≡ style) }
+{
+    if claims_violation(alloc, certificate)? {
+        violation_told(alloc, election, outcome, certificate, mode, style)
+    } else {
+        prices_told(alloc, election, outcome, certificate, mode, style)
+    }
+}
+
+// Whether a file is taken as a violation certificate. One that wasn't read whole is not.
+fn claims_violation(alloc: Global, certificate: File<'_>) -> Result<bool, AllocError>
+    ensures { IfOk result (λ claims. claims ≡ is_violation (lent certificate.entry)) }
+{
+    match certificate {
+        File::Bytes(bytes) => is_violation(alloc, bytes),
+        File::Unread | File::TooLong => Ok(false),
+    }
+}
+
+// What is told of prices.
+fn prices_told(
+    alloc: Global,
+    election: &Election,
+    outcome: &Outcome,
+    certificate: File<'_>,
+    mode: Mode,
+    style: Style,
+) -> Result<Told, Stop>
+    requires { OutcomeFits outcome.now election.now }
+    ensures told { is_violation (lent certificate.entry) ≡ false → IfTaken result (TellsCertificate mode election.now (outcome.now).marks (lent certificate.entry)) }
+    ensures style { IfOk result (λ t. t.style ≡ style) }
+{
+    let figures = price_figures(alloc, election, outcome, certificate)?;
+    let verdict = figures.findings.verdict(mode);
+    Ok(Told {
+        style,
+        mode,
+        line: price_line(alloc, election, verdict, mode.stable)?,
+        found: Found::Prices(figures),
+    })
+}
+
+// What is found of the prices that a certificate states.
+fn price_figures(
+    alloc: Global,
+    election: &Election,
+    outcome: &Outcome,
+    certificate: File<'_>,
+) -> Result<PriceFigures, Stop>
+    requires { OutcomeFits outcome.now election.now }
+    ensures { IfTaken result (FindsFigures election.now (outcome.now).marks (lent certificate.entry)) }
+{
+    let bytes = bytes_of(InputName::Certificate, certificate)?;
+    match findings_and_margins_of(alloc, election, outcome, bytes) {
+        Ok((findings, margins)) => Ok(PriceFigures { findings, margins }),
+        Err(refusal) => Err(stop_at(InputName::Certificate, InputFault::Certificate(refusal))),
+    }
+}
+
+// What is told of a group and its demand.
+fn violation_told(
+    alloc: Global,
+    election: &Election,
+    outcome: &Outcome,
+    certificate: File<'_>,
+    mode: Mode,
+    style: Style,
+) -> Result<Told, Stop>
+    requires { OutcomeFits outcome.now election.now }
+    ensures told { is_violation (lent certificate.entry) ≡ true → IfTaken result (TellsCertificate mode election.now (outcome.now).marks (lent certificate.entry)) }
+    ensures style { IfOk result (λ t. t.style ≡ style) }
+{
+    let violation = violation_of(alloc, InputName::Certificate, certificate, election)?;
+    let (line, figures) = group_told(alloc, election, outcome, violation)?;
+    Ok(Told {
+        style,
+        mode,
+        line,
+        found: Found::Violation(figures),
+    })
+}
+
+// The line and the figures of a group and its demand.
+fn group_told(
+    alloc: Global,
+    election: &Election,
+    outcome: &Outcome,
+    violation: Violation,
+) -> Result<(String, ViolationFigures), AllocError>
+    requires outcome { OutcomeFits outcome.now election.now }
+    requires violation { ClaimFits violation election.now }
+    requires demand { IsSet 1 (projects election.now) violation.demand }
+    ensures { IfOk result (λ told. TellsGroup election.now (outcome.now).marks (violation.measure, violation.group, violation.demand) (string_bytes told.0) told.1) }
+{
+    let measure = violation.satisfaction();
+    let findings = violation_findings(election, outcome, &violation, &measure);
+    let verdict = findings.verdict(election);
+    let line = violation_line(alloc, election, verdict)?;
+    let figures = ViolationFigures {
+        verdict,
+        violation,
+        findings,
+        costs: costs_of(alloc, election)?,
+        limit: election.limit().millionths(),
+        funded: outcome.total(),
+        voters: election.voters(),
+    };
+    Ok((line, figures))
+}
+
+// What each project costs, in millionths.
+fn costs_of(alloc: Global, election: &Election) -> Result<Vec<u64>, AllocError>
+    ensures { IfOk result (λ costs. costs.items ≡ map (cost_of election.now) (all_projects election.now)) }
+{
+    let mut costs = Vec::new(alloc);
+    for k in 0..election.projects() {
+        costs.push(election.cost(k + 1).millionths())?;
+    }
+    Ok(costs)
+}
+
+impl Told {
+    /// How the answer ends.
+    pub(crate) fn status(&self) -> Status
+        ensures { result ≡ spec.status_of (self.now).mode (self.now).found }
+    {
+        match &self.found {
+            Found::Prices(figures) => price_status(figures.findings.verdict(self.mode)),
+            Found::Violation(figures) => violation_status(figures.verdict),
+        }
+    }
+}

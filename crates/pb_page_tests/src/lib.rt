@@ -1,0 +1,5 @@
+//! The tests of the page.
+#![tactic(auto)]
+
+#[cfg(test)]
+mod tests;

@@ -1,0 +1,4 @@
+//! What stands on pages.
+mod answers;
+mod making;
+mod names;

@@ -1,0 +1,47 @@
+//! Names on a page that mean something in markup, or turn what follows.
+use super::making::page;
+use pb_page::{Language, visible};
+use pb_samples::files::{ELECTION, PRICES};
+use pb_samples::modes::PLAIN;
+use std::test::Fail;
+
+#[test]
+fn markup_of_a_name_is_text(rt: HostRuntime) -> Result<(), Fail> {
+    let alloc = rt.alloc();
+    let election = ELECTION.replace(alloc, "Park", "<script>'x' & \"y\"</script>")?;
+    let (text, _) = page(
+        alloc,
+        election.as_bytes(),
+        PRICES.as_bytes(),
+        PLAIN,
+        Language::English,
+    )?;
+    assert!(rt; !text.contains("<script"));
+    assert!(rt; text.contains("&lt;script&gt;&#39;x&#39; &amp; &quot;y&quot;&lt;/script&gt;"));
+    assert!(rt; text.contains("&lt;prices&gt; &amp; &quot;more&quot;.csv"));
+    Ok(())
+}
+
+#[test]
+fn turning_marks_are_shown(rt: HostRuntime) -> Result<(), Fail> {
+    let alloc = rt.alloc();
+    let election = ELECTION.replace(alloc, "Library", "a\u{202e}b\u{2067}c\u{7f}")?;
+    let (text, _) = page(
+        alloc,
+        election.as_bytes(),
+        PRICES.as_bytes(),
+        PLAIN,
+        Language::English,
+    )?;
+    assert!(rt; !text.contains('\u{202e}'));
+    assert!(rt; !text.contains('\u{2067}'));
+    assert!(rt; text.contains("a\\u{202e}b\\u{2067}c\\u{7f}"));
+    Ok(())
+}
+
+#[test]
+fn bytes_that_are_no_text_are_replaced(rt: HostRuntime) -> Result<(), Fail> {
+    let shown = visible(rt.alloc(), b"a\xffb\n\xe2\x80\x8e")?;
+    assert!(rt; shown.as_str() == "a\u{fffd}b\\u{a}\\u{200e}", "{shown}");
+    Ok(())
+}

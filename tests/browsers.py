@@ -1,0 +1,254 @@
+"""Chromium and Firefox without windows, driven by the commands of WebDriver: Chromium through its driver, and Firefox
+through its own protocol, Marionette. Each starts with an empty profile."""
+import base64
+import json
+import pathlib
+import shutil
+import socket
+import subprocess
+import time
+import urllib.request
+
+CHROMIUM = ("chromium", "chromium-browser", "google-chrome")
+FIREFOX = ("firefox-esr", "firefox")
+START_SECONDS, ANSWER_SECONDS = 60, 120
+ELEMENT = "element-6066-11e4-a52e-4f735466cecf"
+# Keys as WebDriver names them.
+TAB, ENTER, SPACE = "\ue004", "\ue007", " "
+
+
+class BrowserError(Exception):
+    """The browser refused a command, or didn't start."""
+
+
+def program(names):
+    return next(filter(None, map(shutil.which, names)), None)
+
+
+def free_port():
+    with socket.socket() as listening:
+        listening.bind(("127.0.0.1", 0))
+        return listening.getsockname()[1]
+
+
+def until(ask, seconds, what):
+    """Asks until the answer is true, and answers it."""
+    end = time.monotonic() + seconds
+    while time.monotonic() < end:
+        told = ask()
+        if told:
+            return told
+        time.sleep(0.02)
+    raise BrowserError(f"{what} took longer than {seconds} s")
+
+
+class Browser:
+    """What both browsers do. `command` gives one of WebDriver's commands."""
+
+    def go(self, url):
+        self.command("Navigate", {"url": url})
+
+    def ask(self, script, *words):
+        """What a script answers; one that answers a promise is waited for."""
+        return self.command("ExecuteScript", {"script": script, "args": list(words)})
+
+    def find(self, selector):
+        found = self.command("FindElement", {"using": "css selector", "value": selector})
+        return found[ELEMENT]
+
+    def click(self, selector):
+        self.command("ElementClick", {"id": self.find(selector)})
+
+    def give(self, selector, *paths):
+        """Chooses files in an input for files."""
+        text = "\n".join(map(str, paths))
+        self.command("ElementSendKeys", {"id": self.find(selector), "text": text})
+
+    def give_folder(self, selector, path):
+        self.give(selector, path)
+
+    def press(self, *keys):
+        """Presses keys, one after the other, wherever the focus is."""
+        strokes = [{"type": kind, "value": key} for key in keys for kind in ("keyDown", "keyUp")]
+        self.command("PerformActions", {"actions": [{"type": "key", "id": "keyboard", "actions": strokes}]})
+
+    def told(self, selector):
+        """What a screen reader is told of an element: its role and its name."""
+        found = {"id": self.find(selector)}
+        return self.command("GetComputedRole", found), self.command("GetComputedLabel", found)
+
+    def wait(self, script, what, seconds=ANSWER_SECONDS):
+        return until(lambda: self.ask(script), seconds, what)
+
+    def resize(self, width, height):
+        self.command("SetWindowRect", {"width": width, "height": height})
+
+    def picture(self, path):
+        pathlib.Path(path).write_bytes(base64.b64decode(self.command("TakeScreenshot", {"full": False})))
+
+
+class Chromium(Browser):
+    """Chromium through chromedriver, which takes WebDriver's commands over HTTP."""
+
+    name = "Chromium"
+    PATHS = {
+        "Navigate": ("POST", "/url"), "ExecuteScript": ("POST", "/execute/sync"), "FindElement": ("POST", "/element"),
+        "ElementClick": ("POST", "/element/{id}/click"), "ElementSendKeys": ("POST", "/element/{id}/value"),
+        "SetWindowRect": ("POST", "/window/rect"), "TakeScreenshot": ("GET", "/screenshot"),
+        "PerformActions": ("POST", "/actions"), "GetComputedRole": ("GET", "/element/{id}/computedrole"),
+        "GetComputedLabel": ("GET", "/element/{id}/computedlabel"), "DevTools": ("POST", "/goog/cdp/execute"),
+    }  # fmt: skip
+
+    def __init__(self, folder, downloads, language="en"):
+        port = free_port()
+        self.address = f"http://127.0.0.1:{port}"
+        words = [shutil.which("chromedriver"), f"--port={port}"]
+        self.driver = subprocess.Popen(words, stdout=subprocess.DEVNULL, stderr=subprocess.DEVNULL)
+        try:
+            until(self.is_ready, START_SECONDS, "chromedriver")
+            options = ["--headless=new", "--no-sandbox", "--disable-gpu", "--disable-dev-shm-usage",
+                       f"--user-data-dir={folder}", f"--accept-lang={language}", f"--lang={language}"]
+            settings = {"args": options, "binary": program(CHROMIUM),
+                        "prefs": {"download.default_directory": str(downloads), "intl.accept_languages": language}}
+            asked = {"capabilities": {"alwaysMatch": {"goog:chromeOptions": settings}}}
+            self.session = f"/session/{self.call('POST', '/session', asked)['sessionId']}"
+        except Exception:
+            self.driver.kill()
+            raise
+
+    def is_ready(self):
+        try:
+            return self.call("GET", "/status")["ready"]
+        except OSError:
+            return False
+
+    def call(self, method, path, words=None):
+        body = None if words is None else json.dumps(words).encode()
+        asked = urllib.request.Request(self.address + path, body, {"Content-Type": "application/json"}, method=method)
+        try:
+            with urllib.request.urlopen(asked, timeout=START_SECONDS + ANSWER_SECONDS) as told:
+                return json.load(told)["value"]
+        except urllib.error.HTTPError as refused:
+            raise BrowserError(json.load(refused)["value"]["message"].splitlines()[0]) from None
+
+    def command(self, name, words):
+        method, path = self.PATHS[name]
+        return self.call(method, self.session + path.format(**words), None if method == "GET" else words)
+
+    def tools(self, name, **words):
+        """A command of the developer tools."""
+        return self.command("DevTools", {"cmd": name, "params": words})
+
+    def drop(self, selector, *paths):
+        """Drops files or folders, as from the desktop."""
+        place = self.ask("const target = document.querySelector(arguments[0]);"
+                         "target.scrollIntoView({block: 'center'});"
+                         "const box = target.getBoundingClientRect();"
+                         "return {x: box.x + box.width / 2, y: box.y + box.height / 2}", selector)
+        data = {"items": [], "files": [str(path) for path in paths], "dragOperationsMask": 1}
+        for kind in ("dragEnter", "dragOver", "drop"):
+            self.tools("Input.dispatchDragEvent", type=kind, data=data, **place)
+
+    def close(self):
+        try:
+            self.call("DELETE", self.session)
+        finally:
+            self.driver.terminate()
+            self.driver.wait()
+
+
+class Firefox(Browser):
+    """Firefox through Marionette, which takes WebDriver's commands over a socket, each with its length ahead of it."""
+
+    name = "Firefox"
+
+    def __init__(self, folder, downloads, language="en"):
+        port = free_port()
+        folder = pathlib.Path(folder)
+        folder.mkdir(exist_ok=True)
+        # A page may read a folder that a hand chose. Here none does, so Firefox is told to let it be read without.
+        settings = {"marionette.port": port, "intl.accept_languages": language, "browser.download.folderList": 2,
+                    "dom.filesystem.pathcheck.disabled": True, "browser.download.alwaysOpenPanel": False,
+                    "browser.download.dir": str(downloads), "browser.download.useDownloadDir": True,
+                    "browser.shell.checkDefaultBrowser": False, "datareporting.policy.dataSubmissionEnabled": False,
+                    "app.update.auto": False, "browser.startup.homepage_override.mstone": "ignore"}
+        lines = [f"user_pref({json.dumps(name)}, {json.dumps(value)});\n" for name, value in settings.items()]
+        (folder / "user.js").write_text("".join(lines))
+        words = [program(FIREFOX), "--headless", "--no-remote", "--marionette", "--profile", str(folder)]
+        self.process = subprocess.Popen(words, stdout=subprocess.DEVNULL, stderr=subprocess.DEVNULL)
+        try:
+            self.socket = until(lambda: self.connected(port), START_SECONDS, "Firefox")
+            self.number, self.rest = 0, b""
+            self.read()
+            self.command("NewSession", {"capabilities": {"alwaysMatch": {}}})
+        except Exception:
+            self.process.kill()
+            raise
+
+    @staticmethod
+    def connected(port):
+        try:
+            return socket.create_connection(("127.0.0.1", port), timeout=START_SECONDS + ANSWER_SECONDS)
+        except OSError:
+            return None
+
+    def read(self):
+        """The next message."""
+        while b":" not in self.rest:
+            self.more()
+        length, _, self.rest = self.rest.partition(b":")
+        while len(self.rest) < int(length):
+            self.more()
+        text, self.rest = self.rest[:int(length)], self.rest[int(length):]
+        return json.loads(text)
+
+    def more(self):
+        piece = self.socket.recv(1 << 16)
+        if not piece:
+            raise BrowserError("Firefox ended")
+        self.rest += piece
+
+    def command(self, name, words):
+        self.number += 1
+        text = json.dumps([0, self.number, f"WebDriver:{name}", words]).encode()
+        self.socket.sendall(b"%d:" % len(text) + text)
+        _, _, error, told = self.read()
+        if error:
+            raise BrowserError(error["message"])
+        return told["value"] if isinstance(told, dict) and "value" in told else told
+
+    def take(self, script, words):
+        """Has the page have files of the disk, by a script with Firefox's own rights, as `given`."""
+        script = f"""return (async () => {{
+  const given = await (async () => {{ {script} }})();
+  window.wrappedJSObject.given = Components.utils.cloneInto(given, window, {{wrapReflectors: true}});
+}})();"""
+        self.command("ExecuteScript", {"script": script, "args": [words], "sandbox": "system"})
+
+    def give_folder(self, selector, path):
+        """Marionette types no folder into an input, so a script puts in what Firefox finds in the folder."""
+        self.take("return [...await new Directory(arguments[0]).getFiles(true)];", str(path))
+        self.ask("""const chosen = new DataTransfer(), input = document.querySelector(arguments[0]);
+for (const each of given) chosen.items.add(each);
+input.files = chosen.files;
+input.dispatchEvent(new Event('change'));""", selector)
+
+    def drop(self, selector, *paths):
+        """Marionette drops nothing, and Firefox without windows has no dragging. So the event is a script's; the files
+        and folders are those of the disk."""
+        self.take("""const given = [];
+for (const path of arguments[0]) {
+  const place = Components.classes['@mozilla.org/file/local;1'].createInstance(Components.interfaces.nsIFile);
+  place.initWithPath(path);
+  given.push(await File.createFromNsIFile(place, {existenceCheck: false}));
+}
+return given;""", [str(path) for path in paths])
+        self.ask("""const dropped = new DataTransfer();
+for (const each of given) dropped.items.add(each);
+const how = {dataTransfer: dropped, bubbles: true, cancelable: true};
+document.querySelector(arguments[0]).dispatchEvent(new DragEvent('drop', how));""", selector)
+
+    def close(self):
+        self.socket.close()
+        self.process.terminate()
+        self.process.wait()
