@@ -1,0 +1,63 @@
+// @ts-check
+"use strict";
+/* The answer of an audit: the page that the library wrote, in a frame in which no script runs; or why there is none. */
+
+/** The height of the frame is that of what is in it, up to this. */
+const HIGHEST_FRAME = 100_000;
+
+/** @type {(words: Words, audit: Audit) => void} */
+function showAnswer(words, { task, page, refused, problem }) {
+  const { certificate, election } = task;
+  element("about").textContent = certificate && election ? words.about(certificate.file.name, election.file.name) : "";
+  element("saved").textContent = "";
+  element("found").hidden = page === undefined;
+  element("refusal").hidden = page !== undefined;
+  for (const id of ["margins", "tidy"]) element(id).hidden = certificate?.kind !== "prices";
+  if (page !== undefined) return showPage(element("frame"), page);
+  const why = problem ? [make("p", {}, problemSentence(words, problem))] : refused ? refusalOf(words, refused) : [];
+  element("refusal").replaceChildren(...why);
+}
+
+/**
+ * Shows the library's page. The policy holds in the frame as well, and allows no style in an attribute. There the page
+ * has the lengths of its bars: they go by another name until the page stands, and are then set.
+ * @type {(frame: HTMLIFrameElement, page: string) => void}
+ */
+function showPage(frame, page) {
+  frame.onload = () => {
+    const styled = /** @type {HTMLElement[]} */ ([...frame.contentDocument?.querySelectorAll("[data-style]") ?? []]);
+    for (const each of styled) each.style.cssText = each.dataset.style ?? "";
+    fitFrame(frame);
+  };
+  frame.srcdoc = page.replaceAll(' style="', ' data-style="');
+}
+
+/** @type {(frame: HTMLIFrameElement) => void} */
+function fitFrame(frame) {
+  const inside = frame.contentDocument?.documentElement;
+  // Less than any page is high, so that what is measured is the page and not the frame.
+  frame.style.height = "4rem";
+  if (inside) frame.style.height = `${Math.min(HIGHEST_FRAME, inside.scrollHeight + 4)}px`;
+}
+
+/**
+ * What is wrong with a file, where, and what stands there.
+ * @type {(words: Words, refused: Refused) => HTMLElement[]}
+ */
+function refusalOf(words, { file, line, sentences, excerpt, text }) {
+  return [
+    make("p", {}, make("strong", {}, words.refused(file))),
+    ...line > 0 ? [make("p", {}, words.atLine(file, line)), make("pre", {}, excerpt)] : [],
+    ...sentences.map(each => make("p", {}, each)),
+    make("p", { class: "soft" }, `${words.programPrints} `, make("code", {}, text)),
+  ];
+}
+
+/**
+ * The name for a file that is saved.
+ * @type {(audit: Audit, ending: string) => string}
+ */
+function savedName({ task }, ending) {
+  const name = (task.certificate ?? task.election)?.file.name ?? "audit";
+  return `${name.replace(/\.csv$|\.pb$/, "")}${ending}`;
+}
