@@ -15,4 +15,9 @@ else
     cp -r "$top/python/pbaudit" "$work/site"
     cp "$top/lib/libpbaudit.so" "$work/site/pbaudit"
 fi
-PYTHONPATH=$work/site PYTHONDONTWRITEBYTECODE=1 python3 "$top/python/tests"
+# Debian's packages (Dask, numpy, gmpy2) are those of Debian's Python, which needn't be the first on the PATH.
+python=python3
+if ! python3 -c 'import distributed' 2> /dev/null && /usr/bin/python3 -c 'import distributed' 2> /dev/null; then
+    python=/usr/bin/python3
+fi
+PYTHONPATH=$work/site PYTHONDONTWRITEBYTECODE=1 "$python" "$top/python/tests"

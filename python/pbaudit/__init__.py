@@ -3,29 +3,65 @@
     from pbaudit import audit_prices, price_certificate, validate_price_system
 
 Audits of files are `read`, `audit_prices`, `audit_violation`, `audit_both`, `explain`, `margins`, `tidy` and
-`audit_folder`; of Python values `validate_price_system`. `write_page` shows what was found on a page for people.
-`write_election`, `write_outcome`, `write_prices` and `write_violation` write the files, and `price_certificate` makes
-exact prices of a solver's floats. The answers are those of the program `pbaudit`: they come from the proved library, or
-from the program where the library isn't there. What this package does before and after isn't proved.
+`audit_folder`; of Python values `validate_price_system`. `write_page` shows what was found on a page for people, and
+`write_folder_pages` writes the pages of a folder with an index. `write_election`, `write_outcome`, `write_prices` and
+`write_violation` write the files, `price_certificate` makes exact prices of a solver's floats, and `equal_shares` has
+those of a rule. The answers are those of the program `pbaudit`: they come from the proved library, or from the program
+where the library isn't there. What this package does before and after isn't proved.
 
-Voters are numbered from 1, in the order of the profile. Amounts are in the currency of the costs. Where Python values
-are taken, what no file can say is a ValueError, and a value of another kind than is wanted a TypeError.
+Voters are numbered from 1, in the order of the profile. Amounts are in the currency of the costs. Files are given by
+their paths (`str` or `os.PathLike`), as bytes, or as binary files that are open. Where Python values are taken, what no
+file can say is a ValueError, and a value of another kind than is wanted a TypeError.
 """
-from .auditing import (
-    Explanation, Finding, ProjectMargins, Refusal, Summary, Verdict, audit_both, audit_prices, audit_violation, explain,
-    margins, read, tidy,
-)
-from .certificates import PriceCertificate, price_certificate
-from .elections import Instance, Project
-from .folders import FolderReport, audit_folder
-from .page import write_page
-from .price_systems import validate_price_system
-from .rounding import CannotKeep
-from .writing import write_election, write_outcome, write_prices, write_violation
+from typing import TYPE_CHECKING, List
+
+if TYPE_CHECKING:
+    from .auditing import (
+        Explanation, Finding, ProjectMargins, Refusal, Summary, Verdict, audit_both, audit_prices, audit_violation,
+        explain, margins, read, tidy,
+    )
+    from .certificates import PriceCertificate, price_certificate
+    from .elections import Instance, Project
+    from .folder_pages import NotReplaced, write_folder_pages
+    from .folders import FolderReport, audit_folder
+    from .pages import page, write_page
+    from .price_systems import validate_price_system
+    from .rounding import CannotKeep
+    from .shares import EqualShares, equal_shares
+    from .writing import write_election, write_outcome, write_prices, write_violation
 
 __all__ = [
-    "CannotKeep", "Explanation", "Finding", "FolderReport", "Instance", "PriceCertificate", "Project", "ProjectMargins",
-    "Refusal", "Summary", "Verdict", "audit_both", "audit_folder", "audit_prices", "audit_violation", "explain", "margins",
-    "price_certificate", "read", "tidy", "validate_price_system", "write_election", "write_outcome", "write_page",
+    "CannotKeep", "EqualShares", "Explanation", "Finding", "FolderReport", "Instance", "NotReplaced",
+    "PriceCertificate", "Project", "ProjectMargins", "Refusal", "Summary", "Verdict", "audit_both", "audit_folder",
+    "audit_prices", "audit_violation", "equal_shares", "explain", "margins", "page", "price_certificate", "read",
+    "tidy", "validate_price_system", "write_election", "write_folder_pages", "write_outcome", "write_page",
     "write_prices", "write_violation",
 ]
+# The parts are loaded when they are first used, since an import of all takes long beside an audit.
+_PARTS = {
+    "auditing": ("Explanation", "Finding", "ProjectMargins", "Refusal", "Summary", "Verdict", "audit_both",
+                 "audit_prices", "audit_violation", "explain", "margins", "read", "tidy"),
+    "certificates": ("PriceCertificate", "price_certificate"),
+    "elections": ("Instance", "Project"),
+    "folder_pages": ("NotReplaced", "write_folder_pages"),
+    "folders": ("FolderReport", "audit_folder"),
+    "pages": ("page", "write_page"),
+    "price_systems": ("validate_price_system",),
+    "rounding": ("CannotKeep",),
+    "shares": ("EqualShares", "equal_shares"),
+    "writing": ("write_election", "write_outcome", "write_prices", "write_violation"),
+}
+_PART_OF = {name: part for part, names in _PARTS.items() for name in names}
+
+
+def __getattr__(name: str) -> object:
+    if name not in _PART_OF:
+        raise AttributeError(f"module {__name__!r} has no attribute {name!r}")
+    from importlib import import_module
+    value: object = getattr(import_module(f".{_PART_OF[name]}", __name__), name)
+    globals()[name] = value
+    return value
+
+
+def __dir__() -> List[str]:
+    return sorted({*globals(), *__all__})

@@ -1,69 +1,121 @@
-"""The commands of the package: `python -m pbaudit page` writes a page about a certificate."""
+"""The commands of the package: `python -m pbaudit page` writes a page about a certificate, and `equal-shares` certifies
+outcomes of the Method of Equal Shares."""
 import argparse
+import errno
 import os
 import sys
+from typing import IO, List, NoReturn, Optional, Sequence
 
-from ._auditor import Mode
 from .auditing import Refusal
-from .page import VERSION, path_word, replaced, write_page
+from .pages import LANGUAGES, replaced, write_page
+from .rounding import CannotKeep
+from .shares import COMPLETIONS, MEASURES
 
-REFUSED, USAGE, FAULT = 2, 3, 4
+VERSION = "0.1.0"
+DIFFERS, REFUSED, USAGE, FAULT = 1, 2, 3, 4
+PAGE_USAGE = (
+    "python -m pbaudit page ELECTION CERTIFICATE [OPTIONS] -o PAGE\n"
+    "       python -m pbaudit page --folder FOLDER [OPTIONS] -o OUT"
+)
 WHAT_IT_DOES = (
     "Writes a page for people on what the audit of a price or a violation certificate finds: one HTML file, which has "
-    "no script and fetches nothing."
+    "no script and fetches nothing. With --folder it writes a page for each certificate of a folder, and an index."
 )
 HOW_IT_ENDS = (
     "Exit statuses: 0 where the page was written, whatever the answer on it; 2 where a file is refused, with the line "
-    "of the refusal on standard output, and on standard error how to see the place in the file; 3 where the words "
+    "of the refusal on standard output, and on standard error what is wrong and where; 3 where the words "
     "aren't understood, or the page would replace one of the files; 4 where memory runs out, the page or that line "
-    "can't be written, or the auditor isn't found or can't be used."
+    "can't be written, or the auditor isn't found or can't be used. With --folder the report of `pbaudit folder` is "
+    "printed, and the status is its own: 0 where no certificate failed, 1 where one did, 2 where a file is refused; "
+    "and 3 where a file stands in the way that isn't a page of pbaudit, and then nothing is written."
+)
+
+WHAT_SHARES_DO = (
+    "Computes an outcome of the Method of Equal Shares, exactly and with ties for the project that stands first; makes "
+    "a price certificate of what the voters pay; has it audited; and says what holds. The rule isn't proved here, and "
+    "needn't be: what it makes is audited by what is proved."
+)
+HOW_SHARES_END = (
+    "Exit statuses: 0 where there is a certificate; 1 where there is none, or the election states another outcome than "
+    "the rule's; 2 where the election is refused; 3 where the arguments aren't understood; 4 where memory runs out, a "
+    "file or the answer can't be written, or the auditor isn't found or can't be used."
 )
 
 
 class _Parser(argparse.ArgumentParser):
     """Words that aren't understood end with the status that they have with the program."""
 
-    def error(self, message):
+    def error(self, message: str) -> NoReturn:
         self.print_usage(sys.stderr)
         self.exit(USAGE, f"{self.prog}: {message}\n")
 
 
-def _parser():
-    parser = _Parser(prog="python -m pbaudit", description="Shows what pbaudit finds.", allow_abbrev=False)
+def _parser(by_folder: bool) -> _Parser:
+    parser = _Parser(prog="python -m pbaudit", description="Shows what pbaudit finds, and certifies outcomes.",
+                     allow_abbrev=False)
     parser.add_argument("--version", action="version", version=f"pbaudit {VERSION}")
     commands = parser.add_subparsers(dest="command", required=True)
-    page = commands.add_parser("page", help="writes a page about a certificate, as one HTML file",
+    _add_page(commands, by_folder)
+    _add_equal_shares(commands)
+    return parser
+
+
+def _add_page(commands: "argparse._SubParsersAction[_Parser]", by_folder: bool) -> None:
+    page = commands.add_parser("page", help="writes a page about a certificate, as one HTML file", usage=PAGE_USAGE,
                                description=WHAT_IT_DOES, epilog=HOW_IT_ENDS, allow_abbrev=False)
-    page.add_argument("election", metavar="ELECTION", help="an election file")
-    page.add_argument("certificate", metavar="CERTIFICATE", help="a price or a violation certificate")
+    # Were these optional, argparse would take no option between them.
+    if not by_folder:
+        page.add_argument("election", metavar="ELECTION", help="an election file")
+        page.add_argument("certificate", metavar="CERTIFICATE", help="a price or a violation certificate")
+    page.add_argument("--folder", metavar="FOLDER", help="in place of ELECTION and CERTIFICATE: write the pages on all "
+                      "certificates of a folder, and an index of them, index.html, to the folder that -o names")
     page.add_argument("--stable", action="store_true", help="ask for the stable form of prices")
     page.add_argument("--no-exhaustive", action="store_true", help="leave out the condition Exhaustive")
     page.add_argument("--cover", action="store_true", help="ask for the condition Cover")
     page.add_argument("--outcome", metavar="FILE", help="take the funded projects from this file")
-    page.add_argument("-o", "--output", metavar="PAGE", required=True, help="the HTML file to write")
-    page.set_defaults(end_by_usage=page.error)
-    return parser
+    page.add_argument("--language", choices=LANGUAGES, default="en", help="the language of the page; the default is en")
+    page.add_argument("-o", "--output", metavar="PAGE", required=True, help="the HTML file to write, or the folder")
+    page.set_defaults(run=_folder_pages if by_folder else _page, end_by_usage=page.error)
 
 
-def main(words=None) -> int:
-    """Runs a command line, and answers its exit status, which is as with the program: 0 where the page is written,
-    whatever it says, and else 2, 3 or 4."""
-    given = _parser().parse_args(words)
+def _add_equal_shares(commands: "argparse._SubParsersAction[_Parser]") -> None:
+    shares = commands.add_parser("equal-shares", help="certifies an outcome of the Method of Equal Shares",
+                                 description=WHAT_SHARES_DO, epilog=HOW_SHARES_END, allow_abbrev=False)
+    shares.add_argument("election", metavar="ELECTION", help="an election file")
+    shares.add_argument("-o", "--output", metavar="CERTIFICATE", help="the price certificate to write; the outcome "
+                        "file beside it ends with .outcome.csv in the place of .prices.csv")
+    shares.add_argument("--by", choices=MEASURES, default="cost", help="what a project is worth to each supporter: its "
+                        "cost, which is the default, or 1")
+    shares.add_argument("--completion", choices=COMPLETIONS, default="none", help="add1 raises the budget of the "
+                        "voters by 1 until no other project fits, or the next outcome costs more than the limit")
+    shares.set_defaults(run=_equal_shares, end_by_usage=shares.error)
+
+
+def main(words: Optional[Sequence[str]] = None) -> int:
+    """Runs a command line, and answers its exit status."""
+    words = sys.argv[1:] if words is None else words
+    given = _parser(by_folder=any(word.partition("=")[0] == "--folder" for word in words)).parse_args(words)
+    try:
+        status: int = given.run(given)
+    except MemoryError:
+        return _fault("fault memory")
+    except (ImportError, RuntimeError) as why:
+        return _fault(f"fault: {why}")
+    return status
+
+
+def _page(given: argparse.Namespace) -> int:
     over = replaced(given.output, {"ELECTION": given.election, "CERTIFICATE": given.certificate,
                                    "--outcome": given.outcome})
     if over:
         given.end_by_usage(f"-o names the same file as {over}, which the page would replace")
     try:
-        page = write_page(given.election, given.certificate, given.outcome, stable=given.stable,
-                          exhaustive=not given.no_exhaustive, cover=given.cover)
+        page = write_page(given.election, given.certificate, outcome=given.outcome, stable=given.stable,
+                          exhaustive=not given.no_exhaustive, cover=given.cover, language=given.language)
     except Refusal as refusal:
-        return _refused(str(refusal), f"for the line and the reason: {_explain(given)}")
+        return _refused(refusal.printed, "\n".join(refusal.sentences()))
     except OSError as unread:
         return _refused(f"refused {_role(given, unread.filename)} 18 Read record 0", str(unread))
-    except MemoryError:
-        return _fault("fault memory")
-    except (ImportError, RuntimeError) as why:
-        return _fault(f"fault: {why}")
     try:
         with open(given.output, "wb") as file:
             file.write(page)
@@ -72,42 +124,84 @@ def main(words=None) -> int:
     return 0
 
 
-def _role(given, path):
+def _folder_pages(given: argparse.Namespace) -> int:
+    from .folder_pages import NotReplaced, write_folder_pages
+    if given.outcome is not None:
+        given.end_by_usage("--folder takes no --outcome: each election of the folder states its own")
+    try:
+        os.listdir(given.folder)
+    except OSError as unlisted:
+        return _refused("refused folder 18 Read record 0", str(unlisted))
+    try:
+        report = write_folder_pages(given.folder, given.output, stable=given.stable, exhaustive=not given.no_exhaustive,
+                                    cover=given.cover, language=given.language)
+    except NotReplaced as why:
+        given.end_by_usage(str(why))
+    except OSError as why:
+        if why.errno == errno.EILSEQ:
+            return _refused("refused folder 18 Read record 0", str(why))
+        return _fault(f"fault write: {why}")
+    return _told(report.text.splitlines(), report.status)
+
+
+def _equal_shares(given: argparse.Namespace) -> int:
+    from .certified_shares import certify, clear_progress, outcome_path, write_files
+    for path in [] if given.output is None else [given.output, outcome_path(given.output)]:
+        if replaced(path, {"ELECTION": given.election}):
+            given.end_by_usage(f"-o has {path} written, which is the election")
+    try:
+        made = certify(given.election, given.by, given.completion)
+    except Refusal as refusal:
+        return _refused(refusal.printed, "\n".join(refusal.sentences()))
+    except OSError as unread:
+        return _refused("refused election 18 Read record 0", str(unread))
+    except CannotKeep as why:
+        return _told([f"no certificate was found near the payments of the rule: {why}"], DIFFERS)
+    finally:
+        clear_progress()
+    try:
+        paths = [] if given.output is None else write_files(made, given.output)
+    except OSError as unwritten:
+        return _fault(f"fault write: {unwritten}")
+    return _told([*made.lines(), *(f"written: {path}" for path in paths)], DIFFERS if made.is_own is False else 0)
+
+
+def _told(lines: List[str], status: int) -> int:
+    """Prints lines, and ends with a status, or as by a fault where they can't be written."""
+    try:
+        print(*lines, sep="\n", flush=True)
+    except OSError as unwritten:
+        _give_up(sys.stdout)
+        return _fault(f"fault write: {unwritten}")
+    return status
+
+
+def _role(given: argparse.Namespace, path: Optional[str]) -> str:
     """Which of the files that the words name this is."""
     return next((role for role in ("election", "outcome") if getattr(given, role) == path), "certificate")
 
 
-def _explain(given):
-    """The command that says of the same files what is the matter."""
-    outcome = [] if given.outcome is None else ["--outcome", path_word(given.outcome)]
-    options = Mode(given.stable, not given.no_exhaustive, given.cover).options
-    return " ".join(["pbaudit explain", path_word(given.election), path_word(given.certificate), *options, *outcome])
-
-
-def _refused(line, more):
+def _refused(line: str, more: str) -> int:
     """Ends with the line of a refusal, and with more on it for people."""
-    try:
-        print(line, flush=True)
-    except OSError as unwritten:
-        _give_up(sys.stdout)
-        return _fault(f"fault write: {unwritten}")
-    _tell(more)
-    return REFUSED
+    status = _told([line], REFUSED)
+    if status == REFUSED and more:
+        _tell(more)
+    return status
 
 
-def _fault(line):
+def _fault(line: str) -> int:
     _tell(line)
     return FAULT
 
 
-def _tell(line):
+def _tell(line: str) -> None:
     try:
         print(line, file=sys.stderr, flush=True)
     except OSError:
         _give_up(sys.stderr)
 
 
-def _give_up(stream):
+def _give_up(stream: IO[str]) -> None:
     """Has Python not try again, when it ends, to write what couldn't be written: it would end with another status."""
     os.dup2(os.open(os.devnull, os.O_WRONLY), stream.fileno())
 

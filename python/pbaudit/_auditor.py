@@ -5,11 +5,12 @@ Both answer the same: an exit status of 0, 1 or 2, and the text that the program
 import ctypes
 import os
 import pathlib
+import re
 import shutil
 import subprocess
 import tempfile
 from dataclasses import dataclass
-from typing import Optional
+from typing import Any, Dict, List, Optional, Protocol, Tuple, Union
 
 _HERE = pathlib.Path(__file__).resolve().parent
 # Beside this file where the package is installed, and in the folder `lib` of a checkout.
@@ -21,29 +22,47 @@ _HOW_TO_BUILD = (
 )
 
 
+def switch(name: str, value: object) -> bool:
+    """A switch, which is True or False, and anything else a TypeError."""
+    # A true one of numpy equals 1, and a text doesn't.
+    if not any(value is each or type(value).__name__ == "bool_" and value == each for each in (False, True)):
+        raise TypeError(f"{name} is {value!r}, and not True or False")
+    return bool(value)
+
+
 @dataclass(frozen=True)
 class Mode:
-    """Which conditions are asked of prices. Each switch may be given as any value that is true or false."""
+    """Which conditions are asked of prices. Each switch is True or False, and anything else a TypeError."""
 
     stable: bool = False
     exhaustive: bool = True
     cover: bool = False
 
-    def __post_init__(self):
+    def __post_init__(self) -> None:
         for name, value in vars(self).items():
-            object.__setattr__(self, name, bool(value))
+            object.__setattr__(self, name, switch(name, value))
 
     @property
-    def options(self):
+    def options(self) -> List[str]:
         """The options of a command that ask for it."""
         options = [("--stable", self.stable), ("--no-exhaustive", not self.exhaustive), ("--cover", self.cover)]
         return [option for option, is_on in options if is_on]
 
 
 @dataclass(frozen=True)
+class PageWords:
+    """What a page calls the files, and the code of its language."""
+
+    election: str = "election"
+    certificate: str = "certificate"
+    outcome: str = "outcome"
+    language: str = "en"
+
+
+@dataclass(frozen=True)
 class Question:
-    """A command, its files as bytes, and the mode where the command asks for conditions. Two certificates are the prices and
-    then the violation."""
+    """A command, its files as bytes, the mode where the command asks for conditions, and the words of a page. Two
+    certificates are the prices and then the violation."""
 
     command: str
     election: bytes
@@ -51,10 +70,46 @@ class Question:
     violation: Optional[bytes] = None
     outcome: Optional[bytes] = None
     mode: Mode = Mode()
+    page: PageWords = PageWords()
 
 
-_WITH_OUTCOME = ("prices", "violation", "both", "margins", "explain")
-_WITH_MODE = ("prices", "both", "explain")
+@dataclass(frozen=True)
+class Place:
+    """What was refused: "election", "outcome", "certificate", "prices" or "violation"; the number of the fault; and the
+    record, numbered from 1, or 0."""
+
+    input: str
+    number: int
+    record: int
+
+
+@dataclass(frozen=True)
+class Hint:
+    """What a person is told of a refusal: the line of the file on which the record begins, from 1, or None; and
+    sentences, each on a line, of which one that is about another line of the file begins with `line N: `."""
+
+    line: Optional[int]
+    sentences: str
+
+
+class Auditor(Protocol):
+    """What the library and the program have in common."""
+
+    def ask(self, question: Question) -> Tuple[int, bytes]:
+        """The status and the text that answer a question."""
+
+    def hint(self, question: Question, place: Place) -> Optional[Hint]:
+        """What is told of a refusal, or None where this auditor has no hints."""
+
+
+_WITH_OUTCOME = ("prices", "violation", "both", "margins", "explain", "page")
+_WITH_MODE = ("prices", "both", "explain", "page")
+_ANY_CERTIFICATE = 4
+_INPUTS = {"election": 0, "outcome": 1, "prices": 2, "violation": 3}
+# What kind the one certificate of a command is.
+_KINDS = {"prices": 2, "violation": 3, "margins": 2, "tidy": 2, "explain": _ANY_CERTIFICATE,
+          "page": _ANY_CERTIFICATE}
+_OUT_OF_MEMORY = "pbaudit: fault memory"
 
 
 class _Library:
@@ -64,7 +119,8 @@ class _Library:
     _FILE = [ctypes.c_char_p, _SIZE]
     _OUTCOME = _FILE + [ctypes.c_bool]
     _MODE = [ctypes.c_bool] * 3
-    _TYPES = {
+    _ANSWER = [ctypes.c_char_p, _SIZE, ctypes.POINTER(_SIZE)]
+    _TYPES: Dict[str, List[Any]] = {
         "read": _FILE,
         "prices": _FILE + _OUTCOME + _FILE + _MODE,
         "violation": _FILE + _OUTCOME + _FILE,
@@ -72,39 +128,65 @@ class _Library:
         "margins": _FILE + _OUTCOME + _FILE,
         "explain": _FILE + _OUTCOME + _FILE + _MODE,
         "tidy": _FILE + _FILE,
+        "page": _FILE + _FILE + _FILE + _FILE + [ctypes.c_bool] + _FILE + _FILE + _MODE + _FILE,
     }
+    _HINT: List[Any] = [ctypes.c_uint8, ctypes.c_uint32, ctypes.c_uint64, *_FILE, *_OUTCOME,
+                        ctypes.POINTER(ctypes.c_uint64)]
 
-    def __init__(self, path):
+    def __init__(self, path: Union[str, pathlib.Path]):
         library = ctypes.CDLL(str(path))
-        self._functions = {}
-        for command, types in self._TYPES.items():
-            function = getattr(library, f"pbaudit_{command}")
-            function.restype = ctypes.c_uint8
-            function.argtypes = types + [ctypes.c_char_p, self._SIZE, ctypes.POINTER(self._SIZE)]
-            self._functions[command] = function
+        self._functions = {command: self._function(library, command, types) for command, types in self._TYPES.items()}
+        # An older library has none.
+        self._hint = self._function(library, "hint", self._HINT) if hasattr(library, "pbaudit_hint") else None
 
-    def ask(self, question):
-        words, room = self.words(question), self.room(question)
+    def _function(self, library: ctypes.CDLL, command: str, types: List[Any]) -> Any:
+        function = getattr(library, f"pbaudit_{command}")
+        function.restype = ctypes.c_uint8
+        function.argtypes = types + self._ANSWER
+        return function
+
+    def ask(self, question: Question) -> Tuple[int, bytes]:
+        return self._call(self._functions[question.command], self.words(question), self.room(question))
+
+    def hint(self, question: Question, place: Place) -> Optional[Hint]:
+        if self._hint is None:
+            return None
+        line = ctypes.c_uint64()
+        kind = _INPUTS[place.input] if place.input in _INPUTS else _KINDS[question.command]
+        file, has_election = _file_of(question, place.input), place.input != "election"
+        election = question.election if has_election else b""
+        words = [kind, place.number, place.record, file, len(file), election, len(election), has_election,
+                 ctypes.byref(line)]
+        _, text = self._call(self._hint, words, 4096)
+        sentences = text.decode("utf-8", "replace").rstrip("\n")
+        return Hint(line.value or None, sentences) if sentences else None
+
+    def _call(self, function: Any, words: List[Any], room: int) -> Tuple[int, bytes]:
         while True:
             out, needed = ctypes.create_string_buffer(room), self._SIZE()
-            status = self._functions[question.command](*words, out, room, ctypes.byref(needed))
+            status = function(*words, out, room, ctypes.byref(needed))
             if status == 4:
-                raise MemoryError("pbaudit: fault memory")
+                raise MemoryError(_OUT_OF_MEMORY)
             if needed.value <= room:
                 return status, ctypes.string_at(out, needed.value)
             room = needed.value
 
     @staticmethod
-    def room(question):
+    def room(question: Question) -> int:
         """How many bytes an answer is given at first; where it needs more, all is audited once more. That of `tidy` is
-        mostly no longer than the certificate and that of `margins` than the election, and others have a few lines."""
-        file = {"tidy": question.certificate, "margins": question.election}.get(question.command, b"")
-        return max(4096, len(file))
+        mostly no longer than the certificate and that of `margins` than the election, a page mostly has less than 4 MB,
+        and others have a few lines."""
+        if question.command == "page":
+            return 2**22
+        file = {"tidy": question.certificate, "margins": question.election}.get(question.command)
+        return max(4096, len(file or b""))
 
     @staticmethod
-    def words(question):
+    def words(question: Question) -> List[Any]:
         """The files and switches of a call."""
-        words = [question.election, len(question.election)]
+        if question.command == "page":
+            return _page_words(question)
+        words: List[Any] = [question.election, len(question.election)]
         if question.command in _WITH_OUTCOME:
             # No pointer may be null.
             outcome = question.outcome or b""
@@ -119,24 +201,43 @@ class _Library:
 class _Program:
     """Runs the program, on files in a folder of their own."""
 
-    def __init__(self, path):
+    def __init__(self, path: str):
         self._path = path
 
-    def ask(self, question):
+    def ask(self, question: Question) -> Tuple[int, bytes]:
+        status, text, _, _ = self._answer(question)
+        return status, text
+
+    def hint(self, question: Question, place: Place) -> Optional[Hint]:
+        _, _, told, folder = self._answer(question)
+        line: Optional[int] = None
+        sentences: List[str] = []
+        for each in told.decode("utf-8", "replace").splitlines():
+            named = re.fullmatch(rf"{re.escape(folder)}{os.sep}.*?(?::(\d+))?: (.*)", each)
+            if named and not sentences and named[1]:
+                line = int(named[1])
+            at = f"line {named[1]}: " if named and named[1] and sentences else ""
+            sentences.append(at + (named[2] if named else each))
+        return Hint(line, "\n".join(sentences)) if sentences else None
+
+    def _answer(self, question: Question) -> Tuple[int, bytes, bytes, str]:
+        """The status, both texts, and the folder in which the files lay."""
         try:
-            done = self._run(question)
+            done, folder = self._run(question)
         except OSError as why:
             # No file that was given is at fault, so that this is none of the errors of reading them.
             raise RuntimeError(f"{self._path} can't be run on copies of the files: {why}") from why
         if done.returncode in (0, 1, 2):
-            return done.returncode, done.stdout
+            return done.returncode, done.stdout, done.stderr, folder
         told = done.stderr.decode("utf-8", "replace").strip()
         if done.returncode == 4 and told == "fault memory":
-            raise MemoryError("pbaudit: fault memory")
+            raise MemoryError(_OUT_OF_MEMORY)
         raise RuntimeError(f"{self._path} ended with status {done.returncode}: {told}")
 
-    def _run(self, question):
+    def _run(self, question: Question) -> Tuple["subprocess.CompletedProcess[bytes]", str]:
         with tempfile.TemporaryDirectory(prefix="pbaudit-") as folder:
+            if question.command == "page":
+                return self._run_page(question, folder), folder
             words = [self._path, question.command, self._file(folder, "election.pb", question.election)]
             for number, certificate in enumerate(_certificates(question), 1):
                 words.append(self._file(folder, f"certificate{number}.csv", certificate))
@@ -144,22 +245,59 @@ class _Program:
                 words += ["--outcome", self._file(folder, "outcome.csv", question.outcome)]
             if question.command in _WITH_MODE:
                 words += question.mode.options
-            return subprocess.run(words, stdin=subprocess.DEVNULL, capture_output=True, check=False)
+            return subprocess.run(words, stdin=subprocess.DEVNULL, capture_output=True, check=False), folder
+
+    def _run_page(self, question: Question, folder: str) -> "subprocess.CompletedProcess[bytes]":
+        page = question.page
+        words = [self._path, "page", self._named(folder, "election", page.election, question.election),
+                 self._named(folder, "certificate", page.certificate, question.certificate or b"")]
+        if question.outcome is not None:
+            words += ["--outcome", self._named(folder, "outcome", page.outcome, question.outcome)]
+        words += [*question.mode.options, "--language", page.language]
+        return subprocess.run(words, stdin=subprocess.DEVNULL, capture_output=True, check=False)
+
+    def _named(self, folder: str, role: str, name: str, data: bytes) -> str:
+        """A file of a name in a folder of its own; where no file can have that name, its name is its role."""
+        os.mkdir(os.path.join(folder, role))
+        try:
+            return self._file(os.path.join(folder, role), os.path.basename(name) or role, data)
+        except (OSError, ValueError):
+            return self._file(os.path.join(folder, role), role, data)
 
     @staticmethod
-    def _file(folder, name, data):
+    def _file(folder: str, name: str, data: bytes) -> str:
         path = os.path.join(folder, name)
         with open(path, "wb") as file:
             file.write(data)
         return path
 
 
-def _certificates(question):
+def _page_words(question: Question) -> List[Any]:
+    """The files with their names, the switches and the language of a page."""
+    # No pointer may be null.
+    outcome, certificate = question.outcome or b"", question.certificate or b""
+    election_name, outcome_name, certificate_name, language = (
+        word.encode("utf-8", "replace")
+        for word in (question.page.election, question.page.outcome, question.page.certificate, question.page.language)
+    )
+    return [question.election, len(question.election), election_name, len(election_name), outcome, len(outcome),
+            outcome_name, len(outcome_name), question.outcome is not None, certificate, len(certificate),
+            certificate_name, len(certificate_name), question.mode.stable, question.mode.exhaustive,
+            question.mode.cover, language, len(language)]
+
+
+def _certificates(question: Question) -> List[bytes]:
     """The certificates of a question, in the order of the command."""
     return [file for file in (question.certificate, question.violation) if file is not None]
 
 
-def _loaded(path):
+def _file_of(question: Question, name: str) -> bytes:
+    """The bytes of the input of that name."""
+    files = {"election": question.election, "outcome": question.outcome, "violation": question.violation}
+    return files.get(name, question.certificate) or b""
+
+
+def _loaded(path: pathlib.Path) -> _Library:
     try:
         return _Library(path)
     except (OSError, AttributeError) as why:
@@ -167,7 +305,7 @@ def _loaded(path):
                           "package install that again by pip install ./python") from why
 
 
-def _find():
+def _find() -> Auditor:
     for path in _LIBRARIES:
         if path.exists():
             return _loaded(path)
@@ -177,14 +315,24 @@ def _find():
     raise ImportError(_HOW_TO_BUILD)
 
 
-_found = None
+_found: Optional[Auditor] = None
 
 
-def ask(question):
-    """The status and the text that answer a question. Raises MemoryError where memory ran out, ImportError where
-    neither the library nor the program is found or the library can't be used, and RuntimeError where the program can't
-    be run or doesn't answer."""
+def auditor() -> Auditor:
+    """The auditor. Raises ImportError where neither the library nor the program is found, or the library can't be
+    used."""
     global _found
     if _found is None:
         _found = _find()
-    return _found.ask(question)
+    return _found
+
+
+def ask(question: Question) -> Tuple[int, bytes]:
+    """The status and the text that answer a question. Raises MemoryError where memory ran out, ImportError as
+    `auditor`, and RuntimeError where the program can't be run or doesn't answer."""
+    return auditor().ask(question)
+
+
+def hint(question: Question, place: Place) -> Optional[Hint]:
+    """What a person is told of a refusal, or None where there is nothing to tell. Raises as `ask`."""
+    return auditor().hint(question, place)

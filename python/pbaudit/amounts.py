@@ -1,30 +1,53 @@
 """Amounts as exact fractions, and how a file writes them."""
+import numbers
 from decimal import Decimal
 from fractions import Fraction
 from math import gcd
-from typing import Iterable
+from typing import Any, Iterable, Protocol, Tuple, Union
 
 MILLION = 10**6
 # Limits of the files.
 MOST_COST = 10**12
 MOST_DENOMINATOR = 10**9
 MOST_NUMERATOR = 10**21
+# No float has so many decimals where it is printed without an exponent.
+_TENS = tuple(10**decimals for decimals in range(40))
 
 
-def exact(amount, what: str, advice: str = "") -> Fraction:
+class Rational(Protocol):
+    """A whole number or a fraction of any kind, as those of numpy and gmpy2."""
+
+    @property
+    def numerator(self) -> Any: ...
+
+    @property
+    def denominator(self) -> Any: ...
+
+
+# What counts as exact; and what may be rounded, where that is allowed.
+Amount = Union[int, Fraction, Decimal, Rational]
+NearAmount = Union[Amount, float, numbers.Real]
+
+
+def is_float(amount: object) -> bool:
+    """Whether an amount is a rounded number, of whatever kind, as numpy's float32 and gmpy2's mpfr."""
+    return isinstance(amount, numbers.Real) and not isinstance(amount, numbers.Rational)
+
+
+def exact(amount: object, what: str, advice: str = "") -> Fraction:
     """An amount that is a whole number, a fraction or a Decimal. A float is a TypeError that names what it was for."""
-    if isinstance(amount, float):
+    if is_float(amount):
         raise TypeError(f"{what} is the float {amount!r}, and a check of rounded numbers isn't one: "
                         f"give whole numbers, Fractions or Decimals{advice}")
     return near(amount, what)
 
 
-def exact_price(amount, what: str) -> Fraction:
+def exact_price(amount: object, what: str) -> Fraction:
     """What a price certificate states, which may be made of floats elsewhere."""
     return exact(amount, what, ", or let price_certificate make exact payments of a solver's floats")
 
 
-def exact_cost(amount, what: str) -> Fraction:
+def exact_cost(amount: object, what: str) -> Fraction:
     """A cost or the limit, which is from 0 to 10^12."""
     cost = exact(amount, what)
     if not 0 <= cost <= MOST_COST:
@@ -32,25 +55,51 @@ def exact_cost(amount, what: str) -> Fraction:
     return cost
 
 
-def near(amount, what: str) -> Fraction:
+def near(amount: object, what: str) -> Fraction:
     """An amount of any kind; a float counts as the shortest decimal that it prints as."""
-    if hasattr(amount, "numerator") and hasattr(amount, "denominator"):
-        return Fraction(int(amount.numerator), int(amount.denominator))
+    return Fraction(*ratio(amount, what))
+
+
+def ratio(amount: object, what: str) -> Tuple[int, int]:
+    """The numerator and the denominator of an amount of any kind, which needn't be in lowest terms."""
+    if isinstance(amount, bool):
+        raise TypeError(f"{what} is {amount!r}, and not a number")
+    if isinstance(amount, int):
+        return amount, 1
+    if isinstance(amount, Fraction):
+        return amount.numerator, amount.denominator
     try:
         if isinstance(amount, float):
-            return Fraction(repr(float(amount)))
+            return ratio_of_float(float(amount))
         if isinstance(amount, Decimal):
-            return Fraction(amount)
+            return amount.as_integer_ratio()
+        if is_float(amount):
+            return Fraction(str(amount)).as_integer_ratio()
     except (ValueError, OverflowError):
         raise ValueError(f"{what} is {amount!r}, which is no amount") from None
+    if hasattr(amount, "numerator") and hasattr(amount, "denominator"):
+        return int(amount.numerator), int(amount.denominator)
     raise TypeError(f"{what} is {amount!r}, and not a number")
+
+
+def ratio_of_float(amount: float) -> Tuple[int, int]:
+    """The shortest decimal that a float prints as, over a power of ten. Raises ValueError where it is no number."""
+    whole, point, decimals = repr(amount).partition(".")
+    if point and decimals.isdigit():
+        return int(whole + decimals), _TENS[len(decimals)]
+    return Fraction(repr(amount)).as_integer_ratio()
 
 
 def common_denominator(amounts: Iterable[Fraction]) -> int:
     """The least number by which each amount is a whole number."""
+    return least_multiple(amount.denominator for amount in amounts)
+
+
+def least_multiple(numbers_: Iterable[int]) -> int:
+    """The least common multiple of numbers."""
     common = 1
-    for amount in amounts:
-        common *= amount.denominator // gcd(common, amount.denominator)
+    for number in numbers_:
+        common *= number // gcd(common, number)
     return common
 
 

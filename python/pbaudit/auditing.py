@@ -1,42 +1,61 @@
-"""Audits of files: those of docs/FORMATS.md, as bytes or by their paths.
+"""Audits of files: those of docs/FORMATS.md, by their paths, as bytes, or open.
 
-A `str` or `os.PathLike` is the path of a file, and `bytes` are a file's bytes. What a file can't be read for is an
-OSError, and a file that isn't what it has to be is a Refusal. Both are exceptions, since neither is an answer to what
-was asked. That a condition fails is an answer, and so a value. All files are read before the first is judged.
+A `str` or `os.PathLike` is the path of a file, `bytes` are a file's bytes, and a binary file that is open is read from
+where it stands. What a file can't be read for is an OSError, and a file that isn't what it has to be is a Refusal. Both
+are exceptions, since neither is an answer to what was asked. That a condition fails is an answer, and so a value. All
+files are read before the first is judged.
 
 Where neither the library nor the program is found, or what is found can't be used, that is an ImportError or a
 RuntimeError.
 """
-import errno
 import os
 import re
-from dataclasses import dataclass
+from dataclasses import dataclass, field
 from fractions import Fraction
-from typing import Optional, Tuple, Union
+from typing import Any, Dict, List, Optional, Tuple
 
-from ._auditor import Mode, Question, ask
-from .reading import records
+from ._auditor import Mode, PageWords, Place, Question, ask, hint
+from .files import MOST_BYTES, File, bytes_of, path_of
+from .records import records
 
-File = Union[bytes, bytearray, memoryview, str, "os.PathLike[str]"]
-# A file of more bytes than this is refused, so no more than one byte more is ever read.
-MOST_BYTES = 2**28
+__all__ = [
+    "MOST_BYTES", "Explanation", "File", "Finding", "ProjectMargins", "Refusal", "Summary", "Verdict", "answered",
+    "audit_both", "audit_prices", "audit_violation", "bytes_of", "explain", "margins", "read", "tidy", "verdict",
+]
+# Longer bytes are no path.
+_LONGEST_PATH = 4096
 
 
 class Refusal(ValueError):
-    """A file isn't what it has to be. `str` is the line that the program prints.
+    """A file isn't what it has to be. `str` tells all: the line that the program prints, and what is wrong.
 
-    `input` is "election", "outcome" or "certificate" (of `audit_both` "prices" or "violation"); `number` and `name` are
-    those of docs/FORMATS.md; `record` is the record at which the first fault stands, numbered from 1, or 0 where it
-    stands at none.
+    `input` is "election", "outcome" or "certificate" (of `audit_both` "prices" or "violation"); `file` is the path by
+    which it was given, or else that name; `number` and `name` are those of docs/FORMATS.md; `record` is the record at
+    which the first fault stands, numbered from 1, or 0 where it stands at none; `line` is the line of the file on which
+    that record begins, from 1, or None; `reason` is what is wrong, in sentences of a line each, or None where the
+    auditor is older and doesn't say; and `printed` is the line that the program prints.
     """
 
-    def __init__(self, line: str):
-        super().__init__(line)
-        _, self.input, number, self.name, _, record = line.split(" ")
+    def __init__(self, printed: str, file: Optional[str] = None, line: Optional[int] = None,
+                 reason: Optional[str] = None):
+        super().__init__(printed, file, line, reason)
+        _, self.input, number, self.name, _, record = printed.split(" ")
         self.number, self.record = int(number), int(record)
+        self.printed, self.file, self.line, self.reason = printed, file or self.input, line, reason
 
-    def __reduce__(self):
-        return Refusal, (str(self),)
+    def __str__(self) -> str:
+        return "\n".join([self.printed, *self.sentences()])
+
+    def sentences(self) -> List[str]:
+        """The reason, sentence by sentence, each behind the file and the line that it is about."""
+        sentences, line = [], self.line
+        for sentence in (self.reason or "").splitlines():
+            other = re.match(r"line (\d+): ", sentence)
+            at = other[1] if other else line
+            sentences.append(f"{self.file}{'' if at is None else f':{at}'}: {sentence[other.end() if other else 0:]}")
+            # The first sentence is about the record, and others about the file.
+            line = None
+        return sentences
 
 
 @dataclass(frozen=True)
@@ -44,7 +63,9 @@ class Verdict:
     """The answer to an audit: true where all that was asked holds. `str` is the line that the program prints.
 
     Where something fails, `condition` names the first that does, as "C3" or "V4", and `voter` (numbered from 1, by the
-    ballots) and `project` (the id) say where, each None where the condition names none.
+    ballots) and `project` (the id) say where, each None where the condition names none. `moved` is None but where
+    `validate_price_system` was asked for prices near the given ones: then it is how far the payment that moved farthest
+    did, in the currency of the costs.
     """
 
     holds: bool
@@ -52,6 +73,17 @@ class Verdict:
     condition: Optional[str] = None
     voter: Optional[int] = None
     project: Optional[str] = None
+    moved: Optional[Fraction] = None
+    # What was asked, for the page in a notebook. It isn't pickled.
+    _asked: Optional[Question] = field(default=None, repr=False, compare=False)
+
+    def __getstate__(self) -> Dict[str, Any]:
+        return {**vars(self), "_asked": None}
+
+    def _repr_html_(self) -> Optional[str]:
+        """The page about the certificate, as a notebook shows it."""
+        from .notebook import framed
+        return framed(self._asked)
 
     def __bool__(self) -> bool:
         return self.holds
@@ -93,15 +125,19 @@ class Explanation:
     findings: Tuple[Finding, ...]
     text: str
 
+    def _repr_html_(self) -> Optional[str]:
+        """The page about the certificate, as a notebook shows it."""
+        return self.verdict._repr_html_()
+
     def __str__(self) -> str:
         return self.text
 
 
 @dataclass(frozen=True)
 class ProjectMargins:
-    """The figures of a project by a price certificate: its id, whether it is funded, how many voters approve it, and exact
-    amounts in the currency of the election. `left` is what its supporters have left together, which may be less than 0, and
-    `offer` the same where for each supporter the largest single payment counts if it is more."""
+    """The figures of a project by a price certificate: its id, whether it is funded, how many voters approve it, and
+    exact amounts in the currency of the election. `left` is what its supporters have left together, which may be less
+    than 0, and `offer` the same where for each supporter the largest single payment counts if it is more."""
 
     project: str
     funded: bool
@@ -114,11 +150,13 @@ class ProjectMargins:
 
 def read(election: File) -> Summary:
     """Reads an election. Raises Refusal, OSError and MemoryError."""
-    line, *notes = _lines(Question("read", bytes_of(election)))
-    form = r"read (\d+) voters (\d+) projects (?:(\d+) funded|no outcome)"
-    voters, projects, funded = re.fullmatch(form, line).groups()
-    notes = tuple(note[len("note: "):] for note in notes)
-    return Summary(int(voters), int(projects), None if funded is None else int(funded), notes, line)
+    line, *notes = _Asked("read", election).lines()
+    form = re.fullmatch(r"read (\d+) voters (\d+) projects (?:(\d+) funded|no outcome)", line)
+    if form is None:
+        raise RuntimeError(f"pbaudit answers {line!r}")
+    voters, projects, funded = form.groups()
+    told = tuple(note[len("note: "):] for note in notes)
+    return Summary(int(voters), int(projects), None if funded is None else int(funded), told, line)
 
 
 def audit_prices(election: File, certificate: File, outcome: Optional[File] = None, *, stable: bool = False,
@@ -127,30 +165,32 @@ def audit_prices(election: File, certificate: File, outcome: Optional[File] = No
     the election's own, the column `selected`. `stable` asks for S5 in place of C5; without `exhaustive` the condition
     Exhaustive is left out; `cover` adds Cover. Raises Refusal, OSError and MemoryError."""
     mode = Mode(stable, exhaustive, cover)
-    return verdict(Question("prices", bytes_of(election), bytes_of(certificate), outcome=_given(outcome), mode=mode))
+    return _Asked("prices", election, certificate=certificate, outcome=outcome, mode=mode).verdict()
 
 
 def audit_violation(election: File, certificate: File, outcome: Optional[File] = None) -> Verdict:
     """Whether the group and its demand are a violation of EJR, by the measure that the certificate states. The outcome
     is as for `audit_prices`. Raises Refusal, OSError and MemoryError."""
-    return verdict(Question("violation", bytes_of(election), bytes_of(certificate), outcome=_given(outcome)))
+    return _Asked("violation", election, certificate=certificate, outcome=outcome).verdict()
 
 
 def audit_both(election: File, prices: File, violation: File, outcome: Optional[File] = None, *, stable: bool = False,
                exhaustive: bool = True, cover: bool = False) -> Tuple[Verdict, Verdict]:
-    """The verdict on a price certificate and then that on a violation certificate, for one outcome. The switches are those of
-    `audit_prices`. In the stable form with Cover, prices that support the outcome never stand beside a violation by counting.
-    Raises Refusal, OSError and MemoryError."""
+    """The verdict on a price certificate and then that on a violation certificate, for one outcome. The switches are
+    those of `audit_prices`. In the stable form with Cover, prices that support the outcome never stand beside a
+    violation by counting. Raises Refusal, OSError and MemoryError."""
     mode = Mode(stable, exhaustive, cover)
-    files = bytes_of(election), bytes_of(prices), bytes_of(violation)
-    first, second = _lines(Question("both", *files, outcome=_given(outcome), mode=mode))
-    return _verdict(first), _verdict(second)
+    asked = _Asked("both", election, prices=prices, violation=violation, outcome=outcome, mode=mode)
+    first, second = asked.lines()
+    question = asked.question
+    return (_verdict(first, Question("prices", question.election, question.certificate, None, question.outcome, mode)),
+            _verdict(second, Question("violation", question.election, question.violation, None, question.outcome)))
 
 
 def margins(election: File, certificate: File, outcome: Optional[File] = None) -> Tuple[ProjectMargins, ...]:
-    """What each project costs, is paid and could be offered by a price certificate, in the order of the election. The outcome
-    is as for `audit_prices`. Raises Refusal, OSError and MemoryError."""
-    text = _text(Question("margins", bytes_of(election), bytes_of(certificate), outcome=_given(outcome)))
+    """What each project costs, is paid and could be offered by a price certificate, in the order of the election;
+    amounts are in its currency. The outcome is as for `audit_prices`. Raises Refusal, OSError and MemoryError."""
+    text = _Asked("margins", election, certificate=certificate, outcome=outcome).text()
     _, (_, grains_per_unit), _, *rows = records(text, b",")
     return tuple(
         ProjectMargins(project.decode(), funded == b"1", int(supporters),
@@ -164,61 +204,106 @@ def explain(election: File, certificate: File, outcome: Optional[File] = None, *
     """What each condition comes to by a price certificate, or each test by a violation certificate, with the verdict of
     `audit_prices` or `audit_violation`. The outcome and the switches are as for `audit_prices`; a violation doesn't
     depend on the switches. Raises Refusal, OSError and MemoryError."""
-    mode = Mode(stable, exhaustive, cover)
-    text = _text(Question("explain", bytes_of(election), bytes_of(certificate), outcome=_given(outcome), mode=mode))
-    line, _, *rows = text.decode("utf-8").rstrip("\n").split("\n")
+    asked = _Asked("explain", election, certificate=certificate, outcome=outcome, mode=Mode(stable, exhaustive, cover))
+    line, _, *rows = asked.lines()
     # Names stand in 12 columns and states in 11.
     findings = tuple(Finding(row[:12].rstrip(), row[12:23].rstrip(), row[23:]) for row in rows)
-    return Explanation(_verdict(line), findings, text.decode("utf-8"))
+    return Explanation(_verdict(line, asked.question), findings, asked.text().decode("utf-8"))
 
 
 def tidy(election: File, certificate: File) -> bytes:
     """The canonical form of a price certificate. Raises Refusal, OSError and MemoryError."""
-    return _text(Question("tidy", bytes_of(election), bytes_of(certificate)))
+    return _Asked("tidy", election, certificate=certificate).text()
+
+
+def page_bytes(election: File, certificate: File, outcome: Optional[File], mode: Mode, page: PageWords) -> bytes:
+    """The page about a certificate. That a file is refused stands before that one behind it can't be read, as with the
+    program. Raises Refusal, OSError and MemoryError."""
+    try:
+        asked = _Asked("page", election, certificate=certificate, outcome=outcome, mode=mode, page=page)
+    except OSError:
+        _judge_ahead(election, outcome)
+        raise
+    return asked.text()
+
+
+def _judge_ahead(election: File, outcome: Optional[File]) -> None:
+    """Raises the refusal of a file that is judged ahead of one that can't be read. An open file can't be read again."""
+    given: Dict[str, File] = {"election": election} if outcome is None else {"election": election, "outcome": outcome}
+    if not all(isinstance(file, (bytes, bytearray, memoryview, str, os.PathLike)) for file in given.values()):
+        return
+    ahead, chosen = ["election", "outcome"], None
+    try:
+        chosen = None if outcome is None else bytes_of(outcome)
+    except OSError:
+        ahead, chosen = ["election"], b""
+    try:
+        answered(Question("explain", bytes_of(election), b"", None, chosen), given)
+    except Refusal as refusal:
+        if refusal.input in ahead:
+            raise refusal from None
 
 
 def verdict(question: Question) -> Verdict:
     """The verdict that answers a question on prices or on a violation."""
-    (line,) = _lines(question)
-    return _verdict(line)
+    line = answered(question).decode("utf-8").rstrip("\n")
+    return _verdict(line, question)
 
 
-def _verdict(line):
+def _verdict(line: str, question: Question) -> Verdict:
     failed = re.fullmatch(r"failed (\w+)(?: voter (\d+))?(?: project (.*))?", line)
     if not failed:
-        return Verdict(True, line)
+        return Verdict(True, line, _asked=question)
     condition, voter, project = failed.groups()
-    return Verdict(False, line, condition, None if voter is None else int(voter), project)
+    return Verdict(False, line, condition, None if voter is None else int(voter), project, _asked=question)
 
 
-def bytes_of(file: File) -> bytes:
-    """The bytes of a file that is given as such or by its path."""
-    if isinstance(file, (bytes, bytearray, memoryview)):
-        return bytes(file)
-    path = os.fspath(file)
-    try:
-        with open(path, "rb") as opened:
-            return opened.read(MOST_BYTES + 1)
-    except OSError as why:
-        # An error of reading, other than one of opening, doesn't say of which file it is.
-        why.filename = path
-        raise
-    except ValueError as why:
-        # No file has such a path: one with a zero byte.
-        raise OSError(errno.EINVAL, str(why), path) from None
+class _Asked:
+    """A command on files as they were given, which are all read here, and its answer."""
+
+    def __init__(self, command: str, election: File, *, outcome: Optional[File] = None, mode: Mode = Mode(),
+                 page: PageWords = PageWords(), **certificates: File):
+        self._given: Dict[str, File] = {"election": election, **certificates}
+        if outcome is not None:
+            self._given["outcome"] = outcome
+        data = {name: bytes_of(file) for name, file in self._given.items()}
+        first, second = (*(data[name] for name in certificates), None, None)[:2]
+        self.question = Question(command, data["election"], first, second, data.get("outcome"), mode, page)
+        self._answer: Optional[bytes] = None
+
+    def text(self) -> bytes:
+        """The answer. Raises Refusal where a file is refused."""
+        if self._answer is None:
+            self._answer = answered(self.question, self._given)
+        return self._answer
+
+    def lines(self) -> List[str]:
+        return self.text().decode("utf-8").rstrip("\n").split("\n")
+
+    def verdict(self) -> Verdict:
+        return _verdict(self.lines()[0], self.question)
 
 
-def _given(file):
-    return None if file is None else bytes_of(file)
-
-
-def _lines(question):
-    return _text(question).decode("utf-8").rstrip("\n").split("\n")
-
-
-def _text(question):
-    """The text of an answer that isn't a refusal."""
+def answered(question: Question, given: Optional[Dict[str, File]] = None) -> bytes:
+    """The text that answers a question. Raises Refusal where a file is refused, with the name of the one that was
+    given."""
     status, text = ask(question)
     if status == 2:
-        raise Refusal(text.decode("utf-8").rstrip("\n"))
+        raise _refusal(question, text.decode("utf-8").rstrip("\n"), given or {})
     return text
+
+
+def _refusal(question: Question, printed: str, given: Dict[str, File]) -> Refusal:
+    bare = Refusal(printed)
+    file = given.get(bare.input)
+    told = hint(question, Place(bare.input, bare.number, bare.record))
+    sentences = [told.sentences] if told else []
+    if isinstance(file, (bytes, bytearray, memoryview)) and _looks_like_a_path(bytes(file)):
+        sentences.append("bytes are taken for the contents of a file: give a path as a str")
+    return Refusal(printed, path_of(file), told.line if told else None, "\n".join(sentences) or None)
+
+
+def _looks_like_a_path(data: bytes) -> bool:
+    if not data or len(data) > _LONGEST_PATH or b"\n" in data or b"\0" in data:
+        return False
+    return data.lower().endswith((b".pb", b".csv")) or os.path.exists(data)

@@ -1,15 +1,23 @@
 """Price certificates from a solver's floats, or from the fractions of a rule."""
 import operator
-import os
+from array import array
 from dataclasses import dataclass, field
+from decimal import Decimal
 from fractions import Fraction
-from typing import Iterable, Iterator, List, Mapping, Optional, Tuple
+from functools import cached_property
+from typing import Any, Dict, Iterable, Iterator, List, Optional, Sequence, Set, Tuple
 
-from .amounts import MOST_DENOMINATOR, MOST_NUMERATOR, common_denominator, near
+from .amounts import MOST_DENOMINATOR, MOST_NUMERATOR, NearAmount, common_denominator, least_multiple, near, ratio
 from .auditing import audit_prices
-from .elections import Town, town_of
+from .files import Path, write_to
+from .records import records
 from .rounding import CannotKeep, Given, Rounding
-from .writing import amounts_of, functions_of, ids_of, price_file, read_once, write_election
+from .town import Town
+from .values import (
+    AnyInstance, AnyProject, NearPaymentFunction, Payments, Profile, Projects, ballots_of, check_count, funded_of,
+    projects_of,
+)
+from .writing import Payers, election_file, price_file
 
 # A payment of at most this part of the largest cost is taken for noise, where there should be none.
 NOISE = Fraction(1, 10**6)
@@ -27,19 +35,24 @@ class PriceCertificate:
 
     denominator: int
     voter_budget: int
-    rows: List[Tuple[int, str, int]]
     moved: Fraction
     raised: Fraction
     file: bytes = field(repr=False)
 
-    def write(self, path: "os.PathLike[str]") -> None:
+    @cached_property
+    def rows(self) -> List[Tuple[int, str, int]]:
+        """The payments: voters (from 1) by rising number, ids of projects, and numerators."""
+        return [(int(voter), project.decode(), int(numerator))
+                for voter, project, numerator in list(records(self.file, b","))[4:]]
+
+    def write(self, path: Path) -> None:
         """Writes the file. Raises OSError."""
-        with open(path, "wb") as file:
-            file.write(self.file)
+        write_to(path, self.file)
 
 
-def price_certificate(instance, profile, budget_allocation: Iterable, voter_budget,
-                      payment_functions: Iterable[Mapping], stable: bool = False, exhaustive: bool = True, *,
+def price_certificate(instance: AnyInstance, profile: Profile, budget_allocation: Iterable[AnyProject],
+                      voter_budget: Optional[NearAmount], payment_functions: Iterable[NearPaymentFunction],
+                      stable: bool = False, exhaustive: bool = True, *,
                       denominator: Optional[int] = None) -> PriceCertificate:
     """A certificate near the given payments that the auditor supports, or CannotKeep.
 
@@ -54,29 +67,37 @@ def price_certificate(instance, profile, budget_allocation: Iterable, voter_budg
     What comes out was audited. That CannotKeep is raised doesn't say that there is no such certificate. Raises
     ValueError, TypeError and MemoryError too.
     """
-    profile, budget_allocation = read_once(profile), ids_of(budget_allocation)
-    denominator = None if denominator is None else _whole(denominator)
-    election = write_election(instance, profile, budget_allocation)
-    town = town_of(instance, profile, budget_allocation)
+    projects, costs, limit = projects_of(instance)
+    funded = funded_of(budget_allocation, projects)
+    ballots, payments = ballots_of(profile, projects), Payments(payment_functions, projects)
+    town = Town(projects.ids, costs, limit, set(funded), ballots)
+    wanted = None if denominator is None else _whole(denominator)
+    return certified(town, projects, voter_budget, payments, stable, exhaustive, wanted)
+
+
+def certified(town: Town, projects: Projects, voter_budget: Optional[NearAmount], payments: Payments, stable: bool,
+              exhaustive: bool, wanted: Optional[int] = None) -> PriceCertificate:
+    """The certificate that `price_certificate` answers."""
+    # This also refuses what no election has.
+    election = election_file(projects, town.costs, town.limit, town.ballots, town.funded)
     _check_outcome(town, exhaustive)
-    given = _given(town, voter_budget, functions_of(payment_functions))
+    given = _given(town, projects, voter_budget, payments)
     _check_unfunded(town, given, stable)
-    rounding = _rounded(town, given, stable, denominator)
-    certificate = _certificate(rounding)
+    certificate = _certificate(_rounded(town, given, stable, wanted), projects)
     verdict = audit_prices(election, certificate.file, stable=stable, exhaustive=exhaustive)
     if not verdict:
         told = f"the rounded payments are answered '{verdict}'"
-        raise CannotKeep(verdict.condition, told, verdict.voter, verdict.project)
+        raise CannotKeep(str(verdict.condition), told, verdict.voter, verdict.project)
     return certificate
 
 
-def _whole(denominator) -> int:
+def _whole(denominator: object) -> int:
     if isinstance(denominator, bool) or not hasattr(denominator, "__index__"):
         raise TypeError(f"the denominator is {denominator!r}, and not a whole number")
     return operator.index(denominator)
 
 
-def _check_outcome(town: Town, exhaustive: bool):
+def _check_outcome(town: Town, exhaustive: bool) -> None:
     """What no payments can change."""
     total = sum((town.costs[project] for project in town.funded), Fraction(0))
     if total > town.limit:
@@ -88,79 +109,70 @@ def _check_outcome(town: Town, exhaustive: bool):
             raise CannotKeep("Exhaustive", told, project=name)
 
 
-def _given(town: Town, voter_budget, functions: List[Mapping]) -> Given:
-    """The payments as fractions, without noise. What is more than noise in a wrong place is told."""
-    if len(functions) != len(town.ballots):
-        raise ValueError(f"there are {len(town.ballots)} ballots and {len(functions)} payment functions")
+def _given(town: Town, projects: Projects, voter_budget: Optional[NearAmount], payments: Payments) -> Given:
+    """The payments by slot, without noise. What is more than noise in a wrong place is told."""
+    check_count(len(town.ballots), len(payments.functions))
     noise = max(town.costs, default=Fraction(0)) * NOISE
-    place = {name: at for at, name in enumerate(town.names)}
-    payments = [_without_noise(town, place, voter, function, noise)
-                for voter, function in enumerate(functions)]
+    amounts, floats = _amounts_by_slot(town, projects, payments, noise)
     # Whether something is off by more than noise is told from rounded sums, since exact ones take long.
-    spent = [sum(map(float, mine.values())) for mine in payments]
-    budget = _most(payments, spent) if voter_budget is None else _payable(voter_budget, "the voter budget")
+    spent = _spent(town, floats)
+    budget = _most(town, amounts, spent) if voter_budget is None else _payable(voter_budget, "the voter budget")
+    given = Given(amounts, floats, budget, noise, payments.kinds == {float})
     has, off = float(budget), float(noise)
-    for voter, mine in enumerate(payments):
-        if spent[voter] > has + off * max(1, len(mine)):
-            raise CannotKeep("C2", f"voter {voter + 1} spends {spent[voter]:.9g} of {has:.9g}", voter + 1)
-    paid, payers = [0.0] * len(town.names), [0] * len(town.names)
-    for mine in payments:
-        for project, amount in mine.items():
-            paid[project] += float(amount)
-            payers[project] += 1
+    for voter, total in enumerate(spent):
+        if total > has + off * max(1, len(town.slots_of(voter))):
+            raise CannotKeep("C2", f"voter {voter + 1} spends {total:.9g} of {has:.9g}", voter + 1)
     for project in sorted(town.funded):
-        name, cost = town.names[project], float(town.costs[project])
-        if abs(paid[project] - cost) > off * max(1, payers[project]):
-            raise CannotKeep("C3", f"{paid[project]:.9g} is paid for {name}, which costs {cost:.9g}", project=name)
-    return Given(payments, budget, noise)
+        mine = list(map(floats.__getitem__, town.slots[project]))
+        name, cost, paid = town.names[project], float(town.costs[project]), sum(mine)
+        if abs(paid - cost) > off * max(1, len(mine) - mine.count(0)):
+            raise CannotKeep("C3", f"{paid:.9g} is paid for {name}, which costs {cost:.9g}", project=name)
+    return given
 
 
-def _payable(amount, what) -> Fraction:
-    """An amount of any kind, but none beyond what a certificate has. One a little below 0 may be noise."""
-    amount = near(amount, what)
-    if abs(amount) > MOST_NUMERATOR:
-        raise ValueError(f"{what} isn't from 0 to 10^21, as a certificate's amounts are")
-    return amount
+def _amounts_by_slot(town: Town, projects: Projects, payments: Payments,
+                     noise: Fraction) -> Tuple[List[Any], "array[float]"]:
+    """What is paid in each slot, as it was given and as a float. More than noise in a wrong place is a CannotKeep."""
+    is_plain = all(issubclass(kind, (int, float, Fraction, Decimal)) and kind is not bool for kind in payments.kinds)
+    amounts: List[Any] = []
+    floats = array("d")
+    for voter, function in enumerate(payments.functions):
+        what = f"voter {voter + 1} pays for"
+        places = projects.once(projects.places(function, what), what)
+        mine: Dict[int, Any] = dict(zip(places, function.values()))
+        slots = town.slots_of(voter)
+        expected = town.project_of[slots.start:slots.stop]
+        if not is_plain or not _is_in_place(mine, expected):
+            mine = _without_noise(town, voter, mine, noise)
+        amounts += [mine.get(project, 0) for project in expected]
+        floats.extend(map(float, amounts[slots.start:]))
+    return amounts, floats
 
 
-def _most(payments, spent) -> Fraction:
-    """The most that a voter spends, exactly."""
-    near_most = max(spent, default=0.0) * (1 - 1e-9)
-    sums = [sum(mine.values(), Fraction(0)) for mine, rounded in zip(payments, spent) if rounded >= near_most]
-    return max(sums, default=Fraction(0))
+def _is_in_place(mine: Dict[int, Any], expected: Sequence[int]) -> bool:
+    """Whether a voter's payments are amounts of a certificate and for its funded projects. Only a yes is sure."""
+    if not mine:
+        return True
+    try:
+        amounts = list(map(float, mine.values()))
+    except (OverflowError, ValueError):
+        return False
+    is_amount = sum(amounts) < MOST_NUMERATOR and min(amounts) >= 0
+    return is_amount and mine.keys() <= set(expected)
 
 
-def _check_unfunded(town: Town, given: Given, stable: bool):
-    """C5 or S5 of the given payments, by the lowest voter budget that they allow. What fails by more than noise isn't a
-    matter of rounding."""
-    spent = [float(sum(mine.values())) for mine in given.payments]
-    budget = min(float(given.budget), max(spent, default=0.0))
-    shares = [budget - each for each in spent]
-    if stable:
-        shares = [max(left, float(max(mine.values(), default=0))) for left, mine in zip(shares, given.payments)]
-    for project in town.unfunded:
-        total, cost = sum(shares[voter] for voter in town.supporters[project]), float(town.costs[project])
-        if total > cost + float(given.noise) * max(1, len(town.supporters[project])):
-            name, condition, can = town.names[project], "S5" if stable else "C5", "can offer" if stable else "have left"
-            told = f"the supporters of {name} {can} {total:.9g} together, and it costs {cost:.9g}"
-            raise CannotKeep(condition, told, project=name)
-
-
-def _without_noise(town, place, voter, function, noise):
-    """What a voter pays, by places of projects. More than noise in a wrong place is a CannotKeep."""
-    payments = {}
-    for name, amount in amounts_of(voter + 1, function).items():
-        amount = _payable(amount, f"what voter {voter + 1} pays for {name}")
-        if not amount:
-            continue
-        at = place.get(name)
-        if at is None:
-            raise ValueError(f"voter {voter + 1} pays for {name}, which is no project of the instance")
+def _without_noise(town: Town, voter: int, mine: Dict[int, Any], noise: Fraction) -> Dict[int, Any]:
+    """What a voter pays, one by one. More than noise in a wrong place is a CannotKeep."""
+    payments: Dict[int, Any] = {}
+    ballot = set(town.ballots[voter])
+    for at, given in mine.items():
+        name = town.names[at]
+        amount = _payable(given, f"what voter {voter + 1} pays for {name}")
         told = f"voter {voter + 1} pays {float(amount):.9g} for {name}"
         if amount < 0:
             if amount < -noise:
                 raise CannotKeep("C2", f"{told}, and payments are at least 0", voter + 1, name)
-        elif at not in town.ballots[voter]:
+        elif at not in ballot:
             if amount > noise:
                 why = "which it doesn't approve; are ballots and payments in one order?"
                 raise CannotKeep("C1", f"{told}, {why}", voter + 1, name)
@@ -172,14 +184,51 @@ def _without_noise(town, place, voter, function, noise):
     return payments
 
 
+def _payable(amount: object, what: str) -> Fraction:
+    """An amount of any kind, but none beyond what a certificate has. One a little below 0 may be noise."""
+    exact = near(amount, what)
+    if abs(exact) > MOST_NUMERATOR:
+        raise ValueError(f"{what} isn't from 0 to 10^21, as a certificate's amounts are")
+    return exact
+
+
+def _spent(town: Town, floats: "array[float]") -> List[float]:
+    return [sum(floats[start:end]) for start, end in zip(town.starts, town.starts[1:])]
+
+
+def _most(town: Town, amounts: Sequence[Any], spent: List[float]) -> Fraction:
+    """The most that a voter spends, exactly."""
+    near_most = max(spent, default=0.0) * (1 - 1e-9)
+    sums = (sum((near(amounts[slot], "a payment") for slot in town.slots_of(voter)), Fraction(0))
+            for voter, rounded in enumerate(spent) if rounded >= near_most)
+    return max(sums, default=Fraction(0))
+
+
+def _check_unfunded(town: Town, given: Given, stable: bool) -> None:
+    """C5 or S5 of the given payments, by the lowest voter budget that they allow. What fails by more than noise isn't a
+    matter of rounding."""
+    spent = _spent(town, given.floats)
+    budget = min(float(given.budget), max(spent, default=0.0))
+    shares = [budget - each for each in spent]
+    if stable:
+        shares = [max(left, max(given.floats[start:end], default=0.0))
+                  for left, start, end in zip(shares, town.starts, town.starts[1:])]
+    for project in town.unfunded:
+        total, cost = sum(map(shares.__getitem__, town.supporters[project])), float(town.costs[project])
+        if total > cost + float(given.noise) * max(1, len(town.supporters[project])):
+            name, condition, can = town.names[project], "S5" if stable else "C5", "can offer" if stable else "have left"
+            told = f"the supporters of {name} {can} {total:.9g} together, and it costs {cost:.9g}"
+            raise CannotKeep(condition, told, project=name)
+
+
 def _rounded(town: Town, given: Given, stable: bool, denominator: Optional[int]) -> Rounding:
     """The first denominator by which all conditions can be kept, with numerators over it."""
     # Funded projects are paid for exactly, so their costs are whole numbers over each denominator.
     unit = common_denominator(town.costs[project] for project in town.funded)
-    if denominator is not None and (denominator % unit or not 0 < denominator <= MOST_DENOMINATOR):
-        raise ValueError(f"the denominator has to be a multiple of {unit}, since costs are, and at most 10^9")
+    if denominator is not None:
+        _check_denominator(denominator, unit)
     exact = _exact_denominator(given)
-    failed = None
+    failed: Optional[CannotKeep] = None
     denominators = [denominator] if denominator else list(_denominators(unit, exact))
     # A finer denominator is found sooner than a repair.
     for repairs in (False, True):
@@ -188,41 +237,60 @@ def _rounded(town: Town, given: Given, stable: bool, denominator: Optional[int])
                 return _settled(Rounding(town, given, tried, stable), repairs)
             except CannotKeep as why:
                 failed = failed or why
-    if denominator is None and exact > MOST_DENOMINATOR:
+    if denominator is None and exact is None:
         # A corner of a linear program, where conditions are tight: take the simplest fraction near each amount.
-        payments = [{project: _simple(amount, given.noise) for project, amount in mine.items()}
-                    for mine in given.payments]
-        simple = Given(payments, _simple(given.budget, given.noise), given.noise)
-        tried = _least_multiple(unit, _exact_denominator(simple))
+        simple = _simplified(given)
+        part = _exact_denominator(simple)
+        tried = MOST_DENOMINATOR + 1 if part is None else least_multiple((unit, part))
         if tried <= MOST_DENOMINATOR:
             try:
                 return _settled(Rounding(town, simple, tried, stable), True)
             except CannotKeep:
                 pass
+    assert failed is not None
     raise failed
 
 
-def _settled(rounding, repairs):
+def _check_denominator(denominator: int, unit: int) -> None:
+    if denominator % unit or not 0 < denominator <= MOST_DENOMINATOR:
+        multiple = f" and a multiple of {unit}, so that what is funded can be paid for exactly" if unit > 1 else ""
+        raise ValueError(f"the denominator has to be from 1 to 10^9{multiple}")
+
+
+def _settled(rounding: Rounding, repairs: bool) -> Rounding:
     rounding.settle(repairs)
     return rounding
 
 
-def _exact_denominator(given):
-    return common_denominator([given.budget, *(amount for mine in given.payments for amount in mine.values())])
+def _exact_denominator(given: Given) -> Optional[int]:
+    """The common denominator of the amounts, or None where it is more than a certificate has."""
+    common = given.budget.denominator
+    known: Set[float] = set()
+    for amount in given.amounts:
+        if isinstance(amount, int) or isinstance(amount, float) and amount in known:
+            continue
+        if isinstance(amount, float) and len(known) < 10**4:
+            known.add(amount)
+        part = amount.denominator if isinstance(amount, Fraction) else Fraction(*ratio(amount, "a payment")).denominator
+        common = least_multiple((common, part))
+        if common > MOST_DENOMINATOR:
+            return None
+    return common
 
 
-def _least_multiple(one, other):
-    return common_denominator([Fraction(1, one), Fraction(1, other)])
-
-
-def _denominators(unit, exact) -> Iterator[int]:
+def _denominators(unit: int, exact: Optional[int]) -> Iterator[int]:
     """The exact denominator where it fits, and then multiples of the unit, near round numbers and rising."""
-    if exact <= MOST_DENOMINATOR and exact % unit == 0:
+    if exact is not None and exact % unit == 0:
         yield exact
     yield from sorted({min(-(-round_number // unit), MOST_DENOMINATOR // unit) * unit for round_number in DENOMINATORS})
 
 
-def _simple(amount, noise):
+def _simplified(given: Given) -> Given:
+    amounts: List[Any] = [_simple(near(amount, "a payment"), given.noise) if amount else 0 for amount in given.amounts]
+    return Given(amounts, array("d", map(float, amounts)), _simple(given.budget, given.noise), given.noise)
+
+
+def _simple(amount: Fraction, noise: Fraction) -> Fraction:
     """The simplest fraction that is so near that it is likely meant."""
     for most in (1, 10, 100, 1000, 10**4):
         simple = amount.limit_denominator(most)
@@ -231,17 +299,19 @@ def _simple(amount, noise):
     return amount
 
 
-def _certificate(rounding: Rounding) -> PriceCertificate:
-    town, denominator, given = rounding.town, rounding.denominator, rounding.given
-    rows = [(voter, town.names[project], numerator) for voter, paid in enumerate(rounding.paid, 1)
-            for project, numerator in sorted(paid.items()) if numerator]
-    moves = [(abs(paid.get(project, 0) / denominator - float(mine.get(project, 0))), voter, project)
-             for voter, (paid, mine) in enumerate(zip(rounding.paid, given.payments))
-             for project in paid.keys() | mine.keys()]
-    _, voter, project = max(moves, default=(0, None, None))
+def _certificate(rounding: Rounding, projects: Projects) -> PriceCertificate:
+    denominator, given, paid = rounding.denominator, rounding.given, rounding.paid
     moved = Fraction(0)
-    if voter is not None:
-        moved = abs(Fraction(rounding.paid[voter].get(project, 0), denominator) - given.payments[voter].get(project, 0))
+    if paid:
+        moves = (abs(numerator / denominator - amount) for numerator, amount in zip(paid, given.floats))
+        _, slot = max(zip(moves, range(len(paid))))
+        moved = abs(Fraction(paid[slot], denominator) - near(given.amounts[slot], "a payment"))
     raised = Fraction(rounding.budget, denominator) - given.budget
-    file = price_file(denominator, rounding.budget, rows)
-    return PriceCertificate(denominator, rounding.budget, rows, moved, raised, file)
+    file = price_file(denominator, rounding.budget, projects, _payers(rounding))
+    return PriceCertificate(denominator, rounding.budget, moved, raised, file)
+
+
+def _payers(rounding: Rounding) -> Payers:
+    town = rounding.town
+    for voter, (start, end) in enumerate(zip(town.starts, town.starts[1:]), 1):
+        yield voter, town.project_of[start:end], rounding.paid[start:end]

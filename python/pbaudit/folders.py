@@ -6,18 +6,26 @@ import os
 import re
 import subprocess
 import sys
-from concurrent.futures import BrokenExecutor, Executor, ThreadPoolExecutor
+from concurrent.futures import BrokenExecutor, Executor, Future, ThreadPoolExecutor
 from dataclasses import asdict, dataclass
 from functools import partial
-from typing import Dict, List, Optional, Tuple
+from typing import Callable, Dict, Iterator, List, Optional, Sequence, Tuple
 
 from ._auditor import Mode, Question, ask
-from .auditing import MOST_BYTES
+from .files import MOST_BYTES, Path
 
+# The ending of a file that was audited, its line, and its status.
+Line = Tuple[str, str, int]
+# Gives the bytes of the file with an ending, or none where it can't be read.
+Read = Callable[[str], Optional[bytes]]
 LOG = logging.getLogger("pbaudit")
 # An election whose worker was lost so often is given up.
 MOST_LOSSES = 3
 LOST = "fault worker"
+UNREAD = "refused {} 18 Read record 0"
+# What a task has at most: elections, and bytes of their files. A cluster takes about 20 ms for a task, and an audit of
+# so many bytes about 100 ms.
+MOST_OF_A_TASK, MOST_BYTES_OF_A_TASK = 50, 2**23
 CERTIFICATES = {".prices.csv": "prices", ".violation.csv": "violation"}
 
 
@@ -37,69 +45,84 @@ class FolderReport:
 
 @dataclass(frozen=True)
 class Entry:
-    """An election of a folder, by its name without `.pb`, and the certificates beside it: endings of file names."""
+    """An election of a folder, by its name without `.pb`, and the certificates beside it, endings of file names; and
+    how many bytes these files have."""
 
     folder: str
     name: str
     certificates: Tuple[str, ...]
+    size: int
     mode: Mode
 
 
-def audit_folder(path: "os.PathLike[str]", executor: Optional[Executor] = None, *, stable: bool = False,
+Found = Dict[Entry, List[Line]]
+
+
+def audit_folder(path: Path, executor: Optional[Executor] = None, *, stable: bool = False,
                  exhaustive: bool = True, cover: bool = False) -> FolderReport:
     """Audits the elections `NAME.pb` of a folder with `NAME.prices.csv` and `NAME.violation.csv` where these lie beside
     them, and answers the text and the status of `pbaudit folder`.
 
-    Without an executor the elections are audited here, one after the other. With one, each is a task: processes of a
-    `ProcessPoolExecutor`, or a Dask cluster by `client.get_executor()`, whose workers have to see the folder under the
-    same path and need this package. An election whose worker is lost is tried again, by the same executor where that
-    still works and else in a process of its own, three times in all; then its line says so, and it is never left out.
-    Raises OSError where the folder can't be listed, or lists a name that isn't UTF-8 (errno.EILSEQ): `pbaudit folder`
-    refuses it then, as `refused folder 18 Read record 0`.
+    Without an executor the elections are audited here, one after the other. With one they are its tasks, small
+    elections many to a task: processes of a `ProcessPoolExecutor`, or a Dask cluster by `client.get_executor()`, whose
+    workers have to see the folder under the same path and need this package. An election whose worker is lost is tried
+    again by itself, by the same executor where that still works and else in a process of its own, three times in all;
+    then its line says so, and it is never left out. Raises OSError where the folder can't be listed, or lists a name
+    that isn't UTF-8 (errno.EILSEQ): `pbaudit folder` refuses it then, as `refused folder 18 Read record 0`.
     """
-    entries = _entries(os.path.abspath(_text_of(path)), Mode(stable, exhaustive, cover))
-    found = {entry: audit_entry(entry) for entry in entries} if executor is None else _spread(executor, entries)
-    return _report(entries, found)
+    if executor is not None and not callable(getattr(executor, "submit", None)):
+        raise TypeError(f"the executor is {executor!r}, which has no submit: give one of concurrent.futures, such as a "
+                        "ProcessPoolExecutor")
+    entries = entries_of(path, Mode(stable, exhaustive, cover))
+    found: Found = {entry: audit_entry(entry) for entry in entries} if executor is None else _spread(executor, entries)
+    return report_on(entries, found)
 
 
-def _text_of(path):
+def _text_of(path: Path) -> str:
     text = os.fspath(path)
     if not isinstance(text, str):
         raise TypeError(f"the path of the folder is {text!r}, and not a str")
     return text
 
 
-def audit_entry(entry: Entry) -> List[Tuple[str, str, int]]:
-    """The ending of each file of an entry that was audited, its line, and its status. This is what a worker does."""
-    election = _bytes_of(entry, ".pb")
-    status, line = _line(election, "election", partial(Question, "read", election))
+def audit_entries(entries: Sequence[Entry], attempt: int) -> List[List[Line]]:
+    """What is found of each of some entries. This is what a worker does. The number of the attempt has no part in it:
+    Dask takes a task with the same arguments for the same task, and would answer that it was lost without trying."""
+    return [audit_entry(entry) for entry in entries]
+
+
+def audit_entry(entry: Entry) -> List[Line]:
+    """The line on each file of an entry that was audited."""
+    return audit_read(entry, partial(bytes_of_entry, entry))
+
+
+def audit_read(entry: Entry, read: Read) -> List[Line]:
+    """The same, where `read` gives the bytes of the file with an ending, or none where it can't be read."""
+    election = read(".pb")
+    if election is None:
+        return [(".pb", UNREAD.format("election"), 2)]
+    status, line = _line(Question("read", election))
     found = [(".pb", line, status)]
     for ending in entry.certificates if status == 0 else ():
-        certificate = _bytes_of(entry, ending)
-        command = CERTIFICATES[ending]
-        question = partial(Question, command, election, certificate, mode=entry.mode)
-        status, line = _line(certificate, "certificate", question)
-        # That the election states no outcome stands before that the certificate can't be read.
-        if certificate is None:
-            status, line = _unread_certificate(command, election, line)
+        status, line = _audit_certificate(CERTIFICATES[ending], election, read(ending), entry.mode)
         found.append((ending, line, status))
     return found
 
 
-def _line(data, name, question):
-    if data is None:
-        return 2, f"refused {name} 18 Read record 0"
-    status, text = ask(question())
+def _audit_certificate(command: str, election: bytes, certificate: Optional[bytes], mode: Mode) -> Tuple[int, str]:
+    status, line = _line(Question(command, election, certificate or b"", mode=mode))
+    # That the election states no outcome stands before that the certificate can't be read.
+    if certificate is None and not line.startswith("refused election"):
+        return 2, UNREAD.format("certificate")
+    return status, line
+
+
+def _line(question: Question) -> Tuple[int, str]:
+    status, text = ask(question)
     return status, text.decode("utf-8").split("\n")[0]
 
 
-def _unread_certificate(command, election, line):
-    status, text = ask(Question(command, election, b""))
-    told = text.decode("utf-8").rstrip("\n")
-    return (status, told) if told.startswith("refused election") else (2, line)
-
-
-def _bytes_of(entry, ending):
+def bytes_of_entry(entry: Entry, ending: str) -> Optional[bytes]:
     """The bytes of a file, or none where it can't be read."""
     try:
         with open(os.path.join(entry.folder, entry.name + ending), "rb") as file:
@@ -108,76 +131,111 @@ def _bytes_of(entry, ending):
         return None
 
 
-def _entries(folder, mode):
-    """The elections of a folder, by the bytes of their names."""
-    files = set()
+def entries_of(path: Path, mode: Mode) -> List[Entry]:
+    """The elections of a folder, by the bytes of their names. Raises OSError as `audit_folder`."""
+    folder = os.path.abspath(_text_of(path))
+    sizes: Dict[str, int] = {}
     with os.scandir(folder) as listing:
         for file in listing:
             _check_name(folder, file.name)
             # What can't be looked at counts as a regular file, and is refused when it is read.
             if file.is_file(follow_symlinks=False) and not re.search(r"[\x00-\x1f\x7f]", file.name):
-                files.add(file.name)
-    names = sorted((name[:-3] for name in files if name.endswith(".pb") and name != ".pb"), key=str.encode)
-    beside = {name: tuple(ending for ending in CERTIFICATES if name + ending in files) for name in names}
-    return [Entry(folder, name, beside[name], mode) for name in names]
+                sizes[file.name] = _size_of(file)
+    entries = []
+    for name in sorted((name[:-3] for name in sizes if name.endswith(".pb") and name != ".pb"), key=str.encode):
+        beside = tuple(ending for ending in CERTIFICATES if name + ending in sizes)
+        entries.append(Entry(folder, name, beside, sum(sizes[name + ending] for ending in (".pb", *beside)), mode))
+    return entries
 
 
-def _check_name(folder, name):
+def _size_of(file: "os.DirEntry[str]") -> int:
+    try:
+        return file.stat(follow_symlinks=False).st_size
+    except OSError:
+        return 0
+
+
+def _check_name(folder: str, name: str) -> None:
     try:
         name.encode("utf-8")
     except UnicodeEncodeError:
         raise OSError(errno.EILSEQ, f"it lists {name!r}, a name that isn't UTF-8", folder) from None
 
 
-def _spread(executor: Executor, entries) -> Dict[Entry, list]:
+def _spread(executor: Executor, entries: List[Entry]) -> Found:
     """What is found of each entry by an executor. What is lost thrice isn't in it."""
-    found, left, losses, is_broken = {}, list(entries), 0, False
-    while left and losses < MOST_LOSSES:
-        is_broken = (_alone(left, found) if is_broken else _by_executor(executor, left, found)) or is_broken
-        left = [entry for entry in left if entry not in found]
-        losses += 1
+    found: Found = {}
+    is_broken = _by_executor(executor, list(_tasks(entries)), 1, found)
+    for attempt in range(2, MOST_LOSSES + 1):
+        left = [entry for entry in entries if entry not in found]
+        if left and is_broken:
+            _alone(left, found)
+        elif left:
+            is_broken = _by_executor(executor, [[entry] for entry in left], attempt, found)
     return found
 
 
-def _by_executor(executor, entries, found):
-    """Audits entries by an executor. Whether it was broken by that."""
-    futures, is_broken = {}, False
+def _tasks(entries: List[Entry]) -> Iterator[List[Entry]]:
+    """Entries in their order, as many together as make a task."""
+    task: List[Entry] = []
     for entry in entries:
+        size = sum(each.size for each in task) + entry.size
+        if task and (len(task) == MOST_OF_A_TASK or size > MOST_BYTES_OF_A_TASK):
+            yield task
+            task = []
+        task.append(entry)
+    if task:
+        yield task
+
+
+def _by_executor(executor: Executor, tasks: List[List[Entry]], attempt: int, found: Found) -> bool:
+    """Audits entries by an executor. Whether it was broken by that."""
+    futures: "List[Tuple[List[Entry], Future[List[List[Line]]]]]" = []
+    is_broken = False
+    for task in tasks:
         try:
-            futures[entry] = executor.submit(audit_entry, entry)
+            futures.append((task, executor.submit(audit_entries, task, attempt)))
         except BrokenExecutor:
             is_broken = True
             break
-    for entry, future in futures.items():
+    for task, future in futures:
         try:
-            found[entry] = future.result()
+            found.update(zip(task, future.result()))
         except BrokenExecutor:
             is_broken = True
         except (ImportError, MemoryError):
             raise
         except Exception as error:  # Each library has its own class for a worker that was lost.
-            LOG.warning("the worker on %s.pb was lost: %r", entry.name, error)
+            LOG.warning("the worker on %s was lost: %r", _named(task), error)
     return is_broken
 
 
-def _alone(entries, found):
+def _named(task: List[Entry]) -> str:
+    more = f" and {len(task) - 1} elections after it" if len(task) > 1 else ""
+    return f"{task[0].name}.pb{more}"
+
+
+def _alone(entries: List[Entry], found: Found) -> None:
     """Audits each entry in a process of its own, so that the one that ends its process takes no other along."""
     with ThreadPoolExecutor(os.cpu_count()) as threads:
         for entry, lines in zip(entries, threads.map(_in_a_process, entries)):
             if lines is not None:
                 found[entry] = lines
-    return True
 
 
-def _in_a_process(entry):
+def _in_a_process(entry: Entry) -> Optional[List[Line]]:
     words = [sys.executable, "-c", f"from {__name__} import answer; answer()"]
     done = subprocess.run(words, input=json.dumps(asdict(entry)).encode(), stdout=subprocess.PIPE, check=False,
                           env={**os.environ, "PYTHONPATH": os.pathsep.join(filter(None, sys.path))})
-    return [tuple(line) for line in json.loads(done.stdout)] if done.returncode == 0 else None
+    if done.returncode:
+        return None
+    return [(ending, line, status) for ending, line, status in json.loads(done.stdout)]
 
 
-def _report(entries, found):
-    lines, statuses, lost = [], [], []
+def report_on(entries: List[Entry], found: Found) -> FolderReport:
+    """The report on entries, by what was found of each."""
+    lines, lost = [], []
+    statuses: List[Tuple[bool, int]] = []
     for entry in entries:
         if entry not in found:
             lost.append(entry.name)
@@ -192,8 +250,9 @@ def _report(entries, found):
     return FolderReport("".join(line + "\n" for line in lines), status, tuple(lost))
 
 
-def answer():
+def answer() -> None:
     """Audits the entry that standard input states, in a process of its own."""
     given = json.load(sys.stdin)
-    entry = Entry(given["folder"], given["name"], tuple(given["certificates"]), Mode(**given["mode"]))
+    given.update(certificates=tuple(given["certificates"]), mode=Mode(**given["mode"]))
+    entry = Entry(**given)
     json.dump(audit_entry(entry), sys.stdout)

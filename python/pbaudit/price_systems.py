@@ -1,52 +1,99 @@
 """The check of prices over Python values, with the arguments of `validate_price_system` of pabutools."""
+from dataclasses import replace
 from fractions import Fraction
-from typing import Iterable, Mapping
+from itertools import chain
+from math import gcd
+from typing import Iterable, List, Tuple
 
-from ._auditor import Mode, Question
-from .amounts import MILLION, MOST_COST, MOST_DENOMINATOR, common_denominator, exact_price
+from ._auditor import Mode, Question, switch
+from .amounts import MILLION, MOST_COST, MOST_DENOMINATOR, Amount, common_denominator, exact_price
 from .auditing import Verdict, verdict
-from .elections import Instance, Project
-from .writing import costs_of, exact_payments, functions_of, ids_of, limit_of, read_once, write_election, write_prices
+from .certificates import certified
+from .coarse import told_by_signs
+from .town import Town
+from .values import (
+    AnyInstance, AnyProject, PaymentFunction, Payments, Profile, Projects, ballots_of, check_count, funded_of,
+    projects_of,
+)
+from .writing import election_file, payers_of, price_file
+
+TOO_MANY = ("the amounts have too large a common denominator for a certificate (at most 10^9, in the unit in which the "
+            "largest cost is 10^12): near=True audits exact prices near these, which price_certificate makes")
 
 
-def validate_price_system(instance, profile, budget_allocation: Iterable, voter_budget,
-                          payment_functions: Iterable[Mapping], stable: bool = False,
-                          exhaustive: bool = True) -> Verdict:
+class _TooMany(ValueError):
+    """Amounts that no certificate states."""
+
+    def __init__(self) -> None:
+        super().__init__(TOO_MANY)
+
+
+def validate_price_system(instance: AnyInstance, profile: Profile, budget_allocation: Iterable[AnyProject],
+                          voter_budget: Amount, payment_functions: Iterable[PaymentFunction], stable: bool = False,
+                          exhaustive: bool = True, *, near: bool = False) -> Verdict:
     """Whether the payments support the budget allocation: a Verdict, which is true or false, and names what fails
     first.
 
-    An instance is an iterable of projects with `name` and `cost`, and has a `budget_limit`; a profile is an iterable of
-    approval ballots, each a set of projects; payments are, for each voter in the order of the profile, a mapping from
-    projects or their names to amounts. Amounts are whole numbers, Fractions or Decimals, and are taken exactly. A float
-    is a TypeError, since a check of rounded numbers isn't one; `price_certificate` makes exact payments of floats. What
-    no certificate can say (a payment below 0, amounts that are too large or have too large a common denominator) is a
+    An instance is an iterable of projects with `name` and `cost`, and has a `budget_limit`; a profile is an iterable
+    of approval ballots, each a set of projects; payments are, for each voter in the order of the profile, a mapping
+    from projects or their names to amounts. Both may also be matrices, as numpy has them, with a row for each voter
+    and a column for each project in the order of the instance. Amounts are whole numbers, Fractions or Decimals, and
+    are taken exactly. A float is a TypeError, since a check of rounded numbers isn't one; `price_certificate` makes
+    exact payments of floats. What no certificate can say (a payment below 0, amounts that are too large) is a
     ValueError, and so is a voter who pays for a project twice, by its name and as itself.
+
+    Amounts whose common denominator is too large for a certificate get a no where that is seen without their size:
+    Feasible, Exhaustive, C1, C3 of a project that nobody pays for, and C4, of which the last two need not be the first
+    that fail. Else they are a ValueError. With `near` the answer is then the verdict on exact prices near these, as
+    `price_certificate` makes them, or its CannotKeep, which is no answer; `moved` of the verdict says how near.
     """
-    ballots, funded, functions = read_once(profile), ids_of(budget_allocation), functions_of(payment_functions)
-    if len(functions) != len(ballots):
-        raise ValueError(f"there are {len(ballots)} ballots and {len(functions)} payment functions")
-    costs = costs_of(instance)
-    limit = limit_of(instance)
+    mode, is_near = Mode(stable, exhaustive), switch("near", near)
+    projects, costs, limit = projects_of(instance)
+    ballots, funded = ballots_of(profile, projects), funded_of(budget_allocation, projects)
+    payments = Payments(payment_functions, projects)
+    check_count(len(ballots), len(payments.functions))
     budget = exact_price(voter_budget, "the voter budget")
-    payments = [exact_payments(voter, function, costs) for voter, function in enumerate(functions, 1)]
-    amounts = [budget, *(amount for mine in payments for amount in mine.values())]
-    factor = _factor([limit, *costs.values()], amounts)
-    scaled = Instance([Project(name, cost * factor) for name, cost in costs.items()], limit * factor)
-    election = write_election(scaled, ballots, funded)
-    certificate = write_prices(budget * factor, [{name: x * factor for name, x in mine.items()} for mine in payments])
-    return verdict(Question("prices", election, certificate, mode=Mode(stable, exhaustive)))
+    payments.check_exact()
+    town = Town(projects.ids, costs, limit, set(funded), ballots)
+    try:
+        factor, denominator = _scale([limit, *town.costs], chain([budget.denominator], payments.denominators()))
+    except _TooMany:
+        found = told_by_signs(town, projects, payments, mode)
+        if found is None and is_near:
+            return _near(town, projects, budget, payments, mode)
+        if found is None:
+            raise
+        return found
+    election = election_file(projects, [cost * factor for cost in town.costs], limit * factor, ballots, funded)
+    scaled = denominator * factor
+    numerator = budget.numerator * (scaled // budget.denominator)
+    certificate = price_file(denominator, numerator, projects, payers_of(payments, projects, scaled))
+    return verdict(Question("prices", election, certificate, mode=mode))
 
 
-def _factor(costs, amounts) -> int:
-    """A whole number by which all amounts are multiplied, so that files can state them: costs to a millionth, payments
-    over a denominator of at most 10^9. No condition depends on the unit in which amounts are measured."""
-    factor = common_denominator(Fraction(cost * MILLION) for cost in costs)
-    rest = common_denominator(amount * factor for amount in amounts)
+def _near(town: Town, projects: Projects, budget: Fraction, payments: Payments, mode: Mode) -> Verdict:
+    """The verdict on prices near these. Raises CannotKeep."""
+    made = certified(town, projects, budget, payments, mode.stable, mode.exhaustive)
+    election = election_file(projects, town.costs, town.limit, town.ballots, town.funded)
+    return replace(verdict(Question("prices", election, made.file, mode=mode)), moved=made.moved)
+
+
+def _scale(costs: List[Fraction], denominators: Iterable[int]) -> Tuple[int, int]:
+    """A whole number by which all amounts are multiplied, so that files can state them, and the denominator of payments
+    then: costs to a millionth, payments over a denominator of at most 10^9. No condition depends on the unit in which
+    amounts are measured."""
+    factor, common = common_denominator(cost * MILLION for cost in costs), 1
+    # What the two can be together.
+    most = MOST_DENOMINATOR * MOST_COST / max([*costs, Fraction(1, MILLION)])
+    for denominator in denominators:
+        common *= denominator // gcd(common, denominator)
+        if common > most:
+            raise _TooMany
+    rest = common // gcd(common, factor)
     while rest > MOST_DENOMINATOR:
         prime = next((number for number in range(2, 10**5) if rest % number == 0), rest)
         rest //= prime
         factor *= prime
     if max(costs) * factor > MOST_COST:
-        raise ValueError("the amounts have too large a common denominator for a certificate (at most 10^9, in the unit "
-                         "in which the largest cost is 10^12): price_certificate may round them to one")
-    return factor
+        raise _TooMany
+    return factor, rest

@@ -221,7 +221,79 @@ class Audits(unittest.TestCase):
         for refusal in (caught.exception, pickle.loads(pickle.dumps(caught.exception))):
             self.assertEqual((refusal.number, refusal.name), (24, "UnknownVoter"))
             self.assertEqual((refusal.input, refusal.record), ("certificate", 4))
-            self.assertEqual(str(refusal), "refused certificate 24 UnknownVoter record 4")
+            self.assertEqual((refusal.printed, refusal.line), ("refused certificate 24 UnknownVoter record 4", 4))
+            self.assertEqual(refusal.file, str(EXAMPLES / "district.voter-id.violation.csv"))
+            told = [f"{refusal.file}:4: there is no voter '20582'; the election has 60 voters",
+                    f"{refusal.file}: voters are named by their rows in VOTES, counted from 1, and not by voter_id; the "
+                    "one with voter_id '20582' is voter 9"]
+            self.assertEqual(str(refusal).split("\n"), [refusal.printed, *told])
+            self.assertEqual(refusal.reason.split("\n"), [each.split(": ", 1)[1] for each in told])
+            self.assertIn("\n".join(told), self.told_by_the_program())
+
+    @staticmethod
+    def told_by_the_program():
+        words = [PROGRAM, "violation", EXAMPLES / "district.pb", EXAMPLES / "district.voter-id.violation.csv"]
+        return subprocess.run(words, capture_output=True, text=True, check=False).stderr
+
+    def test_a_refusal_names_its_argument(self):
+        """By the library and by the program; where hints are wanting there is no reason."""
+        sample, prices = (EXAMPLES / "sample.pb").read_bytes(), (EXAMPLES / "sample.prices.csv").read_bytes()
+        for auditor in (_auditor._find(), _auditor._Program(str(PROGRAM))):
+            with mock.patch.object(_auditor, "_found", auditor):
+                for name, line, word, ask in (
+                    ("outcome", 2, "'none'", lambda: pbaudit.explain(sample, prices, b"pb-outcome,1\nproject,none\n")),
+                    ("violation", 1, "price certificate", lambda: pbaudit.audit_both(sample, prices, prices)),
+                    ("prices", 5, "'none'", lambda: pbaudit.audit_both(sample, prices.replace(b"1,a,2", b"1,none,2"), b"")),
+                    ("certificate", 5, "voter", lambda: pbaudit.tidy(sample, prices.replace(b"1,a,2", b"9,a,2"))),
+                    ("election", 1, "META", lambda: pbaudit.read(b"MET")),
+                ):
+                    with self.subTest(name=name, auditor=type(auditor)), self.assertRaises(Refusal) as caught:
+                        ask()
+                    refusal = caught.exception
+                    self.assertEqual((refusal.file, refusal.line), (name, line))
+                    self.assertIn(word, refusal.reason)
+                    self.assertIn(f"\n{name}:{line}: ", str(refusal))
+        with mock.patch.object(_auditor, "_found", _auditor._find()):
+            _auditor._found._hint = None
+            with self.assertRaises(Refusal) as caught:
+                pbaudit.read(b"MET")
+            self.assertEqual((caught.exception.line, caught.exception.reason), (None, None))
+            self.assertEqual(str(caught.exception), "refused election 2 NoMeta record 1")
+
+    def test_bytes_that_look_like_a_path(self):
+        prices = EXAMPLES / "sample.prices.csv"
+        for name, ask in (("election", lambda: pbaudit.audit_prices(b"e.pb", prices)),
+                          ("certificate", lambda: pbaudit.audit_prices(EXAMPLES / "sample.pb", b"/some/where.csv"))):
+            with self.assertRaises(Refusal) as caught:
+                ask()
+            self.assertIn("give a path as a str", caught.exception.reason)
+            self.assertEqual(caught.exception.input, name)
+        with self.assertRaises(Refusal) as caught:
+            pbaudit.read(b"META\n")
+        self.assertNotIn("path", str(caught.exception))
+
+    def test_open_files(self):
+        with open(EXAMPLES / "sample.pb", "rb") as file:
+            self.assertEqual(pbaudit.read(file).voters, 3)
+        with open(EXAMPLES / "sample.pb", encoding="utf-8") as file, self.assertRaisesRegex(TypeError, "opened as text"):
+            pbaudit.read(file)
+        for given in (7, ["e.pb"], range(10**6), None):
+            with self.assertRaisesRegex(TypeError, "is no file: give its path"):
+                pbaudit.read(given)
+
+    def test_contents_in_the_place_of_a_path(self):
+        text = (EXAMPLES / "district.pb").read_text(encoding="utf-8")
+        for given in (text, "META\n" + text * 100):
+            with self.assertRaises(OSError) as caught:
+                pbaudit.read(given)
+            self.assertIn("give a file's contents as bytes", str(caught.exception))
+            self.assertLess(len(str(caught.exception)), 250)
+
+    def test_switches_are_true_or_false(self):
+        for name in ("stable", "exhaustive", "cover"):
+            for value in ("no", 0, 1, None):
+                with self.assertRaisesRegex(TypeError, f"^{name} is {value!r}, and not True or False$"):
+                    pbaudit.audit_prices(EXAMPLES / "sample.pb", EXAMPLES / "sample.prices.csv", **{name: value})
 
     def test_too_long(self):
         with tempfile.TemporaryDirectory() as room:

@@ -2,19 +2,13 @@
 import pathlib
 import pickle
 import random
-import subprocess
-import sys
 import tempfile
 import unittest
 from fractions import Fraction
 
 import pbaudit
-from pbaudit import CannotKeep, Instance, Project, price_certificate
+from pbaudit import CannotKeep, Instance, Project, equal_shares, price_certificate
 
-sys.path.append(str(pathlib.Path(__file__).resolve().parents[2] / "examples"))
-from equal_shares import election_of, equal_shares  # noqa: E402
-
-EXAMPLES = pathlib.Path(__file__).resolve().parents[2] / "examples"
 A, B, C = Project("a", 6), Project("b", 4), Project("c", 9)
 SAMPLE = Instance([A, B, C], 10)
 PROFILE = [{A, B}, {A}, {B, C}]
@@ -39,7 +33,8 @@ class Roundings(unittest.TestCase):
         left_room = 0
         for seed in range(60):
             instance, profile, measure = an_election(seed)
-            funded, budget, payments = equal_shares(instance, profile, measure)
+            shares = equal_shares(instance, profile, by=measure)
+            funded, budget, payments = shares.funded, shares.voter_budget, shares.payments
             floats = [{project: float(amount) for project, amount in mine.items()} for mine in payments]
             with self.subTest(seed=seed):
                 price_certificate(instance, profile, funded, budget, payments, exhaustive=False)
@@ -130,28 +125,11 @@ class Roundings(unittest.TestCase):
             with self.assertRaisesRegex(TypeError, f"^the denominator is {denominator!r}, and not a whole number$"):
                 price_certificate(*words, denominator=denominator)
         for denominator in (0, -1, 10**9 + 1, 10**5000):
-            with self.assertRaisesRegex(ValueError, "^the denominator has to be "):
+            with self.assertRaisesRegex(ValueError, r"^the denominator has to be from 1 to 10\^9$"):
                 price_certificate(*words, denominator=denominator)
-
-
-class District(unittest.TestCase):
-    def test_the_files_are_those_of_the_rule(self):
-        instance, profile = election_of(EXAMPLES / "district.pb")
-        self.assertEqual((len(instance.projects), len(profile), instance.budget_limit), (12, 60, 111000))
-        funded, budget, payments = equal_shares(instance, profile, "cost")
-        outcome, certificate = EXAMPLES / "district.shares.outcome.csv", EXAMPLES / "district.shares.prices.csv"
-        self.assertEqual(outcome.read_bytes(), pbaudit.write_outcome(funded))
-        made = price_certificate(instance, profile, funded, budget, payments, exhaustive=False)
-        self.assertEqual(certificate.read_bytes(), made.file)
-
-    def test_words_that_the_script_does_not_know(self):
-        with tempfile.TemporaryDirectory() as room:
-            files = [EXAMPLES / "district.pb", f"{room}/outcome.csv", f"{room}/prices.csv"]
-            for words in (["coutn", *files], ["count", *files[:2]]):
-                done = subprocess.run([sys.executable, EXAMPLES / "equal_shares.py", *words], capture_output=True,
-                                      check=False)
-                self.assertEqual((done.returncode, done.stdout), (3, b""))
-                self.assertRegex(done.stderr, b"^The Method of Equal Shares")
+        halves = Instance([Project("a", Fraction("1.5"))], 2)
+        with self.assertRaisesRegex(ValueError, "^the denominator has to be .* and a multiple of 2, so that "):
+            price_certificate(halves, [{"a"}], ["a"], 2, [{"a": Fraction(3, 2)}], denominator=3)
 
 
 if __name__ == "__main__":

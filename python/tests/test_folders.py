@@ -1,5 +1,9 @@
 """Folders over executors, with workers that are killed."""
+import contextlib
 import errno
+import importlib
+import importlib.util
+import logging
 import multiprocessing
 import os
 import pathlib
@@ -11,7 +15,7 @@ import sys
 import tempfile
 import textwrap
 import unittest
-from concurrent.futures import Future, ProcessPoolExecutor, ThreadPoolExecutor
+from concurrent.futures import Executor, Future, ProcessPoolExecutor, ThreadPoolExecutor
 from unittest import mock
 
 import pbaudit
@@ -20,6 +24,7 @@ from pbaudit import folders
 REPOSITORY = pathlib.Path(__file__).resolve().parents[2]
 EXAMPLES = REPOSITORY / "examples"
 PROGRAM = REPOSITORY / "crates" / "pbaudit" / "out" / "pbaudit"
+HAS_DASK = unittest.skipUnless(importlib.util.find_spec("distributed"), "Dask isn't installed")
 audit_entry = folders.audit_entry
 
 
@@ -35,13 +40,39 @@ class LosingExecutor(ThreadPoolExecutor):
 
     losses = 0
 
-    def submit(self, work, entry):
-        if entry.name != "b" or self.losses == 0:
-            return super().submit(work, entry)
+    def submit(self, work, entries, attempt):
+        if self.losses == 0 or "b" not in [entry.name for entry in entries]:
+            return super().submit(work, entries, attempt)
         self.losses -= 1
         lost = Future()
         lost.set_exception(RuntimeError("the worker died"))
         return lost
+
+
+@contextlib.contextmanager
+def cluster(**settings):
+    """A Dask cluster of two workers on this machine. What workers write when they end is of Dask, and no failure."""
+    dask, distributed = (importlib.import_module(name) for name in ("dask", "dask.distributed"))
+    settings = {"distributed.logging": {"distributed": "critical"}, **settings}
+    with dask.config.set(settings), distributed.Client(
+            n_workers=2, threads_per_worker=1, dashboard_address=None, silence_logs=logging.CRITICAL) as client:
+        yield client
+
+
+class KillingExecutor(Executor):
+    """Hands tasks to a Dask cluster, and kills one of its workers after the third."""
+
+    def __init__(self, client):
+        self.executor, self.tasks, self.has_killed = client.get_executor(), 0, False
+        self.worker = min(client.run(os.getpid).values())
+
+    def submit(self, work, entries, attempt):
+        future = self.executor.submit(work, entries, attempt)
+        self.tasks += 1
+        if self.tasks == 3:
+            os.kill(self.worker, signal.SIGKILL)
+            self.has_killed = True
+        return future
 
 
 class Folders(unittest.TestCase):
@@ -70,7 +101,7 @@ class Folders(unittest.TestCase):
         pathlib.Path(self.room, name).write_bytes(data)
 
     def wanted(self, *switches):
-        done = subprocess.run([PROGRAM, "folder", self.room, *switches], stdout=subprocess.PIPE, check=False)
+        done = subprocess.run([PROGRAM, "folder", self.room, *switches], capture_output=True, check=False)
         return pbaudit.FolderReport(done.stdout.decode(), done.returncode)
 
     def test_here(self):
@@ -90,6 +121,10 @@ class Folders(unittest.TestCase):
     def test_a_path_of_bytes(self):
         with self.assertRaisesRegex(TypeError, "^the path of the folder is b'folder', and not a str$"):
             pbaudit.audit_folder(b"folder")
+
+    def test_no_executor(self):
+        with self.assertRaisesRegex(TypeError, "^the executor is 4, which has no submit: give one of concurrent.futures"):
+            pbaudit.audit_folder(self.room, 4)
 
     def assert_refused(self, folder, number):
         done = subprocess.run([PROGRAM, "folder", folder], capture_output=True, check=False)
@@ -144,13 +179,30 @@ class Folders(unittest.TestCase):
             self.assertEqual(report.lost, ("b",) if is_lost else ())
             self.assertEqual(report == self.wanted(), not is_lost)
 
+    @HAS_DASK
     def test_by_a_dask_cluster(self):
-        try:
-            from dask.distributed import Client
-        except ImportError:
-            self.skipTest("Dask isn't installed")
-        with Client(n_workers=2, threads_per_worker=1, dashboard_address=None) as client:
+        with cluster() as client:
             self.assertEqual(pbaudit.audit_folder(self.room, client.get_executor()), self.wanted())
+
+    @HAS_DASK
+    def test_by_a_dask_cluster_whose_workers_are_killed(self):
+        """One while it works. Dask gives its tasks to another where it may, and else they are lost."""
+        for failures in (0, 3):
+            settings = {"distributed.scheduler.allowed-failures": failures}
+            with mock.patch.object(folders, "MOST_OF_A_TASK", 1), cluster(**settings) as client:
+                executor = KillingExecutor(client)
+                self.assertEqual(pbaudit.audit_folder(self.room, executor), self.wanted())
+            self.assertTrue(executor.has_killed)
+
+    def test_small_elections_share_a_task(self):
+        """In their order, and a large one has a task to itself."""
+        sizes = [1, 2, 2**23, 3, 2**23 - 3, 4]
+        entries = [folders.Entry("", str(at), (), size, folders.Mode()) for at, size in enumerate(sizes)]
+        self.assertEqual([[entry.size for entry in task] for task in folders._tasks(entries)],
+                         [[1, 2], [2**23], [3, 2**23 - 3], [4]])
+        entries = [folders.Entry("", str(at), (), 1, folders.Mode()) for at in range(120)]
+        self.assertEqual([len(task) for task in folders._tasks(entries)], [50, 50, 20])
+        self.assertEqual([entry for task in folders._tasks(entries) for entry in task], entries)
 
 
 if __name__ == "__main__":

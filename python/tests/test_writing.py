@@ -7,12 +7,22 @@ from fractions import Fraction
 from unittest import mock
 
 import pbaudit
-from pbaudit import Instance, Project, validate_price_system, writing
+from pbaudit import Instance, Project, validate_price_system, values, writing
 
 A, B, C = Project("a", 6), Project("b", 4), Project("c", 9)
 SAMPLE = Instance([A, B, C], 10)
 PROFILE = [{A, B}, {A}, {B, C}]
 PAYMENTS = [{A: 2, B: 2}, {A: 4}, {B: 2}]
+
+
+def floats_of_others():
+    """Floats of other packages that are 2, with what is told of them, where these are installed."""
+    try:
+        import gmpy2
+        import numpy
+    except ImportError:
+        return []
+    return [(kind(2), "the float") for kind in (numpy.float32, numpy.float64, gmpy2.mpfr)]
 
 
 class PriceSystems(unittest.TestCase):
@@ -78,6 +88,67 @@ class PriceSystems(unittest.TestCase):
         ):
             with self.subTest(told=told), self.assertRaisesRegex(ValueError, f"^{told}"):
                 validate_price_system(instance, PROFILE, [A, B], budget, [{A: 2, B: 2}, {A: 4}, {B: payment}])
+
+    def test_many_denominators(self):
+        """Of Equal Shares: each supporter pays the cost over the number of supporters, a prime, and so all need a
+        denominator of about 10^27."""
+        primes = [2, 3, 5, 7, 11, 13, 17, 19, 23, 29, 31, 37, 41, 43, 47, 53, 59, 61, 67, 71]
+        projects = [Project(f"p{prime}", 1000 + prime) for prime in primes]
+        ballots = [[project for project, prime in zip(projects, primes) if voter < prime] for voter in range(71)]
+        payments = [{project: Fraction(project.cost, prime) for project, prime in zip(projects, primes) if voter < prime}
+                    for voter in range(71)]
+        given = Instance(projects, sum(project.cost for project in projects)), ballots, projects, 10_000, payments
+        with self.assertRaisesRegex(ValueError, "^the amounts have too large a common denominator .* near=True audits "):
+            validate_price_system(*given)
+        verdict = validate_price_system(*given, near=True)
+        self.assertEqual((str(verdict), verdict.moved), ("supported priceable", pbaudit.price_certificate(*given).moved))
+        self.assertTrue(0 < verdict.moved < Fraction(1, 10))
+        self.assertIsNone(validate_price_system(SAMPLE, PROFILE, [A, B], 4, PAYMENTS, near=True).moved)
+        with self.assertRaises(pbaudit.CannotKeep):
+            validate_price_system(*given[:3], 1, payments, near=True)
+        with self.assertRaisesRegex(TypeError, "^near is 'no', and not True or False$"):
+            validate_price_system(*given, near="no")
+
+    def test_a_no_that_no_denominator_changes(self):
+        """Payments over large primes, by which conditions fail that don't depend on how much is paid."""
+        odd, small = Fraction(1, 10**9 + 7), Fraction(1, 10**9 + 9)
+        for told, funded, payments, modes in (
+            ("failed Feasible", [A, B, C], [{A: odd}, {A: small}, {}], {}),
+            ("failed Exhaustive project b", [A], [{A: odd}, {A: small}, {}], {}),
+            ("failed C1 voter 2 project b", [A, B], [{A: odd}, {A: 4, B: small}, {A: 1, B: 2}], {}),
+            ("failed C1 voter 3 project a", [A], [{A: odd}, {A: 4}, {A: small}], {"exhaustive": False}),
+            ("failed C3 project b", [A, B], [{A: odd}, {A: small}, {}], {}),
+            ("failed C4 project b", [A], [{A: odd}, {A: small}, {B: small}], {"exhaustive": False, "stable": True}),
+        ):
+            with self.subTest(told=told):
+                verdict = validate_price_system(SAMPLE, PROFILE, funded, 4, payments, **modes)
+                self.assertEqual((str(verdict), verdict.moved), (told, None))
+        free = Project("free", 0)
+        instance = Instance([A, B, C, free], 10)
+        paid = [{A: odd, B: 2}, {A: small}, {B: 2, free: 1}]
+        self.assertEqual(str(validate_price_system(instance, [*PROFILE[:2], {B, free}], [A, B, free], 4, paid)),
+                         "failed C3 project free")
+
+    def test_a_yes_or_no_that_depends_on_amounts(self):
+        """A spends too much, b isn't paid for exactly, and c's supporters have more left than it costs: no answer."""
+        odd, small = Fraction(1, 10**9 + 7), Fraction(1, 10**9 + 9)
+        for instance, budget, payments in (
+            (SAMPLE, 2, [{A: 2 - odd, B: 2 - small}, {A: 4 + odd}, {B: 2 + small}]),
+            (SAMPLE, 4, [{A: 2 - odd, B: 2 - small}, {A: 4}, {B: 2}]),
+            (SAMPLE, 99, [{A: 2 - odd, B: 2 - small}, {A: 4 + odd}, {B: 2 + small}]),
+        ):
+            for stable in (False, True):
+                with self.assertRaisesRegex(ValueError, "^the amounts have too large a common denominator"):
+                    validate_price_system(instance, PROFILE, [A, B], budget, payments, stable=stable)
+        with self.assertRaisesRegex(ValueError, "^voter 3 pays -1/1000000009 for b, and a certificate has no payments"):
+            validate_price_system(SAMPLE, PROFILE, [A, B], 4, [{A: odd}, {A: 4}, {B: -small}])
+
+    def test_a_payment_too_small_beside_many(self):
+        """A millionth that 2,000 voters pay together can't be shared over 10^9, and then nothing is told."""
+        tiny, odd, small = Project("t", Fraction(1, 10**6)), Fraction(1, 10**9 + 7), Fraction(1, 10**9 + 9)
+        given = Instance([tiny], 1), [["t"]] * 2000, ["t"], 1, [{"t": odd}, {"t": small}, *[{"t": 1}] * 1998]
+        with self.assertRaisesRegex(ValueError, "too large a common denominator"):
+            validate_price_system(*given)
 
     def test_a_project_that_is_paid_for_twice(self):
         """Once by its id and once as itself, in either order, also where one payment is 0."""
@@ -179,9 +250,11 @@ class Files(unittest.TestCase):
         for make, told in (
             (lambda: pbaudit.write_violation([1.9], ["a"]), "the group names voter 1.9, which is no whole number"),
             (lambda: pbaudit.write_violation(["1"], ["a"]), "the group names voter '1', which is no whole number"),
-            (lambda: pbaudit.write_violation([1], [1]), "1 is no project: "),
-            (lambda: pbaudit.write_outcome([2]), "2 is no project: "),
-            (lambda: pbaudit.write_election(SAMPLE, [[None]]), "None is no project: "),
+            (lambda: pbaudit.write_violation([1], [1]), "the demand names 1, which is no project: "),
+            (lambda: pbaudit.write_outcome([2]), "the outcome names 2, which is no project: "),
+            (lambda: pbaudit.write_election(SAMPLE, [[A], [None]]), "voter 2 approves None, which is no project: "),
+            (lambda: pbaudit.write_election(Instance([A, 3], 10), []), "the instance has 3, which is no project: "),
+            (lambda: pbaudit.write_prices(4, [{A: 1}, {7: 1}]), "voter 2 pays for 7, which is no project: "),
         ):
             with self.assertRaisesRegex(TypeError, f"^{told}"):
                 make()
@@ -216,6 +289,57 @@ class Files(unittest.TestCase):
             with self.assertRaisesRegex(TypeError, "^the budget allocation is None, and not a list of projects or "):
                 make()
 
+    def test_ballots_of_other_kinds(self):
+        """Cardinal ballots are no approvals, and merged ones have no order."""
+        checks = (validate_price_system, pbaudit.price_certificate)
+        makes = [lambda profile, check=check: check(SAMPLE, profile, [A, B], 4, PAYMENTS) for check in checks]
+        makes.append(lambda profile: pbaudit.write_election(SAMPLE, profile))
+        for make in makes:
+            with self.assertRaisesRegex(TypeError, "^the ballot of voter 2 is {.*}, a mapping as cardinal ballots are"):
+                make([{A}, {B: 3}, {C}])
+            with self.assertRaisesRegex(ValueError, "^the profile has merged ballots with counts, .* one ballot for each"):
+                make(Counter({frozenset([A]): 3}))
+
+    def test_numbers_of_other_kinds(self):
+        """Floats are told as such, whoever's they are, and a bool is no amount."""
+        rest = [{A: 4}, {B: 2}]
+        for amount, told in [(True, "and not a number"), *floats_of_others()]:
+            with self.subTest(amount=amount), self.assertRaisesRegex(TypeError, f"^what voter 1 pays for a is .*{told}"):
+                validate_price_system(SAMPLE, PROFILE, [A, B], 4, [{A: amount, B: 2}, *rest])
+        with self.assertRaisesRegex(TypeError, "^what voter 1 pays for a is True, and not a number"):
+            pbaudit.price_certificate(SAMPLE, PROFILE, [A, B], 4, [{A: True, B: 2}, *rest])
+        with self.assertRaisesRegex(TypeError, "^the voter budget is True, and not a number"):
+            validate_price_system(SAMPLE, PROFILE, [A, B], True, PAYMENTS)
+        for amount, _ in floats_of_others():
+            made = pbaudit.price_certificate(SAMPLE, PROFILE, [A, B], 4, [{A: amount, B: 2}, *rest])
+            self.assertEqual(made.file, pbaudit.write_prices(4, PAYMENTS))
+
+    def test_exact_numbers_of_others(self):
+        try:
+            import gmpy2
+            import numpy
+        except ImportError as why:
+            self.skipTest(str(why))
+        for kind in (gmpy2.mpq, gmpy2.mpz, numpy.int64, numpy.int8, Decimal, Fraction):
+            payments = [{project: kind(amount) for project, amount in mine.items()} for mine in PAYMENTS]
+            self.assertEqual(pbaudit.write_prices(kind(4), payments), pbaudit.write_prices(4, PAYMENTS))
+            self.assertTrue(validate_price_system(SAMPLE, PROFILE, [A, B], kind(4), payments))
+            self.assertEqual(pbaudit.price_certificate(SAMPLE, PROFILE, [A, B], kind(4), payments).denominator, 1)
+
+    def test_half_of_a_letter_is_no_name(self):
+        told = r"^the id 'a\\ud800' can't be written: it has half of a pair of surrogates"
+        for make in (lambda: pbaudit.write_outcome(["a\ud800"]),
+                     lambda: pbaudit.write_election(Instance([Project("a\ud800", 1)], 1), [])):
+            with self.assertRaisesRegex(ValueError, told):
+                make()
+
+    def test_projects_that_are_made_anew(self):
+        """Equal ones stand for each other, and none for one whose place in memory it takes."""
+        ballots = ([Project(name, 1) for name in names] for names in ("ab", "a", "bc"))
+        payments = ({Project(name, 1): amount for name, amount in mine.items()}
+                    for mine in ({"a": 2, "b": 2}, {"a": 4}, {"b": 2}))
+        self.assertTrue(validate_price_system(SAMPLE, ballots, [A, "b"], 4, payments))
+
     def test_a_text_is_no_list(self):
         """It would be taken letter by letter: here a and b are projects."""
         checks = (validate_price_system, pbaudit.price_certificate)
@@ -243,8 +367,9 @@ class Files(unittest.TestCase):
         with self.assertRaisesRegex(ValueError, "20001 projects.*20000"):
             pbaudit.write_election(many, [])
         self.assertIn(b"voter,1000000\n", pbaudit.write_violation([10**6], ["a"]))
-        with self.assertRaisesRegex(ValueError, "voters are numbered from 1 to 1000000"):
-            pbaudit.write_violation([10**6 + 1], ["a"])
+        for voter in (0, 10**6 + 1):
+            with self.assertRaisesRegex(ValueError, f"voter {voter}, and voters are numbered from 1 to 1000000"):
+                pbaudit.write_violation([1, voter], ["a"])
         for limit, most, make in (
             ("MOST_VOTERS", 3, lambda: pbaudit.write_election(SAMPLE, PROFILE)),
             ("MOST_APPROVALS", 5, lambda: pbaudit.write_election(SAMPLE, PROFILE)),
@@ -265,7 +390,7 @@ class Files(unittest.TestCase):
                 self.assertIn("Error", function.__doc__, name)
 
     def test_ids_are_not_kept_for_ever(self):
-        self.assertIsNotNone(writing._checked_id.cache_info().maxsize)
+        self.assertIsNotNone(values._checked_id.cache_info().maxsize)
 
 
 if __name__ == "__main__":

@@ -1,0 +1,60 @@
+"""The page about a certificate, for readers who know no file formats. The auditor makes it."""
+import os
+from typing import Mapping, Optional
+
+from ._auditor import Mode, PageWords
+from .auditing import page_bytes
+from .files import File, Path, path_of, write_to
+
+LANGUAGES = ("en", "pl", "de", "fr")
+
+
+def page(election: File, certificate: File, *, outcome: Optional[File] = None, stable: bool = False,
+         exhaustive: bool = True, cover: bool = False, language: str = "en") -> str:
+    """A page on a price or a violation certificate, as one HTML file. The outcome and the switches are as for
+    `explain`, and the language is "en", "pl", "de" or "fr". Raises Refusal, OSError and MemoryError, and a ValueError
+    for another language."""
+    return _made(election, certificate, outcome, Mode(stable, exhaustive, cover), language).decode("utf-8")
+
+
+def write_page(election: File, certificate: File, *, outcome: Optional[File] = None, path: Optional[Path] = None,
+               stable: bool = False, exhaustive: bool = True, cover: bool = False, language: str = "en") -> bytes:
+    """The bytes of `page`, written to `path` as well where one is given. Raises as `page`, and a ValueError where the
+    page would replace one of these files, and then writes nothing."""
+    files = {"election": election, "certificate": certificate, "outcome": outcome}
+    over = None if path is None else replaced(path, files)
+    if over:
+        raise ValueError(f"the path of the page is that of the {over}, which it would replace")
+    return write_to(path, _made(election, certificate, outcome, Mode(stable, exhaustive, cover), language))
+
+
+def replaced(path: Path, files: Mapping[str, Optional[File]]) -> Optional[str]:
+    """The name of the file that a page at this path would replace, or None."""
+    return next((name for name, file in files.items() if _is_same(file, path)), None)
+
+
+def _made(election: File, certificate: File, outcome: Optional[File], mode: Mode, language: str) -> bytes:
+    words = PageWords(_name(election, "election"), _name(certificate, "certificate"), _name(outcome, "outcome"),
+                      checked_language(language))
+    return page_bytes(election, certificate, outcome, mode, words)
+
+
+def checked_language(language: str) -> str:
+    """The code of a language that there is. Raises a ValueError for another."""
+    if language not in LANGUAGES:
+        raise ValueError(f"the language is {language!r}, and not one of {', '.join(LANGUAGES)}")
+    return language
+
+
+def _name(file: Optional[File], role: str) -> str:
+    """The name of a file without its folders; where bytes were given, what it is."""
+    path = path_of(file)
+    return role if path is None else os.path.basename(path)
+
+
+def _is_same(file: Optional[File], path: Path) -> bool:
+    """Whether a file is given by a path that leads, like the other, to one regular file."""
+    try:
+        return isinstance(file, (str, os.PathLike)) and os.path.isfile(file) and os.path.samefile(file, path)
+    except OSError:
+        return False

@@ -1,0 +1,300 @@
+"""Takes elections and payments as Python values, by their shape, which is that of pabutools.
+
+An instance is an iterable of projects with `name` and `cost`, and has a `budget_limit`; a profile is an iterable of
+approval ballots, one for each voter, and each is an iterable of projects; a project may also be named by its id, a
+`str`. A profile or payments may also be a matrix (matrices.py). Within the package projects are places in the order of
+the instance, from 0.
+
+What takes long for many voters is done for a whole ballot or payment function at a time by functions that Python has
+built in. Where one of these stumbles, the values are gone through one by one, which tells what is wrong with which.
+"""
+import reprlib
+from array import array
+from collections.abc import Mapping as AnyMapping, Set as AnySet
+from decimal import Decimal
+from fractions import Fraction
+from functools import lru_cache
+from operator import attrgetter
+from typing import (
+    Any, Collection, Dict, Iterable, Iterator, List, Mapping, Optional, Protocol, Sequence, Set, Tuple, Union,
+)
+
+from .amounts import Amount, NearAmount, exact_cost, exact_price, ratio
+from .matrices import PaymentRows, ballots_in, is_matrix
+
+BLANKS = " \t\n\v\f\r"
+PROJECTS = "projects or their ids"
+MERGED = ("the profile has merged ballots with counts, so its voters have no order that payments could be in: give one "
+          "ballot for each voter")
+
+
+class Named(Protocol):
+    """A project as a ballot or a payment function may have it."""
+
+    @property
+    def name(self) -> Any: ...
+
+
+class AnyInstance(Protocol):
+    """An instance as pabutools has it."""
+
+    @property
+    def budget_limit(self) -> Any: ...
+
+    def __iter__(self) -> Iterator[Any]: ...
+
+
+AnyProject = Union[str, Named]
+AnyBallot = Iterable[AnyProject]
+Profile = Iterable[AnyBallot]
+PaymentFunction = Mapping[Any, Amount]
+NearPaymentFunction = Mapping[Any, NearAmount]
+
+
+class Projects:
+    """Projects by their places, and the places of what names them."""
+
+    # More than two elections have.
+    _MOST_SEEN = 2**16
+
+    def __init__(self, ids: Iterable[str], is_open: bool = False, has_order: bool = True):
+        """An open one takes in each project that is named; otherwise one that isn't known is a ValueError. Those of a
+        set have no order of their own."""
+        self.ids, self._has_order = list(ids), has_order
+        self.place = {name: at for at, name in enumerate(self.ids)}
+        self._is_open = is_open
+        # The places of projects that were met, by `id`. They are kept, so that no other has the same.
+        self._places: Dict[int, int] = {}
+        self._kept: List[object] = []
+
+    def columns(self) -> List[str]:
+        """The ids, as those of a matrix's columns. Raises ValueError where the projects have no order."""
+        if not self._has_order:
+            raise ValueError("the instance is a set, whose projects have no order that columns could be in: give a list "
+                             "of them, as in Instance(projects, budget_limit)")
+        return self.ids
+
+    def places(self, projects: Collection[AnyProject], what: str) -> List[int]:
+        """The places of projects, in their order. Raises TypeError and ValueError, which begin with `what`."""
+        first = next(iter(projects), None)
+        try:
+            if type(first) is str:
+                return list(map(self.place.__getitem__, projects))  # type: ignore[arg-type]
+            return list(map(self._places.__getitem__, map(id, projects)))
+        except (KeyError, TypeError):
+            return [self._place(project, what) for project in projects]
+
+    def _place(self, project: AnyProject, what: str) -> int:
+        name = id_of(project, what)
+        if name not in self.place:
+            if not self._is_open:
+                raise ValueError(f"{what} {name}, which is no project of the instance")
+            self.place[name] = len(self.ids)
+            self.ids.append(name)
+        at = self.place[name]
+        if not isinstance(project, str):
+            if len(self._kept) >= self._MOST_SEEN:
+                self._kept.clear()
+                self._places.clear()
+            self._places[id(project)] = at
+            self._kept.append(project)
+        return at
+
+    def once(self, places: List[int], what: str) -> List[int]:
+        """These places, where none is there twice, by its id and as itself. Otherwise a ValueError."""
+        if len(set(places)) != len(places):
+            once([self.ids[at] for at in places], what)
+        return places
+
+
+class Ballots:
+    """Ballots, each as rising places of projects."""
+
+    def __init__(self, ballots: Iterable[Iterable[int]]):
+        self.places, self._ends = array("I"), array("I")
+        for ballot in ballots:
+            self.places.extend(sorted(set(ballot)))
+            self._ends.append(len(self.places))
+
+    def __len__(self) -> int:
+        return len(self._ends)
+
+    def __iter__(self) -> Iterator[Sequence[int]]:
+        start = 0
+        for end in self._ends:
+            yield self.places[start:end]
+            start = end
+
+    def __getitem__(self, voter: int) -> Sequence[int]:
+        return self.places[self._ends[voter - 1] if voter else 0:self._ends[voter]]
+
+
+class Payments:
+    """What voters pay, as it was given: for each voter a mapping from projects to amounts."""
+
+    def __init__(self, payment_functions: Iterable[NearPaymentFunction], projects: Optional[Projects] = None):
+        """A matrix is taken where its columns are those of projects. Raises TypeError where what is given is no list of
+        mappings from projects to amounts."""
+        self.functions: Sequence[NearPaymentFunction]
+        if projects is not None and is_matrix(payment_functions):
+            self.functions = PaymentRows(payment_functions, projects.columns())
+        else:
+            self.functions = functions_of(payment_functions)
+        self.kinds: Set[type] = set()
+        for voter, function in enumerate(self.functions, 1):
+            if not callable(getattr(function, "values", None)):
+                raise TypeError(f"the payment function of voter {voter} is {reprlib.repr(function)}, and not a mapping "
+                                "from projects to amounts")
+            self.kinds.update(map(type, function.values()))
+        self._is_whole, self._is_rational = self.kinds <= {int}, self.kinds <= {int, Fraction}
+        self._is_exact = self.kinds <= {int, Fraction, Decimal}
+
+    def check_exact(self) -> None:
+        """Raises TypeError where an amount is a float or no number, and ValueError where one is no amount."""
+        for voter, function in enumerate(self.functions, 1) if not self._is_exact else ():
+            for project, amount in function.items():
+                exact_price(amount, _what(voter, project))
+
+    def denominators(self) -> Iterator[int]:
+        """The denominators of all amounts, some of them more than once. They needn't be the least."""
+        if self._is_whole:
+            return
+        seen: Set[int] = set()
+        for voter, function in enumerate(self.functions, 1):
+            if self._is_rational:
+                found = set(map(attrgetter("denominator"), function.values()))
+            else:
+                found = {denominator for _, denominator in self.ratios(voter, function)}
+            yield from found - seen
+            if len(seen) < 2**16:
+                seen |= found
+
+    def ratios(self, voter: int, function: NearPaymentFunction) -> Iterable[Any]:
+        """A numerator and a denominator of each amount of a voter."""
+        values = function.values()
+        if self._is_rational:
+            return zip(map(attrgetter("numerator"), values), map(attrgetter("denominator"), values))
+        try:
+            if self._is_exact:
+                return [amount.as_integer_ratio() for amount in values]  # type: ignore[union-attr]
+        except (ValueError, OverflowError):
+            pass
+        return [ratio(amount, _what(voter, project)) for project, amount in function.items()]
+
+    def numerators(self, voter: int, function: NearPaymentFunction, denominator: int) -> List[int]:
+        """The amounts of a voter as numerators over a common denominator."""
+        if self._is_whole:
+            return [amount * denominator for amount in function.values()]  # type: ignore[misc, operator]
+        return [numerator * (denominator // part) for numerator, part in self.ratios(voter, function)]
+
+
+def _what(voter: int, project: AnyProject) -> str:
+    return f"what voter {voter} pays for {id_of(project, f'voter {voter} pays for')}"
+
+
+def costs_of(instance: AnyInstance) -> Dict[str, Fraction]:
+    """What each project costs, by id and in the instance's order. An instance that is a set, as in pabutools, is put in
+    order by the ids."""
+    costs: Dict[str, Fraction] = {}
+    projects = listed(instance, "the instance is", "projects with a budget_limit")
+    for project in sorted(projects, key=id_of) if isinstance(projects, AnySet) else projects:
+        name = id_of(project)
+        if not hasattr(project, "cost"):
+            raise TypeError(f"the instance's project {name} has no cost")
+        if name in costs:
+            raise ValueError(f"two projects have the id {name!r}")
+        costs[name] = exact_cost(project.cost, f"the cost of {name}")
+    return costs
+
+
+def projects_of(instance: AnyInstance) -> Tuple[Projects, List[Fraction], Fraction]:
+    """The projects of an instance, what they cost, and the budget limit."""
+    costs = costs_of(instance)
+    projects = Projects(costs, has_order=not isinstance(instance, AnySet))
+    return projects, list(costs.values()), limit_of(instance)
+
+
+def limit_of(instance: AnyInstance) -> Fraction:
+    """The budget limit of an instance."""
+    if not hasattr(instance, "budget_limit"):
+        raise TypeError(f"the instance is {reprlib.repr(instance)}, which has no budget_limit")
+    return exact_cost(instance.budget_limit, "the budget limit")
+
+
+def ballots_of(profile: Profile, projects: Projects) -> Ballots:
+    """The ballots of a profile."""
+    if is_matrix(profile):
+        return Ballots(ballots_in(profile, projects.columns()))
+    return Ballots(projects.places(ballot, f"voter {voter} approves")
+                   for voter, ballot in enumerate(_ballots(profile), 1))
+
+
+def _ballots(profile: Profile) -> Iterator[Collection[AnyProject]]:
+    """The ballots of a profile, each as it is given, or as a list where it can be read once only."""
+    if isinstance(profile, AnyMapping):
+        raise ValueError(MERGED)
+    for voter, ballot in enumerate(listed(profile, "the profile is", "ballots"), 1):
+        if isinstance(ballot, AnyMapping):
+            raise TypeError(f"the ballot of voter {voter} is {reprlib.repr(ballot)}, a mapping as cardinal ballots "
+                            f"are, and not a list of {PROJECTS}: approvals are what is audited")
+        approved = listed(ballot, f"the ballot of voter {voter} is", PROJECTS)
+        yield approved if isinstance(approved, Collection) else list(approved)
+
+
+def functions_of(payment_functions: Iterable[NearPaymentFunction]) -> List[NearPaymentFunction]:
+    """The payment functions as a list, also where they are an iterator."""
+    return list(listed(payment_functions, "the payment functions are", "mappings, one for each voter", AnyMapping))
+
+
+def check_count(ballots: int, functions: int) -> None:
+    """Raises ValueError where there isn't one payment function for each ballot."""
+    if ballots != functions:
+        raise ValueError(f"there are {ballots} ballots and {functions} payment functions")
+
+
+def funded_of(budget_allocation: Iterable[AnyProject], projects: Projects) -> List[int]:
+    """The places of the funded projects."""
+    funded = listed(budget_allocation, "the budget allocation is", PROJECTS)
+    return projects.once(projects.places(list(funded), "the outcome names"), "the outcome names")
+
+
+def ids_of(projects: Iterable[AnyProject], what: str, names: str) -> List[str]:
+    """The ids of projects, none of them twice. Errors tell what they are, or what names one that isn't right."""
+    return once([id_of(project, names) for project in listed(projects, what, PROJECTS)], names)
+
+
+def listed(values: Any, what: str, wanted: str, *unwanted: type) -> Iterable[Any]:
+    """Values that are an iterable. A text isn't what is wanted, since it would be taken letter by letter."""
+    if isinstance(values, (str, bytes, *unwanted)) or not hasattr(values, "__iter__"):
+        raise TypeError(f"{what} {reprlib.repr(values)}, and not a list of {wanted}")
+    return values  # type: ignore[no-any-return]
+
+
+def once(names: List[Any], what: str) -> List[Any]:
+    """These names, where none is there twice. Otherwise a ValueError."""
+    seen = set()
+    for name in names:
+        if name in seen:
+            raise ValueError(f"{what} {name} twice")
+        seen.add(name)
+    return names
+
+
+def id_of(project: AnyProject, names: str = "the instance has") -> str:
+    """The id of a project, which is its name or itself. A TypeError says what names it."""
+    if isinstance(project, str):
+        return _checked_id(project)
+    if not hasattr(project, "name"):
+        raise TypeError(f"{names} {reprlib.repr(project)}, which is no project: one has a name, or is given by its "
+                        "id, a str")
+    return _checked_id(str(project.name))
+
+
+# More ids than two elections have.
+@lru_cache(maxsize=2**16)
+def _checked_id(name: str) -> str:
+    if not name or name != name.strip(BLANKS) or any(letter < " " or letter == "\x7f" for letter in name):
+        raise ValueError(f"the id {name!r} can't be written: it is empty, has a blank at an end, or a control byte")
+    if not name.isascii() and any("\ud800" <= letter <= "\udfff" for letter in name):
+        raise ValueError(f"the id {name!r} can't be written: it has half of a pair of surrogates, which is no letter")
+    return name

@@ -1,0 +1,243 @@
+"""The Method of Equal Shares, beside a plain one by fractions, and its command."""
+import io
+import pathlib
+import subprocess
+import sys
+import tempfile
+import unittest
+from fractions import Fraction
+from unittest import mock
+
+import pbaudit
+from pbaudit import Instance, Project, certified_shares, equal_shares, shares, values
+from pbaudit.election_files import election_of
+from test_certificates import an_election
+
+REPOSITORY = pathlib.Path(__file__).resolve().parents[2]
+EXAMPLES = REPOSITORY / "examples"
+
+
+def plain_shares(instance, profile, by, budget):
+    """The rule as it is defined, by fractions: what is bought, and what each voter pays."""
+    supporters = {project: [voter for voter, ballot in enumerate(profile) if project in ballot] for project in instance}
+    left, payments, funded = [budget] * len(profile), [{} for _ in profile], []
+    while True:
+        prices = {project: price(project, [left[voter] for voter in supporters[project]], by)
+                  for project in instance if project not in funded and project.cost > 0}
+        affordable = [project for project in prices if prices[project] is not None]
+        if not affordable:
+            return [project.name for project in funded], payments
+        bought = min(affordable, key=prices.get)
+        for voter in supporters[bought]:
+            paid = min(left[voter], prices[bought] * worth(bought, by))
+            left[voter] -= paid
+            if paid:
+                payments[voter][bought.name] = paid
+        funded.append(bought)
+
+
+def worth(project, by):
+    return project.cost if by == "cost" else 1
+
+
+def price(project, lefts, by):
+    """The least price of a unit of worth at which supporters with so much left can pay for a project, or none."""
+    if sum(lefts) < project.cost:
+        return None
+    missing, payers = project.cost, len(lefts)
+    for left in sorted(lefts):
+        if left * payers >= missing:
+            return Fraction(missing) / payers / worth(project, by)
+        missing -= left
+        payers -= 1
+
+
+def run(*words, **given):
+    command = [sys.executable, "-m", "pbaudit", "equal-shares", *map(str, words)]
+    return subprocess.run(command, capture_output=True, text=True, check=False, **given)
+
+
+class Rule(unittest.TestCase):
+    def test_as_it_is_defined(self):
+        for seed in range(60):
+            instance, profile, by = an_election(seed)
+            wanted = plain_shares(instance, profile, by, Fraction(instance.budget_limit) / len(profile))
+            with self.subTest(seed=seed):
+                found = equal_shares(instance, profile, by=by)
+                self.assertEqual((found.funded, found.payments), wanted)
+
+    def test_add1_raises_the_budget_by_one(self):
+        """Until nothing fits any more, or the next outcome costs more than the limit."""
+        ends = set()
+        for seed in range(12):
+            instance, profile, by = an_election(seed)
+            costs = {project.name: project.cost for project in instance}
+            budget = Fraction(instance.budget_limit) / len(profile)
+            wanted, runs = plain_shares(instance, profile, by, budget), 1
+            while runs < 200:
+                left = instance.budget_limit - sum(map(costs.get, wanted[0]))
+                approved = {project.name for ballot in profile for project in ballot}
+                if not any(costs[name] <= left for name in approved - set(wanted[0])):
+                    ends.add("full")
+                    break
+                more, runs = plain_shares(instance, profile, by, budget + 1), runs + 1
+                if sum(map(costs.get, more[0])) > instance.budget_limit:
+                    ends.add("over")
+                    break
+                wanted, budget = more, budget + 1
+            else:
+                continue
+            found = equal_shares(instance, profile, by=by, completion="add1")
+            self.assertEqual((found.funded, found.payments, found.voter_budget, found.runs), (*wanted, budget, runs))
+        self.assertEqual(ends, {"full", "over"})
+
+    def test_rounded_amounts_leave_no_doubt(self):
+        """What is bought is found from rounded amounts as from exact ones, with ties too, and where these leave a doubt
+        an exact run decides."""
+        for seed in range(40):
+            instance, profile, by = an_election(seed)
+            rule = self.rule_of(instance, profile, by)
+            for more in range(3):
+                budget = rule.limit / rule.voters + more
+                rounded, exact = (shares.Run(rule, budget, 1, None, is_exact).bought for is_exact in (False, True))
+                self.assertEqual([each.project for each in rounded], [each.project for each in exact])
+        # After c, voter 2 has 2/3 left of 1, which is what a costs exactly.
+        third = Fraction(1, 3)
+        rule = self.rule_of(Instance([Project("c", 1), Project("a", 2 * third)], 3), [["c"], ["c", "a"], ["c"]], "count")
+        with mock.patch.object(shares.Run, "_BITS", 0):
+            self.assertEqual(rule.funded_by(Fraction(1)), {0, 1})
+
+    def test_a_doubt_is_an_exact_run(self):
+        """By few bits there is one; by any number of them the answer is the same."""
+        doubts = 0
+        for seed in range(40):
+            instance, profile, by = an_election(seed)
+            rule = self.rule_of(instance, profile, by)
+            budget = rule.limit / rule.voters
+            wanted = {each.project for each in shares.Run(rule, budget, 1, None).bought}
+            for bits in (0, 4, 12):
+                with mock.patch.object(shares.Run, "_BITS", bits):
+                    self.assertEqual(rule.funded_by(budget), wanted)
+                    try:
+                        shares.Run(rule, budget, 1, None, is_exact=False)
+                    except shares.Unsure:
+                        doubts += 1
+        self.assertGreater(doubts, 3)
+
+    @staticmethod
+    def rule_of(instance, profile, by):
+        costs = values.costs_of(instance)
+        ballots = values.ballots_of(profile, values.Projects(costs))
+        return shares.Rule(list(costs.values()), values.limit_of(instance), ballots, by)
+
+    def test_ties_and_projects_that_cost_nothing(self):
+        a, b, free, lone = Project("a", 4), Project("b", 4), Project("free", 0), Project("lone", 0)
+        found = equal_shares(Instance([b, a, free, lone], 4), [{a, b, free}, {a, b}])
+        self.assertEqual(found.funded, ["free", "b"])
+        self.assertEqual(found.payments, [{"b": 2}, {"b": 2}])
+        self.assertEqual(equal_shares(Instance([a], 4), []).funded, [])
+
+    def test_words_that_are_not_known(self):
+        for given in ({"by": "votes"}, {"completion": "add2"}):
+            with self.assertRaises(ValueError):
+                equal_shares(Instance([Project("a", 1)], 1), [["a"]], **given)
+
+
+class Files(unittest.TestCase):
+    def test_an_election_is_read(self):
+        odd = (b'\xef\xbb\xbfmeta;;\r\nkey;value\rBudget; 10,5 \nvote_type;approval\nPROJECTS\nNAME;cost;Project_ID;selected\n'
+               b'"A;B";6; a ;1\n;4.25;b;0\n;;;\nVotes\nvoter_id;vote\n1;"b, a ,"\n2;\n3;b,b\n')
+        self.assertEqual(str(pbaudit.read(odd)), "read 3 voters 2 projects 1 funded")
+        election = election_of(odd)
+        self.assertEqual((election.projects.ids, election.costs, election.limit, election.funded),
+                         (["a", "b"], [6, Fraction("4.25")], Fraction("10.5"), {0}))
+        self.assertEqual([list(ballot) for ballot in election.ballots], [[0, 1], [], [1]])
+        self.assertIsNone(election_of((EXAMPLES / "sample.pb").read_bytes().replace(b"selected", b"chosen")).funded)
+
+
+class Told(unittest.TestCase):
+    def test_progress_on_a_terminal(self):
+        """Twice a second at most: the voters, the run, the budget, what is spent, and in the first run the time left."""
+        terminal, times = io.StringIO(), iter([0, 0, 0.4, 10, 10.1, 12])
+        with mock.patch.object(sys, "stderr", terminal), mock.patch.object(
+                certified_shares.time, "monotonic", lambda: next(times)):
+            tell = certified_shares._Teller(7)
+            terminal.isatty = lambda: True
+            for run, spent in ((1, 10), (1, 25), (2, 40), (2, 50)):
+                tell(shares.Progress(run, Fraction(9, 2), Fraction(spent), Fraction(100)))
+            terminal.isatty = lambda: False
+            certified_shares.clear_progress()
+        told = [line.rstrip(" \033[K") for line in terminal.getvalue().split("\r")[1:]]
+        self.assertEqual(told, ["7 voters, run 1, voter budget 4.50, 25% of the limit spent, about 30 s left",
+                                "7 voters, run 2, voter budget 4.50, 50% of the limit spent"])
+
+
+class Commands(unittest.TestCase):
+    def setUp(self):
+        room = tempfile.TemporaryDirectory()
+        self.addCleanup(room.cleanup)
+        self.room = pathlib.Path(room.name)
+
+    def test_the_files_are_those_of_the_example(self):
+        done = run(EXAMPLES / "district.pb", "-o", self.room / "d.prices.csv")
+        self.assertEqual((done.returncode, done.stderr), (1, ""))
+        for name in ("outcome", "prices"):
+            self.assertEqual((self.room / f"d.{name}.csv").read_bytes(),
+                             (EXAMPLES / f"district.shares.{name}.csv").read_bytes())
+        wanted = pbaudit.explain(EXAMPLES / "district.pb", EXAMPLES / "district.shares.prices.csv",
+                                 EXAMPLES / "district.shares.outcome.csv", stable=True, cover=True)
+        for finding in wanted.findings:
+            if finding.state == "fails":
+                self.assertIn(f"fails: {finding.sentence}\n", done.stdout)
+        self.assertIn("\n  plain       holds\n", done.stdout)
+        self.assertIn("another outcome: the rule doesn't fund 101\n", done.stdout)
+
+    def test_an_outcome_that_is_the_own(self):
+        """Raised by add1 the budgets are stated by the certificate."""
+        data = (EXAMPLES / "district.pb").read_bytes()
+        made = equal_shares(*self.values_of(data), by="count", completion="add1")
+        town = self.room / "town.pb"
+        town.write_bytes(pbaudit.write_election(*self.values_of(data), made.funded))
+        done = run(town, "--by", "count", "--completion", "add1", "-o", self.room / "town.prices.csv")
+        self.assertEqual((done.returncode, done.stderr), (0, ""))
+        self.assertIn("this is the outcome that the election states\n", done.stdout)
+        self.assertFalse((self.room / "town.outcome.csv").exists())
+        self.assertTrue(pbaudit.audit_prices(town, self.room / "town.prices.csv", stable=True, cover=True))
+        self.assertIn(f"voter_budget,{int(made.voter_budget) * 16632}\n".encode(),
+                      (self.room / "town.prices.csv").read_bytes())
+        self.assertGreater(made.voter_budget, 1850)
+
+    @staticmethod
+    def values_of(data):
+        election = election_of(data)
+        ids = election.projects.ids
+        instance = Instance([Project(*pair) for pair in zip(ids, election.costs)], election.limit)
+        return instance, [[ids[at] for at in ballot] for ballot in election.ballots]
+
+    def test_how_it_ends_otherwise(self):
+        torn = self.room / "torn.pb"
+        torn.write_bytes(b"META\n")
+        done = run(torn)
+        self.assertEqual((done.returncode, done.stdout), (2, "refused election 3 NoHeader record 2\n"))
+        self.assertIn(str(torn), done.stderr)
+        done = run(self.room / "missing.pb")
+        self.assertEqual((done.returncode, done.stdout), (2, "refused election 18 Read record 0\n"))
+        for words in ((torn, "--by", "votes"), (torn, "--completion", "add2"), (torn, "-o", torn), ()):
+            self.assertEqual(run(*words).returncode, 3, words)
+        self.assertEqual(run(EXAMPLES / "district.pb", "-o", self.room / "no" / "prices.csv").returncode, 4)
+
+    def test_a_city(self):
+        """60 s are what a larger election may take."""
+        chance = __import__("random").Random("city")
+        instance = Instance([Project(f"p{at}", chance.randint(2_000, 40_000)) for at in range(150)], 500_000)
+        ballots = [[f"p{at}" for at in chance.sample(range(150), 8)] for _ in range(10_000)]
+        city = self.room / "city.pb"
+        pbaudit.write_election(instance, ballots, path=city)
+        done = run(city, "-o", self.room / "city.prices.csv", timeout=60)
+        self.assertEqual((done.returncode, done.stderr), (0, ""))
+        self.assertTrue(pbaudit.audit_prices(city, self.room / "city.prices.csv", self.room / "city.outcome.csv",
+                                             exhaustive=False))
+
+
+if __name__ == "__main__":
+    unittest.main()
