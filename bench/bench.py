@@ -1,7 +1,7 @@
 #!/usr/bin/env python3
 """Measures the commands of pbaudit on elections that it makes up: the time, best of three, and the greatest memory.
 
-    python3 bench/bench.py PROGRAM [VOTERS PROJECTS] [--peer]
+    python3 bench/bench.py PROGRAM [VOTERS PROJECTS] [--peer] [--plain=PLAIN]
 
 PROGRAM is the built program, crates/pbaudit/out/pbaudit. Without VOTERS and PROJECTS it goes through a few sizes.
 
@@ -9,7 +9,8 @@ Every voter approves 8 projects and pays one amount for each of those that are f
 what is paid for it. An unfunded project costs as much as its supporters' budgets together. So the prices support the
 outcome in both forms, and every condition is gone through to its end. The group of the violation certificate is all
 supporters of the first project, who demand it, and by the outcome file nothing is funded. Less memory than that of Python
-itself, about 10 MB, is not told apart. With --peer the script bench/prices.py answers the same question beside 'prices'.
+itself, about 10 MB, is not told apart. With --peer the script bench/prices.py answers the same question beside 'prices'. With --plain the program
+PLAIN answers those of 'read' and 'violation' beside them: bench/plain/build FOLDER builds it from Rust as FOLDER/release/plain.
 """
 import os
 import random
@@ -74,15 +75,19 @@ def run(program, words, out):
         return seconds, used.ru_maxrss, text.readline().strip()
 
 
-def measure(program, voters, projects, peer):
+def measure(program, voters, projects, peer, plain):
     with tempfile.TemporaryDirectory() as room:
         names = ("e.pb", "prices.csv", "violation.csv", "outcome.csv", "out")
         election, prices, violation, outcome, out = (f"{room}/{name}" for name in names)
         in_child(write_files, election, prices, violation, outcome, voters, projects)
         print(f"{voters} voters, {projects} projects, {os.path.getsize(election) / 1e6:.1f} MB, certificate {os.path.getsize(prices) / 1e6:.1f} MB")
-        for words in (["read"], ["prices", prices], ["prices", prices, "--stable"], ["violation", violation, "--outcome", outcome], ["tidy", prices]):
+        for words in (["read"], ["prices", prices], ["prices", prices, "--stable"], ["explain", prices], ["page", prices],
+                      ["violation", violation, "--outcome", outcome], ["tidy", prices]):
             command = [words[0], election, *words[1:]]
             tell(program, command, out)
+        if plain:
+            tell(plain, ["read", election], out)
+            tell(plain, ["violation", election, violation, outcome], out)
         if peer:
             tell(sys.executable, [os.path.join(os.path.dirname(os.path.abspath(__file__)), "prices.py"), election, prices], out)
 
@@ -95,13 +100,14 @@ def tell(program, command, out):
 
 def main(words):
     peer = "--peer" in words
-    words = [word for word in words if word != "--peer"]
+    plain = next((os.path.abspath(word[8:]) for word in words if word.startswith("--plain=")), None)
+    words = [word for word in words if word != "--peer" and not word.startswith("--plain=")]
     if len(words) not in (1, 3):
         sys.exit(__doc__)
     program = os.path.abspath(words[0])
     sizes = [tuple(int(word) for word in words[1:3])] if len(words) == 3 else SIZES
     for voters, projects in sizes:
-        measure(program, voters, projects, peer)
+        measure(program, voters, projects, peer, plain)
 
 
 if __name__ == "__main__":

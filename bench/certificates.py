@@ -19,9 +19,9 @@ from fractions import Fraction
 
 TOP = os.path.dirname(os.path.dirname(os.path.abspath(__file__)))
 sys.path[:0] = [os.path.join(TOP, "python"), os.path.join(TOP, "python", "tests")]
-from pbaudit import CannotKeep, Instance, Project, price_certificate, validate_price_system  # noqa: E402
+from pbaudit import CannotKeep, Instance, Project, equal_shares, price_certificate, validate_price_system  # noqa: E402
 from pbaudit.amounts import common_denominator  # noqa: E402
-from test_certificates import an_election, equal_shares  # noqa: E402
+from test_certificates import an_election  # noqa: E402
 
 
 def is_kept(*words):
@@ -36,17 +36,18 @@ def measure_rule(elections):
     counts = collections.Counter()
     for seed in range(elections):
         instance, profile, measure = an_election(seed)
-        funded, budget, payments = equal_shares(instance, profile, measure)
+        shares = equal_shares(instance, profile, by=measure)
+        funded, budget, payments = shares.funded, shares.voter_budget, shares.payments
         floats = [{project: float(amount) for project, amount in mine.items()} for mine in payments]
         cents = [{project: Fraction(round(amount * 100), 100) for project, amount in mine.items()} for mine in payments]
         near = Fraction(round(budget * 100), 100)
-        costs = sum(project.cost for project in funded)
+        costs = sum(project.cost for project in instance if project.name in funded)
         counts["got a certificate from fractions"] += is_kept(instance, profile, funded, budget, payments)
         counts["got a certificate from floats"] += is_kept(instance, profile, funded, float(budget), floats)
         counts["would get one by rounding each payment to the nearest cent"] += bool(
             validate_price_system(instance, profile, funded, near, cents, exhaustive=False))
         counts["leave room for another project"] += any(
-            project not in funded and costs + project.cost <= instance.budget_limit for project in instance)
+            project.name not in funded and costs + project.cost <= instance.budget_limit for project in instance)
         amounts = [budget, *(amount for mine in payments for amount in mine.values())]
         counts["need a denominator over 10^9 to be exact"] += common_denominator(amounts) > 10**9
     for what, count in counts.items():

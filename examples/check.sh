@@ -66,6 +66,7 @@ compare
 ends 0 some nothing --help
 ends 3 nothing some prices sample.pb
 ends 3 nothing some read $'\xff.pb'
+ends 3 nothing some page sample.pb sample.prices.csv --language xx
 ends 4 full 'fault write' read sample.pb
 ends 4 full 'fault write' folder .
 
@@ -102,16 +103,48 @@ printf 'META\n' > "$work/pipe" &
 ends 2 'refused election 3 NoHeader record 2' "$work/pipe: record 2: a section has no header" read "$work/pipe"
 ends 2 'refused election 2 NoMeta record 1' "standard input: record 1: the file doesn't begin with META"
 
-# many FOLDER WORD..: many.sh has to write what `pbaudit folder` writes by these words, and to end as it does.
+# A folder that hides a GNU parallel that is installed, so that many.sh takes xargs.
+mkdir "$work/xargs"
+printf '#!/bin/sh\nexit 1\n' > "$work/xargs/parallel"
+chmod +x "$work/xargs/parallel"
+# What stands in for ssh: it notes the name of the machine, and runs the command on this one, with SHELL set as sshd sets it.
+cat > "$work/ssh" <<EOF
+#!/bin/sh
+printf '%s\n' "\$1" >> "$work/machines"
+shift 2
+cd / && SHELL=/bin/sh exec sh -c "\$*"
+EOF
+chmod +x "$work/ssh"
+ways=(xargs)
+if parallel --version 2> /dev/null | grep -q '^GNU parallel'; then
+  ways+=(parallel ssh)
+else
+  echo 'GNU parallel is not installed: many.sh was tried by xargs alone'
+fi
+
+# many FOLDER WORD..: many.sh has to write what `pbaudit folder` writes by these words, and to end as it does, by each way
+# of starting processes.
 many() {
-  local status=0 other=0
+  local status=0 way
   timeout 60 "$program" folder "$@" < /dev/null > "$work/one" 2> "$work/one.errors" || status=$?
-  PBAUDIT=$program timeout 60 ./many.sh "$@" < /dev/null > "$work/other" 2> "$work/other.errors" || other=$?
+  for way in "${ways[@]}"; do
+    many_by "$way" "$status" "$@"
+  done
+}
+
+# many_by WAY STATUS FOLDER WORD..: compares many.sh with what the program wrote, and with its status.
+many_by() {
+  local way=$1 status=$2 other=0 path=$PATH options=
+  shift 2
+  [ "$way" != xargs ] || path=$work/xargs:$PATH
+  [ "$way" != ssh ] || options="--ssh $work/ssh --sshlogin one,two"
+  PATH=$path PARALLEL=$options PBAUDIT=$program timeout 60 \
+    ./many.sh "$@" < /dev/null > "$work/other" 2> "$work/other.errors" || other=$?
   if [ "$status" = "$other" ] && cmp -s "$work/one" "$work/other" && cmp -s "$work/one.errors" "$work/other.errors"; then
     passed=$((passed + 1))
   else
     failed=$((failed + 1))
-    printf 'many.sh %s\nwanted: status %s\n' "$*" "$status"
+    printf 'many.sh %s, by %s\nwanted: status %s\n' "$*" "$way" "$status"
     cat "$work/one" "$work/one.errors"
     printf 'ended with status %s, and wrote:\n' "$other"
     cat "$work/other" "$work/other.errors"
@@ -166,7 +199,23 @@ mkdir "$work/none" "$work/latin"
 many "$work/none"
 cp sample.pb "$work/latin/"$'\xe9.pb'
 many "$work/latin"
-ends 2 'refused folder 18 Read record 0' nothing folder "$work/latin"
+mkdir "$work/misses"
+cp sample.pb "$work/misses/a.PB"
+cp sample.prices.csv "$work/misses/b.Prices.csv"
+cp sample.prices.csv "$work/misses/b.prices.csv"
+many "$work/misses"
+if [ "${#ways[@]}" -gt 1 ]; then
+  if [ "$(sort -u "$work/machines" | tr '\n' ' ')" = 'one two ' ]; then
+    passed=$((passed + 1))
+  else
+    failed=$((failed + 1))
+    echo 'parallel did not start processes on both machines'
+  fi
+fi
+ends 2 'refused folder 18 Read record 0' "$work/latin: the name of a file in it isn't UTF-8" folder "$work/latin"
+ends 2 'refused folder 18 Read record 0' 'sample.pb: Not a directory' folder sample.pb
+ends 2 'refused folder 18 Read record 0' "'': the path is empty" folder ''
+ends 2 'refused election 18 Read record 0' "'': the path is empty" read ''
 ends 0 'total 0 elections 0 yes 0 no 0 refused' some folder "$work/none"
 
 # Nothing is told on standard error but on a terminal, where the line is cleared at the end.

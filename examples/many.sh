@@ -11,11 +11,12 @@ if [ $# = 0 ]; then
     echo 'usage: examples/many.sh FOLDER [words of pbaudit folder]' >&2
     exit 3
 fi
-folder=$1
+given=$1 folder=$1
 shift
 # A folder whose name begins with '-' is no word for the commands below.
 case $folder in
     ''|/*) ;;
+    -*) given=./$folder folder=./$folder ;;
     *) folder=./$folder ;;
 esac
 program=${PBAUDIT:-$(dirname "$(readlink -f "${BASH_SOURCE[0]}")")/../pbaudit}
@@ -46,7 +47,7 @@ is_file() {
 # listed, on words that aren't understood, and on a folder without elections.
 mkdir "$work/names" "$work/parts"
 if [ -z "$folder" ] || ! find "$folder/" -mindepth 1 -maxdepth 1 -printf '%P\0' > "$work/list" 2>/dev/null; then
-    "$program" folder "$folder" "$@"
+    "$program" folder "$given" "$@"
     exit $?
 fi
 mapfile -d '' -t names < "$work/list"
@@ -56,18 +57,25 @@ done
 status=0
 "$program" folder "$work/names" "$@" > "$work/out" 2> "$work/err" || status=$?
 if [ "$status" != 0 ] || ! grep -q '^total 0 ' "$work/out"; then
-    finish "$work/out" "$work/err" "$status"
+    "$program" folder "$given" "$@"
+    exit $?
 fi
 
-# The elections, in the byte order of their names without .pb.
+# The elections, in the byte order of their names without .pb, and empty files of the names of all files that are named as
+# elections and certificates are, in small or capital letters: what is told beside the report depends on these alone.
 elections=()
+mkdir "$work/empty"
 for name in "${names[@]}"; do
+    ! is_file "$folder/$name" || case ${name,,} in
+        *.pb|*.prices.csv|*.violation.csv) : > "$work/empty/$name" ;;
+    esac
     case $name in
         *[$'\001'-$'\037\177']*) ;;
         ?*.pb) ! is_file "$folder/$name" || elections+=("${name%.pb}") ;;
     esac
 done
-[ "${#elections[@]}" != 0 ] || finish "$work/out" "$work/err" 0
+"$program" folder "$work/empty" > "$work/none" 2> "$work/told"
+[ "${#elections[@]}" != 0 ] || finish "$work/out" "$work/told" 0
 mapfile -d '' -t elections < <(printf '%s\0' "${elections[@]}" | sort -z)
 
 for number in "${!elections[@]}"; do
@@ -109,4 +117,4 @@ echo "total ${#elections[@]} elections $yes yes $no no $refused refused" >> "$wo
 status=0
 [ "$no" = 0 ] || status=1
 [ "$refused" = 0 ] || status=2
-finish "$work/report" /dev/null "$status"
+finish "$work/report" "$work/told" "$status"

@@ -8,10 +8,11 @@ run meets no failure. Each command runs on the examples and on a few files more.
 
 - memory: 'fault memory' on standard error, status 4, and nothing on standard output; or the answer of an ordinary run;
 - open, read: 'refused INPUT 18 Read record 0' for the input of that file, with the reason as a hint, and none behind it is
-  opened; or the refusal of an ordinary run with another hint, where the file was opened again for it. A read that gives
-  one byte changes nothing. In a folder the line of that file becomes a refusal, and the total changes;
-- list: 'refused folder 18 Read record 0', and 'fault memory' where the system wants memory; what can't be looked at
-  counts as a file, so that nothing changes;
+  opened (notes on the election stand before the hint on another input); or the refusal of an ordinary run with another
+  hint, where the file was opened again for it. A read that gives one byte changes nothing. In a folder the line of that
+  file becomes a refusal, and the total changes;
+- list: 'refused folder 18 Read record 0' with the reason as a hint, and 'fault memory' where the system wants memory; what
+  can't be looked at counts as a file, so that nothing changes;
 - write: 'fault write', status 4, and a front of the text; a write that takes one byte changes nothing. Where standard
   error isn't taken, nothing else changes.
 
@@ -38,6 +39,8 @@ from limits import UNFAIR, UNFAIR_VIOLATION
 HERE = os.path.dirname(os.path.abspath(__file__))
 EXAMPLES = os.path.join(os.path.dirname(HERE), "examples")
 SAMPLE, DISTRICT = "sample.pb", "district.pb"
+# The sample, with counts that aren't those of its rows: notes say so beside an answer.
+NOTED = "noted.pb"
 COMMANDS = [
     ["read", SAMPLE], [], ["read", DISTRICT], ["read", "sample.prices.csv"], ["prices", SAMPLE, "sample.prices.csv"],
     ["prices", SAMPLE, "sample.prices.csv", "--stable"],
@@ -57,6 +60,12 @@ COMMANDS = [
     ["prices", DISTRICT, "district.stable.prices.csv", "--stable", "--cover", "--outcome", "district.stable.outcome.csv"],
     ["both", SAMPLE, "sample.prices.csv", "district.violation.csv"],
     ["both", DISTRICT, "district.stable.prices.csv", "district.violation.csv", "--stable", "--cover", "--outcome", "district.stable.outcome.csv"],
+    ["prices", NOTED, "sample.prices.csv"], ["explain", NOTED, "sample.prices.csv", "--stable"],
+    ["violation", NOTED, "sample.wrong.violation.csv", "--outcome", "sample.outcome.csv"],
+    ["page", SAMPLE, "sample.prices.csv"], ["page", DISTRICT, "district.short.prices.csv", "--language", "de"],
+    ["page", SAMPLE, "sample.prices.csv", "--stable", "--outcome", "sample.outcome.csv", "--language", "pl"],
+    ["page", DISTRICT, "district.violation.csv", "--outcome", "district.other.outcome.csv", "--language", "fr"],
+    ["page", SAMPLE, "sample.outcome.csv"],
 ]  # fmt: skip
 WAYS = [
     ("memory", str(errno.ENOMEM)), ("open", str(errno.EACCES)), ("read", str(errno.EIO)), ("read", str(errno.EINTR)),
@@ -74,6 +83,8 @@ TESTS = {
         "tests::explain::", "tests::replies::", "tests::reply::answers::", "tests::reply::lines::",
         "tests::reply::taking::",
     ),
+    "pb_audit_tests": ("tests::both::one_no_of_two_is_a_no",),
+    "pb_page_tests": ("tests::answers::", "tests::names::"),
 }  # fmt: skip
 # How such a test ends where memory is wanted: by the call, or by the writer into memory that the test gives it.
 WANTS = (
@@ -101,8 +112,10 @@ def fill(room):
     os.mkdir(none)
     shutil.copy(os.path.join(EXAMPLES, SAMPLE), os.path.join(two, "one.pb"))
     shutil.copy(os.path.join(EXAMPLES, "sample.prices.csv"), os.path.join(two, "one.prices.csv"))
+    with open(os.path.join(EXAMPLES, SAMPLE)) as file:
+        noted = file.read().replace("num_votes;3", "num_votes;4").replace("num_projects;3", "num_projects;2")
     for path, text in (
-        ("unfair.pb", UNFAIR), ("unfair.violation.csv", UNFAIR_VIOLATION), ("two/two.pb", ""),
+        (NOTED, noted), ("unfair.pb", UNFAIR), ("unfair.violation.csv", UNFAIR_VIOLATION), ("two/two.pb", ""),
         ("two/one.violation.csv", "pb-violation,1\nproject,b\nvoter,3\nvoter,1\n"),
     ):  # fmt: skip
         with open(os.path.join(room, path), "w") as file:
@@ -170,8 +183,9 @@ def inputs_of(words):
     return inputs + list(zip(names, words[2:]))
 
 
-def is_refused(words, how, told, said):
-    """Whether the input of the file that failed was refused for this reason, and none was opened behind it."""
+def is_refused(words, how, told, said, ordinary):
+    """Whether the input of the file that failed was refused for this reason, and none was opened behind it. The notes on
+    an election that was read stand before the reason."""
     inputs = inputs_of(words)
     paths = [path for _, path in inputs]
     if inputs:
@@ -179,8 +193,10 @@ def is_refused(words, how, told, said):
         (name, path), opens = inputs[index], index + 1
     else:
         name, path, opens = "election", "standard input", 0
-    hint = f"{path}: {os.strerror(int(how))}\n"
-    return said == Said(refused(name).encode() + b"\n", hint.encode(), 2) and told.opens == opens
+    notes = b"".join(line for line in ordinary.errors.splitlines(keepends=True) if b": note: " in line)
+    hint = f"{path}: {os.strerror(int(how))}\n".encode()
+    errors = hint if name == "election" else notes + hint
+    return said == Said(refused(name).encode() + b"\n", errors, 2) and told.opens == opens
 
 
 def report_without(report, name):
@@ -203,12 +219,13 @@ def report_without(report, name):
     return "".join(f"{file}: {answer}\n" for file, answer in lines) + total, 2 if refusals else 1 if no else 0
 
 
-def is_right_in_a_folder(kind, how, told, said, ordinary):
+def is_right_in_a_folder(kind, how, words, told, said, ordinary):
     """Whether 'folder' said what it has to, where an open, a read or a listing failed."""
     if kind == "list" and how == str(errno.ENOMEM):
         return said == FAULT_MEMORY
     if kind == "list" or kind == "open" and told.path.endswith("/"):
-        return said == Said(refused("folder").encode() + b"\n", b"", 2)
+        hint = f"{words[1]}: {os.strerror(int(how))}\n"
+        return said == Said(refused("folder").encode() + b"\n", hint.encode(), 2)
     text, status = report_without(ordinary.text.decode(), os.path.basename(told.path))
     return said == Said(text.encode(), ordinary.errors, status)
 
@@ -224,8 +241,8 @@ def is_right(kind, how, words, told, said, ordinary):
     """Whether the program said what it has to, where one call failed."""
     same_answer = (said.text, said.status) == (ordinary.text, ordinary.status)
     if kind == "memory":
-        # Without memory for it, a hint isn't there.
-        return said in (FAULT_MEMORY, ordinary) or (ordinary.status == 2 and same_answer and not said.errors)
+        # Without memory for them, a hint or notes aren't there.
+        return said in (FAULT_MEMORY, ordinary) or (same_answer and not said.errors)
     if kind == "look":
         # What can't be looked at counts as a file, and isn't opened again for a hint.
         return said == ordinary or (ordinary.status == 2 and same_answer and tells_no_more(said, ordinary))
@@ -236,11 +253,11 @@ def is_right(kind, how, words, told, said, ordinary):
     if kind == "write":
         return said.errors == b"fault write\n" and said.status == 4 and ordinary.text.startswith(said.text)
     if words[:1] == ["folder"]:
-        return is_right_in_a_folder(kind, how, told, said, ordinary)
-    if ordinary.status == 2 and same_answer and said.errors != ordinary.errors:
-        # A file was opened again for the hint, which then tells less.
+        return is_right_in_a_folder(kind, how, words, told, said, ordinary)
+    if ordinary.status == 2 and same_answer and told.opens > sum("." in word for word in words):
+        # A file was opened again for the hint, which then tells no more.
         return tells_no_more(said, ordinary)
-    return is_refused(words, how, told, said)
+    return is_refused(words, how, told, said, ordinary)
 
 
 def try_commands(shim, program, counts):

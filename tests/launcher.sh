@@ -1,5 +1,5 @@
 #!/usr/bin/env bash
-# Tries the launcher ./pbaudit and ./pbaudit-library on a copy of this repository in a folder whose name has a blank. In the
+# Tries the launcher ./pbaudit, ./pbaudit-library and the arguments of ./pbaudit-web on a copy of this repository in a folder whose name has a blank. In the
 # place of rt stands a script that proves nothing, and builds a program that tells how it was called; in that of cc and the
 # others that link, one that makes empty files. The last line is 'N passed, M failed'.
 set -uo pipefail
@@ -21,7 +21,7 @@ for tool in find flock; do
   cp -r "$work/tools" "$work/no_$tool"
   rm "$work/no_$tool/$tool"
 done
-tar -C "$top" --exclude=out -cf - pbaudit pbaudit-library include packaging HANDLES crates.txt crates |
+tar -C "$top" --exclude=out -cf - pbaudit pbaudit-library pbaudit-web include packaging HANDLES crates.txt crates |
   tar -C "$copy" -xf -
 
 cat > "$work/rt/rt" << 'RT'
@@ -146,7 +146,7 @@ built_below 'nothing is built on what failed' pb_money
 rm -f "$log.below"
 wants 'the first call builds' 7 1 'pbaudit: proving pb_run' build read 'a b' '' '*' -- -x $'two\nlines'
 built_below 'each crate below is built once' pb_audit pb_certificate pb_cohesion pb_command pb_election pb_explain \
-  pb_hints pb_money pb_price pb_records pb_reply pb_run
+  pb_hints pb_money pb_page pb_price pb_records pb_reply pb_run
 isnt_there 'a first build leaves its rooms behind' "$copy/out"
 rm "$log.below"
 wants 'the second call does not build' 7 0 nothing build read town.pb
@@ -287,13 +287,13 @@ for signal in TERM KILL; do
 done
 rm -rf "$temporary"/tmp.*
 
-# library NAME STATUS OUTPUT ERRORS WORD..: calls pbaudit-library with these words, and compares its status, what is on
-# standard output ('some' text, or this), and what has to stand on standard error, as 'wants' has it.
+# library NAME STATUS OUTPUT ERRORS WORD..: calls pbaudit-library, or $script, with these words, and compares its status, what
+# is on standard output ('some' text, or this), and what has to stand on standard error, as 'wants' has it.
 library() {
   local name=$1 wanted=$2 output=$3 errors=$4 status=0 right=yes
   shift 4
   (cd "$work/elsewhere" && env -i PATH="$path" TMPDIR="$temporary" RT_DOES="${does:-build}" RT_LOG="$log" \
-    CC="${compiler:-}" "$copy/pbaudit-library" "$@") < /dev/null > "$work/output" 2> "$work/errors" || status=$?
+    CC="${compiler:-}" "$copy/${script:-pbaudit-library}" "$@") < /dev/null > "$work/output" 2> "$work/errors" || status=$?
   [ "$status" = "$wanted" ] || right=no
   [ "$errors" = nothing ] && [ ! -s "$work/errors" ] || grep -qF -- "$errors" "$work/errors" || right=no
   [ "$output" = some ] && [ -s "$work/output" ] || [ "$output" = "$(cat "$work/output")" ] || right=no
@@ -325,6 +325,19 @@ does=meanwhile library 'a source is changed while the library builds' 0 "$copy/l
 [ "$copy/crates/pb_money/src/lib.rt" -nt "$copy/lib/libpbaudit.so" ] && count yes ||
   count no 'a source that was changed while the library was built counts as built'
 nothing_is_left 'the library leaves temporary files behind'
+
+# ./pbaudit-web, up to what it would build.
+mkdir "$work/python"
+ln -s "$(command -v python3)" "$work/python"
+script=pbaudit-web
+library '--help of the page' 0 some nothing --help
+library 'an option of the page that is none' 3 '' 'pbaudit-web: no option is -x' -x
+library 'a file for the page that is not there' 70 '' "two can't be read" one two
+library 'a folder for the page without a name' 3 '' 'FOLDER is empty' ''
+library 'python3 is not on the PATH for the page' 70 '' 'python3 is not on the PATH' one
+path=$path:$work/python
+library 'binaryen is not installed' 69 '' 'wasm-opt is not on the PATH (on Debian: apt install binaryen)' one
+path=${path%:*} script=
 
 # turns FIRST SECOND SIGNAL: one of the two scripts builds, perhaps is killed by itself, and the other waits for its build.
 turns() {

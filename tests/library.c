@@ -2,6 +2,7 @@
 
    library once COMMAND SWITCHES ELECTION [CERTIFICATE [OUTCOME]]
    library once both SWITCHES ELECTION PRICES VIOLATION [OUTCOME]
+   library once hint INPUT:NUMBER:RECORD FILE [ELECTION]
                      prints the text, and ends with the status; each buffer is as large as it has to be, and no larger
    library memory ..  makes the Nth allocation fail, and then it and all later ones, for each N; prints how many failed.
                      What comes then has to be status 4 with nothing written, or the ordinary answer, and nothing stays
@@ -52,6 +53,16 @@ static uint8_t *out;
 static size_t room, needed;
 static uint8_t status;
 
+static void call_hint(void) {
+    unsigned input, number;
+    unsigned long long record;
+    uint64_t line;
+    if (sscanf(switches, "%u:%u:%llu", &input, &number, &record) != 3)
+        exit(3);
+    status = pbaudit_hint((uint8_t)input, number, record, files[0].at, files[0].length, files[1].at, files[1].length,
+                          given == 2, &line, out, room, &needed);
+}
+
 static void call(void) {
     int is_both = !strcmp(command, "both"), outcome = is_both ? 3 : 2, has_outcome = given == outcome + 1;
     if (!strcmp(command, "read"))
@@ -59,6 +70,8 @@ static void call(void) {
     else if (!strcmp(command, "margins"))
         status = pbaudit_margins(files[0].at, files[0].length, files[2].at, files[2].length, has_outcome, files[1].at,
                                  files[1].length, out, room, &needed);
+    else if (!strcmp(command, "hint"))
+        call_hint();
     else if (!strcmp(command, "tidy"))
         status = pbaudit_tidy(files[0].at, files[0].length, files[1].at, files[1].length, out, room, &needed);
     else if (!strcmp(command, "violation"))

@@ -4,8 +4,9 @@
     python3 tests/library.py FOLDER PROGRAM [--cases N] [--seed S]
 
 FOLDER is what ./pbaudit-library made. Looks at the symbols, builds the callers, runs them on the examples, compares
-library and program on N (2,000) cases with a damaged file, at a room that is just enough and one byte less, makes each
-allocation fail, and runs on a small stack, under valgrind, and in a program with sanitizers, where these are installed.
+library and program on N (2,000) cases with a damaged file, with their hints, at a room that is just enough and one byte
+less, makes each allocation fail, and runs on a small stack, under valgrind, and in a program with sanitizers, where these
+are installed.
 Prints 'N passed, M failed' last.
 """
 import argparse
@@ -67,6 +68,23 @@ def question(words, files):
     return _auditor.Question(command, election, *certificates, outcome=outcome, mode=mode)
 
 
+def place_of(text):
+    """The place of a refusal, by its line; None where a text is none, or on a file that isn't there."""
+    refused = re.fullmatch(rb"refused (\w+) (\d+) \w+ record (\d+)\n", text)
+    if not refused or refused[2] == b"18":
+        return None
+    return _auditor.Place(refused[1].decode(), int(refused[2]), int(refused[3]))
+
+
+def hint_in(errors):
+    """The hint that the program gives on a file, behind notes on the election, as the library has to."""
+    lines = [line for line in errors.decode().split("\n")[:-1] if not re.match(r"[^:]+: note: ", line)]
+    remarks = [re.fullmatch(r"[^:]+(?::(\d+))?: (.*)", line).groups() for line in lines]
+    first = remarks[0][0]
+    sentences = [told if line in (None, first) else f"line {line}: {told}" for line, told in remarks]
+    return _auditor.Hint(int(first) if first else None, "\n".join(sentences))
+
+
 def run(words, folder=EXAMPLES):
     return subprocess.run(words, cwd=folder, stdin=subprocess.DEVNULL, capture_output=True, timeout=120, check=False)
 
@@ -113,6 +131,9 @@ def try_examples(score, folder, room, library, program):
         score.check(said == (status, text), f"{words}: {said}")
         ran = run([program, *words])
         score.check((ran.returncode, ran.stdout) == (status, text), f"the program, {words}: {ran}")
+        if place_of(text):
+            told = library.hint(question(words, files), place_of(text))
+            score.check(told == hint_in(ran.stderr), f"the hint, {words}: {told}, and the program: {ran}")
         if words[0] == "prices" and not {"--no-exhaustive", "--cover"} & set(words):
             for caller in callers:
                 ran = run([caller, *words[1:]])
@@ -134,7 +155,11 @@ def try_case(folder, program, case):
     library = Rooms(os.path.join(folder, "libpbaudit.so"))
     said = library.ask(question(case.words, case.files))
     holds = said == (ran.returncode, ran.stdout) and library.keeps_to_rooms(said)
-    return holds, f"case {case.name} {case.words}: the program says {ran}, the library {said}"
+    hint = None
+    if place_of(ran.stdout) and case.stdin is None:
+        hint = library.hint(question(case.words, case.files), place_of(ran.stdout))
+        holds = holds and hint == hint_in(ran.stderr)
+    return holds, f"case {case.name} {case.words}: the program says {ran}, the library {said} {hint}"
 
 
 class Rooms(_auditor._Library):
@@ -173,6 +198,20 @@ def numbers_of(score, words):
     return [int(number) for number in told.stdout.split()] if told.returncode == 0 else []
 
 
+def hint_calls():
+    """Calls for hints of library.c, each with its text: the words and what the file has to be, as the header says."""
+    yield ["hint", "3:24:4", "district.voter-id.violation.csv", "district.pb"], (
+        b"there is no voter '20582'; the election has 60 voters\nvoters are named by their rows in VOTES, counted from 1, "
+        b"and not by voter_id; the one with voter_id '20582' is voter 9\n")
+    yield ["hint", "2:21:1", "sample.outcome.csv"], (
+        b"expected the record pb-prices,1, but found 'pb-outcome,1'\n"
+        b"this is an outcome file, not a price certificate\n")
+    # No refusal has the number 99, no kind of file the number 5, and a fault of elections no certificate.
+    yield ["hint", "2:99:1", "sample.outcome.csv"], b""
+    yield ["hint", "5:21:1", "sample.outcome.csv"], b""
+    yield ["hint", "2:14:3", "sample.outcome.csv"], b"record 3: the vote names something that is no project's id\n"
+
+
 def try_failures(score, folder, room):
     """Each allocation fails; a small stack; valgrind and sanitizers where they are installed."""
     source, library = os.path.join(HERE, "library.c"), os.path.join(folder, "libpbaudit.a")
@@ -190,8 +229,11 @@ def try_failures(score, folder, room):
         ways["sanitizers"] = [sanitized]
     else:
         print("the sanitizers aren't installed")
-    for words, text, status in commands():
-        words = caller_words(words)
+    calls = [(caller_words(words), text, status) for words, text, status in commands()]
+    calls += [(words, text, 0) for words, text in hint_calls()]
+    for words, text, status in calls:
+        once = run([caller, "once", *words])
+        score.check((once.returncode, once.stdout) == (status, text), f"library.c, {words}: {once}")
         failures += sum(numbers_of(score, [caller, "memory", *words]))
         most_stack = max([most_stack, *numbers_of(score, [caller, "stack", *words])])
         for name, way in ways.items():

@@ -1,6 +1,6 @@
 #!/usr/bin/env python3
-"""Compares what docs/STATEMENT.md and docs/CALLING.md quote with its files, word for word, and the sentence of STATEMENT
-with the README.
+"""Compares what docs/STATEMENT.md and the section "From Rattle" of docs/LIBRARY.md quote with its files, word for word,
+and the sentence of STATEMENT with the README.
 
 A quote is a block of lines indented by four blanks. Its file is the last path (`crates/..`) in the last paragraph before it
 that is no quote. Of a file of definitions (.antt) a block has whole definitions, one after another, without the comments
@@ -122,9 +122,18 @@ def read(document):
     return paragraphs(document.read_text(encoding="utf-8").splitlines())
 
 
+def section(document, title):
+    """The paragraphs of a section of a document."""
+    found = read(document)
+    begin = next((at for at, (_, paragraph) in enumerate(found) if paragraph == [f"## {title}"]), len(found))
+    ends = (at for at, (_, paragraph) in enumerate(found) if at > begin and paragraph[0].startswith("## "))
+    return found[begin:next(ends, len(found))]
+
+
 def main():
     statement = Path(sys.argv[1]) if len(sys.argv) > 1 else TOP / "docs" / "STATEMENT.md"
-    counts = [compare_quotes(it, read(it)) for it in (statement, TOP / "docs" / "CALLING.md")]
+    library = TOP / "docs" / "LIBRARY.md"
+    counts = [compare_quotes(statement, read(statement)), compare_quotes(library, section(library, "From Rattle"))]
     passed, failed = (sum(column) for column in zip(*counts))
     sentence = sentence_of(read(statement))
     if sentence is not None and sentence == sentence_of(read(TOP / "README.md")):

@@ -3,6 +3,7 @@ import sys
 
 from .answers import answer
 
-text, status = answer(sys.argv[1:])
+text, status, errors = answer(sys.argv[1:])
 sys.stdout.buffer.write(text)
+sys.stderr.buffer.write(errors)
 sys.exit(status)

@@ -106,19 +106,28 @@ def verdict_on_violation(election, funded, violation):
 
 
 class Commands:
-    """Each command, by its name."""
+    """Each command, by its name. What 'beside' has is told on standard error, before any hint."""
+
+    def __init__(self):
+        self.beside = b""
+
+    def noted_election(self, path):
+        """Takes an election, and has the notes on it told beside the answer, each with the path of its file."""
+        election = take("election", read_election, path)
+        self.beside = b"".join(os.fsencode(path) + b": " + note for note in notes(election).splitlines(keepends=True))
+        return election
 
     def read(self, paths, mode, outcome):
         election = take("election", read_election, paths[0] if paths else None)
         return read_line(election) + notes(election), YES
 
     def prices(self, paths, mode, outcome):
-        election = take("election", read_election, paths[0])
+        election = self.noted_election(paths[0])
         funded = take_outcome(election, outcome)
         return verdict_on_prices(election, funded, take("certificate", read_prices, paths[1], election), mode)
 
     def violation(self, paths, mode, outcome):
-        election = take("election", read_election, paths[0])
+        election = self.noted_election(paths[0])
         funded = take_outcome(election, outcome)
         violation = take("certificate", read_violation, paths[1], election)
         return verdict_on_violation(election, funded, violation)
@@ -144,7 +153,7 @@ class Commands:
 
     def explain(self, paths, mode, outcome):
         """The line of 'prices' or 'violation', an empty line, and what each condition or test comes to."""
-        election = take("election", read_election, paths[0])
+        election = self.noted_election(paths[0])
         funded = take_outcome(election, outcome)
         if is_violation(take("certificate", bytes, paths[1])):
             violation = take("certificate", read_violation, paths[1], election)
@@ -218,7 +227,7 @@ def answer_or_refusal(work, paths, mode, outcome):
 
 
 def answer(words):
-    """The text and the status for the words of a command line that is understood."""
+    """The text, the status and the notes on standard error for the words of a command line that is understood."""
     command, paths, mode, outcome = (words[0] if words else "read"), [], set(), None
     words = iter(words[1:])
     for word in words:
@@ -228,4 +237,6 @@ def answer(words):
             mode.add(word)
         else:
             paths.append(word)
-    return answer_or_refusal(getattr(Commands(), command), paths, mode, outcome)
+    commands = Commands()
+    text, status = answer_or_refusal(getattr(commands, command), paths, mode, outcome)
+    return text, status, commands.beside
