@@ -12,16 +12,17 @@ program=$copy/crates/pbaudit/out/pbaudit
 
 # The commands that the two call, so that no other rt is found; and rt itself in a folder of its own.
 mkdir "$copy" "$work/tools" "$work/rt" "$work/elsewhere" "$temporary"
-for tool in bash basename cat chmod cp dirname env find flock mkdir mktemp mv readlink rm rmdir sed sleep tail tee touch; do
+for tool in bash basename cat chmod cp dirname env find flock mkdir mktemp mv readlink rm rmdir sed sha256sum sleep sort tail \
+  tee touch xargs; do
   ln -s "$(command -v "$tool")" "$work/tools/$tool"
 done
 printf '#!/usr/bin/env bash\necho 4\n' > "$work/tools/nproc"
 chmod +x "$work/tools/nproc"
-for tool in find flock; do
+for tool in find flock sha256sum; do
   cp -r "$work/tools" "$work/no_$tool"
   rm "$work/no_$tool/$tool"
 done
-tar -C "$top" --exclude=out -cf - pbaudit pbaudit-library pbaudit-web include packaging HANDLES crates.txt crates |
+tar -C "$top" --exclude=out -cf - pbaudit pbaudit-library pbaudit-web include packaging HANDLES crates.txt CHANGELOG.md crates |
   tar -C "$copy" -xf -
 
 cat > "$work/rt/rt" << 'RT'
@@ -97,6 +98,7 @@ wants() {
   : > "$log"
   launch "$@" > "$work/output" 2> "$work/errors" || status=$?
   [ "$wanted" = 7 ] && text=$(told "${@:2}")
+  [ "$wanted" = 8 ] && text="released, $(told "${@:2}")"
   [ "$status" = "$wanted" ] && [ "$(grep -c '^pbaudit: run -- --version$' "$log")" = "$builds" ] || right=no
   [ "$(wc -l < "$log")" = "$builds" ] && [ "$(cat "$work/output")" = "$text" ] || right=no
   if [ "$errors" = nothing ]; then
@@ -139,6 +141,7 @@ built_below() {
 }
 
 path=$work/tools
+isnt_there 'the copy has a release' "$copy/release"
 wants 'rt is not on the PATH' 70 0 'rt, the command of the Rattle kit, is not on the PATH' build read
 path=$work/rt:$work/tools
 wants 'a first build that fails below tells where' 70 1 'no proof in pb_money' fail read
@@ -371,6 +374,134 @@ for signal in '' TERM KILL; do
   turns pbaudit-library pbaudit "$signal"
 done
 turns pbaudit-library pbaudit-library
+
+# What is released, with a program that tells that it is that one. No git knows of this copy, and its folder has a blank.
+copy="$work/a clone" program=$copy/crates/pbaudit/out/pbaudit script='' launcher=''
+mkdir "$copy"
+tar -C "$work/a copy" --exclude=out --exclude=./lib -cf - . | tar -C "$copy" -xf -
+
+# release: makes release/ of the sources as they are.
+release() {
+  mkdir -p "$copy/release"
+  cat > "$copy/release/pbaudit" << 'PROGRAM'
+#!/usr/bin/env bash
+printf 'released, in %s, %s words:' "$PWD" $#
+printf ' [%s]' "$@"
+printf '\n'
+cat
+exit 8
+PROGRAM
+  chmod +x "$copy/release/pbaudit"
+  printf 'pbaudit 1.2.3\n\ncrates %s\n' "$("$copy/packaging/sources" crates)" > "$copy/release/MADE-OF"
+  (cd "$copy/release" && sha256sum MADE-OF pbaudit > SHA256SUMS)
+}
+
+# turn FILE: turns a byte in the middle of a file, or turns it back.
+turn() {
+  local bytes=$(($(wc -c < "$1") / 2)) byte
+  byte=$(dd if="$1" bs=1 skip="$bytes" count=1 status=none | od -An -tu1)
+  # shellcheck disable=SC2059
+  printf "\\$(printf %o $((byte ^ 1)))" | dd of="$1" bs=1 seek="$bytes" conv=notrunc status=none
+}
+
+first='pbaudit: running the program of release/, which was made of these sources; ./pbaudit --build'
+needs_rt='rt, the command of the Rattle kit, is not on the PATH'
+release
+path=$work/tools
+wants 'a release is run and told, without rt' 8 0 "$first" build read 'a b' '' '*' -- -x $'two\nlines'
+[ "$(wc -l < "$work/errors")" = 1 ] && count yes || count no 'a release is told in more than a line'
+wants 'a release is told once' 8 0 nothing build read
+path=$work/rt:$work/tools
+wants 'a release is run where rt is' 8 0 nothing build
+touch "$copy/crates.txt" "$copy"/crates/pb_money/src/*
+wants 'a release is of the same sources with other dates' 8 0 nothing build
+launcher=$work/link_of_release
+ln -s "$copy/pbaudit" "$launcher"
+wants 'a release called by a link' 8 0 nothing build read town.pb
+launcher=''
+
+for changed in crates.txt HANDLES crates/pb_money/src/lib.rt crates/pb_price/specs/First.antt crates/pb_audit/proofs/Lib.antt; do
+  turn "$copy/$changed"
+  wants "a release is of another $changed" 7 1 'pbaudit: building' build
+  rm -rf "$copy"/crates/*/out
+  path=$work/tools
+  wants "a release is of another $changed, without rt" 70 0 'release/pbaudit is not used' build
+  grep -qF "$needs_rt" "$work/errors" && count yes || count no "another $changed: what is missing isn't told"
+  path=$work/rt:$work/tools
+  turn "$copy/$changed"
+  wants "$changed is as it was" 8 0 nothing build
+done
+touch "$copy/crates/pb_money/src/added.rt"
+wants 'a release is of a source less' 7 1 'pbaudit: building' build
+rm -rf "$copy/crates/pb_money/src/added.rt" "$copy"/crates/*/out
+mv "$copy/crates/pb_money/src/lib.rt" "$work/lib.rt"
+wants 'a release is of a source more' 7 1 'pbaudit: building' build
+mv "$work/lib.rt" "$copy/crates/pb_money/src/lib.rt"
+rm -rf "$copy"/crates/*/out
+wants 'what is no source may differ' 8 0 nothing build
+
+for file in pbaudit MADE-OF SHA256SUMS; do
+  turn "$copy/release/$file"
+  case $file in
+    pbaudit) wrong="pbaudit: release/pbaudit isn't the file of release/SHA256SUMS: it is not used" ;;
+    *) wrong='pbaudit: building' ;;
+  esac
+  wants "a byte of release/$file is turned" 7 1 "$wrong" build
+  rm -rf "$copy"/crates/*/out
+  path=$work/tools
+  wants "a byte of release/$file is turned, without rt" 70 0 "$needs_rt" build
+  path=$work/rt:$work/tools
+  release
+done
+chmod -x "$copy/release/pbaudit"
+wants 'a release that may not be run' 7 1 'pbaudit: building' build
+rm -rf "$copy"/crates/*/out
+release
+for file in MADE-OF SHA256SUMS pbaudit; do
+  rm "$copy/release/$file"
+  wants "release/$file is missing" 7 1 'pbaudit: building' build
+  rm -rf "$copy"/crates/*/out
+  release
+done
+path=$work/rt:$work/no_sha256sum
+wants 'sha256sum is not on the PATH' 7 1 'sha256sum is not on the PATH; it tells whether' build
+rm -rf "$copy"/crates/*/out
+path=$work/rt:$work/tools
+for kind in OSTYPE=linux-musl HOSTTYPE=aarch64; do
+  (export "${kind?}" && cd "$work/elsewhere" && env -i "$kind" PATH="$work/tools" "$copy/pbaudit" read) \
+    > "$work/output" 2> "$work/errors" < /dev/null && status=0 || status=$?
+  [ "$status" = 70 ] && [ ! -s "$work/output" ] && grep -qF "$needs_rt" "$work/errors" && count yes ||
+    count no "a release for another machine ($kind): status $status"
+done
+
+# build_wants NAME STATUS BUILDS ERRORS DOES: calls ./pbaudit --build, which writes nothing to standard output.
+build_wants() { wants "$@" --build; }
+# The word isn't the program's, so with status 0 nothing of it is on standard output.
+path=$work/tools
+build_wants '--build without rt' 70 0 "$needs_rt" build
+path=$work/rt:$work/tools
+build_wants '--build that fails' 70 1 'no proof of a promise' fail
+wants 'after a build that fails the release is run' 8 0 nothing build read
+build_wants '--build' 0 1 'is built, and no source is newer' build
+build_wants '--build a second time' 0 0 'is built, and no source is newer' build
+wants 'what was built here is run' 7 0 nothing build read
+wants '--build with more words is for the program' 7 0 nothing build --build read
+touch "$copy/crates.txt"
+wants 'the release is run where what was built is older' 8 0 nothing build read
+rm -rf "$copy"/crates/*/out "$copy/out"
+
+# A folder that can't be written, as for another user: the release is told each time, and standard output is as ever.
+chmod 755 "$work"
+as_other=()
+if [ "$(id -u)" = 0 ]; then as_other=(setpriv --reuid=65534 --regid=65534 --clear-groups); else chmod -R a-w "$copy"; fi
+for times in one two; do
+  (cd "$work/elsewhere" && printf 'some\ninput' | "${as_other[@]}" env -i PATH="$work/tools" "$copy/pbaudit" read "$times") \
+    > "$work/output" 2> "$work/errors" && status=0 || status=$?
+  [ "$status" = 8 ] && [ "$(cat "$work/output")" = "released, $(told read "$times")" ] && grep -qF "$first" "$work/errors" &&
+    [ "$(wc -l < "$work/errors")" = 1 ] && count yes || count no "a folder that can't be written ($times): status $status"
+done
+[ "$(id -u)" = 0 ] || chmod -R u+w "$copy"
+isnt_there 'a note of the release was left where it can not be' "$copy/out"
 
 echo "$passed passed, $failed failed"
 [ "$failed" = 0 ] && [ "$passed" != 0 ]
