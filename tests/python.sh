@@ -10,10 +10,9 @@ if python3 -m pip --version > /dev/null 2>&1; then
     export PIP_ROOT_USER_ACTION=ignore PIP_DISABLE_PIP_VERSION_CHECK=1
     python3 -m pip install --quiet --no-index --target "$work/site" "$top/python"
 else
-    printf 'pip is not installed: the package is copied\n'
-    mkdir "$work/site"
-    cp -r "$top/python/pbaudit" "$work/site"
-    cp "$top/lib/libpbaudit.so" "$work/site/pbaudit"
+    printf 'pip is not installed: the wheel is unpacked\n'
+    (cd "$top/python/backend" && python3 -B -c 'import sys, wheel_writer; wheel_writer.build_wheel(sys.argv[1])' "$work")
+    python3 -m zipfile -e "$work"/*.whl "$work/site"
 fi
 # Debian's packages (Dask, numpy, gmpy2) are those of Debian's Python, which needn't be the first on the PATH.
 python=python3

@@ -15,6 +15,8 @@ file can say is a ValueError, and a value of another kind than is wanted a TypeE
 """
 from typing import TYPE_CHECKING, List
 
+from ._version import VERSION
+
 if TYPE_CHECKING:
     from .auditing import (
         Explanation, Finding, ProjectMargins, Refusal, Summary, Verdict, audit_both, audit_prices, audit_violation,
@@ -30,6 +32,7 @@ if TYPE_CHECKING:
     from .shares import EqualShares, equal_shares
     from .writing import write_election, write_outcome, write_prices, write_violation
 
+__version__ = VERSION
 __all__ = [
     "CannotKeep", "EqualShares", "Explanation", "Finding", "FolderReport", "Instance", "NotReplaced",
     "PriceCertificate", "Project", "ProjectMargins", "Refusal", "Summary", "Verdict", "audit_both", "audit_folder",

@@ -6,12 +6,12 @@ import os
 import sys
 from typing import IO, List, NoReturn, Optional, Sequence
 
+from ._version import VERSION
 from .auditing import Refusal
 from .pages import LANGUAGES, replaced, write_page
 from .rounding import CannotKeep
 from .shares import COMPLETIONS, MEASURES
 
-VERSION = "0.1.0"
 DIFFERS, REFUSED, USAGE, FAULT = 1, 2, 3, 4
 PAGE_USAGE = (
     "python -m pbaudit page ELECTION CERTIFICATE [OPTIONS] -o PAGE\n"

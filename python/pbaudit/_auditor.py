@@ -16,9 +16,8 @@ _HERE = pathlib.Path(__file__).resolve().parent
 # Beside this file where the package is installed, and in the folder `lib` of a checkout.
 _LIBRARIES = [_HERE / "libpbaudit.so", _HERE.parent.parent / "lib" / "libpbaudit.so"]
 _HOW_TO_BUILD = (
-    "neither libpbaudit.so nor the program pbaudit was found; in the repository of pbaudit, with rt on the PATH, "
-    "build the library by ./pbaudit-library and install this package again by pip install ./python, or build the "
-    "program by ./pbaudit --version and put crates/pbaudit/out/pbaudit on the PATH"
+    "neither libpbaudit.so nor the program pbaudit was found; in the repository of pbaudit install this package again by "
+    "pip install ./python, or the program by ./install, into a folder of the PATH"
 )
 
 

@@ -1,8 +1,11 @@
 """What goes into the wheel."""
 import contextlib
+import email
+import hashlib
 import io
 import os
 import pathlib
+import re
 import shutil
 import subprocess
 import sys
@@ -11,8 +14,18 @@ import unittest
 import zipfile
 from unittest import mock
 
-sys.path.append(str(pathlib.Path(__file__).resolve().parents[1] / "backend"))
+import pbaudit
+
+TOP = pathlib.Path(__file__).resolve().parents[2]
+sys.path.append(str(TOP / "python" / "backend"))
 import wheel_writer  # noqa: E402
+
+# What tells of a library what it asks of glibc.
+OLD, NEW = b"old\0GLIBC_2.2.5\0GLIBC_2.14\0", b"new\0GLIBC_2.28\0GLIBC_2.4\0"
+
+
+def version():
+    return re.search(r"^## \[(\d+\.\d+\.\d+)\]", (TOP / "CHANGELOG.md").read_text(encoding="utf-8"), re.MULTILINE)[1]
 
 
 class Wheels(unittest.TestCase):
@@ -22,32 +35,58 @@ class Wheels(unittest.TestCase):
         self.top = pathlib.Path(tempfile.mkdtemp())
         self.addCleanup(shutil.rmtree, self.top)
         self.library, self.built = self.top / "lib" / "libpbaudit.so", []
-        for name in ("lib/libpbaudit.so", "crates/pb_money/src/lib.rt", "crates.txt", "HANDLES", "include/pbaudit.h",
-                     "pbaudit-library"):
+        for name in ("crates/pb_money/src/lib.rt", "crates/pb_money/specs/Lib.antt", "crates/pb_money/proofs/Lib.antt",
+                     "crates.txt", "HANDLES", "include/pbaudit.h", "pbaudit-library"):
             path = self.top / name
             path.parent.mkdir(parents=True, exist_ok=True)
             path.write_bytes(b"old")
+        for name in ("CHANGELOG.md", "LICENSE", "packaging"):
+            (shutil.copytree if (TOP / name).is_dir() else shutil.copy)(TOP / name, self.top / name)
+        self.library.parent.mkdir()
+        self.library.write_bytes(OLD)
         for path in [*self.top.rglob("*"), self.top]:
             os.utime(path, (1000, 1000))
         os.utime(self.library, (2000, 2000))
 
     def build(self, command, **given):
+        """In the place of pbaudit-library; what asks of the release runs as it is."""
+        if command[0] == "bash":
+            return RUN(command, **given)
         self.built.append(command)
-        self.library.write_bytes(b"new")
+        self.library.write_bytes(NEW)
 
-    def in_the_wheel(self, rt="/usr/bin/rt", build=None):
-        """The library in the wheel, None where it has none."""
+    def release(self, data=NEW):
+        """Makes a release of the sources as they are."""
+        release = self.top / "release"
+        release.mkdir(exist_ok=True)
+        (release / "libpbaudit.so").write_bytes(data)
+        sums = [f"{part} {RUN([self.top / 'packaging' / 'sources', part], capture_output=True, text=True, check=True).stdout}"
+                for part in ("crates", "library")]
+        (release / "MADE-OF").write_text("".join(sums))
+        (release / "SHA256SUMS").write_text(f"{hashlib.sha256(data).hexdigest()}  libpbaudit.so\n")
+        return release
+
+    @contextlib.contextmanager
+    def wheel(self, rt="/usr/bin/rt", build=None):
+        """The wheel, as a zip file, and its name."""
+        which = shutil.which
         with mock.patch.multiple(wheel_writer, REPOSITORY=self.top, LIBRARY=self.library), \
-                mock.patch.object(shutil, "which", lambda name: rt), \
+                mock.patch.object(shutil, "which", lambda name: rt if name == "rt" else which(name)), \
                 mock.patch.object(subprocess, "run", build or self.build), tempfile.TemporaryDirectory() as room, \
                 contextlib.redirect_stderr(io.StringIO()):
             name = wheel_writer.build_wheel(room)
             with zipfile.ZipFile(pathlib.Path(room, name)) as wheel:
-                self.assertIn("pbaudit/py.typed", wheel.namelist())
-                return wheel.read("pbaudit/libpbaudit.so") if "pbaudit/libpbaudit.so" in wheel.namelist() else None
+                yield wheel, name
+
+    def in_the_wheel(self, **given):
+        """The library in the wheel."""
+        with self.wheel(**given) as (wheel, _):
+            self.assertIn("pbaudit/py.typed", wheel.namelist())
+            return wheel.read("pbaudit/libpbaudit.so")
 
     def test_a_library_that_is_current_is_taken(self):
-        self.assertEqual((self.in_the_wheel(), self.built), (b"old", []))
+        self.release()
+        self.assertEqual((self.in_the_wheel(), self.built), (OLD, []))
 
     def test_one_that_is_missing_or_older_than_a_source_is_built(self):
         for newer in ("crates/pb_money/src/lib.rt", "crates/pb_money/src", "crates.txt", "HANDLES",
@@ -55,25 +94,108 @@ class Wheels(unittest.TestCase):
             with self.subTest(newer=newer):
                 self.setUp()
                 os.utime(self.top / newer, (3000, 3000))
-                self.assertEqual((self.in_the_wheel(), self.built), (b"new", [[str(self.top / "pbaudit-library")]]))
+                self.assertEqual((self.in_the_wheel(), self.built), (NEW, [[str(self.top / "pbaudit-library")]]))
         self.library.unlink()
-        self.assertEqual(self.in_the_wheel(), b"new")
+        self.assertEqual(self.in_the_wheel(), NEW)
+
+    def test_what_is_released_of_these_sources_is_taken(self):
+        self.library.unlink()
+        self.release()
+        for rt in ("/usr/bin/rt", None):
+            self.assertEqual((self.in_the_wheel(rt=rt), self.built), (NEW, []))
+        os.utime(self.top / "crates.txt", (3000, 3000))
+        self.assertEqual((self.in_the_wheel(rt=None), self.built), (NEW, []))
+
+    def test_what_is_released_of_other_sources_is_not_taken(self):
+        for name in ("crates/pb_money/src/lib.rt", "crates.txt", "HANDLES", "include/pbaudit.h", "pbaudit-library"):
+            with self.subTest(changed=name):
+                self.setUp()
+                self.library.unlink()
+                self.release()
+                (self.top / name).write_bytes(b"changed")
+                with self.assertRaisesRegex(SystemExit, "release/ is not known to be of these sources"):
+                    self.in_the_wheel(rt=None)
+                self.assertEqual(self.in_the_wheel(), NEW)
+                self.assertEqual(self.built, [[str(self.top / "pbaudit-library")]])
+
+    def test_a_released_library_with_a_wrong_byte_is_not_taken(self):
+        self.library.unlink()
+        (self.release() / "libpbaudit.so").write_bytes(OLD)
+        with self.assertRaises(SystemExit):
+            self.in_the_wheel(rt=None)
 
     def test_without_rt_what_is_there_is_taken(self):
         os.utime(self.top / "crates.txt", (3000, 3000))
-        self.assertEqual((self.in_the_wheel(rt=None), self.built), (b"old", []))
+        self.assertEqual((self.in_the_wheel(rt=None), self.built), (OLD, []))
+
+    def test_without_a_library_nothing_is_installed(self):
         self.library.unlink()
-        self.assertEqual((self.in_the_wheel(rt=None), self.built), (None, []))
+        with self.assertRaisesRegex(SystemExit, "^pbaudit: the library is not built, "):
+            self.in_the_wheel(rt=None)
+
+    def test_on_another_machine_nothing_is_installed(self):
+        for where, answer in (("platform.machine", "aarch64"), ("platform.libc_ver", ("", "")), ("struct.calcsize", 4)):
+            with self.subTest(where=where), mock.patch(where, lambda *_, answer=answer: answer), \
+                    self.assertRaisesRegex(SystemExit, "^pbaudit: there is no library for this machine"):
+                self.in_the_wheel()
+        with mock.patch.object(sys, "platform", "darwin"), self.assertRaises(SystemExit):
+            self.in_the_wheel()
+
+    def test_a_copy_of_the_folder_alone_is_not_installed(self):
+        (self.top / "CHANGELOG.md").unlink()
+        with self.assertRaisesRegex(SystemExit, "CHANGELOG.md is missing"):
+            self.in_the_wheel()
 
     def test_a_build_that_fails_leaves_no_wheel(self):
         self.library.unlink()
 
-        def fail(command, check, **given):
-            self.assertTrue(check)
+        def fail(command, **given):
+            if command[0] == "bash":
+                return RUN(command, **given)
+            self.assertTrue(given["check"])
             raise subprocess.CalledProcessError(70, command)
         with self.assertRaises(subprocess.CalledProcessError):
             self.in_the_wheel(build=fail)
 
+    def test_the_tag_is_that_of_the_glibc_that_is_asked_for(self):
+        with self.wheel() as (wheel, name):
+            self.assertEqual(name, f"pbaudit-{version()}-py3-none-manylinux_2_14_x86_64.manylinux2014_x86_64.whl")
+            tags = wheel.read(f"pbaudit-{version()}.dist-info/WHEEL").decode()
+        self.assertIn("Tag: py3-none-manylinux_2_14_x86_64\nTag: py3-none-manylinux2014_x86_64\n", tags)
+        self.library.write_bytes(NEW)
+        os.utime(self.library, (2000, 2000))
+        with self.wheel() as (_, name):
+            self.assertEqual(name, f"pbaudit-{version()}-py3-none-manylinux_2_28_x86_64.whl")
+
+    def test_what_it_says_of_itself(self):
+        with self.wheel() as (wheel, _):
+            folder = f"pbaudit-{version()}.dist-info"
+            self.assertEqual(wheel.read(f"{folder}/LICENSE"), (TOP / "LICENSE").read_bytes())
+            said = email.message_from_bytes(wheel.read(f"{folder}/METADATA"))
+            self.assertEqual(wheel.testzip(), None)
+            record = wheel.read(f"{folder}/RECORD").decode()
+            names = wheel.namelist()
+            modules = wheel.read("pbaudit/_version.py").decode()
+        self.assertEqual((said["Name"], said["Version"], said["Author"]), ("pbaudit", version(), "the pbaudit authors"))
+        self.assertRegex(said["Project-URL"], "^Repository, https://")
+        self.assertIn("License :: OSI Approved :: MIT License", said.get_all("Classifier"))
+        self.assertEqual(said.get_payload(), (TOP / "python" / "README.md").read_text(encoding="utf-8"))
+        self.assertEqual([line.split(",")[0] for line in record.splitlines()], names)
+        self.assertIn(f'VERSION = "{version()}"', modules)
+
+    def test_the_same_files_give_the_same_bytes(self):
+        with self.wheel() as (first, _), self.wheel() as (second, _):
+            with open(first.filename, "rb") as one, open(second.filename, "rb") as two:
+                self.assertEqual(one.read(), two.read())
+            self.assertEqual({entry.date_time for entry in first.infolist()}, {(1980, 1, 1, 0, 0, 0)})
+
+
+class Version(unittest.TestCase):
+    def test_it_is_that_of_the_changelog(self):
+        self.assertEqual(pbaudit.__version__, version())
+
+
+RUN = subprocess.run
 
 if __name__ == "__main__":
     unittest.main()

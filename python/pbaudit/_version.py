@@ -1,0 +1,2 @@
+"""The version of this package. It stands in CHANGELOG.md, and a wheel has it here."""
+VERSION = "unknown"
