@@ -5,6 +5,8 @@ man, groff, mandoc, pkg-config, bash completion by bash) is left out, and one li
 
 usage: tests/install.py
 """
+import gzip
+import hashlib
 import os
 import re
 import shlex
@@ -300,15 +302,15 @@ def try_refusals(score, work):
         ("a file for a folder", [file / "below"], {}, 1, f"{file}/below/bin can't be made (Not a directory)"),
         ("a DESTDIR that is a file", ["/usr"], {"DESTDIR": str(file)}, 1, f"{file}/usr/bin can't be made"),
         ("a folder that the system shuts", ["/proc/pbaudit"], {}, 1, "/proc/pbaudit/bin can't be made"),
-        ("no python3", [work / "unused"], {"PATH": str(work / "tools")}, 70, "python3 is not on the PATH"),
-        ("no find", [work / "unused"], {"PATH": f"{work}/tools:{work}/more"}, 70, "find is not on the PATH"),
+        ("no find", [work / "unused"], {"PATH": str(work / "tools")}, 70, "find is not on the PATH"),
+        ("no python3", [work / "unused"], {"PATH": f"{work}/tools:{work}/more"}, 70, "python3 is not on the PATH"),
     ]
     # What begins a comment in pbaudit.pc, quotes, or stands for something else there.
     for sign in ("#", "$", "\\", "'", '"', "\n", "\t"):
         cases.append((f"{sign!r} in a PREFIX", [work / f"a{sign}b"], {}, 3, "pbaudit.pc can't name a PREFIX with one of"))
     if os.geteuid() != 0:
         cases.append(("a folder that may not be written", [shut], {}, 1, "can't be made (Permission denied)"))
-    for folder, tools in (("tools", ("bash", "dirname", "readlink", "sed")), ("more", ("python3",))):
+    for folder, tools in (("tools", ("bash", "dirname", "readlink", "sed")), ("more", ("find",))):
         (work / folder).mkdir()
         for tool in tools:
             (work / folder / tool).symlink_to(shutil.which(tool))
@@ -325,7 +327,7 @@ def try_refusals(score, work):
 def try_building(score, work):
     """What isn't built is built: a copy without anything built, where rt isn't on the PATH, says that it has to be."""
     copy = work / "a copy"
-    left_out = shutil.ignore_patterns("out", "lib", ".git", "__pycache__")
+    left_out = shutil.ignore_patterns("out", "lib", "release", ".git", "__pycache__")
     shutil.copytree(TOP, copy, ignore=left_out, symlinks=True)
     environment = os.environ | {"PATH": "/usr/bin:/bin", "DESTDIR": ""}
     if shutil.which("rt", path=environment["PATH"]):
@@ -354,6 +356,58 @@ def try_building(score, work):
         score.check("install: the library could not be built" in done.stderr, f"{source} is newer than the library: {done}")
         score.same(70, done.returncode, f"{source} is newer than the library")
         os.utime(source, times)
+
+
+def make_release(copy):
+    """Makes release/ in a copy, of the program and the library that are built here."""
+    release = copy / "release"
+    release.mkdir()
+    shutil.copy(TOP / "crates/pbaudit/out/pbaudit", release)
+    for name in ("libpbaudit.so", "pbaudit.h", "pbaudit.pc"):
+        shutil.copy(TOP / "lib" / name, release)
+    with gzip.open(release / "libpbaudit.a.gz", "wb") as packed:
+        packed.write((TOP / "lib/libpbaudit.a").read_bytes())
+    ran(copy / "packaging/man_and_completions.py", release / "pbaudit", release)
+    sums = [f"{part} {ran(copy / 'packaging/sources', part).stdout}" for part in ("crates", "library")]
+    (release / "MADE-OF").write_text("pbaudit\n\n" + "".join(sums))
+    lines = [f"{hashlib.sha256(file.read_bytes()).hexdigest()}  {file.name}\n" for file in sorted(release.iterdir())]
+    (release / "SHA256SUMS").write_text("".join(lines))
+    return release
+
+
+def try_releasing(score, work):
+    """Without rt and python3 what is released is installed, where it is of these sources; and no file with a wrong byte."""
+    copy = work / "a release"
+    left_out = shutil.ignore_patterns("out", "lib", "release", ".git", "__pycache__")
+    shutil.copytree(TOP, copy, ignore=left_out, symlinks=True)
+    release = make_release(copy)
+    tools = work / "tools of a release"
+    tools.mkdir()
+    for tool in ("bash", "cp", "dirname", "find", "grep", "gzip", "install", "mkdir", "mktemp", "readlink", "rm", "sed",
+                 "sha256sum", "sort", "xargs"):
+        (tools / tool).symlink_to(shutil.which(tool))
+    environment = os.environ | {"PATH": str(tools), "DESTDIR": ""}
+    prefix = work / "from release"
+    done = ran(copy / "install", prefix, env=environment)
+    score.same((0, ""), (done.returncode, done.stderr), "what is released is installed")
+    try_files(score, prefix, done.stdout)
+    same = [("libpbaudit.a", "lib/libpbaudit.a"), ("libpbaudit.so", "lib/libpbaudit.so"), ("pbaudit.h", "include/pbaudit.h")]
+    for name, file in same:
+        score.same((TOP / "lib" / name).read_bytes(), (prefix / file).read_bytes(), f"the released {name} is another one")
+    for file in sorted(release.iterdir()):
+        if file.name in ("MADE-OF", "SHA256SUMS"):
+            continue
+        whole = file.read_bytes()
+        middle = len(whole) // 2
+        file.write_bytes(whole[:middle] + bytes([whole[middle] ^ 1]) + whole[middle + 1:])
+        done = ran(copy / "install", work / "wrong", env=environment)
+        score.check(done.returncode == 70 and not done.stdout, f"a byte of {file.name} is turned: {done}")
+        text = f"release/{file.name} isn't the file of release/SHA256SUMS"
+        score.check(text in done.stderr, f"a byte of {file.name} is turned: {done.stderr}")
+        file.write_bytes(whole)
+    (copy / "HANDLES").write_text("")
+    done = ran(copy / "install", work / "wrong", env=environment)
+    score.same((70, ""), (done.returncode, done.stdout), f"a release of other sources: {done.stderr}")
 
 
 def main():
@@ -391,6 +445,7 @@ def main():
             (folder / file).touch()
         try_man_and_completions(score, prefix, Helps(prefix / "bin/pbaudit"), folder)
         try_building(score, work)
+        try_releasing(score, work)
     print(f"{score.passed} passed, {score.failed} failed")
     return 1 if score.failed else 0
 
