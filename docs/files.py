@@ -1,37 +1,48 @@
 #!/usr/bin/env python3
 """Prints what each source file and each module of definitions is for: the first sentence of the comment at its head.
 
-usage: docs/files.py [CRATE..]     of these crates, in the place of all
+usage: docs/files.py [NAME..]     of these crates, or of the folders python/pbaudit and web, in the place of all
 """
 import re
 import sys
 from pathlib import Path
 
 TOP = Path(__file__).resolve().parent.parent
+FOLDERS = ["python/pbaudit", "web"]
+KINDS = ["src/**/*.rt", "specs/**/*.antt", "*.py", "*.js", "*.c"]
+# What may stand before the comment, and the comment.
+HEADS = {
+    ".rt": r"((?://!.*\n)+)",
+    ".antt": r"((?:--.*\n)+)",
+    ".py": r'(?:#!.*\n)?"""((?:.|\n)*?)(?:"""|\n\n)',
+    ".js": r"(?:// @ts-check\n)?(?:\"use strict\";\n)?/\*((?:.|\n)*?)\*/",
+    ".c": r"/\*((?:.|\n)*?)\*/",
+}
 
 
-def first_sentence(file):
-    """The first sentence of the comment with which a file begins."""
-    sign = "//!" if file.suffix == ".rt" else "--"
-    words = []
-    for line in file.read_text(encoding="utf-8").splitlines():
-        if not line.startswith(sign):
-            break
-        words.append(line[len(sign):].strip())
-    return re.split(r"(?<=\.) (?=[A-Z])", " ".join(words), maxsplit=1)[0]
+def purpose(file):
+    """The first sentence of the comment with which a file begins, or nothing."""
+    head = re.match(HEADS[file.suffix], file.read_text(encoding="utf-8"))
+    lines = [re.sub(r"^(//!|--| \*)", "", line).strip() for line in head.group(1).splitlines()] if head else []
+    paragraph = " ".join(lines[: lines.index("")] if "" in lines else lines)
+    return re.split(r"(?<=\.) (?=[A-Z])", paragraph, maxsplit=1)[0]
+
+
+def files(folder):
+    """The files of a folder, but for the lists of modules."""
+    return [file for kind in KINDS for file in sorted(folder.glob(kind)) if file.name != "Lib.antt"]
 
 
 def main():
-    crates = [line.split(":")[0] for line in (TOP / "crates.txt").read_text(encoding="utf-8").splitlines()]
-    for crate in sys.argv[1:] or [name for name in crates if re.fullmatch(r"\w+", name)]:
-        folder = TOP / "crates" / crate
+    crates = re.findall(r"^(\w+):", (TOP / "crates.txt").read_text(encoding="utf-8"), re.MULTILINE)
+    for name in sys.argv[1:] or crates + FOLDERS:
+        folder = TOP / name if name in FOLDERS else TOP / "crates" / name
         if not folder.is_dir():
-            print(f"files.py: there is no crate {crate}", file=sys.stderr)
+            print(f"files.py: there is no crate {name}", file=sys.stderr)
             return 3
-        print(crate)
-        for file in sorted(folder.glob("src/**/*.rt")) + sorted(folder.glob("specs/**/*.antt")):
-            if file.name != "Lib.antt":
-                print(f"  {file.relative_to(folder)}: {first_sentence(file)}")
+        print(folder.relative_to(TOP))
+        for file in files(folder):
+            print(f"  {file.relative_to(folder)}: {purpose(file)}")
     return 0
 
 

@@ -1,12 +1,13 @@
 #!/usr/bin/env python3
 """Checks that the pages lead somewhere: each link of a page to a file or a heading, and each path in backticks; that
 README.md and docs/STATEMENT.md keep to their lengths; that what docs/COUNCILS.md quotes is said by the page about a
-certificate; and that each source and each module of definitions begins with a comment on what it is for, since
-docs/files.py prints these. The last line is 'N passed, M failed'.
+certificate; and that each file that docs/files.py prints begins with a comment on what it is for. The last line is
+'N passed, M failed'.
 
 usage: tests/documents.py [PAGE..]     these pages in the place of all
 """
 import re
+import subprocess
 import sys
 from pathlib import Path
 
@@ -74,13 +75,15 @@ def check_page(page):
 
 
 def check_files():
-    """Whether each source and each module of definitions begins with a comment."""
-    files = [*TOP.glob("crates/*/src/**/*.rt"), *TOP.glob("crates/*/specs/**/*.antt")]
-    for file in sorted(files):
-        if file.name != "Lib.antt":
-            begin = "//! " if file.suffix == ".rt" else "-- "
-            told = file.read_text(encoding="utf-8").startswith(begin)
-            yield "" if told else f"{file.relative_to(TOP)}: it begins with no comment on what it is for"
+    """Whether each file that docs/files.py prints begins with a comment."""
+    printed = subprocess.run([TOP / "docs" / "files.py"], capture_output=True, text=True, check=True).stdout
+    folder = ""
+    for line in printed.splitlines():
+        if not line.startswith(" "):
+            folder = line
+        else:
+            name, _, purpose = line.strip().partition(": ")
+            yield "" if purpose else f"{folder}/{name} begins with no comment on what it is for"
 
 
 def main():
