@@ -26,7 +26,7 @@ use std::alloc::{AllocError, Global};
 /// The reply on an election, an outcome file where one is given, a price certificate and a violation certificate, all
 /// in memory: the line of the verdict on the prices and then that of the verdict on the group, or why a file is
 /// refused. The status is yes where both are a yes. Without an outcome file the outcome is the election's own. The
-/// first file that is refused decides, in this order; more than 2^28 bytes are refused as too long. The error is want
+/// first file that is refused decides, in this order; more than 2^28 bytes are refused as too long. An error means out
 /// of memory.
 pub fn both_reply(
     alloc: Global,

@@ -34,7 +34,7 @@ use std::alloc::{AllocError, Global};
 /// or test with the figures that it compares; or why a file is refused. Where the first record of the certificate that
 /// is not blank is the head of a violation certificate, it is taken as one, and then the mode counts for nothing; any
 /// other is taken as prices. Without an outcome file the outcome is the election's own. The first file that is refused
-/// decides, in this order; more than 2^28 bytes are refused as too long. The error is want of memory.
+/// decides, in this order; more than 2^28 bytes are refused as too long. An error means out of memory.
 pub fn explained_reply(
     alloc: Global,
     election: &[u8],

@@ -23,7 +23,7 @@ pub struct Entry {
 }
 
 /// The report on the entries of a folder, in the order given: a line for each file that is audited, and the line of the
-/// total. The outcomes are the elections' own. The error is want of memory.
+/// total. The outcomes are the elections' own. An error means out of memory.
 pub fn folder_text(
     alloc: Global,
     entries: &[Entry],

@@ -44,7 +44,7 @@ impl FolderReport {
         }
     }
 
-    /// The report with one entry more. The error is want of memory; the report is then lost.
+    /// The report with one entry more. An error means out of memory; the report is then lost.
     pub fn add(self, alloc: Global, entry: &Entry) -> Result<FolderReport, AllocError>
         ensures mode { IfOk result (λ more. more.mode ≡ self.mode) }
 
@@ -66,7 +66,7 @@ impl FolderReport {
         })
     }
 
-    /// The whole report, with the line of the total. The error is want of memory.
+    /// The whole report, with the line of the total. An error means out of memory.
     pub fn finish(self) -> Result<Answer<FolderStatus>, AllocError>
         ensures { (entries : List Files) → HasTaken self entries → IfOk result (ReportOf self.mode entries) }
     {

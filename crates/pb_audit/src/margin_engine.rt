@@ -21,7 +21,7 @@ use std::alloc::{AllocError, Global};
 /// the figures of each project, as comma-separated values, or why a file is refused. Amounts are in grains, of which
 /// one unit of the currency has 10^6 D, where D is the denominator of the certificate. The status of a table is yes,
 /// whatever the prices support. Without an outcome file the outcome is the election's own. The first file that is
-/// refused decides, in this order; more than 2^28 bytes are refused as too long. The error is want of memory.
+/// refused decides, in this order; more than 2^28 bytes are refused as too long. An error means out of memory.
 pub fn margins_answer(
     alloc: Global,
     election: &[u8],

@@ -16,7 +16,7 @@ use pb_reply::{
 use std::alloc::{AllocError, Global};
 
 /// The reply on an election in memory: the line on it with the notes, or why it is refused. More than 2^28 bytes are
-/// refused as too long. The error is want of memory.
+/// refused as too long. An error means out of memory.
 pub fn read_reply(alloc: Global, election: &[u8]) -> Result<Reply, AllocError>
     // The reply is the one on these bytes.
     ensures { IfOk result (AnswersElectionFile election.now) }

@@ -17,7 +17,7 @@ use pb_reply::{
 use std::alloc::{AllocError, Global};
 
 /// The answer on an election and a price certificate for it, both in memory: the certificate's canonical text, or why a
-/// file is refused, the election first; more than 2^28 bytes are refused as too long. The error is want of memory.
+/// file is refused, the election first; more than 2^28 bytes are refused as too long. An error means out of memory.
 pub fn tidy_answer(
     alloc: Global,
     election: &[u8],

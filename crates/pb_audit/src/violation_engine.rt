@@ -23,7 +23,7 @@ use std::alloc::{AllocError, Global};
 /// The reply on an election, an outcome file where one is given, and a violation certificate, all in memory: the line
 /// of the verdict on the group, by the measure that the certificate states, or why a file is refused. Without an
 /// outcome file the outcome is the election's own. The first file that is refused decides, in this order; more than
-/// 2^28 bytes are refused as too long. The error is want of memory.
+/// 2^28 bytes are refused as too long. An error means out of memory.
 pub fn violation_reply(
     alloc: Global,
     election: &[u8],

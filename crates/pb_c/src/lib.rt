@@ -1,6 +1,6 @@
 //! The auditor for C: whole files in memory in, and the answer's text in memory out. `include/pbaudit.h` says the same
 //! in the words of C. By its contract a call reports the number, the text and its length of what it answers on these
-//! bytes, or that memory ran out, and then nothing is written. That memory runs out only where a growth was refused is
+//! bytes, or that memory ran out, and then nothing is written. That it runs out only at a failed allocation is
 //! tested and not proved.
 #![tactic(auto)]
 

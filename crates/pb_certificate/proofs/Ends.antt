@@ -24,7 +24,7 @@ pub stop-refuses : (form : Form CertFault) (recs : List Rec) (stop : Stop (Fault
 stop-refuses form recs (Fault f) first = inr first
 stop-refuses form recs Memory first = inl refl
 
--- and where no fault can be the first, it was want of memory
+-- and where no fault can be the first, it was out of memory
 pub stop-is-memory : (form : Form CertFault) (recs : List Rec) (stop : Stop (FaultAt CertFault))
     → StopsFirst form recs stop
     → ((f : FaultAt CertFault) → IsFirstFault form recs f.place f.fault → ⊥) → refusal_where_stopped stop ≡ no_memory

@@ -154,7 +154,7 @@ runs-state recs e first m d b runs h same_election same_records is_m is_d is_b =
     λ i. prices-by (projects_are i) (denominator_is i) (budget_is i) (all.1 i) in
     subst (IsPriceText recs e) (sym same) all.0
 
--- a refusal of a text of prices is want of memory
+-- a refusal of a text of prices means out of memory
 pub text-refused : (recs : List Rec) (e : Instance) (p : Prices) (r : CertRefusal) → IsPriceText recs e p
     → (r ≡ no_memory) ⊎ IsFirstFault (price_form e) recs r.place r.fault → r ≡ no_memory
 text-refused recs e p r text h =

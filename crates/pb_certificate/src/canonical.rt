@@ -21,7 +21,7 @@ use std::alloc::{AllocError, Global};
 /// Why prices were not written.
 #[derive(Clone, Copy, Debug, PartialEq, Eq)]
 pub enum WriteFault {
-    /// Memory was wanted. Nothing was written.
+    /// Out of memory. Nothing was written.
     Memory,
     /// The writer failed. A prefix of the text was written.
     Write,
@@ -72,7 +72,7 @@ pub fn canonical_text_of(
 
 impl Prices {
     /// The canonical text of a price certificate with these prices, as `write` writes it. The prices are to be for as
-    /// many voters and projects as the election has. The refusal is want of memory.
+    /// many voters and projects as the election has. A refusal means out of memory.
     pub fn canonical_text(&self, alloc: Global, election: &Election) -> Result<Vec<u8>, AllocError>
         requires { PricesFit self.now election.now }
         ensures { IfOk result (λ text. text.items ≡ Canon election.now self.now) }
@@ -85,8 +85,8 @@ impl Prices {
 
     /// Writes the canonical text of a price certificate with these prices, and flushes: the four head records, and then
     /// a row for each payment that is not 0, by rising voter and then rising project. The prices are to be for as many
-    /// voters and projects as the election has. `Write` comes only where the writer failed. `Memory` comes only where a
-    /// growth was refused, which is tested and not proved.
+    /// voters and projects as the election has. `Write` comes only where the writer failed. `Memory` comes only after a
+    /// failed allocation, which is tested and not proved.
     pub fn write<W: Sink>(
         &self,
         alloc: Global,

@@ -9,7 +9,7 @@ use std::alloc::{AllocError, Global};
 
 /// Whether some bytes begin as a violation certificate: their first record that is not blank is `pb-violation,1` or
 /// `pb-violation,2`. What follows it is not looked at. Bytes without such a record begin as none, and so do those whose
-/// first such record is not UTF-8. The error is want of memory; it comes only where a growth was refused, which is
+/// first such record is not UTF-8. An error means out of memory; it comes only after a failed allocation, which is
 /// tested and not proved.
 // The reader of records takes some 30 KB of stack, which a caller is to have back.
 #[inline(never)]

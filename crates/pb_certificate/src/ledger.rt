@@ -13,7 +13,7 @@ pub trait Ledger {
     ghost Has: { Self → Instance → Prices → Type 0 };
 
     /// Takes the payments of the next voter, whose number this is: the projects, rising, each with the numerator, which
-    /// is not 0. After an error, which is want of memory, it is left open what it has.
+    /// is not 0. After an error, which means out of memory, it is left open what it has.
     fn take(&mut self, voter: u32, payments: &[(u32, u128)]) -> Result<(), AllocError>
         requires { CanTake (Has self.old) voter payments.now }
         ensures { (e : Instance) (p : Prices) → Has self.old e p → voter ≡ length p.payments + 1 → OnOk result (Has self.new e (with_voter p payments.now)) };

@@ -11,7 +11,7 @@ use pb_records::take_all;
 use std::alloc::Global;
 
 /// The outcome that the bytes of an outcome file state for an election, or the first fault: the one at the least
-/// record, and of those there the one with the lowest number. Want of memory comes only where a growth was refused,
+/// record, and of those there the one with the lowest number. Out of memory comes only after a failed allocation,
 /// which is tested and not proved.
 ///
 /// The head record is `pb-outcome,1`. A row is `project` with the id of a funded project, none twice.

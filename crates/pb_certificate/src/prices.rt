@@ -46,7 +46,7 @@ impl Model for Prices {
 
 impl Prices {
     /// The prices that the bytes of a price certificate state for an election, or the first fault: the one at the least
-    /// record, and of those there the one with the lowest number. Want of memory comes only where a growth was refused,
+    /// record, and of those there the one with the lowest number. Out of memory comes only after a failed allocation,
     /// which is tested and not proved.
     ///
     /// The head records are `pb-prices,1`, `denominator,D`, `voter_budget,N` and `voter,project,payment`. A row has a

@@ -1,5 +1,5 @@
 //! Records written into memory, as comma-separated values: a field is in quotes where it has to be, and a record ends
-//! in LF. An error is want of memory.
+//! in LF. An error means out of memory.
 ghost use Rattle.std.specs.Prelude.{◌≡◌, ◌++◌, ◌∷◌, [], IfOk, OnOk, map};
 ghost use Rattle.csv.specs.Writing.{default_writer, row_text};
 ghost use Rattle.pb_certificate.specs.Inside.RecordWriter.{IsOpen, held};

@@ -29,7 +29,7 @@ pub enum CertFault {
     Repeated,
     /// A price certificate has more than 10,000,000 rows: this is the next one.
     TooMany,
-    /// Memory was wanted. No record causes it.
+    /// Out of memory. No record causes it.
     Memory,
 }
 
@@ -44,7 +44,7 @@ pub struct CertRefusal {
 }
 
 impl CertRefusal {
-    /// Want of memory.
+    /// Out of memory.
     pub(crate) const NO_MEMORY: CertRefusal = CertRefusal {
         fault: CertFault::Memory,
         place: 0,

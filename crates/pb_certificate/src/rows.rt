@@ -32,7 +32,7 @@ impl<'a> Model for Rows<'a> {
 impl<'a> Rows<'a> {
     /// Stands before the first row of a price certificate for an election, behind the four head records. Refuses the
     /// file where its first fault stands at one of them, or at the end before the fourth; a fault of a row comes from
-    /// `next`. `Memory` comes only where a growth was refused, which is tested and not proved. What the head records
+    /// `next`. `Memory` comes only after a failed allocation, which is tested and not proved. What the head records
     /// and the rows are is said at `Prices::read`.
     pub fn open(
         alloc: Global,
@@ -76,7 +76,7 @@ impl<'a> Rows<'a> {
 
     /// The next row, payment 0 too, with the reader behind it, or none where no row is left; asked again, it is none
     /// again. Else the fault of the next record, of several the one with the lowest number: a refusal consumes the
-    /// reader, which then hands out nothing more. `Memory` comes only where a growth was refused, which is tested and
+    /// reader, which then hands out nothing more. `Memory` comes only after a failed allocation, which is tested and
     /// not proved.
     pub fn next(self) -> Result<(Rows<'a>, Option<PriceRow>), CertRefusal>
         ensures row { IfOk result (λ x. IfSome x.1 (λ q. GivesRow self.entry x.0 q)) }

@@ -39,8 +39,8 @@ impl Model for Violation {
 
 impl Violation {
     /// The measure, the group and the demand that the bytes of a violation certificate state for an election, or the
-    /// first fault: the one at the least record, and of those there the one with the lowest number. Want of memory
-    /// comes only where a growth was refused, which is tested and not proved.
+    /// first fault: the one at the least record, and of those there the one with the lowest number. Out of memory
+    /// comes only after a failed allocation, which is tested and not proved.
     ///
     /// The head record is `pb-violation,1`, and the measure is then counting; or it is `pb-violation,2`, and a second
     /// head record states the measure, `satisfaction,count` or `satisfaction,cost`. A row is `voter` with a voter's

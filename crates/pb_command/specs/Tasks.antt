@@ -108,6 +108,6 @@ FitsKind k (fault.Help text) = (k ≡ kind.DisplayHelp) ⊎ (k ≡ kind.DisplayV
 FitsKind k (fault.Usage text) = (k ≢ kind.DisplayHelp) × (k ≢ kind.DisplayVersion)
 FitsKind k fault.Memory = k ≡ kind.OutOfMemory
 
--- want of memory, or the fault of one of the kinds
+-- out of memory, or the fault of one of the kinds
 abbrev pub IsFaultOf : Kinds → UsageFault → Type 0
 IsFaultOf kinds f = (f ≡ fault.Memory) ⊎ ((k : ErrorKind) × IsAmong k kinds × FitsKind k f)

@@ -90,7 +90,7 @@ pub enum UsageFault {
     Help(String),
     /// The words are not understood. The text is for standard error.
     Usage(String),
-    /// Memory was wanted.
+    /// Out of memory.
     Memory,
 }
 
@@ -106,7 +106,7 @@ impl From<AllocError> for UsageFault {
 ///
 /// # Errors
 /// `Help` where the words ask for help or the version, `Usage` where they are no line of a
-/// command, and `Memory` where memory was wanted, which comes only where a growth was refused; that is
+/// command, and `Memory` if memory ran out, which comes only after a failed allocation; that is
 /// tested and not proved.
 pub fn task_of(alloc: Global, words: Vec<String>) -> Result<Task, UsageFault>
     ensures task { IfOk result (λ t. Some (asked t) ≡ TaskOf (map string_bytes words.items)) }

@@ -47,12 +47,12 @@ impl Model for Election {
 
 impl Election {
     /// The election that the bytes of a file in Pabulib's format state, or the first fault because of which they state
-    /// none. `Memory` comes only where a growth was refused, which is tested and not proved.
+    /// none. `Memory` comes only after a failed allocation, which is tested and not proved.
     pub fn read(alloc: Global, bytes: &[u8]) -> Result<Election, Refusal>
         // What is answered is what the file states, and it is sound.
         ensures found { IfOk result (λ e. IsTextOf bytes.now e × IsElection e) }
 
-        // A refusal is the first fault, or want of memory.
+        // A refusal is the first fault, or out of memory.
         ensures refused { IfErr result (λ r. (r ≡ no_memory) ⊎ Refuses bytes.now r) }
 
         // Where the file states an election, that one is answered, memory aside.

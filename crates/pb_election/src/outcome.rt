@@ -31,7 +31,7 @@ impl Model for Outcome {
 
 impl Outcome {
     /// The outcome that the election's own file states in its column `selected`. A file without that column is refused
-    /// with `NoOutcome`. `Memory` comes only where a growth was refused, which is tested and not proved. The place of
+    /// with `NoOutcome`. `Memory` comes only after a failed allocation, which is tested and not proved. The place of
     /// both is 0.
     pub fn selected(alloc: Global, election: &Election) -> Result<Outcome, Refusal>
         ensures found { IfOk result (λ w. funding.IsSelected w election.now) }

@@ -39,7 +39,7 @@ pub enum ElectionFault {
     /// The row of project 20,001 or of voter 1,000,001, or the row with which the ballots have more than 20,000,000
     /// approvals together.
     TooMany,
-    /// Memory was wanted. No record causes it.
+    /// Out of memory. No record causes it.
     Memory,
     /// The file has no column `selected`, so it states no outcome. Only `Outcome::selected` answers it.
     NoOutcome,

@@ -13,8 +13,8 @@ use std::alloc::{AllocError, Global};
 /// Adds a line for each condition on prices, in their order: its name, whether it holds, and the figures that it
 /// compares. A condition that the mode leaves out is told too, with how to ask for it. Amounts are told in units of the
 /// currency, and exactly where a unit has a multiple of 10^6 grains, as it has in all that `findings_of` answers;
-/// voters by their numbers, from 1, and projects by their ids. The findings are to be of this election. The error is
-/// want of memory, after which some of the lines may have been added.
+/// voters by their numbers, from 1, and projects by their ids. The findings are to be of this election. An error
+/// means out of memory, after which some of the lines may have been added.
 pub fn push_price_table(
     alloc: Global,
     lines: &mut Vec<String>,

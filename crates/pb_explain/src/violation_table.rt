@@ -14,7 +14,7 @@ use std::alloc::{AllocError, Global};
 /// Adds a line for each test of a violation, in their order: its name, whether it holds, and the figures that it
 /// compares, with what projects are worth by this measure. Amounts are told in units of the currency, and exactly;
 /// voters by their numbers, from 1, and projects by their ids. The findings are to be of this election and by this
-/// measure. The error is want of memory, after which some of the lines may have been added.
+/// measure. An error means out of memory, after which some of the lines may have been added.
 pub fn push_violation_table(
     alloc: Global,
     lines: &mut Vec<String>,

@@ -79,7 +79,7 @@ pub of-any : {e : Instance} {bytes : List ℕ} {t : CertificateTally} (P : Price
     → P k.prices → (p : Prices) → IsPriceText (certificate_records bytes) e p → P p
 of-any {e} {bytes} P k h p text = subst P (price-text-same (certificate_records bytes) e k.prices p k.text text) h
 
--- the refusal that a `?` hands on is want of memory, where the records state prices
+-- the refusal that a `?` hands on means out of memory, where the records state prices
 pub only-memory : {A : Type 0} (recs : List Rec) (e : Instance) (p : Prices) (f : CertRefusal)
     (r : Result A CertRefusal) → IsErrAnd r (λ x. x ≡ f) → IsPriceText recs e p
     → (f ≡ no_memory) ⊎ IsFirstFault (price_form e) recs f.place f.fault → r ≡ Err no_memory

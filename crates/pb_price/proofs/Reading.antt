@@ -99,7 +99,7 @@ margins-are e w p d sums m is h grains figures = record {
       (λ c low high. figures-at e w p d sums c is h low (omega arith));
 }
 
--- the figures of a tally of these prices, or want of memory
+-- the figures of a tally of these prices, or out of memory
 pub margins-or-memory : (e : Instance) (w : List Bool) (p : Prices) (d : ℕ) (t : Tally) (r : Result Margins CertRefusal)
     → p.denominator ≡ d → IsTallyOf e p t
     → IfOk r (λ m. (q : Prices) → q.denominator ≡ d → IsTallyOf e q t → AreMargins e w q m)

@@ -23,8 +23,8 @@ use pb_money::payment_grains;
 use std::alloc::{AllocError, Global};
 
 /// Whether the prices support the outcome by the conditions of the mode, or else the first condition that is false,
-/// with its first culprit. The costs are those of this election. The outcome and the prices are to fit it. An error is
-/// want of memory. It comes only where a growth was refused, which is tested and not proved.
+/// with its first culprit. The costs are those of this election. The outcome and the prices are to fit it. An error
+/// means out of memory. It comes only after a failed allocation, which is tested and not proved.
 pub fn check(
     alloc: Global,
     election: &Election,
@@ -80,7 +80,7 @@ pub fn check_rows(
     // projects.
     ensures steps { IfOk result (λ a. AreStepsOf election.now (row_count bytes.now) a.steps) }
 
-    // A refusal is the first fault, or want of memory.
+    // A refusal is the first fault, or out of memory.
     ensures refused { IfErr result (λ r. (r ≡ no_memory) ⊎ Refuses (price_form election.now) bytes.now r) }
 
     // Where the bytes state prices the verdict is the one on those, memory aside.

@@ -36,7 +36,7 @@ pub fn findings_of(
     // The bytes state prices, and the findings are those on them.
     ensures found { IfOk result (λ f. (p : spec.Prices) × IsPriceText (certificate_records bytes.now) election.now p × (f ≡ findings election.now (outcome.now).marks p)) }
 
-    // A refusal is the first fault, or want of memory.
+    // A refusal is the first fault, or out of memory.
     ensures refused { IfErr result (λ r. (r ≡ no_memory) ⊎ Refuses (price_form election.now) bytes.now r) }
 
     // Where the bytes state prices the findings are those on them, memory aside.

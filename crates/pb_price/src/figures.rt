@@ -36,7 +36,7 @@ pub fn margins_of(
     // The bytes state prices, and the figures are those by them.
     ensures found { IfOk result (λ m. (p : spec.Prices) × IsPriceText (certificate_records bytes.now) election.now p × AreMargins election.now (outcome.now).marks p m) }
 
-    // A refusal is the first fault, or want of memory.
+    // A refusal is the first fault, or out of memory.
     ensures refused { IfErr result (λ r. (r ≡ no_memory) ⊎ Refuses (price_form election.now) bytes.now r) }
 
     // Where the bytes state prices the figures are those by them, memory aside.
@@ -59,7 +59,7 @@ pub fn findings_and_margins_of(
     // The bytes state prices, and the findings and the figures are those by them.
     ensures found { IfOk result (λ both. (p : spec.Prices) × IsPriceText (certificate_records bytes.now) election.now p × (both.0 ≡ findings election.now (outcome.now).marks p) × AreMargins election.now (outcome.now).marks p both.1) }
 
-    // A refusal is the first fault, or want of memory.
+    // A refusal is the first fault, or out of memory.
     ensures refused { IfErr result (λ r. (r ≡ no_memory) ⊎ Refuses (price_form election.now) bytes.now r) }
 
     // Where the bytes state prices the findings and the figures are those by them, memory aside.
@@ -78,7 +78,7 @@ pub fn findings_and_margins_of(
     Ok((findings, margins))
 }
 
-// The figures by the tally of all rows of a certificate. A refusal is want of memory.
+// The figures by the tally of all rows of a certificate. A refusal means out of memory.
 fn margins_in(
     alloc: Global,
     election: &Election,

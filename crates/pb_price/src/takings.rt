@@ -15,7 +15,7 @@ use pb_election::Election;
 use pb_money::payment_grains;
 use std::alloc::Global;
 
-/// Want of memory.
+/// Out of memory.
 pub(crate) const NO_MEMORY: CertRefusal = CertRefusal {
     fault: CertFault::Memory,
     place: 0,

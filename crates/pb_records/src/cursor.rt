@@ -45,7 +45,7 @@ impl<'a> Cursor<'a> {
     }
 
     /// Goes behind the next record that is not blank, which `row` then lends. Behind a record that is not UTF-8, and
-    /// after an error, which is want of memory, no record is left: what comes then is the end.
+    /// after an error, which means out of memory, no record is left: what comes then is the end.
     pub fn advance(&mut self) -> Result<Next, AllocError>
         ensures next { IfOk result (λ next. Meets next self.old self.new) }
         ensures failed { OnErr result (self.new.left ≡ []) }

@@ -16,7 +16,7 @@ use std::alloc::Global;
 pub enum Stop<F> {
     /// A fault of the file.
     Fault(F),
-    /// Memory was wanted.
+    /// Out of memory.
     Memory,
 }
 
@@ -59,7 +59,7 @@ pub trait Draft<A> {
 }
 
 /// Reads a file, whose fields the delimiter divides, into a draft that has taken no record yet. A fault is that at the
-/// least place and, of several there, the one with the lowest number. `Memory` comes only where a growth was refused,
+/// least place and, of several there, the one with the lowest number. `Memory` comes only after a failed allocation,
 /// which is tested and not proved. After an error it is left open what the draft has taken.
 pub fn take_all<A, D: Draft<A>>(
     alloc: Global,

@@ -12,7 +12,7 @@ use std::io::{Read, Write};
 /// Why a text was not loaded.
 #[derive(Clone, Copy, Debug, PartialEq, Eq)]
 pub enum LoadFault {
-    /// Memory was wanted.
+    /// Out of memory.
     Memory,
     /// The reader answered an error.
     Read,
@@ -185,7 +185,7 @@ const CHUNK: usize = 65536;
 const ROOM: usize = 33 * 1024 * 1024;
 
 /// All bytes up to the end, if they are at most `most`, by at most `most + 1` reads. `Read` comes at the first error of
-/// the reader, and `TooLong` where it gave more bytes. `Memory` comes only where a growth was refused, which is tested
+/// the reader, and `TooLong` where it gave more bytes. `Memory` comes only after a failed allocation, which is tested
 /// and not proved.
 pub fn load<R: Source>(alloc: Global, source: &mut R, most: usize) -> Result<Vec<u8>, LoadFault>
     ensures bytes { IfOk result (λ v. Delivered (R.left source.old) (R.counts source.old) (R.counts source.new) most (delivery.Bytes v.items)) }

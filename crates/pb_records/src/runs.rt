@@ -42,7 +42,7 @@ impl<T: Copy> Runs<T> {
         })
     }
 
-    /// Adds a run at the end. After want of memory the runs are as before.
+    /// Adds a run at the end. Out of memory, the runs are as before.
     pub fn push(&mut self, run: &[T]) -> Result<(), AllocError>
         requires { sum_by length self.old + length run.now < 2 ^ 32 }
         ensures { self.new ≡ (if is_ok result then self.old ++ run.now ∷ [] else self.old) }

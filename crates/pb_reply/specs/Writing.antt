@@ -34,7 +34,7 @@ pub record IsCutShort {S : Type 0} (is_answer : Answer S → Type 0) (old new : 
 abbrev pub writer : {W : Type 0} → Sink W → W → Writer
 writer sink w = record { holds = sink.holds w; counts = sink.counts w }
 
--- How a call ends that writes one of these answers: it is written, or it is cut short, or memory was wanted and the
+-- How a call ends that writes one of these answers: it is written, or it is cut short, or it is out of memory and the
 -- writer is as it was.
 pub record Writes {W S : Type 0} (sink : Sink W) (is_answer : Answer S → Type 0) (result : Result S Fault)
     (old new : W) : Type 0 where

@@ -50,7 +50,7 @@ pub struct Refusal {
 pub enum Stop {
     /// An input is refused.
     Refused(Refusal),
-    /// Memory was wanted.
+    /// Out of memory.
     Memory,
 }
 
@@ -114,7 +114,7 @@ impl InputFault {
         }
     }
 
-    /// Whether the fault is not one of the input: memory was wanted.
+    /// Whether the fault is not one of the input: out of memory.
     fn wants_memory(&self) -> bool
         ensures { result ≡ wants_memory self.now }
     {

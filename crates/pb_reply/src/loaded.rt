@@ -33,7 +33,7 @@ pub enum File<'a> {
 }
 
 impl Loaded {
-    /// What a reader delivers of a file: its bytes, at most 2^28, or that it failed or has more. The error is want of
+    /// What a reader delivers of a file: its bytes, at most 2^28, or that it failed or has more. An error means out of
     /// memory.
     pub fn load<R: Source>(alloc: Global, source: &mut R) -> Result<Loaded, AllocError>
         ensures { IfOk result (λ loaded. Delivered (R.left source.old) (R.counts source.old) (R.counts source.new) most_bytes (delivery_of loaded)) }

@@ -21,7 +21,7 @@ pub enum Status {
 /// Why an answer was not written whole.
 #[derive(Clone, Copy, Debug, PartialEq, Eq, Error)]
 pub enum Fault {
-    /// Memory was wanted. Nothing was written. That it is wanted only where a growth was refused is tested, not proved.
+    /// Out of memory. Nothing was written. That this comes only after a failed allocation is tested, not proved.
     #[error("fault memory")]
     Memory,
     /// The writer failed. A front of the text was written.

@@ -54,7 +54,7 @@ pub fn run_folder<W: Sink, E: Write + IsTerminal>(
 }
 
 /// Tells that there is no election, and in one line which files may be meant to be audited and aren't. What `err` does
-/// not take is lost, and the files are not told where memory is wanted.
+/// not take is lost, and the files are not told if memory runs out.
 fn tell_beside<E: Write>(rt: &HostRuntime, listing: &Listing, err: &mut E) {
     if listing.elections().is_empty() {
         let _ = writeln!(

@@ -26,7 +26,7 @@ enum Kind {
 /// Why a folder was not listed.
 #[derive(Clone, Copy, Debug, PartialEq, Eq)]
 pub enum ListFault {
-    /// Memory was wanted.
+    /// Out of memory.
     Memory,
     /// It can't be listed, for which the operating system has this number; or, with none, it lists a name that is not
     /// UTF-8.

@@ -9,7 +9,7 @@ use std::io::Write;
 use std::{fs, io};
 
 /// Tells on `err` why an input of a task was refused. Where the input couldn't be read, the operating system's number
-/// for that is `failure`. What `err` does not take is lost, and nothing is told where memory is wanted.
+/// for that is `failure`. What `err` does not take is lost, and nothing is told if memory runs out.
 pub fn tell_hint<E: Write>(
     rt: &HostRuntime,
     task: &Task,
@@ -29,7 +29,7 @@ pub fn tell_hint<E: Write>(
 }
 
 /// Tells on `err` the notes on the election of a task, a line for each. What `err` does not take is lost, and nothing is
-/// told where memory is wanted.
+/// told if memory runs out.
 pub fn tell_notes<E: Write>(rt: &HostRuntime, task: &Task, notes: &[String], err: &mut E) {
     let Some((_, Some(path))) = input_of(task, InputName::Election) else {
         return;

@@ -14,7 +14,7 @@ use Rattle.pb_records.specs.declared.drafts.Stop.TheVariants.{Fault, Memory}
 abbrev pub Takes : {F : Type 0} → Form F → (List Rec → Type 0) → (List Rec → Type 0) → Rec → Type 0
 Takes form old new r = (before : List Rec) → old before → (form before (Some r) ≡ None) × new (before ++ r ∷ [])
 
--- the record has the fault that was told, after the records that the draft had taken; want of memory says nothing of it
+-- the record has the fault that was told, after the records that the draft had taken; out of memory says nothing of it
 abbrev pub StopsAt : {F : Type 0} → Form F → (List Rec → Type 0) → Rec → Stop F → Type 0
 StopsAt form old r (Fault f) = (before : List Rec) → old before → form before (Some r) ≡ Some f
 StopsAt form old r Memory = ⊤
@@ -27,7 +27,7 @@ TellsEnd form has told = (before : List Rec) → has before → told ≡ form be
 abbrev pub TellsNotText : {F : Type 0} → Form F → F → Type 0
 TellsNotText form told = (before : List Rec) (r : Rec) → is_text r ≡ false → form before (Some r) ≡ Some told
 
--- the records have their first fault where it was told; want of memory says nothing of them
+-- the records have their first fault where it was told; out of memory says nothing of them
 abbrev pub StopsFirst : {F : Type 0} → Form F → List Rec → Stop (FaultAt F) → Type 0
 StopsFirst form recs (Fault f) = IsFirstFault form recs f.place f.fault
 StopsFirst form recs Memory = ⊤

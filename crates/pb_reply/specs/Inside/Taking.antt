@@ -34,7 +34,7 @@ IsUnloaded input (delivery.Bytes bytes) why = ⊥
 IsUnloaded input delivery.Read why = why ≡ stop.Refused (refusal_of input fault.Unread)
 IsUnloaded input delivery.TooLong why = why ≡ stop.Refused (refusal_of input fault.TooLong)
 
--- whether a fault is want of memory, and not one of the input
+-- whether a fault is out of memory, and not one of the input
 abbrev pub is_election_memory : ElectionFault → Bool
 is_election_memory election_fault.Memory = true
 is_election_memory _ = false

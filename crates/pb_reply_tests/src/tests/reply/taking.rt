@@ -15,7 +15,7 @@ use std::test::Fail;
 /// An input, and the number, the name and the record of what it is refused for.
 type Why = (&'static str, u32, &'static str, u64);
 
-/// What an input is refused for, where it is. The error is want of memory.
+/// What an input is refused for, where it is. An error means out of memory.
 fn why<T>(taken: &Result<T, Stop>) -> Result<Option<Why>, AllocError> {
     match taken {
         Ok(_) => Ok(None),
