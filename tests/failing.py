@@ -17,7 +17,7 @@ run meets no failure. Each command runs on the examples and on a few files more.
   error isn't taken, nothing else changes.
 
 Then standard output is a full disk, and a pipe that nobody reads. Last, each allocation in the tests of the library's
-calls (built by 'rt test' or 'rt ci') fails: a test has to pass, or to end with want of memory.
+calls (built by 'rt test' or 'rt ci') fails: a test has to pass, or to end out of memory.
 
 Prints how many failures were made; a kind of which none was made has failed, since then the library wasn't loaded. The
 last line is 'N passed, M failed'.
@@ -86,7 +86,7 @@ TESTS = {
     "pb_audit_tests": ("tests::both::one_no_of_two_is_a_no",),
     "pb_page_tests": ("tests::answers::", "tests::names::"),
 }  # fmt: skip
-# How such a test ends where memory is wanted: by the call, or by the writer into memory that the test gives it.
+# How such a test ends out of memory: by the call, or by the writer into memory that the test gives it.
 WANTS = (
     rb"error: (AllocError|AllocFailed \{ \.\. \}|Memory|Write|(Cert)?Refusal \{ fault: Memory, place: 0 \})\n",
     rb"assertion `left == right` failed\n  left: Err\((Memory|Write)\)\n right: Ok\(\(\)\)\n",

@@ -5,7 +5,7 @@
 
 PROGRAM is the built program, crates/pbaudit/out/pbaudit. With names it runs those cases alone. Each line of the table says
 how long a run took and how much memory it had at its peak (less than that of Python itself, about 30 MB, is not told apart).
-Memory is ample, so want of memory is a failure here. The largest files take 256 MiB each; they are made in a temporary
+Memory is ample, so out of memory is a failure here. The largest files take 256 MiB each; they are made in a temporary
 folder and taken away again.
 """
 import os
