@@ -22,28 +22,28 @@ WHAT_IT_DOES = (
     "no script and fetches nothing. With --folder it writes a page for each certificate of a folder, and an index."
 )
 HOW_IT_ENDS = (
-    "Exit statuses: 0 where the page was written, whatever the answer on it; 2 where a file is refused, with the line "
-    "of the refusal on standard output, and on standard error what is wrong and where; 3 where the words "
-    "aren't understood, or the page would replace one of the files; 4 where memory runs out, the page or that line "
-    "can't be written, or the auditor isn't found or can't be used. With --folder the report of `pbaudit folder` is "
-    "printed, and the status is its own: 0 where no certificate failed, 1 where one did, 2 where a file is refused; "
-    "and 3 where a file stands in the way that isn't a page of pbaudit, and then nothing is written."
+    "Exit statuses: 0 if the page was written, whatever the answer on it; 2 if a file is refused, with the line of the "
+    "refusal on standard output, and what is wrong and where on standard error; 3 if the arguments aren't understood, "
+    "or the page would replace one of the files; 4 if memory runs out, the page or that line can't be written, or the "
+    "auditor isn't found or can't be used. With --folder the report of `pbaudit folder` is printed, and the status is "
+    "its own: 0 if no certificate failed, 1 if one did, 2 if a file is refused; and 3 if a file that isn't a page of "
+    "pbaudit is in the way, and then nothing is written."
 )
 
 WHAT_SHARES_DO = (
-    "Computes an outcome of the Method of Equal Shares, exactly and with ties for the project that stands first; makes "
-    "a price certificate of what the voters pay; has it audited; and says what holds. The rule isn't proved here, and "
-    "needn't be: what it makes is audited by what is proved."
+    "Computes an outcome of the Method of Equal Shares, exactly and with ties for the project that comes first; makes "
+    "a price certificate from what the voters pay; has it audited; and says what holds. The rule isn't proved, and "
+    "needn't be: what it makes is audited by code that is."
 )
 HOW_SHARES_END = (
-    "Exit statuses: 0 where there is a certificate; 1 where there is none, or the election states another outcome than "
-    "the rule's; 2 where the election is refused; 3 where the arguments aren't understood; 4 where memory runs out, a "
-    "file or the answer can't be written, or the auditor isn't found or can't be used."
+    "Exit statuses: 0 if there is a certificate; 1 if there is none, or the election states another outcome than the "
+    "rule's; 2 if the election is refused; 3 if the arguments aren't understood; 4 if memory runs out, a file or the "
+    "answer can't be written, or the auditor isn't found or can't be used."
 )
 
 
 class _Parser(argparse.ArgumentParser):
-    """Words that aren't understood end with the status that they have with the program."""
+    """Arguments that aren't understood end with the status that they have with the program."""
 
     def error(self, message: str) -> NoReturn:
         self.print_usage(sys.stderr)
