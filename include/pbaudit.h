@@ -4,19 +4,19 @@
  * name prints. The result is that command's exit status:
  *   0  yes: the answer is yes, or what was asked for is given
  *   1  no: a condition or a test failed, which the text names
- *   2  refused: a file is not what it has to be; the text says which, and the first thing wrong
- *   4  memory ran out: *needed is 0 and out is as it was (that this comes only where a growth was refused is tested, and
+ *   2  refused: a file has an error; the text says which file, and the first thing wrong
+ *   4  out of memory: *needed is 0 and out is as it was (that this comes only after a failed allocation is tested, and
  *      not proved)
- * Else *needed is the length of the text in bytes, which ends in LF and has no NUL after it. If it is at most room,
+ * Otherwise *needed is the length of the text in bytes, which ends in LF and has no NUL after it. If it is at most room,
  * the text stands at the front of out, and the rest of out is as it was. If it is more, out is as it was: call again
  * with as much room.
  *
  * A file of more than 2^28 bytes is refused. The files' formats, the texts and the numbers of refusals are those of the
  * program (docs/FORMATS.md).
  *
- * What the caller owes, and nothing tests:
- * - No pointer is null, also where its length or room is 0, and outcome also where has_outcome is false.
- * - A file holds as many bytes as its length says, outcome also where has_outcome is false, and out as many as room.
+ * What the caller has to see to, since nothing tests it:
+ * - No pointer is null, even if its length or room is 0, nor is outcome if has_outcome is false.
+ * - A file holds as many bytes as its length says, outcome even if has_outcome is false, and out as many as room.
  * - out and *needed overlap neither each other nor a file, and nothing else touches them during the call. The files
  *   do not change during the call.
  * - A bool is 0 or 1.
