@@ -63,8 +63,9 @@ def check_page(page):
         if not re.match(r"[a-z]+:", target):
             yield link_error(page, target) or ""
     for path in re.findall(rf"`((?:{FOLDERS})/[\w./-]+)`", text):
-        made = "/out/" in f"{path}/" or "NAME" in path or "MODULE" in path
-        yield "" if made or (TOP / path).exists() else f"there is no {path}"
+        if re.search("NAME|MODULE|/out(/|$)|/must-fail/", path):
+            continue  # a pattern, what a build makes, or what the gate's copy hasn't
+        yield "" if (TOP / path).exists() else f"there is no {path}"
     name = str(page.relative_to(TOP))
     for sentence in quotes(text) if name in SAID else []:
         yield "" if sentence in texts_of(SAID[name]) else f"the page doesn't say “{sentence}”"
