@@ -9,9 +9,9 @@ ghost use Rattle.pb_records.specs.Loading.{Delivery};
 
 use crate::auditing::{Audit, audit_for};
 use crate::folder::Entry;
-use crate::price_engine::PriceAudit;
-use crate::read_engine::election_reply;
-use crate::violation_engine::ViolationAudit;
+use crate::prices::PriceAudit;
+use crate::read::election_reply;
+use crate::violation::ViolationAudit;
 use pb_election::Election;
 use pb_price::Mode;
 use pb_reply::{Loaded, Reply, election_of, settled, stopped};

@@ -1,9 +1,9 @@
 //! What is printed on what readers give.
 mod both;
+mod commands;
 mod cuts;
 mod elections;
 mod ends;
-mod engines;
 mod explained;
 mod failing;
 mod in_turn;

@@ -1,6 +1,6 @@
 //! What is printed on a price certificate and a violation certificate together.
+use super::commands;
 use super::ends::Ends;
-use super::engines;
 use pb_price::Mode;
 use pb_samples::fakes::InterruptedReader;
 use pb_samples::files::{
@@ -20,7 +20,7 @@ fn audit(
     mode: Mode,
 ) -> Result<(String, Ends), Fail> {
     let outcome: Option<&mut &[u8]> = None;
-    engines::both(
+    commands::both(
         alloc,
         &mut election,
         outcome,
@@ -92,7 +92,7 @@ fn outcome_file_is_taken_for_both(rt: HostRuntime) -> Result<(), Fail> {
         let mut election = SMALL_SHARE_ELECTION.as_bytes();
         let mut prices = EVEN_PRICES.as_bytes();
         let mut violation = VIOLATION.as_bytes();
-        let (printed, status) = engines::both(
+        let (printed, status) = commands::both(
             alloc,
             &mut election,
             Some(&mut outcome),
@@ -135,7 +135,7 @@ fn interrupted(alloc: Global, at: [usize; 4]) -> Result<(String, [usize; 4]), Fa
     let mut outcome = InterruptedReader::new(OUTCOME, usize::MAX, at_outcome);
     let mut prices = InterruptedReader::new(PRICES, usize::MAX, at_prices);
     let mut violation = InterruptedReader::new(FAIR_VIOLATION, usize::MAX, at_violation);
-    let (printed, _) = engines::both(
+    let (printed, _) = commands::both(
         alloc,
         &mut election,
         Some(&mut outcome),

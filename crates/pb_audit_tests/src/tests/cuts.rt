@@ -1,6 +1,6 @@
 //! Files that are cut short, after each of their bytes.
+use super::commands;
 use super::ends::Ends;
-use super::engines;
 use pb_samples::files::{ELECTION, PRICES};
 use pb_samples::modes::PLAIN;
 use std::alloc::{AllocError, Global};
@@ -60,7 +60,7 @@ fn cut_election_is_answered_by_its_lines(rt: HostRuntime) -> Result<(), Fail> {
     assert!(rt; fronts.len() == ELECTION.len() + 1);
     for front in &fronts {
         let mut file = front.bytes;
-        let (printed, status) = engines::read(alloc, &mut file)?;
+        let (printed, status) = commands::read(alloc, &mut file)?;
         let left = String::from_utf8(Vec::from_slice(alloc, front.bytes)?)?;
         let is_header = front.whole_lines == 13 && left.as_str().ends_with("\nvote");
         if front.begun && front.whole_lines < 14 && !is_header {
@@ -85,7 +85,7 @@ fn cut_row_of_prices_is_refused(rt: HostRuntime) -> Result<(), Fail> {
     for front in &fronts {
         let (mut election, mut certificate) = (ELECTION.as_bytes(), front.bytes);
         let none: Option<&mut &[u8]> = None;
-        let answer = engines::prices(alloc, &mut election, none, &mut certificate, PLAIN)?;
+        let answer = commands::prices(alloc, &mut election, none, &mut certificate, PLAIN)?;
         let (printed, status) = answer;
         let record = front.whole_lines.saturating_add(1);
         let (want, wanted) = match (front.whole_lines, front.begun) {

@@ -1,13 +1,13 @@
 //! What is printed on election files.
+use super::commands;
 use super::ends::Ends;
-use super::engines;
 use pb_samples::files::{ELECTION, FILLED_ELECTION, NO_VOTERS, with_lines};
 use std::alloc::Global;
 use std::test::Fail;
 
 /// What is printed on an election's file, and how it ends.
 fn read(alloc: Global, mut file: &[u8]) -> Result<(String, Ends), Fail> {
-    engines::read(alloc, &mut file)
+    commands::read(alloc, &mut file)
 }
 
 #[test]

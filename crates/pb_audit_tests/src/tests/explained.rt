@@ -1,6 +1,6 @@
 //! What is printed of a certificate that is explained.
+use super::commands;
 use super::ends::Ends;
-use super::engines;
 use pb_price::Mode;
 use pb_samples::files::{
     ELECTION, EXPLAINED, FAIR_VIOLATION, NO_VOTERS, POOL_OUTCOME, PRICES, UNFAIR_ELECTION,
@@ -18,7 +18,7 @@ fn explain(
     mut certificate: &[u8],
     mode: Mode,
 ) -> Result<(String, Ends), Fail> {
-    engines::explain(alloc, &mut election, outcome, &mut certificate, mode)
+    commands::explain(alloc, &mut election, outcome, &mut certificate, mode)
 }
 
 #[test]

@@ -1,6 +1,6 @@
 //! Readers and writers that fail.
+use super::commands;
 use super::ends::Ends;
-use super::engines;
 use pb_audit::{Fault, Status, run_read};
 use pb_election::{Input, LoadFault, Output, PutFault, load, put};
 use pb_samples::fakes::{EndlessReader, FakeReader, InterruptedReader, Lapse, LapsingWriter};
@@ -14,7 +14,7 @@ fn reader_that_fails_is_refused_though_it_gave_bytes(rt: HostRuntime) -> Result<
         most: usize::MAX,
         fails: true,
     };
-    let (printed, status) = engines::read(rt.alloc(), &mut reader)?;
+    let (printed, status) = commands::read(rt.alloc(), &mut reader)?;
     assert!(rt;
         printed.as_str() == "refused election 18 Read record 0\n",
         "{printed}"
@@ -30,7 +30,7 @@ fn short_reads_are_no_end(rt: HostRuntime) -> Result<(), Fail> {
         most: 1,
         fails: false,
     };
-    let (printed, status) = engines::read(rt.alloc(), &mut reader)?;
+    let (printed, status) = commands::read(rt.alloc(), &mut reader)?;
     assert!(rt;
         printed.as_str() == "read 3 voters 3 projects 2 funded\n",
         "{printed}"

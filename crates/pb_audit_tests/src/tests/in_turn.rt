@@ -1,6 +1,6 @@
 //! Each read and each write of each command, made to fail one after the other.
+use super::commands;
 use super::ends::Ends;
-use super::engines;
 use pb_audit::{
     Fault, FolderStatus, Status, folder_text, run_both, run_explain, run_margins, run_prices,
     run_read, run_tidy, run_violation,
@@ -68,34 +68,34 @@ impl Command {
         let mut outcome = InterruptedReader::new(outcome, PIECE, at_outcome);
         let mut certificate = InterruptedReader::new(certificate, PIECE, at_certificate);
         let (printed, status) = match self {
-            Command::Read => engines::read(alloc, &mut election)?,
-            Command::Prices => engines::prices(
+            Command::Read => commands::read(alloc, &mut election)?,
+            Command::Prices => commands::prices(
                 alloc,
                 &mut election,
                 Some(&mut outcome),
                 &mut certificate,
                 PLAIN,
             )?,
-            Command::Violation => engines::violation(
+            Command::Violation => commands::violation(
                 alloc,
                 &mut election,
                 Some(&mut outcome),
                 &mut certificate,
             )?,
-            Command::Explain => engines::explain(
+            Command::Explain => commands::explain(
                 alloc,
                 &mut election,
                 Some(&mut outcome),
                 &mut certificate,
                 PLAIN,
             )?,
-            Command::Margins => engines::margins(
+            Command::Margins => commands::margins(
                 alloc,
                 &mut election,
                 Some(&mut outcome),
                 &mut certificate,
             )?,
-            Command::Tidy => engines::tidy(alloc, &mut election, &mut certificate)?,
+            Command::Tidy => commands::tidy(alloc, &mut election, &mut certificate)?,
         };
         let reads = [election.reads, outcome.reads, certificate.reads];
         Ok((printed, status, reads))

@@ -1,7 +1,7 @@
 //! Numbers at their limits and one past them, and files of some length. All of them are answered, since memory is
 //! ample. The largest files are made by tests/limits.py.
+use super::commands;
 use super::ends::Ends;
-use super::engines;
 use pb_samples::files::{
     ELECTION, LARGEST_ELECTION, NO_MONEY, NO_VOTERS, PRICES, certificate, with_lines,
 };
@@ -38,7 +38,7 @@ fn expect(answer: (String, Ends), line: &str) -> Result<(), Fail> {
 /// An election is to be read with this line.
 fn expect_read(alloc: Global, election: &str, line: &str) -> Result<(), Fail> {
     let mut election = election.as_bytes();
-    expect(engines::read(alloc, &mut election)?, line)
+    expect(commands::read(alloc, &mut election)?, line)
 }
 
 /// An election whose line behind the first `kept` ones is this row is to be read with this line.
@@ -51,7 +51,7 @@ fn expect_read_with(
 ) -> Result<(), Fail> {
     let file = with_lines(alloc, election, kept, 1, row.as_bytes())?;
     let mut file = file.as_slice();
-    expect(engines::read(alloc, &mut file)?, line)
+    expect(commands::read(alloc, &mut file)?, line)
 }
 
 /// Prices are to be answered by this line.
@@ -62,7 +62,7 @@ fn expect_prices(
     line: &str,
 ) -> Result<(), Fail> {
     let none: Option<&mut &[u8]> = None;
-    let answer = engines::prices(alloc, &mut election, none, &mut certificate, PLAIN)?;
+    let answer = commands::prices(alloc, &mut election, none, &mut certificate, PLAIN)?;
     expect(answer, line)
 }
 
@@ -82,7 +82,7 @@ fn expect_prices_with(alloc: Global, kept: usize, row: &str, line: &str) -> Resu
 /// `tidy` is to print this on prices.
 fn expect_tidy(alloc: Global, election: &str, prices: &str, text: &str) -> Result<(), Fail> {
     let (mut election, mut prices) = (election.as_bytes(), prices.as_bytes());
-    let (printed, _) = engines::tidy(alloc, &mut election, &mut prices)?;
+    let (printed, _) = commands::tidy(alloc, &mut election, &mut prices)?;
     if printed.as_str() == text {
         return Ok(());
     }
@@ -99,7 +99,7 @@ fn expect_violation(
 ) -> Result<(), Fail> {
     let (mut election, mut violation) = (election.as_bytes(), violation.as_bytes());
     let mut outcome = outcome.map(|text| text.as_bytes());
-    let answer = engines::violation(alloc, &mut election, outcome.as_mut(), &mut violation)?;
+    let answer = commands::violation(alloc, &mut election, outcome.as_mut(), &mut violation)?;
     expect(answer, line)
 }
 

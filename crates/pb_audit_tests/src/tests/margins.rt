@@ -1,6 +1,6 @@
 //! The table of margins that is printed on a price certificate.
+use super::commands;
 use super::ends::Ends;
-use super::engines;
 use pb_samples::fakes::EndlessReader;
 use pb_samples::files::{
     ELECTION, MARGINS, NO_VOTERS, POOL_OUTCOME, PRICES, QUOTED_ELECTION, QUOTED_PRICES,
@@ -16,7 +16,7 @@ fn margins(
     outcome: Option<&[u8]>,
     mut certificate: &[u8],
 ) -> Result<(String, Ends), Fail> {
-    engines::margins(alloc, &mut election, outcome, &mut certificate)
+    commands::margins(alloc, &mut election, outcome, &mut certificate)
 }
 
 #[test]
@@ -147,7 +147,7 @@ fn certificate_of_a_refused_election_is_not_read(rt: HostRuntime) -> Result<(), 
     let mut election = b"".as_slice();
     let mut certificate = EndlessReader { reads: 0 };
     let none: Option<&[u8]> = None;
-    let (_, status) = engines::margins(alloc, &mut election, none, &mut certificate)?;
+    let (_, status) = commands::margins(alloc, &mut election, none, &mut certificate)?;
     assert!(rt; status == Ends::Refused);
     assert!(rt; certificate.reads == 0);
     Ok(())

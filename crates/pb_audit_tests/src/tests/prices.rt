@@ -1,6 +1,6 @@
 //! What is printed on price certificates.
+use super::commands;
 use super::ends::Ends;
-use super::engines;
 use pb_price::Mode;
 use pb_samples::fakes::EndlessReader;
 use pb_samples::files::{
@@ -21,7 +21,7 @@ fn audit(
     mode: Mode,
 ) -> Result<(String, Ends), Fail> {
     let mut outcome = outcome.map(|text| text.as_bytes());
-    engines::prices(
+    commands::prices(
         alloc,
         &mut election,
         outcome.as_mut(),
@@ -321,7 +321,7 @@ fn certificate_of_a_refused_outcome_is_not_read(rt: HostRuntime) -> Result<(), F
     let mut election = ELECTION.as_bytes();
     let mut outcome = b"".as_slice();
     let mut certificate = EndlessReader { reads: 0 };
-    let (printed, status) = engines::prices(
+    let (printed, status) = commands::prices(
         alloc,
         &mut election,
         Some(&mut outcome),

@@ -1,6 +1,6 @@
 //! What is printed on a price certificate that is to be written in its canonical form.
+use super::commands;
 use super::ends::Ends;
-use super::engines;
 use pb_samples::fakes::EndlessReader;
 use pb_samples::files::{
     ELECTION, PRICES, QUOTED_ELECTION, QUOTED_PRICES, UNTIDY_PRICES, with_lines,
@@ -14,7 +14,7 @@ fn tidy(
     mut election: &[u8],
     mut certificate: &[u8],
 ) -> Result<(String, Ends), Fail> {
-    engines::tidy(alloc, &mut election, &mut certificate)
+    commands::tidy(alloc, &mut election, &mut certificate)
 }
 
 #[test]
@@ -83,7 +83,7 @@ fn certificate_of_a_refused_election_is_not_read(rt: HostRuntime) -> Result<(), 
     let alloc = rt.alloc();
     let mut election = b"".as_slice();
     let mut certificate = EndlessReader { reads: 0 };
-    let (printed, status) = engines::tidy(alloc, &mut election, &mut certificate)?;
+    let (printed, status) = commands::tidy(alloc, &mut election, &mut certificate)?;
     assert!(rt; status == Ends::Refused);
     assert!(rt; printed.as_str() == "refused election 2 NoMeta record 1\n");
     assert!(rt; certificate.reads == 0);

@@ -1,6 +1,6 @@
 //! What is printed on violation certificates.
+use super::commands;
 use super::ends::Ends;
-use super::engines;
 use pb_samples::files::{
     DEAR_ELECTION, SMALL_SHARE_ELECTION, UNFAIR_ELECTION, VIOLATION, with_lines,
 };
@@ -14,7 +14,7 @@ fn audit(
     mut certificate: &[u8],
 ) -> Result<(String, Ends), Fail> {
     let outcome: Option<&mut &[u8]> = None;
-    engines::violation(alloc, &mut election, outcome, &mut certificate)
+    commands::violation(alloc, &mut election, outcome, &mut certificate)
 }
 
 #[test]

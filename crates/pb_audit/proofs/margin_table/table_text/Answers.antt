@@ -5,7 +5,7 @@ use Rattle.pb_election.specs.Instance.{projects}
 use Rattle.pb_certificate.specs.Canon.{lines}
 use Rattle.pb_certificate.specs.Inside.RecordWriter.{held}
 use Rattle.pb_audit.specs.Margins.{margin_head, margin_rows, table_of}
-use Rattle.pb_audit.proofs.Margins.{row_pushed, table_written}
+use Rattle.pb_audit.proofs.MarginTable.{row_pushed, table_written}
 use Rattle.pb_audit.proofs.margin_table.table_text.Goals.{else-loop-project-test, then-loop-project-test+in_ok-add_row+else-project-project-end}
 use Rattle.pb_audit.proofs.margin_table.table_text.Goals as goal
 

@@ -1,0 +1,194 @@
+//! Explaining verdicts: what each condition on prices, or each test of a violation, comes to.
+ghost use Rattle.std.specs.Prelude.{◌≡◌, ◌≤◌, ◌^◌, IfOk, IfSome, option_copied};
+ghost use Rattle.pb_audit.specs.Answers.{verdict_reply};
+ghost use Rattle.pb_audit.specs.Explained.{AnswersExplainedFiles, Certificate, ReadsExplained, explained_prices, explained_rules, explained_violation, is_violation, with_table};
+ghost use Rattle.pb_reply.specs.Inputs.{StatesPrices, StatesViolation};
+ghost use Rattle.pb_reply.specs.Inside.Loaded.{lent};
+ghost use Rattle.pb_reply.specs.Named.{PricesNameProject};
+ghost use Rattle.pb_audit.specs.Readers.{audit_readings};
+ghost use Rattle.pb_audit.specs.Inside.Certificates.{AnswersCertificate, FindsPrices};
+ghost use Rattle.pb_reply.specs.Inside.Taking.{IfTaken, settled};
+ghost use Rattle.pb_reply.specs.Writing.{WritesReply};
+ghost use Rattle.pb_certificate.specs.Claim.{ClaimFits};
+ghost use Rattle.pb_election.specs.Instance.{IsSet, projects};
+ghost use Rattle.pb_election.specs.Outcome.{OutcomeFits};
+ghost use Rattle.pb_explain.specs.PriceTable.{NameProjects, price_table};
+ghost use Rattle.pb_price.specs.First.{verdict_of};
+ghost use Rattle.pb_price.specs.Told.{first_told};
+
+use crate::auditing::{Audit, audit_reply, run_audit};
+use crate::prices::verdict_reply;
+use crate::violation::group_verdict_reply;
+use pb_certificate::{Violation, is_violation};
+use pb_cohesion::violation_findings;
+use pb_election::{Election, Outcome, Sink, Source};
+use pb_explain::{push_price_table, push_violation_table};
+use pb_price::{Findings, Mode, findings_of};
+use pb_reply::{
+    Fault, File, InputFault, InputName, Reply, Status, Stop, bytes_of, stop_at, violation_of,
+};
+use std::alloc::{AllocError, Global};
+
+/// The reply on an election, an outcome file where one is given, and a certificate of either kind, all in memory: the
+/// line of the verdict, as `prices_reply` or `violation_reply` gives it, an empty line, and a line for each condition
+/// or test with the figures that it compares; or why a file is refused. Where the first record of the certificate that
+/// is not blank is the head of a violation certificate, it is taken as one, and then the mode counts for nothing; any
+/// other is taken as prices. Without an outcome file the outcome is the election's own. The first file that is refused
+/// decides, in this order; more than 2^28 bytes are refused as too long. An error means out of memory.
+pub fn explained_reply(
+    alloc: Global,
+    election: &[u8],
+    outcome: Option<&[u8]>,
+    certificate: &[u8],
+    mode: Mode,
+) -> Result<Reply, AllocError>
+    // The reply is the one on these bytes, and its status promises what it does for the verdict alone.
+    ensures { IfOk result (AnswersExplainedFiles mode election.now (option_copied outcome.entry) certificate.now) }
+{
+    let audit = ExplainAudit { mode };
+    audit_reply(alloc, &audit, election, outcome, certificate)
+}
+
+/// Reads an election, an outcome file where one is given, and a certificate of either kind, of at most 2^28 bytes each,
+/// and writes the verdict and what each condition or test comes to, as `explained_reply` gives them, or why an input is
+/// refused. Without an outcome file the outcome is the election's own. An input after one that is refused is not
+/// touched. The whole text is made first and then written. The notes on the election, each as `read` prints it, are added
+/// to `notes` once it is read.
+pub fn run_explain<E: Source, O: Source, C: Source, W: Sink>(
+    alloc: Global,
+    election: &mut E,
+    outcome: &mut Option<O>,
+    certificate: &mut C,
+    mode: Mode,
+    notes: &mut Vec<String>,
+    out: &mut W,
+) -> Result<Status, Fault>
+    // The text of the reply on what the readers delivered is written, or a front of it where the writer failed. The
+    // reply is that of `explained_reply`, with what its status promises.
+    ensures { WritesReply W.Sink (ReadsExplained mode (audit_readings E.Source election.old election.new O.Source outcome.old outcome.new C.Source certificate.old certificate.new)) result out.old out.new }
+{
+    let audit = ExplainAudit { mode };
+    run_audit(alloc, &audit, election, outcome, certificate, notes, out)
+}
+
+/// The explanation of a verdict, on prices in a mode.
+#[derive(Drop)]
+struct ExplainAudit {
+    mode: Mode,
+}
+
+impl Audit for ExplainAudit {
+    ghost Subject = { Certificate };
+
+    ghost rules = { λ audit. explained_rules audit.mode };
+
+    #[tactic(auto, using(crate::proofs::Explained::explained_promise))]
+    fn reply_on(
+        &self,
+        alloc: Global,
+        election: &Election,
+        outcome: &Outcome,
+        certificate: File<'_>,
+    ) -> Result<Reply, Stop> {
+        if claims_violation(alloc, certificate)? {
+            violation_on(alloc, election, outcome, certificate)
+        } else {
+            prices_on(alloc, election, outcome, certificate, self.mode)
+        }
+    }
+}
+
+/// Whether a file is taken as a violation certificate. One that wasn't read whole is not.
+fn claims_violation(alloc: Global, certificate: File<'_>) -> Result<bool, AllocError>
+    ensures { IfOk result (λ claims. claims ≡ is_violation (lent certificate.entry)) }
+{
+    match certificate {
+        File::Bytes(bytes) => is_violation(alloc, bytes),
+        File::Unread | File::TooLong => Ok(false),
+    }
+}
+
+/// The reply on a price certificate.
+fn prices_on(
+    alloc: Global,
+    election: &Election,
+    outcome: &Outcome,
+    certificate: File<'_>,
+    mode: Mode,
+) -> Result<Reply, Stop>
+    requires { OutcomeFits outcome.now election.now }
+    ensures { IfSome (settled result) (AnswersCertificate (StatesPrices InputName.Certificate) (explained_prices mode) election.now (outcome.now).marks (lent certificate.entry)) }
+{
+    let findings = price_findings(alloc, election, outcome, certificate)?;
+    Ok(findings_reply(alloc, election, &findings, mode)?)
+}
+
+/// The verdict that findings on prices tell, and the table of them.
+fn findings_reply(
+    alloc: Global,
+    election: &Election,
+    findings: &Findings,
+    mode: Mode,
+) -> Result<Reply, AllocError>
+    requires unit { 10 ^ 6 ≤ (findings.now).grains_per_unit }
+    requires named { NameProjects election.now findings.now }
+    requires verdict { PricesNameProject election.now (verdict_of (first_told mode findings.now)) }
+    ensures { IfOk result (λ reply. reply ≡ with_table (price_table mode election.now findings.now) (verdict_reply mode election.now (verdict_of (first_told mode findings.now)))) }
+{
+    let mut reply = verdict_reply(alloc, election, findings.verdict(mode), mode)?;
+    reply.lines.push(String::new(alloc))?;
+    push_price_table(alloc, &mut reply.lines, election, findings, mode)?;
+    Ok(reply)
+}
+
+/// What each condition comes to by the prices that a certificate states.
+fn price_findings(
+    alloc: Global,
+    election: &Election,
+    outcome: &Outcome,
+    certificate: File<'_>,
+) -> Result<Findings, Stop>
+    requires { OutcomeFits outcome.now election.now }
+    ensures { IfTaken result (FindsPrices election.now (outcome.now).marks (lent certificate.entry)) }
+{
+    let bytes = bytes_of(InputName::Certificate, certificate)?;
+    match findings_of(alloc, election, outcome, bytes) {
+        Ok(findings) => Ok(findings),
+        Err(refusal) => Err(stop_at(InputName::Certificate, InputFault::Certificate(refusal))),
+    }
+}
+
+/// The reply on a violation certificate.
+fn violation_on(
+    alloc: Global,
+    election: &Election,
+    outcome: &Outcome,
+    certificate: File<'_>,
+) -> Result<Reply, Stop>
+    requires { OutcomeFits outcome.now election.now }
+    ensures { IfSome (settled result) (AnswersCertificate (StatesViolation InputName.Certificate) explained_violation election.now (outcome.now).marks (lent certificate.entry)) }
+{
+    let violation = violation_of(alloc, InputName::Certificate, certificate, election)?;
+    Ok(tests_reply(alloc, election, outcome, &violation)?)
+}
+
+/// The verdict on a group and its demand, and the table of the tests.
+#[tactic(auto, using(crate::proofs::Culprits::violation_names_projects))]
+fn tests_reply(
+    alloc: Global,
+    election: &Election,
+    outcome: &Outcome,
+    violation: &Violation,
+) -> Result<Reply, AllocError>
+    requires outcome { OutcomeFits outcome.now election.now }
+    requires violation { ClaimFits violation.now election.now }
+    requires demand { IsSet 1 (projects election.now) (violation.now).demand }
+    ensures { IfOk result (λ reply. reply ≡ explained_violation election.now (outcome.now).marks ((violation.now).measure, (violation.now).group, (violation.now).demand)) }
+{
+    let measure = violation.satisfaction();
+    let findings = violation_findings(election, outcome, violation, &measure);
+    let mut reply = group_verdict_reply(alloc, election, findings.verdict(election))?;
+    reply.lines.push(String::new(alloc))?;
+    push_violation_table(alloc, &mut reply.lines, election, measure, &findings)?;
+    Ok(reply)
+}
