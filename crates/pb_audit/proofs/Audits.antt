@@ -1,23 +1,46 @@
 -- The answers on several inputs.
 use Rattle.std.proofs.Common.{◌≡◌, ◌∙◌, ap, refl, subst, sym, Bool, Option, List}
-use Rattle.std.specs.Prelude.{IfOk, IfSome, Result, Ok, Err, Some, None}
+use Rattle.std.specs.Prelude.{IfOk, IfSome, Result, Ok, Err, None}
 use Rattle.pb_election.specs.Instance.{Instance}
 use Rattle.pb_records.specs.Loading.{Delivery}
 use Rattle.pb_records.specs.Loading as delivery
-use Rattle.pb_reply.specs.Replies.{Answer, Reply, refused, with_input}
-use Rattle.pb_audit.specs.Answers.{AnswersAudit, AnswersTidy, AuditRules}
-use Rattle.pb_reply.specs.Inputs.{InTurn, Stated, StatesElection}
+use Rattle.pb_certificate.specs.Prices.{Prices}
+use Rattle.pb_reply.specs.Replies.{Answer, Reply, TellsReply, answer_of, refused, with_input}
+use Rattle.pb_audit.specs.Answers.{AnswersAudit, AnswersTidy, AuditRules, tidy_answer}
+use Rattle.pb_reply.specs.Inputs.{InTurn, Stated, StatesElection, StatesPrices}
+use Rattle.pb_reply.specs.declared.input.InputName.TheVariants as name
 use Rattle.pb_reply.specs.declared.input.Refusal.{Refusal}
 use Rattle.pb_audit.specs.Readers.{AuditReadings, ReadsAudit, ReadsTidy}
 use Rattle.pb_reply.specs.Readings.{Delivers, IsUntouched, Reading}
-use Rattle.pb_audit.specs.Inside.Certificates.{AnswersCertificate, Promised, TidiesPrices}
-use Rattle.pb_reply.specs.Inside.Taking.{AuditsOutcome, Gives, IfTaken, ReadsOutcome, settled_answer, stopped}
+use Rattle.pb_audit.specs.Inside.Certificates.{AnswersCertificate, IfTold, Promised, TidiesPrices}
+use Rattle.pb_reply.specs.Inside.Taking.{AuditsOutcome, Gives, IfTaken, ReadsOutcome, settled, settled_answer, stopped}
 use Rattle.pb_reply.specs.declared.input.Stop.{Stop}
 use Rattle.pb_reply.specs.declared.input.Stop.TheVariants as stop
 use Rattle.pb_reply.specs.declared.status.Status.{Status}
 
 abbrev pub status_of : Reply → Status
 status_of r = r.status
+
+-- What is told of some replies is told of others, where each of those is one of these.
+pub told_weaker : {T : Type 0} (told : Reply → T) (P Q : Reply → Type 0) → ((r : Reply) → P r → Q r)
+    → (work : Result T Stop) → IfTold told P work → IfTold told Q work
+told_weaker told P Q each (Ok own) is = (is.0, (each is.0 is.1.0, is.1.1))
+told_weaker told P Q each (Err (stop.Refused r)) is = each (refused r) is
+told_weaker told P Q each (Err stop.Memory) is = tt
+
+-- The lines that are told of a reply are the reply.
+pub lines_told : (P Q : Reply → Type 0) → ((r : Reply) → P r → Q r) → (work : Result Reply Stop)
+    → IfSome (settled work) P → IfTold (λ r. r) Q work
+lines_told P Q each (Ok own) is = (own, (each own is, refl))
+lines_told P Q each (Err (stop.Refused r)) is = each (refused r) is
+lines_told P Q each (Err stop.Memory) is = tt
+
+-- The text that is told of a reply is the answer.
+pub text_settled : (is_reply : Reply → Type 0) (work : Result (Answer Status) Stop) → IfTold answer_of is_reply work
+    → IfSome (settled_answer work) (TellsReply is_reply)
+text_settled is_reply (Ok own) is = record { reply = is.0; of_inputs = is.1.0; out = is.1.1 }
+text_settled is_reply (Err (stop.Refused r)) is = record { reply = refused r; of_inputs = is; out = refl }
+text_settled is_reply (Err stop.Memory) is = tt
 
 -- An audit of an election, an outcome and a certificate. Where the election is refused, the others may state anything.
 abbrev pub election_refused : {A : Type 0} (rules : AuditRules A)
@@ -105,16 +128,16 @@ stopped_at_outcome rules election outcome certificate e (stop.Refused r) given t
     outcome_refused rules election outcome certificate e r given taken
 stopped_at_outcome rules election outcome certificate e stop.Memory given taken = tt
 
-pub certificate_settled : {A : Type 0} (rules : AuditRules A)
+pub certificate_settled : {A T : Type 0} (rules : AuditRules A) (told : Reply → T)
     → Promised rules
     → (election : Delivery) (outcome : Option Delivery) (certificate : Delivery) (e : Instance) (w : List Bool)
-    (work : Option Reply)
+    (work : Result T Stop)
     → StatesElection election (Ok e) → AuditsOutcome e outcome (Ok w)
-    → IfSome work (AnswersCertificate rules.states rules.reply e w certificate)
-    → IfSome work (AnswersAudit rules election outcome certificate)
-certificate_settled rules each election outcome certificate e w None given taken answered = tt
-certificate_settled rules each election outcome certificate e w (Some r) given taken answered =
-    certificate_answered rules each election outcome certificate e w r given taken answered
+    → IfTold told (AnswersCertificate rules.states rules.reply e w certificate) work
+    → IfTold told (AnswersAudit rules election outcome certificate) work
+certificate_settled rules told each election outcome certificate e w work given taken answered =
+    told_weaker told _ _
+    (λ r. certificate_answered rules each election outcome certificate e w r given taken) work answered
 
 -- The same over readers.
 unfoldable pub readers_stopped_at_election : {A : Type 0} (rules : AuditRules A)
@@ -153,13 +176,12 @@ readers_stopped_at_outcome rules inputs e (stop.Refused r) given taken untouched
 }
 readers_stopped_at_outcome rules inputs e stop.Memory given taken untouched = tt
 
-unfoldable pub readers_settled : {A : Type 0} (rules : AuditRules A)
+unfoldable pub readers_answered : {A : Type 0} (rules : AuditRules A)
     → Promised rules
-    → (inputs : AuditReadings) (e : Instance) (w : List Bool) (d : Delivery) (work : Option Reply)
+    → (inputs : AuditReadings) (e : Instance) (w : List Bool) (d : Delivery) (r : Reply)
     → Gives StatesElection inputs.election (Ok e) → ReadsOutcome e inputs.outcome (Ok w) → Delivers inputs.certificate d
-    → IfSome work (AnswersCertificate rules.states rules.reply e w d) → IfSome work (ReadsAudit rules inputs)
-readers_settled rules each inputs e w d None given taken delivered answered = tt
-readers_settled rules each inputs e w d (Some r) given taken delivered answered = record {
+    → AnswersCertificate rules.states rules.reply e w d r → ReadsAudit rules inputs r
+readers_answered rules each inputs e w d r given taken delivered answered = record {
   of_election = given.delivery;
   of_outcome = taken.delivery;
   of_certificate = d;
@@ -171,6 +193,14 @@ readers_settled rules each inputs e w d (Some r) given taken delivered answered 
       subst (λ (o : Stated (List Bool)). InTurn o (λ w. Delivers inputs.certificate d) (IsUntouched inputs.certificate))
       taken.audits.is delivered;
 }
+
+pub readers_settled : {A T : Type 0} (rules : AuditRules A) (told : Reply → T)
+    → Promised rules
+    → (inputs : AuditReadings) (e : Instance) (w : List Bool) (d : Delivery) (work : Result T Stop)
+    → Gives StatesElection inputs.election (Ok e) → ReadsOutcome e inputs.outcome (Ok w) → Delivers inputs.certificate d
+    → IfTold told (AnswersCertificate rules.states rules.reply e w d) work → IfTold told (ReadsAudit rules inputs) work
+readers_settled rules told each inputs e w d work given taken delivered answered =
+    told_weaker told _ _ (λ r. readers_answered rules each inputs e w d r given taken delivered) work answered
 
 -- Tidying. Where the election is refused, the certificate may state anything.
 pub tidy_stopped : (election certificate : Delivery) (why : Stop)
@@ -186,54 +216,34 @@ tidy_stopped election certificate (stop.Refused r) given =
     }
 tidy_stopped election certificate stop.Memory given = tt
 
+-- what was taken of the election, and then of the certificate
+abbrev readers_tidied : (election certificate : Reading) (e : Stated Instance) (p : Stated Prices) (d : Delivery)
+    (answer : Answer Status)
+    → Gives StatesElection election e → IfOk e (λ i. StatesPrices name.Certificate i d p)
+    → InTurn e (λ i. Delivers certificate d) (IsUntouched certificate) → answer ≡ tidy_answer e p
+    → ReadsTidy election certificate answer
+readers_tidied election certificate e p d answer given states delivered out = record {
+  of_election = given.delivery;
+  of_certificate = d;
+  answers =
+      record { e = e; p = p; election_states = given.stating; certificate_states = states; out = out };
+  election_delivered = given.delivered;
+  certificate_delivered = delivered;
+}
+
 pub readers_tidy_stopped : (election certificate : Reading) (why : Stop)
     → IfTaken {A = Instance} (Err why) (Gives StatesElection election) → IsUntouched certificate
     → IfSome (settled_answer (Err why)) (ReadsTidy election certificate)
-readers_tidy_stopped election certificate (stop.Refused r) given untouched = record {
-  of_election = given.delivery;
-  of_certificate = delivery.Read;
-  answers =
-      record {
-        e = Err r;
-        p = Err r;
-        election_states = given.stating;
-        certificate_states = tt;
-        out = refl;
-      };
-  election_delivered = given.delivered;
-  certificate_delivered = untouched;
-}
+readers_tidy_stopped election certificate (stop.Refused r) given untouched =
+    readers_tidied election certificate (Err r) (Err r) delivery.Read _ given tt untouched refl
 readers_tidy_stopped election certificate stop.Memory given untouched = tt
 
-pub readers_tidy_answered : (election certificate : Reading) (e : Instance) (d : Delivery) (work : Result (Answer Status) Stop)
+pub readers_tidy_answered : (election certificate : Reading) (e : Instance) (d : Delivery)
+    (work : Result (Answer Status) Stop)
     → Gives StatesElection election (Ok e) → Delivers certificate d → IfTaken work (TidiesPrices e d)
     → IfSome (settled_answer work) (ReadsTidy election certificate)
-readers_tidy_answered election certificate e d (Ok answer) given delivered tidied = record {
-  of_election = given.delivery;
-  of_certificate = d;
-  answers =
-      record {
-        e = Ok e;
-        p = Ok tidied.0;
-        election_states = given.stating;
-        certificate_states = tidied.1.0;
-        out = tidied.1.1;
-      };
-  election_delivered = given.delivered;
-  certificate_delivered = delivered;
-}
-readers_tidy_answered election certificate e d (Err (stop.Refused r)) given delivered tidied = record {
-  of_election = given.delivery;
-  of_certificate = d;
-  answers =
-      record {
-        e = Ok e;
-        p = Err r;
-        election_states = given.stating;
-        certificate_states = tidied;
-        out = refl;
-      };
-  election_delivered = given.delivered;
-  certificate_delivered = delivered;
-}
+readers_tidy_answered election certificate e d (Ok answer) given delivered tidied =
+    readers_tidied election certificate (Ok e) (Ok tidied.0) d answer given tidied.1.0 delivered tidied.1.1
+readers_tidy_answered election certificate e d (Err (stop.Refused r)) given delivered tidied =
+    readers_tidied election certificate (Ok e) (Err r) d _ given tidied delivered refl
 readers_tidy_answered election certificate e d (Err stop.Memory) given delivered tidied = tt

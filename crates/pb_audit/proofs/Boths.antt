@@ -1,6 +1,6 @@
 -- The answers on both certificates.
 use Rattle.std.proofs.Common.{◌≡◌, ◌∙◌, ap, refl, subst, Bool, Option, List}
-use Rattle.std.specs.Prelude.{◌↔◌, IfSome, Ok, Err, Some, None}
+use Rattle.std.specs.Prelude.{◌↔◌, IfSome, Result, Ok, Err, Some, None}
 use Rattle.pb_election.specs.Instance.{Instance}
 use Rattle.pb_records.specs.Loading.{Delivery}
 use Rattle.pb_records.specs.Loading as delivery
@@ -19,14 +19,14 @@ use Rattle.pb_reply.specs.Inputs.{InTurn, Stated, StatesElection, StatesPrices, 
 use Rattle.pb_reply.specs.declared.input.Refusal.{Refusal}
 use Rattle.pb_audit.specs.Readers.{AuditReadings}
 use Rattle.pb_reply.specs.Readings.{Delivers, IsUntouched, Reading}
-use Rattle.pb_audit.specs.Inside.Certificates.{AnswersCertificate, JudgesPrices, Promised}
-use Rattle.pb_reply.specs.Inside.Taking.{Gives, IfTaken, ReadsOutcome, stopped}
+use Rattle.pb_audit.specs.Inside.Certificates.{AnswersCertificate, IfTold, JudgesPrices, Promised}
+use Rattle.pb_reply.specs.Inside.Taking.{Gives, IfTaken, ReadsOutcome, settled, stopped}
 use Rattle.pb_reply.specs.declared.input.InputName.TheVariants as name
 use Rattle.pb_reply.specs.declared.input.Stop.{Stop}
 use Rattle.pb_reply.specs.declared.input.Stop.TheVariants as stop
 use Rattle.pb_reply.specs.declared.status.Status.{Status}
 use Rattle.pb_reply.specs.declared.status.Status.TheVariants.{Yes, No, Refused}
-use Rattle.pb_audit.proofs.Audits.{readers_settled, readers_stopped_at_election, readers_stopped_at_outcome}
+use Rattle.pb_audit.proofs.Audits.{lines_told, readers_answered, readers_stopped_at_election, readers_stopped_at_outcome}
 use Rattle.pb_audit.proofs.Promises.{no-yes, prices_promise, violation_promises}
 
 both_yes : (first second : Status) → (yes_where_both first second ≡ Yes) ↔ ((first ≡ Yes) × (second ≡ Yes))
@@ -97,13 +97,12 @@ stopped_at_prices m e w prices violation (stop.Refused r) judged =
 stopped_at_prices m e w prices violation stop.Memory judged = tt
 
 pub both_settled : (m : Mode) (e : Instance) (w : List Bool) (prices violation : Delivery) (verdict : Verdict)
-    (work : Option Reply)
+    (work : Result Reply Stop)
     → JudgesPrices name.Prices m e w prices (Ok verdict)
-    → IfSome work (AnswersCertificate (StatesViolation name.Violation) (beside m verdict) e w violation)
-    → IfSome work (AnswersCertificate (StatesBoth violation) (both_reply m) e w prices)
-both_settled m e w prices violation verdict None judged answered = tt
-both_settled m e w prices violation verdict (Some r) judged answered =
-    both_answered m e w prices violation verdict r judged answered
+    → IfSome (settled work) (AnswersCertificate (StatesViolation name.Violation) (beside m verdict) e w violation)
+    → IfTold (λ r. r) (AnswersCertificate (StatesBoth violation) (both_reply m) e w prices) work
+both_settled m e w prices violation verdict work judged answered =
+    lines_told _ _ (λ r. both_answered m e w prices violation verdict r judged) work answered
 
 -- The same over readers.
 pub both_stopped_at_election : (m : Mode) (inputs : AuditReadings) (violation : Reading) (why : Stop)
@@ -142,11 +141,11 @@ abbrev both_read : (m : Mode) (inputs : AuditReadings) (violation : Reading) (e 
     → (answered : AnswersCertificate (StatesBoth of_violation) (both_reply m) e w of_prices r)
     → InTurn answered.c (λ both. Delivers violation of_violation) (IsUntouched violation)
     → ReadsBoth m inputs violation r
-unfolding readers_settled
+unfolding readers_answered
 both_read m inputs violation e w of_prices of_violation r given taken delivered answered next = record {
   of_violation = of_violation;
-  reads = readers_settled (both_rules m of_violation) (both_promises m of_violation)
-      inputs e w of_prices (Some r) given taken delivered answered;
+  reads = readers_answered (both_rules m of_violation) (both_promises m of_violation)
+      inputs e w of_prices r given taken delivered answered;
   violation_delivered =
       subst
       (λ (o : Stated (List Bool)). InTurn o

@@ -1,6 +1,6 @@
 -- The answers of `explain`.
 use Rattle.std.proofs.Common.{◌≡◌, ◌∙◌, ℕ, Bool, true, false, List, [], ◌≤◌, ap, inl, inr}
-use Rattle.std.specs.Prelude.{ℤ, pos, ◌-ℤ◌, int_le, IfSome, Option, Some, None, Ok, Err, filter, option_map, slice_get}
+use Rattle.std.specs.Prelude.{ℤ, pos, ◌-ℤ◌, int_le, IfSome, Option, Result, Some, None, Ok, Err, filter, option_map, slice_get}
 use Rattle.std.specs.List.{AllByRecursion, list_all}
 use Rattle.std.specs.Option.{option_or}
 use Rattle.pb_records.specs.Loading.{Delivery}
@@ -28,8 +28,11 @@ use Rattle.pb_audit.specs.Answers.{verdict_reply}
 use Rattle.pb_audit.specs.Explained.{OfPrices, OfViolation, StatesCertificate, explained_prices, explained_reply, explained_rules, explained_violation, is_violation, with_table}
 use Rattle.pb_reply.specs.Inputs.{Stated, StatesPrices, StatesViolation}
 use Rattle.pb_reply.specs.Named.{PricesNameProject}
-use Rattle.pb_audit.specs.Inside.Certificates.{AnswersCertificate, Promised}
+use Rattle.pb_audit.specs.Inside.Certificates.{AnswersCertificate, IfTold, Promised}
+use Rattle.pb_reply.specs.Inside.Taking.{settled}
 use Rattle.pb_reply.specs.declared.input.InputName.TheVariants.{Certificate}
+use Rattle.pb_reply.specs.declared.input.Stop.{Stop}
+use Rattle.pb_audit.proofs.Audits.{lines_told}
 use Rattle.pb_audit.proofs.Culprits.{among-projects, missing-name, prices_name_projects, projects-are, unapproved-name}
 use Rattle.pb_audit.proofs.Promises.{prices_promise, violation_promises}
 
@@ -38,29 +41,29 @@ explained_promise m e w d (OfPrices p) given = prices_promise m e w p
 explained_promise m e w d (OfViolation v) given = violation_promises e w v
 
 -- a certificate that is taken as prices, or as a violation, is one of either kind
-pub as_prices : (m : Mode) (e : Instance) (w : List Bool) (d : Delivery) (work : Option Reply) → is_violation d ≡ false
-    → IfSome work (AnswersCertificate (StatesPrices Certificate) (explained_prices m) e w d)
-    → IfSome work (AnswersCertificate StatesCertificate (explained_reply m) e w d)
-as_prices m e w d None is answers = tt
-as_prices m e w d (Some r) is answers = go answers.c answers.given answers.out
+pub as_prices : (m : Mode) (e : Instance) (w : List Bool) (d : Delivery) (work : Result Reply Stop)
+    → is_violation d ≡ false
+    → IfSome (settled work) (AnswersCertificate (StatesPrices Certificate) (explained_prices m) e w d)
+    → IfTold (λ r. r) (AnswersCertificate StatesCertificate (explained_reply m) e w d) work
+as_prices m e w d work is answers = lines_told _ _ (λ r found. go r found.c found.given found.out) work answers
   where
-    go : (c : Stated Prices) → StatesPrices Certificate e d c → r ≡ with_input c (λ a. explained_prices m e w a)
+    go : (r : Reply) (c : Stated Prices) → StatesPrices Certificate e d c
+        → r ≡ with_input c (λ a. explained_prices m e w a)
         → AnswersCertificate StatesCertificate (explained_reply m) e w d r
-    go (Ok p) given out = record { c = Ok (OfPrices p); given = (is, given); out = out }
-    go (Err why) given out = record { c = Err why; given = inl (is, given); out = out }
+    go r (Ok p) given out = record { c = Ok (OfPrices p); given = (is, given); out = out }
+    go r (Err why) given out = record { c = Err why; given = inl (is, given); out = out }
 
-pub as_violation : (m : Mode) (e : Instance) (w : List Bool) (d : Delivery) (work : Option Reply)
+pub as_violation : (m : Mode) (e : Instance) (w : List Bool) (d : Delivery) (work : Result Reply Stop)
     → is_violation d ≡ true
-    → IfSome work (AnswersCertificate (StatesViolation Certificate) explained_violation e w d)
-    → IfSome work (AnswersCertificate StatesCertificate (explained_reply m) e w d)
-as_violation m e w d None is answers = tt
-as_violation m e w d (Some r) is answers = go answers.c answers.given answers.out
+    → IfSome (settled work) (AnswersCertificate (StatesViolation Certificate) explained_violation e w d)
+    → IfTold (λ r. r) (AnswersCertificate StatesCertificate (explained_reply m) e w d) work
+as_violation m e w d work is answers = lines_told _ _ (λ r found. go r found.c found.given found.out) work answers
   where
-    go : (c : Stated (Measure × List ℕ × List ℕ)) → StatesViolation Certificate e d c
+    go : (r : Reply) (c : Stated (Measure × List ℕ × List ℕ)) → StatesViolation Certificate e d c
         → r ≡ with_input c (λ a. explained_violation e w a)
         → AnswersCertificate StatesCertificate (explained_reply m) e w d r
-    go (Ok v) given out = record { c = Ok (OfViolation v); given = (is, given); out = out }
-    go (Err why) given out = record { c = Err why; given = inr (is, given); out = out }
+    go r (Ok v) given out = record { c = Ok (OfViolation v); given = (is, given); out = out }
+    go r (Err why) given out = record { c = Err why; given = inr (is, given); out = out }
 
 -- the projects that the findings name
 named-first : (e : Instance) (bound : ℕ → ℕ) (amount : ℕ → ℤ) (o : Option ℕ) → IfSome o (IsProject e)

@@ -3,15 +3,14 @@ use Rattle.std.proofs.lemmas.List.FromFn.{length-map-range_with_len}
 use Rattle.pb_records.proofs.Lists.{range-push}
 use Rattle.pb_certificate.proofs.Written.{lines-push}
 use mir.Syntax.{w128}
-use Rattle.std.proofs.Common.{◌≡◌, ◌∙◌, ◌<◌, ◌≤◌, ◌+◌, ◌-◌, ◌*◌, ◌^◌, ℕ, zero, suc, List, [], ◌∷◌, ◌++◌, length, map, refl, sym, ap, arith, SFits, append_assoc, append-nil, get_or, Bool, true, false, subst, Option}
-use Rattle.std.specs.Prelude.{IfSome, Result, Ok, Err, Some, codes, decimal, ℤ, pos, negsuc}
+use Rattle.std.proofs.Common.{◌≡◌, ◌∙◌, ◌<◌, ◌≤◌, ◌+◌, ◌-◌, ◌*◌, ◌^◌, ℕ, zero, suc, List, [], ◌∷◌, ◌++◌, length, map, refl, sym, ap, arith, SFits, append_assoc, append-nil, get_or, Bool, true, false}
+use Rattle.std.specs.Prelude.{codes, decimal, ℤ, pos, negsuc}
 use Rattle.std.specs.Fmt.{signed_decimal}
 use Rattle.std.specs.List.{range_with_len}
 use Rattle.std.proofs.lemmas.List.{map-append}
 use Rattle.csv.specs.Writing.{default_writer, row_text}
 use Rattle.pb_election.specs.Instance.{Instance, id_of, projects}
 use Rattle.pb_election.specs.Text.{IsId}
-use Rattle.pb_records.specs.Loading.{Delivery}
 use Rattle.pb_records.specs.Records.{Field, Rec, Text}
 use Rattle.pb_certificate.specs.Canon.{line, lines, line_end}
 use Rattle.pb_certificate.specs.Prices.{Prices}
@@ -19,19 +18,11 @@ use Rattle.pb_certificate.proofs.Lines.{IsPlain, decimal-plain, id-plain, row-li
 use Rattle.pb_price.specs.Margins.{AreMargins, margins_of_project}
 use Rattle.pb_price.specs.declared.Margins.{Margins}
 use Rattle.pb_price.specs.declared.ProjectMargins.{ProjectMargins}
-use Rattle.pb_reply.specs.Replies.{Answer, Reply, answer_of, refused, text_of, TellsReply}
-use Rattle.pb_reply.specs.Inputs.{StatesElection, StatesPrices}
-use Rattle.pb_audit.specs.Margins.{margin_rules, AnswersMargins, ReadsMargins, flag_of, margin_head, margin_rows, margins_reply, record_line, row_of, table_of}
-use Rattle.pb_audit.specs.Readers.{AuditReadings}
-use Rattle.pb_reply.specs.Readings.{Delivers}
-use Rattle.pb_audit.specs.Inside.Certificates.{AnswersCertificate, Promised, TablesMargins}
-use Rattle.pb_reply.specs.Inside.Taking.{AuditsOutcome, Gives, IfTaken, ReadsOutcome, settled_answer, stopped}
-use Rattle.pb_reply.specs.declared.input.InputName.TheVariants.{Certificate}
+use Rattle.pb_reply.specs.Replies.{Answer, answer_of, text_of}
+use Rattle.pb_audit.specs.Margins.{margin_rules, flag_of, margin_head, margin_rows, margins_reply, record_line, row_of, table_of}
+use Rattle.pb_audit.specs.Inside.Certificates.{Promised}
 use Rattle.pb_reply.specs.declared.status.Status.{Status}
 use Rattle.pb_reply.specs.declared.status.Status.TheVariants.{Yes}
-use Rattle.pb_reply.specs.declared.input.Stop.{Stop}
-use Rattle.pb_reply.specs.declared.input.Stop.TheVariants as stop
-use Rattle.pb_audit.proofs.Audits.{certificate_answered, readers_settled}
 
 -- Fields.
 
@@ -145,46 +136,5 @@ pub text_told : (e : Instance) (w : List Bool) (p : Prices) (text : Text) → te
     → answer_with text ≡ answer_of (margins_reply e w p)
 text_told e w p text is = ap answer_with (is ∙ lines_are (table_of e w p))
 
--- the text of a reply, as an answer
-told : (is_reply : Reply → Type 0) (reply : Reply) → is_reply reply → TellsReply is_reply (answer_of reply)
-told is_reply reply of = record { reply = reply; of_inputs = of; out = refl }
-
--- the work on the certificate as a reply, which the answer tells
-work_told : (is_reply : Reply → Type 0) (e : Instance) (w : List Bool) (certificate : Delivery)
-    (work : Result (Answer Status) Stop) → IfTaken work (TablesMargins e w certificate)
-    → ((r : Reply) → AnswersCertificate (StatesPrices Certificate) margins_reply e w certificate r → is_reply r)
-    → IfSome (settled_answer work) (TellsReply is_reply)
-work_told is_reply e w certificate (Ok answer) tables each =
-    let reply = margins_reply e w tables.0 in
-    subst (TellsReply is_reply) (sym tables.1.1)
-    (told is_reply reply (each reply (record { c = Ok tables.0; given = tables.1.0; out = refl })))
-work_told is_reply e w certificate (Err (stop.Refused r)) tables each =
-    let reply = refused r in
-    told is_reply reply (each reply (record { c = Err r; given = tables; out = refl }))
-work_told is_reply e w certificate (Err stop.Memory) tables each = tt
-
--- an input that was refused before the certificate
-pub stop_told : (is_reply : Reply → Type 0) (why : Stop) → IfSome (stopped why) is_reply
-    → IfSome (settled_answer (Err why)) (TellsReply is_reply)
-stop_told is_reply (stop.Refused r) of = told is_reply (refused r) of
-stop_told is_reply stop.Memory of = tt
-
-always_yes : Promised margin_rules
+pub always_yes : Promised margin_rules
 always_yes e w d p given = refl
-
-pub margins_answered : (election : Delivery) (outcome : Option Delivery) (certificate : Delivery) (e : Instance)
-    (w : List Bool) (work : Result (Answer Status) Stop)
-    → StatesElection election (Ok e) → AuditsOutcome e outcome (Ok w) → IfTaken work (TablesMargins e w certificate)
-    → IfSome (settled_answer work) (AnswersMargins election outcome certificate)
-margins_answered election outcome certificate e w work given taken tables =
-    work_told _ e w certificate work tables
-    (λ r answered. certificate_answered margin_rules always_yes election
-    outcome certificate e w r given taken answered)
-
-pub margins_read : (inputs : AuditReadings) (e : Instance) (w : List Bool) (d : Delivery) (work : Result (Answer Status) Stop)
-    → Gives StatesElection inputs.election (Ok e) → ReadsOutcome e inputs.outcome (Ok w) → Delivers inputs.certificate d
-    → IfTaken work (TablesMargins e w d) → IfSome (settled_answer work) (ReadsMargins inputs)
-margins_read inputs e w d work given taken delivered tables =
-    work_told _ e w d work tables
-    (λ r answered. readers_settled margin_rules always_yes inputs e w d
-    (Some r) given taken delivered answered)

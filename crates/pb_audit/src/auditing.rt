@@ -1,24 +1,40 @@
 //! Auditing an election, an outcome and a certificate, whatever kind of certificate it is.
-ghost use Rattle.std.specs.Prelude.{IfOk, IfSome, Ok, option_copied, option_map};
+ghost use Rattle.std.specs.Prelude.{IfOk, Ok, option_copied, option_map};
 ghost use Rattle.pb_audit.specs.Answers.{AnswersAudit, AuditRules};
 ghost use Rattle.pb_reply.specs.Inputs.{StatesElection, in_memory};
 ghost use Rattle.pb_reply.specs.Inside.Loaded.{lent};
-ghost use Rattle.pb_audit.specs.Inside.Certificates.{AnswersCertificate, Promised};
-ghost use Rattle.pb_reply.specs.Inside.Taking.{settled};
+ghost use Rattle.pb_audit.specs.Inside.Certificates.{AnswersCertificate, IfTold, Promised};
 ghost use Rattle.pb_audit.specs.Readers.{ReadsAudit, audit_readings};
+ghost use Rattle.pb_reply.specs.Replies as replies;
 ghost use Rattle.pb_reply.specs.Writing.{WritesReply};
 ghost use Rattle.pb_election.specs.Outcome.{OutcomeFits};
 ghost use Rattle.pb_records.specs.Loading.{Delivery};
 
 use pb_election::{Election, Outcome, Sink, Source};
 use pb_reply::{
-    Fault, File, Loaded, Reply, Status, Stop, election_of, optional_file, outcome_of, push_notes,
-    settled, take_election, take_outcome, write_reply,
+    Answer, Fault, File, Loaded, Reply, Status, Stop, election_of, optional_file, outcome_of,
+    push_notes, settled, take_election, take_outcome, write_reply,
 };
 use std::alloc::{AllocError, Global};
 
+/// What is told of a reply: its lines, or its text.
+pub(crate) trait Telling {
+    ghost told: { replies.Reply → Self };
+}
+
+impl Telling for Reply {
+    ghost told = { λ reply. reply };
+}
+
+impl Telling for Answer<Status> {
+    ghost told = { replies.answer_of };
+}
+
 /// How certificates of one kind are audited.
 pub(crate) trait Audit {
+    // What is told of the replies.
+    type Told: Telling;
+
     // What a certificate of this kind states, such as prices.
     ghost Subject: { Type 0 };
 
@@ -33,14 +49,14 @@ pub(crate) trait Audit {
         election: &Election,
         outcome: &Outcome,
         certificate: File<'_>,
-    ) -> Result<Reply, Stop>
+    ) -> Result<Self::Told, Stop>
         requires { OutcomeFits outcome.now election.now }
-        ensures reply { IfSome (settled result) (AnswersCertificate (rules self.now).states (rules self.now).reply election.now (outcome.now).marks (lent certificate.entry)) }
+        ensures reply { IfTold Self.Told.told (AnswersCertificate (rules self.now).states (rules self.now).reply election.now (outcome.now).marks (lent certificate.entry)) result }
         ensures promised { Promised (rules self.now) };
 }
 
 /// The reply on an election, an outcome file where one is given, and a certificate, all in memory.
-pub(crate) fn audit_reply<A: Audit>(
+pub(crate) fn audit_reply<A: Audit<Told = Reply>>(
     alloc: Global,
     audit: &A,
     election: &[u8],
@@ -61,7 +77,7 @@ pub(crate) fn audit_reply<A: Audit>(
 
 /// Reads an election, an outcome file where one is given, and a certificate, and writes the text of the reply. The notes
 /// on the election, each as `read` prints it, are added to `notes`.
-pub(crate) fn run_audit<A: Audit, E: Source, O: Source, C: Source, W: Sink>(
+pub(crate) fn run_audit<A: Audit<Told = Reply>, E: Source, O: Source, C: Source, W: Sink>(
     alloc: Global,
     audit: &A,
     election: &mut E,
@@ -78,14 +94,14 @@ pub(crate) fn run_audit<A: Audit, E: Source, O: Source, C: Source, W: Sink>(
 }
 
 /// The reply on what files state.
-fn audit_files<A: Audit>(
+pub(crate) fn audit_files<A: Audit>(
     alloc: Global,
     audit: &A,
     election: File<'_>,
     outcome: Option<File<'_>>,
     certificate: File<'_>,
-) -> Result<Reply, Stop>
-    ensures { IfSome (settled result) (AnswersAudit (A.rules audit.now) (lent election.entry) (option_map lent outcome.entry) (lent certificate.entry)) }
+) -> Result<A::Told, Stop>
+    ensures { IfTold A.Told.told (AnswersAudit (A.rules audit.now) (lent election.entry) (option_map lent outcome.entry) (lent certificate.entry)) result }
 {
     let election = election_of(alloc, election)?;
     audit_for(alloc, audit, &election, outcome, certificate)
@@ -98,23 +114,23 @@ pub(crate) fn audit_for<A: Audit>(
     election: &Election,
     outcome: Option<File<'_>>,
     certificate: File<'_>,
-) -> Result<Reply, Stop>
-    ensures { (file : Delivery) → StatesElection file (Ok election.now) → IfSome (settled result) (AnswersAudit (A.rules audit.now) file (option_map lent outcome.entry) (lent certificate.entry)) }
+) -> Result<A::Told, Stop>
+    ensures { (file : Delivery) → StatesElection file (Ok election.now) → IfTold A.Told.told (AnswersAudit (A.rules audit.now) file (option_map lent outcome.entry) (lent certificate.entry)) result }
 {
     let outcome = outcome_of(alloc, outcome, election)?;
     audit.reply_on(alloc, election, &outcome, certificate)
 }
 
 /// The reply on what readers deliver.
-fn audit_readers<A: Audit, E: Source, O: Source, C: Source>(
+pub(crate) fn audit_readers<A: Audit, E: Source, O: Source, C: Source>(
     alloc: Global,
     audit: &A,
     election: &mut E,
     outcome: &mut Option<O>,
     certificate: &mut C,
     notes: &mut Vec<String>,
-) -> Result<Reply, Stop>
-    ensures { IfSome (settled result) (ReadsAudit (A.rules audit.now) (audit_readings E.Source election.old election.new O.Source outcome.old outcome.new C.Source certificate.old certificate.new)) }
+) -> Result<A::Told, Stop>
+    ensures { IfTold A.Told.told (ReadsAudit (A.rules audit.now) (audit_readings E.Source election.old election.new O.Source outcome.old outcome.new C.Source certificate.old certificate.new)) result }
 {
     let election = take_election(alloc, election)?;
     push_notes(alloc, notes, &election)?;

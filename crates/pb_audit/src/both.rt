@@ -76,6 +76,8 @@ struct BothAudit<'a> {
 }
 
 impl<'a> Audit for BothAudit<'a> {
+    type Told = Reply;
+
     ghost Subject = { Both };
 
     ghost rules = { λ audit. both_rules audit.mode (lent audit.violation) };

@@ -78,6 +78,8 @@ struct ExplainAudit {
 }
 
 impl Audit for ExplainAudit {
+    type Told = Reply;
+
     ghost Subject = { Certificate };
 
     ghost rules = { λ audit. explained_rules audit.mode };

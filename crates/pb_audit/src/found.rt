@@ -59,7 +59,7 @@ fn found_on(
 }
 
 /// The reply on a certificate of an election, where it is there.
-fn certificate_found<A: Audit>(
+fn certificate_found<A: Audit<Told = Reply>>(
     alloc: Global,
     audit: &A,
     election: &Election,

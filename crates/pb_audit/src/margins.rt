@@ -1,19 +1,21 @@
 //! The margins of a price certificate.
-ghost use Rattle.std.specs.Prelude.{IfOk, IfSome, option_copied, option_map};
-ghost use Rattle.pb_reply.specs.Inside.Loaded.{lent};
-ghost use Rattle.pb_audit.specs.Margins.{AnswersMarginFiles, AnswersMargins, ReadsMargins};
+ghost use Rattle.std.specs.Prelude.{IfOk, option_copied};
+ghost use Rattle.pb_audit.specs.Margins.{AnswersMarginFiles, ReadsMargins, margin_rules};
 ghost use Rattle.pb_audit.specs.Readers.{audit_readings};
-ghost use Rattle.pb_reply.specs.Inside.Taking.{IfTaken, settled_answer};
-ghost use Rattle.pb_audit.specs.Inside.Certificates.{TablesMargins};
-ghost use Rattle.pb_reply.specs.Writing.{Writes};
+ghost use Rattle.pb_certificate.specs.Prices.{Prices};
 ghost use Rattle.pb_election.specs.Outcome.{OutcomeFits};
+ghost use Rattle.pb_audit.specs.Inside.Certificates.{FindsMargins};
+ghost use Rattle.pb_reply.specs.Inside.Loaded.{lent};
+ghost use Rattle.pb_reply.specs.Inside.Taking.{IfTaken};
+ghost use Rattle.pb_reply.specs.Writing.{Writes};
 
+use crate::auditing::{Audit, audit_files, audit_readers};
 use crate::margin_table::table_text;
 use pb_election::{Election, Outcome, Sink, Source};
-use pb_price::margins_of;
+use pb_price::{Margins, margins_of};
 use pb_reply::{
-    Answer, Fault, File, InputFault, InputName, Loaded, Status, Stop, bytes_of, election_of,
-    optional_file, outcome_of, settled_answer, stop_at, take_election, take_outcome,
+    Answer, Fault, File, InputFault, InputName, Status, Stop, bytes_of, optional_file,
+    settled_answer, stop_at,
 };
 use std::alloc::{AllocError, Global};
 
@@ -31,8 +33,9 @@ pub fn margins_answer(
     // The answer is the one on these bytes.
     ensures { IfOk result (AnswersMarginFiles election.now (option_copied outcome.entry) certificate.now) }
 {
-    let work = margins_work(
+    let work = audit_files(
         alloc,
+        &MarginAudit,
         File::in_memory(election),
         optional_file(outcome),
         File::in_memory(certificate),
@@ -54,55 +57,57 @@ pub fn run_margins<E: Source, O: Source, C: Source, W: Sink>(
     // The text of the answer on what the readers delivered is written, or a front of it where the writer failed.
     ensures { Writes W.Sink (ReadsMargins (audit_readings E.Source election.old election.new O.Source outcome.old outcome.new C.Source certificate.old certificate.new)) result out.old out.new }
 {
-    let work = take_work(alloc, election, outcome, certificate);
+    let mut notes = Vec::new(alloc);
+    let work = audit_readers(
+        alloc,
+        &MarginAudit,
+        election,
+        outcome,
+        certificate,
+        &mut notes,
+    );
     settled_answer(alloc, work)?.write(out)
 }
 
-/// The answer on what files state.
-fn margins_work(
-    alloc: Global,
-    election: File<'_>,
-    outcome: Option<File<'_>>,
-    certificate: File<'_>,
-) -> Result<Answer<Status>, Stop>
-    ensures { IfSome (settled_answer result) (AnswersMargins (lent election.entry) (option_map lent outcome.entry) (lent certificate.entry)) }
-{
-    let election = election_of(alloc, election)?;
-    let outcome = outcome_of(alloc, outcome, &election)?;
-    margins_on(alloc, &election, &outcome, certificate)
+/// The audit that answers with the table of margins.
+pub(crate) struct MarginAudit;
+
+impl Audit for MarginAudit {
+    type Told = Answer<Status>;
+
+    ghost Subject = { Prices };
+
+    ghost rules = { λ _. margin_rules };
+
+    #[tactic(auto, using(crate::proofs::MarginTable::always_yes))]
+    fn reply_on(
+        &self,
+        alloc: Global,
+        election: &Election,
+        outcome: &Outcome,
+        certificate: File<'_>,
+    ) -> Result<Answer<Status>, Stop> {
+        let margins = price_margins(alloc, election, outcome, certificate)?;
+        Ok(Answer {
+            text: table_text(alloc, election, &margins)?,
+            status: Status::Yes,
+        })
+    }
 }
 
-/// The answer on what readers deliver.
-fn take_work<E: Source, O: Source, C: Source>(
-    alloc: Global,
-    election: &mut E,
-    outcome: &mut Option<O>,
-    certificate: &mut C,
-) -> Result<Answer<Status>, Stop>
-    ensures { IfSome (settled_answer result) (ReadsMargins (audit_readings E.Source election.old election.new O.Source outcome.old outcome.new C.Source certificate.old certificate.new)) }
-{
-    let election = take_election(alloc, election)?;
-    let outcome = take_outcome(alloc, outcome, &election)?;
-    let certificate = Loaded::load(alloc, certificate)?;
-    margins_on(alloc, &election, &outcome, certificate.lend())
-}
-
-/// The table by the prices that a certificate states, for an election and an outcome that were accepted.
-fn margins_on(
+/// The figures of each project by the prices that a certificate states.
+fn price_margins(
     alloc: Global,
     election: &Election,
     outcome: &Outcome,
     certificate: File<'_>,
-) -> Result<Answer<Status>, Stop>
+) -> Result<Margins, Stop>
     requires { OutcomeFits outcome.now election.now }
-    ensures { IfTaken result (TablesMargins election.now (outcome.now).marks (lent certificate.entry)) }
+    ensures { IfTaken result (FindsMargins election.now (outcome.now).marks (lent certificate.entry)) }
 {
     let bytes = bytes_of(InputName::Certificate, certificate)?;
     match margins_of(alloc, election, outcome, bytes) {
-        Ok(margins) => Ok(Answer {
-            text: table_text(alloc, election, &margins)?,
-            status: Status::Yes,
-        }),
+        Ok(margins) => Ok(margins),
         Err(refusal) => Err(stop_at(InputName::Certificate, InputFault::Certificate(refusal))),
     }
 }

@@ -67,6 +67,8 @@ pub(crate) struct PriceAudit {
 }
 
 impl Audit for PriceAudit {
+    type Told = Reply;
+
     ghost Subject = { Prices };
 
     ghost rules = { λ audit. price_rules audit.mode };

@@ -69,6 +69,8 @@ pub fn run_violation<E: Source, O: Source, C: Source, W: Sink>(
 pub(crate) struct ViolationAudit;
 
 impl Audit for ViolationAudit {
+    type Told = Reply;
+
     ghost Subject = { GroupAndDemand };
 
     ghost rules = { λ _. violation_rules };

@@ -1,21 +1,24 @@
 -- What the values stand for that the code makes of a certificate on the way to an answer. What a command answers is
 -- said without them, in `Answers` and `Readers`.
-use Rattle.std.specs.Prelude.{◌≡◌, Bool, List, Ok, Err}
+use Rattle.std.specs.Prelude.{◌≡◌, Bool, List, IfSome, Result, Ok, Err}
 use Rattle.pb_election.specs.Instance.{Instance}
 use Rattle.pb_records.specs.Loading.{Delivery}
 use Rattle.pb_certificate.specs.Prices.{Prices}
 use Rattle.pb_price.specs.Findings.{findings}
 use Rattle.pb_price.specs.First.{First, verdict_of}
+use Rattle.pb_price.specs.Margins.{AreMargins}
 use Rattle.pb_price.specs.declared.Findings.{Findings}
+use Rattle.pb_price.specs.declared.Margins.{Margins}
 use Rattle.pb_price.specs.declared.Mode.{Mode}
 use Rattle.pb_price.specs.declared.Verdict.{Verdict}
 use Rattle.pb_reply.specs.Inputs.{Stated, StatesPrices}
-use Rattle.pb_reply.specs.Replies.{Answer, Reply, answer_of, with_input}
+use Rattle.pb_reply.specs.Replies.{Answer, Reply, with_input}
+use Rattle.pb_reply.specs.Inside.Taking.{stopped}
 use Rattle.pb_reply.specs.declared.input.InputName.{InputName}
 use Rattle.pb_reply.specs.declared.input.InputName.TheVariants as name
+use Rattle.pb_reply.specs.declared.input.Stop.{Stop}
 use Rattle.pb_reply.specs.declared.status.Status.{Status}
 use Rattle.pb_audit.specs.Answers.{AuditRules, tidy_answer}
-use Rattle.pb_audit.specs.Margins.{margins_reply}
 
 -- the reply on a certificate of a kind, for an election and an outcome that were accepted
 pub record AnswersCertificate {A : Type 0} (states : Instance → Delivery → Stated A → Type 0)
@@ -24,6 +27,12 @@ pub record AnswersCertificate {A : Type 0} (states : Instance → Delivery → S
   pub c : Stated A
   pub given : states e certificate c
   pub out : r ≡ with_input c (λ a. reply e w a)
+
+-- What some work came to, memory aside: what is told of one of these replies, or why an input was refused, on which the
+-- reply is one of these.
+abbrev pub IfTold : {T : Type 0} → (Reply → T) → (Reply → Type 0) → Result T Stop → Type 0
+IfTold told is_reply (Ok own) = (reply : Reply) × (is_reply reply × (own ≡ told reply))
+IfTold told is_reply (Err why) = IfSome (stopped why) is_reply
 
 -- the status of each reply on what a certificate of a kind states keeps what it promises
 abbrev pub Promised : {A : Type 0} → AuditRules A → Type 0
@@ -46,11 +55,12 @@ abbrev pub TidiesPrices : Instance → Delivery → Stated (Answer Status) → T
 TidiesPrices e certificate stated =
     MadeOfPrices (λ p. tidy_answer (Ok e) (Ok p)) name.Certificate e certificate stated
 
--- the table of margins by them
-abbrev pub TablesMargins : Instance → List Bool → Delivery → Stated (Answer Status) → Type 0
-TablesMargins e w certificate stated =
-    MadeOfPrices (λ p. answer_of (margins_reply e w p)) name.Certificate e certificate stated
-
 -- what each condition comes to by them
 abbrev pub FindsPrices : Instance → List Bool → Delivery → Stated Findings → Type 0
 FindsPrices e w certificate stated = MadeOfPrices (λ p. findings e w p) name.Certificate e certificate stated
+
+-- the figures of each project by them
+abbrev pub FindsMargins : Instance → List Bool → Delivery → Stated Margins → Type 0
+FindsMargins e w certificate (Ok found) = (p : Prices)
+    × (StatesPrices name.Certificate e certificate (Ok p) × AreMargins e w p found)
+FindsMargins e w certificate (Err r) = StatesPrices name.Certificate e certificate (Err r)

@@ -15,5 +15,5 @@ returns-in_err-outcome g c = λ file given.
 
 pub returns : goal.returns
 returns g c = λ file given.
-    certificate_settled (g.A.Audit.rules c.args.audit.now)
+    certificate_settled (g.A.Audit.rules c.args.audit.now) _
     c.reply_on.ensures.promised _ _ _ _ _ _ given c.in_ok-outcome.ensures.taken c.reply_on.ensures.reply

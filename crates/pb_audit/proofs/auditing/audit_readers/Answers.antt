@@ -1,9 +1,8 @@
 use Rattle.std.proofs.Common.{◌≡◌, refl, rules, subst}
-use Rattle.std.specs.Prelude.{Err, IfSome}
+use Rattle.std.specs.Prelude.{Err}
 use Rattle.pb_records.specs.Loading.{Delivery}
 use Rattle.pb_audit.specs.Readers.{audit_readings}
-use Rattle.pb_audit.specs.Inside.Certificates.{AnswersCertificate}
-use Rattle.pb_reply.specs.Inside.Taking.{settled}
+use Rattle.pb_audit.specs.Inside.Certificates.{AnswersCertificate, IfTold}
 use Rattle.pb_audit.proofs.Audits.{readers_settled, readers_stopped_at_election, readers_stopped_at_outcome}
 use Rattle.pb_audit.proofs.auditing.audit_readers.Goals as goal
 
@@ -29,11 +28,11 @@ returns-in_err-outcome g c =
 
 pub returns : goal.returns
 returns g c =
-    readers_settled (g.A.Audit.rules c.args.audit.now)
+    readers_settled (g.A.Audit.rules c.args.audit.now) _
     c.reply_on.ensures.promised _ _ _ _ _
     c.in_ok-election.ensures c.in_ok-outcome.ensures.taken c.in_ok-certificate.ensures
     (subst
-    (λ (d : Delivery). IfSome (settled c.reply_on.result)
+    (λ (d : Delivery). IfTold g.A.Told.Telling.told
     (AnswersCertificate (g.A.Audit.rules c.args.audit.now).states (g.A.Audit.rules c.args.audit.now).reply
     c.in_ok-election.election
-    c.in_ok-outcome.outcome.marks d)) c.lend.ensures c.reply_on.ensures.reply)
+    c.in_ok-outcome.outcome.marks d) c.reply_on.result) c.lend.ensures c.reply_on.ensures.reply)
