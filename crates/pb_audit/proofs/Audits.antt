@@ -11,7 +11,7 @@ use Rattle.pb_reply.specs.Inputs.{InTurn, Stated, StatesElection, StatesPrices}
 use Rattle.pb_reply.specs.declared.input.InputName.TheVariants as name
 use Rattle.pb_reply.specs.declared.input.Refusal.{Refusal}
 use Rattle.pb_audit.specs.Readers.{AuditReadings, ReadsAudit, ReadsTidy}
-use Rattle.pb_reply.specs.Readings.{Delivers, IsUntouched, Reading}
+use Rattle.pb_reply.specs.Readings.{Delivers, NothingRead, Reading}
 use Rattle.pb_audit.specs.Inside.Certificates.{AnswersCertificate, IfTold, Promised, TidiesPrices}
 use Rattle.pb_reply.specs.Inside.Taking.{AuditsOutcome, Gives, IfTaken, ReadsOutcome, settled, settled_answer, stopped}
 use Rattle.pb_reply.specs.declared.input.Stop.{Stop}
@@ -143,7 +143,7 @@ certificate_settled rules told each election outcome certificate e w work given 
 unfoldable pub readers_stopped_at_election : {A : Type 0} (rules : AuditRules A)
     (inputs : AuditReadings) (why : Stop)
     → IfTaken {A = Instance} (Err why) (Gives StatesElection inputs.election)
-    → inputs.outcome.after ≡ inputs.outcome.before → IsUntouched inputs.certificate
+    → inputs.outcome.after ≡ inputs.outcome.before → NothingRead inputs.certificate
     → IfSome (stopped why) (ReadsAudit rules inputs)
 readers_stopped_at_election rules inputs (stop.Refused r) given same untouched = record {
   of_election = given.delivery;
@@ -160,7 +160,7 @@ readers_stopped_at_election rules inputs stop.Memory given same untouched = tt
 unfoldable pub readers_stopped_at_outcome : {A : Type 0} (rules : AuditRules A)
     (inputs : AuditReadings) (e : Instance) (why : Stop)
     → Gives StatesElection inputs.election (Ok e) → IfTaken {A = List Bool} (Err why) (ReadsOutcome e inputs.outcome)
-    → IsUntouched inputs.certificate → IfSome (stopped why) (ReadsAudit rules inputs)
+    → NothingRead inputs.certificate → IfSome (stopped why) (ReadsAudit rules inputs)
 readers_stopped_at_outcome rules inputs e (stop.Refused r) given taken untouched = record {
   of_election = given.delivery;
   of_outcome = taken.delivery;
@@ -172,7 +172,7 @@ readers_stopped_at_outcome rules inputs e (stop.Refused r) given taken untouched
   certificate_delivered =
       subst
       (λ (o : Stated (List Bool)). InTurn o (λ w. Delivers inputs.certificate delivery.Read)
-      (IsUntouched inputs.certificate)) taken.audits.is untouched;
+      (NothingRead inputs.certificate)) taken.audits.is untouched;
 }
 readers_stopped_at_outcome rules inputs e stop.Memory given taken untouched = tt
 
@@ -190,7 +190,7 @@ readers_answered rules each inputs e w d r given taken delivered answered = reco
   election_delivered = given.delivered;
   outcome_delivered = taken.delivered;
   certificate_delivered =
-      subst (λ (o : Stated (List Bool)). InTurn o (λ w. Delivers inputs.certificate d) (IsUntouched inputs.certificate))
+      subst (λ (o : Stated (List Bool)). InTurn o (λ w. Delivers inputs.certificate d) (NothingRead inputs.certificate))
       taken.audits.is delivered;
 }
 
@@ -220,7 +220,7 @@ tidy_stopped election certificate stop.Memory given = tt
 abbrev readers_tidied : (election certificate : Reading) (e : Stated Instance) (p : Stated Prices) (d : Delivery)
     (answer : Answer Status)
     → Gives StatesElection election e → IfOk e (λ i. StatesPrices name.Certificate i d p)
-    → InTurn e (λ i. Delivers certificate d) (IsUntouched certificate) → answer ≡ tidy_answer e p
+    → InTurn e (λ i. Delivers certificate d) (NothingRead certificate) → answer ≡ tidy_answer e p
     → ReadsTidy election certificate answer
 readers_tidied election certificate e p d answer given states delivered out = record {
   of_election = given.delivery;
@@ -232,7 +232,7 @@ readers_tidied election certificate e p d answer given states delivered out = re
 }
 
 pub readers_tidy_stopped : (election certificate : Reading) (why : Stop)
-    → IfTaken {A = Instance} (Err why) (Gives StatesElection election) → IsUntouched certificate
+    → IfTaken {A = Instance} (Err why) (Gives StatesElection election) → NothingRead certificate
     → IfSome (settled_answer (Err why)) (ReadsTidy election certificate)
 readers_tidy_stopped election certificate (stop.Refused r) given untouched =
     readers_tidied election certificate (Err r) (Err r) delivery.Read _ given tt untouched refl

@@ -18,7 +18,7 @@ use Rattle.pb_audit.specs.Both.{BothPromise, GroupAndDemand, ReadsBoth, StatesBo
 use Rattle.pb_reply.specs.Inputs.{InTurn, Stated, StatesElection, StatesPrices, StatesViolation}
 use Rattle.pb_reply.specs.declared.input.Refusal.{Refusal}
 use Rattle.pb_audit.specs.Readers.{AuditReadings}
-use Rattle.pb_reply.specs.Readings.{Delivers, IsUntouched, Reading}
+use Rattle.pb_reply.specs.Readings.{Delivers, NothingRead, Reading}
 use Rattle.pb_audit.specs.Inside.Certificates.{AnswersCertificate, IfTold, JudgesPrices, Promised}
 use Rattle.pb_reply.specs.Inside.Taking.{Gives, IfTaken, ReadsOutcome, settled, stopped}
 use Rattle.pb_reply.specs.declared.input.InputName.TheVariants as name
@@ -107,7 +107,7 @@ both_settled m e w prices violation verdict work judged answered =
 -- The same over readers.
 pub both_stopped_at_election : (m : Mode) (inputs : AuditReadings) (violation : Reading) (why : Stop)
     → IfTaken {A = Instance} (Err why) (Gives StatesElection inputs.election)
-    → inputs.outcome.after ≡ inputs.outcome.before → IsUntouched inputs.certificate → IsUntouched violation
+    → inputs.outcome.after ≡ inputs.outcome.before → NothingRead inputs.certificate → NothingRead violation
     → IfSome (stopped why) (ReadsBoth m inputs violation)
 unfolding readers_stopped_at_election
 both_stopped_at_election m inputs violation (stop.Refused r) given same untouched violation_same = record {
@@ -120,7 +120,7 @@ both_stopped_at_election m inputs violation stop.Memory given same untouched vio
 
 pub both_stopped_at_outcome : (m : Mode) (inputs : AuditReadings) (violation : Reading) (e : Instance) (why : Stop)
     → Gives StatesElection inputs.election (Ok e) → IfTaken {A = List Bool} (Err why) (ReadsOutcome e inputs.outcome)
-    → IsUntouched inputs.certificate → IsUntouched violation
+    → NothingRead inputs.certificate → NothingRead violation
     → IfSome (stopped why) (ReadsBoth m inputs violation)
 unfolding readers_stopped_at_outcome
 both_stopped_at_outcome m inputs violation e (stop.Refused r) given taken untouched violation_same = record {
@@ -128,7 +128,7 @@ both_stopped_at_outcome m inputs violation e (stop.Refused r) given taken untouc
   reads = readers_stopped_at_outcome (both_rules m delivery.Read) inputs e
       (stop.Refused r) given taken untouched;
   violation_delivered =
-      subst (λ (o : Stated (List Bool)). InTurn o (λ w. IsUntouched violation) (IsUntouched violation)) taken.audits.is
+      subst (λ (o : Stated (List Bool)). InTurn o (λ w. NothingRead violation) (NothingRead violation)) taken.audits.is
       violation_same;
 }
 both_stopped_at_outcome m inputs violation e stop.Memory given taken untouched violation_same = tt
@@ -139,7 +139,7 @@ abbrev both_read : (m : Mode) (inputs : AuditReadings) (violation : Reading) (e 
     → Gives StatesElection inputs.election (Ok e) → ReadsOutcome e inputs.outcome (Ok w)
     → Delivers inputs.certificate of_prices
     → (answered : AnswersCertificate (StatesBoth of_violation) (both_reply m) e w of_prices r)
-    → InTurn answered.c (λ both. Delivers violation of_violation) (IsUntouched violation)
+    → InTurn answered.c (λ both. Delivers violation of_violation) (NothingRead violation)
     → ReadsBoth m inputs violation r
 unfolding readers_answered
 both_read m inputs violation e w of_prices of_violation r given taken delivered answered next = record {
@@ -149,15 +149,15 @@ both_read m inputs violation e w of_prices of_violation r given taken delivered 
   violation_delivered =
       subst
       (λ (o : Stated (List Bool)). InTurn o
-      (λ w. InTurn answered.c (λ both. Delivers violation of_violation) (IsUntouched violation))
-      (IsUntouched violation)) taken.audits.is next;
+      (λ w. InTurn answered.c (λ both. Delivers violation of_violation) (NothingRead violation))
+      (NothingRead violation)) taken.audits.is next;
 }
 
 pub both_stopped_at_prices : (m : Mode) (inputs : AuditReadings) (violation : Reading) (e : Instance) (w : List Bool)
     (why : Stop)
     → Gives StatesElection inputs.election (Ok e) → ReadsOutcome e inputs.outcome (Ok w)
     → IfTaken {A = Verdict} (Err why) (Gives (JudgesPrices name.Prices m e w) inputs.certificate)
-    → IsUntouched violation
+    → NothingRead violation
     → IfSome (stopped why) (ReadsBoth m inputs violation)
 both_stopped_at_prices m inputs violation e w (stop.Refused r) given taken judged same =
     both_read m inputs violation e w judged.delivery delivery.Read _ given taken judged.delivered

@@ -16,7 +16,7 @@ use Rattle.pb_reply.specs.Replies.{Reply, with_input}
 use Rattle.pb_reply.specs.Inputs.{InTurn, Stated, StatesPrices, StatesViolation, in_memory}
 use Rattle.pb_audit.specs.Promises.{PricesPromise, ViolationPromises}
 use Rattle.pb_audit.specs.Readers.{AfterOutcome, AuditReadings, ReadsAudit}
-use Rattle.pb_reply.specs.Readings.{Delivers, IsUntouched, Reading}
+use Rattle.pb_reply.specs.Readings.{Delivers, NothingRead, Reading}
 use Rattle.pb_reply.specs.declared.input.InputName.TheVariants as name
 use Rattle.pb_reply.specs.declared.status.Status.{Status}
 use Rattle.pb_reply.specs.declared.status.Status.TheVariants.{Yes, No, Refused}
@@ -89,4 +89,4 @@ pub record ReadsBoth (m : Mode) (inputs : AuditReadings) (violation : Reading) (
   pub of_violation : Delivery
   pub reads : ReadsAudit (both_rules m of_violation) inputs r
   pub violation_delivered : AfterOutcome reads.answers.e reads.answers.o
-      (InTurn reads.answers.c (λ both. Delivers violation of_violation) (IsUntouched violation)) (IsUntouched violation)
+      (InTurn reads.answers.c (λ both. Delivers violation of_violation) (NothingRead violation)) (NothingRead violation)

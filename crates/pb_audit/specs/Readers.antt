@@ -4,7 +4,7 @@ use Rattle.pb_election.specs.Instance.{Instance}
 use Rattle.pb_records.specs.Loading.{Delivery}
 use Rattle.pb_records.specs.declared.loading.Source.{Ghosts as Source}
 use Rattle.pb_price.specs.declared.Mode.{Mode}
-use Rattle.pb_reply.specs.Readings.{Delivers, DeliversFile, FileReading, IsUntouched, Reading, file_reading, reading}
+use Rattle.pb_reply.specs.Readings.{Delivers, DeliversFile, FileReading, NothingRead, Reading, file_reading, reading}
 use Rattle.pb_reply.specs.Replies.{Answer, Reply}
 use Rattle.pb_reply.specs.declared.status.Status.{Status}
 use Rattle.pb_audit.specs.Answers.{AnswersAudit, AnswersElection, AnswersTidy, AuditRules, price_rules, violation_rules}
@@ -40,15 +40,15 @@ pub record ReadsTidy (election certificate : Reading) (answer : Answer Status) :
   pub answers : AnswersTidy of_election of_certificate answer
   pub election_delivered : Delivers election of_election
   pub certificate_delivered : InTurn answers.e (λ instance. Delivers certificate of_certificate)
-      (IsUntouched certificate)
+      (NothingRead certificate)
 
--- An input was taken where the election and the outcome were accepted, and else it is as it was.
+-- An input was taken where the election and the outcome were accepted, and else nothing was read of it.
 abbrev pub AfterOutcome : Stated Instance → Option (Stated (List Bool)) → Type 0 → Type 0 → Type 0
-AfterOutcome election outcome taken untouched =
-    InTurn election (λ e. InTurn (audited e outcome) (λ w. taken) untouched) untouched
+AfterOutcome election outcome taken unread =
+    InTurn election (λ e. InTurn (audited e outcome) (λ w. taken) unread) unread
 
 -- The reply on the election, the outcome file where one is given, and the certificate that readers delivered. Each is
--- taken where those before it are accepted, and else it is as it was.
+-- taken where those before it are accepted, and else nothing was read of it.
 pub record ReadsAudit {A : Type 0} (rules : AuditRules A) (inputs : AuditReadings) (r : Reply) : Type 0 where
   pub of_election : Delivery
   pub of_outcome : Option Delivery
@@ -59,7 +59,7 @@ pub record ReadsAudit {A : Type 0} (rules : AuditRules A) (inputs : AuditReading
       (λ instance. DeliversFile inputs.outcome.before inputs.outcome.after of_outcome)
       (inputs.outcome.after ≡ inputs.outcome.before)
   pub certificate_delivered : AfterOutcome answers.e answers.o (Delivers inputs.certificate of_certificate)
-      (IsUntouched inputs.certificate)
+      (NothingRead inputs.certificate)
 
 abbrev pub ReadsPrices : Mode → AuditReadings → Reply → Type 0
 ReadsPrices m inputs r = ReadsAudit (price_rules m) inputs r

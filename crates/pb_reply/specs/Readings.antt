@@ -40,6 +40,6 @@ DeliversFile None None None = Unit {0}
 DeliversFile (Some before) (Some after) (Some delivery) = Delivers (record { before = before; after = after }) delivery
 DeliversFile _ _ _ = ⊥
 
--- the reader is as it was
-abbrev pub IsUntouched : Reading → Type 0
-IsUntouched r = r.after ≡ r.before
+-- nothing was read: what is left and the counts are as they were
+abbrev pub NothingRead : Reading → Type 0
+NothingRead r = r.after ≡ r.before
