@@ -6,5 +6,6 @@ pub mod Languages
 pub mod Names
 pub mod PieceList
 pub mod Pieces
+pub mod Sums
 pub mod Taken
 pub mod Told

@@ -28,6 +28,7 @@ mod told;
 mod wording;
 
 pub use attributes::Attributes;
+pub use digest::sum_of;
 pub use entry::{PageFile, PageFiles, page_answer};
 pub use escapes::push_escaped;
 pub use figure::{Compared, Figure};

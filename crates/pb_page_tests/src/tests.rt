@@ -2,3 +2,4 @@
 mod answers;
 mod making;
 mod names;
+mod sums;
