@@ -1,4 +1,5 @@
 pub mod Pages
 pub mod Plain
+pub mod Sums
 pub mod Tells
 pub mod Texts

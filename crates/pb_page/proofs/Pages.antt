@@ -12,6 +12,7 @@ use Rattle.pb_reply.specs.declared.input.Stop.TheVariants as stop
 use Rattle.pb_reply.specs.declared.status.Status.{Status}
 use Rattle.pb_audit.specs.Explained.{Certificate, OfPrices, OfViolation, StatesCertificate, explained_reply}
 use Rattle.pb_page.specs.Answers.{AnswersPage, IsPage, PageOnOutcome, Tells}
+use Rattle.pb_page.specs.Sums.{files_of, sums_of}
 use Rattle.pb_page.specs.Taken.{RendersTold, TellsCertificate}
 use Rattle.pb_page.specs.Told.{status_of}
 use Rattle.pb_page.specs.declared.language.Language.{Language}
@@ -47,7 +48,7 @@ stopped-at-outcome m l election outcome certificate e (stop.Refused r) given tak
         subst (λ (o : Stated (List Bool)). IfOk o (λ w. StatesCertificate e certificate (Err r))) taken.is tt;
   };
   out =
-      subst (λ (o : Stated (List Bool)). PageOnOutcome m l e o (Err r) (answer_of (refused r))) taken.is refl;
+      subst (λ (o : Stated (List Bool)). PageOnOutcome m l (files_of election outcome certificate) e o (Err r) (answer_of (refused r))) taken.is refl;
 }
 stopped-at-outcome m l election outcome certificate e stop.Memory given taken = tt
 
@@ -67,7 +68,7 @@ stopped-at-certificate m l election outcome certificate e w (stop.Refused r) giv
         subst (λ (o : Stated (List Bool)). IfOk o (λ marks. StatesCertificate e certificate (Err r))) taken.is states;
   };
   out =
-      subst (λ (o : Stated (List Bool)). PageOnOutcome m l e o (Err r) (answer_of (refused r))) taken.is refl;
+      subst (λ (o : Stated (List Bool)). PageOnOutcome m l (files_of election outcome certificate) e o (Err r) (answer_of (refused r))) taken.is refl;
 }
 stopped-at-certificate m l election outcome certificate e w stop.Memory given taken states = tt
 
@@ -83,7 +84,8 @@ told-status m e w (OfViolation v) t tells =
 pub page-answered : (m : Mode) (l : Language) (election : Delivery) (outcome : Option Delivery)
     (certificate : Delivery) (e : Instance) (w : List Bool) (t : Told) (a : Answer Status)
     → StatesElection election (Ok e) → AuditsOutcome e outcome (Ok w)
-    → TellsCertificate m e w certificate (Ok t) → t.style.language ≡ l → RendersTold t a
+    → TellsCertificate m e w certificate (Ok t) → t.style.language ≡ l
+    → RendersTold t (sums_of (files_of election outcome certificate)) a
     → AnswersPage m l election outcome certificate a
 page-answered m l election outcome certificate e w t a given taken tells language renders = record {
   e = Ok e;
@@ -96,16 +98,17 @@ page-answered m l election outcome certificate e w t a given taken tells languag
         subst (λ (o : Stated (List Bool)). IfOk o (λ marks. StatesCertificate e certificate (Ok tells.0))) taken.is
         tells.1;
   };
-  out = subst (λ (o : Stated (List Bool)). PageOnOutcome m l e o (Ok tells.0) a) taken.is page;
+  out = subst (λ (o : Stated (List Bool)). PageOnOutcome m l (files_of election outcome certificate) e o (Ok tells.0) a) taken.is page;
 }
   where
-    page : IsPage m l e w tells.0 a
+    page : IsPage m l (files_of election outcome certificate) e w tells.0 a
     page = record {
       told = t;
       pieces = renders.pieces;
       tells = tells.2;
       in_language = language;
       answers = renders.answers;
+      sums = renders.has_sums;
       text = renders.text;
       status = renders.status ∙ told-status m e w tells.0 t tells.2;
     }

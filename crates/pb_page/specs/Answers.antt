@@ -19,6 +19,7 @@ use Rattle.pb_reply.specs.declared.status.Status.{Status}
 use Rattle.pb_audit.specs.Answers.{FilesState}
 use Rattle.pb_audit.specs.Explained.{Certificate, OfPrices, OfViolation, StatesCertificate, explained_reply}
 use Rattle.pb_page.specs.Pieces.{Close, Headline, Line, Open, Piece, rendering}
+use Rattle.pb_page.specs.Sums.{HasInOrder, files_of, sums_of}
 use Rattle.pb_page.specs.Told.{shows_of}
 use Rattle.pb_page.specs.declared.language.Language.{Language}
 use Rattle.pb_page.specs.declared.tag.Tag.TheVariants as tag
@@ -70,30 +71,34 @@ pub record HasAnswer (pieces : List Piece) : Type 0 where
   pub back : List Piece
   pub is : pieces ≡ front ++ (headline_box ++ (middle ++ (line_box ++ back)))
 
--- the page about a certificate, in a language: what the pieces show is what is told, and the status that of `explain`
-pub record IsPage (m : Mode) (language : Language) (e : Instance) (w : List Bool) (c : Certificate) (a : Answer Status)
-    : Type 0 where
+-- The page about a certificate, in a language: what the pieces show is what is told, the sums are those of these files,
+-- and the status is that of `explain`.
+pub record IsPage (m : Mode) (language : Language) (files : List Delivery) (e : Instance) (w : List Bool)
+    (c : Certificate) (a : Answer Status) : Type 0 where
   pub told : Told
   pub pieces : List Piece
   pub tells : Tells m e w c told
   pub in_language : told.style.language ≡ language
   pub answers : HasAnswer pieces
+  pub sums : HasInOrder (sums_of files) pieces
   pub text : a.text ≡ rendering (shows_of told) pieces
   pub status : a.status ≡ (explained_reply m e w c).status
 
 -- the page, or the line of the first input that is refused
-abbrev pub PageOnCertificate : Mode → Language → Instance → List Bool → Stated Certificate → Answer Status → Type 0
-PageOnCertificate m language e w (Err r) a = a ≡ answer_of (refused r)
-PageOnCertificate m language e w (Ok c) a = IsPage m language e w c a
+abbrev pub PageOnCertificate : Mode → Language → List Delivery → Instance → List Bool → Stated Certificate
+    → Answer Status → Type 0
+PageOnCertificate m language files e w (Err r) a = a ≡ answer_of (refused r)
+PageOnCertificate m language files e w (Ok c) a = IsPage m language files e w c a
 
-abbrev pub PageOnOutcome : Mode → Language → Instance → Stated (List Bool) → Stated Certificate → Answer Status → Type 0
-PageOnOutcome m language e (Err r) c a = a ≡ answer_of (refused r)
-PageOnOutcome m language e (Ok w) c a = PageOnCertificate m language e w c a
+abbrev pub PageOnOutcome : Mode → Language → List Delivery → Instance → Stated (List Bool) → Stated Certificate
+    → Answer Status → Type 0
+PageOnOutcome m language files e (Err r) c a = a ≡ answer_of (refused r)
+PageOnOutcome m language files e (Ok w) c a = PageOnCertificate m language files e w c a
 
-abbrev pub PageOf : Mode → Language → Stated Instance → Option (Stated (List Bool)) → Stated Certificate → Answer Status
-    → Type 0
-PageOf m language (Err r) o c a = a ≡ answer_of (refused r)
-PageOf m language (Ok e) o c a = PageOnOutcome m language e (audited e o) c a
+abbrev pub PageOf : Mode → Language → List Delivery → Stated Instance → Option (Stated (List Bool))
+    → Stated Certificate → Answer Status → Type 0
+PageOf m language files (Err r) o c a = a ≡ answer_of (refused r)
+PageOf m language files (Ok e) o c a = PageOnOutcome m language files e (audited e o) c a
 
 -- The answer on an election, an outcome file where one is given, and a certificate of either kind.
 pub record AnswersPage (m : Mode) (language : Language) (election : Delivery) (outcome : Option Delivery)
@@ -102,4 +107,4 @@ pub record AnswersPage (m : Mode) (language : Language) (election : Delivery) (o
   pub o : Option (Stated (List Bool))
   pub c : Stated Certificate
   pub given : FilesState StatesCertificate election outcome certificate e o c
-  pub out : PageOf m language e o c a
+  pub out : PageOf m language (files_of election outcome certificate) e o c a

@@ -1,6 +1,6 @@
 -- What the values stand for that the code makes of a certificate on the way to a page. What a page answers is said
 -- without them, in `Answers`.
-use Rattle.std.specs.Prelude.{◌≡◌, Bool, List, Ok, Err}
+use Rattle.std.specs.Prelude.{◌≡◌, ℕ, Bool, List, [], ◌∷◌, ◌++◌, Ok, Err, map, option_to_list, string_bytes}
 use Rattle.pb_records.specs.Loading.{Delivery}
 use Rattle.pb_election.specs.Instance.{Instance}
 use Rattle.pb_certificate.specs.Prices.{Prices}
@@ -15,7 +15,10 @@ use Rattle.pb_reply.specs.declared.input.InputName.TheVariants as name
 use Rattle.pb_audit.specs.Explained.{Certificate, StatesCertificate}
 use Rattle.pb_page.specs.Answers.{HasAnswer, Tells}
 use Rattle.pb_page.specs.Pieces.{Piece, rendering}
+use Rattle.pb_page.specs.Sums.{HasInOrder}
 use Rattle.pb_page.specs.Told.{shows_of, status_of}
+use Rattle.pb_page.specs.declared.case.Files.{Files}
+use Rattle.pb_page.specs.declared.case.InputFile.{InputFile}
 use Rattle.pb_page.specs.declared.entry.PageFile.{PageFile}
 use Rattle.pb_page.specs.declared.told.PriceFigures.{PriceFigures}
 use Rattle.pb_page.specs.declared.told.Told.{Told}
@@ -36,9 +39,18 @@ TellsCertificate m e w d (Err r) = StatesCertificate e d (Err r)
 abbrev pub file_of : PageFile → Delivery
 file_of given = lent given.file
 
--- the page shows what is told
-pub record RendersTold (t : Told) (a : Answer Status) : Type 0 where
+-- the sums that are shown of files, in the order of the page
+abbrev pub sum_of : InputFile → List ℕ
+sum_of file = string_bytes file.sum
+
+abbrev pub sums_shown : Files → List (List ℕ)
+sums_shown files =
+    sum_of files.election ∷ (map sum_of (option_to_list files.outcome) ++ sum_of files.certificate ∷ [])
+
+-- the page shows what is told, and these sums
+pub record RendersTold (t : Told) (sums : List (List ℕ)) (a : Answer Status) : Type 0 where
   pub pieces : List Piece
   pub answers : HasAnswer pieces
+  pub has_sums : HasInOrder sums pieces
   pub text : a.text ≡ rendering (shows_of t) pieces
   pub status : a.status ≡ status_of t.mode t.found

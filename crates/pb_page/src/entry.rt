@@ -1,9 +1,11 @@
 //! The page on some files.
-ghost use Rattle.std.specs.Prelude.{◌≡◌, IfOk, IfSome, option_map};
+ghost use Rattle.std.specs.Prelude.{◌≡◌, IfOk, IfSome, map, option_map, option_to_list};
 ghost use Rattle.pb_reply.specs.Inside.Loaded.{lent};
 ghost use Rattle.pb_reply.specs.Inside.Taking.{settled_answer};
 ghost use Rattle.pb_page.specs.Answers.{AnswersPage};
-ghost use Rattle.pb_page.specs.Taken.{RendersTold, file_of};
+ghost use Rattle.pb_page.specs.Sums.{bytes_of, files_of, sum_text, sums_of};
+ghost use Rattle.pb_page.specs.Taken as spec;
+ghost use Rattle.pb_page.specs.Taken.{RendersTold, file_of, sums_shown};
 
 use crate::amounts::Style;
 use crate::case::{Case, Files, InputFile};
@@ -103,7 +105,7 @@ fn page_on(
     outcome: &Outcome,
     told: Told,
 ) -> Result<Answer<Status>, AllocError>
-    ensures { IfOk result (RendersTold told) }
+    ensures { IfOk result (RendersTold told (sums_of (files_of (file_of files.entry.election) (option_map file_of files.entry.outcome) (file_of files.entry.certificate)))) }
 {
     let labels = its_labels(alloc, files.election.file)?;
     let files = input_files(alloc, files)?;
@@ -119,7 +121,7 @@ pub(crate) fn page_with(
     outcome: &Outcome,
     told: Told,
 ) -> Result<Answer<Status>, AllocError>
-    ensures { IfOk result (RendersTold told) }
+    ensures { IfOk result (RendersTold told (sums_shown files)) }
 {
     let case = Case {
         words: Words {
@@ -149,20 +151,33 @@ pub(crate) fn its_labels(alloc: Global, election: File<'_>) -> Result<Labels, Al
     }
 }
 
-fn input_files(alloc: Global, files: PageFiles<'_>) -> Result<Files, AllocError> {
-    let outcome = match files.outcome {
-        Some(outcome) => Some(input_file(alloc, outcome)?),
-        None => None,
-    };
+fn input_files(alloc: Global, files: PageFiles<'_>) -> Result<Files, AllocError>
+    ensures { IfOk result (λ shown. sums_shown shown ≡ sums_of (files_of (file_of files.entry.election) (option_map file_of files.entry.outcome) (file_of files.entry.certificate))) }
+{
     Ok(Files {
         election: input_file(alloc, files.election)?,
-        outcome,
+        outcome: outcome_shown(alloc, files.outcome)?,
         certificate: input_file(alloc, files.certificate)?,
     })
 }
 
+// What is shown of an outcome file, where one is given.
+fn outcome_shown(
+    alloc: Global,
+    outcome: Option<PageFile<'_>>,
+) -> Result<Option<InputFile>, AllocError>
+    ensures { IfOk result (λ shown. map spec.sum_of (option_to_list shown) ≡ sums_of (option_to_list (option_map file_of outcome.entry))) }
+{
+    match outcome {
+        Some(outcome) => Ok(Some(input_file(alloc, outcome)?)),
+        None => Ok(None),
+    }
+}
+
 /// What is shown of a file.
-pub(crate) fn input_file(alloc: Global, given: PageFile<'_>) -> Result<InputFile, AllocError> {
+pub(crate) fn input_file(alloc: Global, given: PageFile<'_>) -> Result<InputFile, AllocError>
+    ensures { IfOk result (λ shown. spec.sum_of shown ≡ sum_text (bytes_of (file_of given.entry))) }
+{
     let bytes = match given.file {
         File::Bytes(bytes) => bytes,
         File::Unread | File::TooLong => &[],

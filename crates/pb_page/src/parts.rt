@@ -1,6 +1,8 @@
 //! The parts of the page, in the order in which it shows them.
 ghost use Rattle.std.specs.Prelude.{◌≡◌, ◌++◌, IfOk, OnOk};
 ghost use Rattle.pb_page.specs.Answers.{HasAnswer, headline_box, line_box};
+ghost use Rattle.pb_page.specs.Sums.{HasInOrder};
+ghost use Rattle.pb_page.specs.Taken.{sums_shown};
 
 mod answer;
 mod asked;
@@ -30,9 +32,11 @@ use std::alloc::{AllocError, Global};
 const POLICY: &str =
     "default-src 'none'; style-src 'unsafe-inline'; base-uri 'none'; form-action 'none'";
 
-/// The whole page: the answer in a sentence and the line that the program prints, with what stands around them.
+/// The whole page: the answer in a sentence and the line that the program prints, with what stands around them, the sums
+/// of the files among it.
 pub(crate) fn whole_page(alloc: Global, case: &Case<'_>) -> Result<Page, AllocError>
-    ensures { IfOk result HasAnswer }
+    ensures answer { IfOk result HasAnswer }
+    ensures sums { IfOk result (HasInOrder (sums_shown (case.now).files)) }
 {
     let mut page = up_to_answer(alloc, case)?;
     push_headline(&mut page)?;
@@ -74,7 +78,9 @@ fn up_to_answer(alloc: Global, case: &Case<'_>) -> Result<Page, AllocError> {
 }
 
 // The page behind the answer in a sentence, and up to the line that the program prints.
-fn behind_answer(alloc: Global, case: &Case<'_>) -> Result<Page, AllocError> {
+fn behind_answer(alloc: Global, case: &Case<'_>) -> Result<Page, AllocError>
+    ensures { IfOk result (HasInOrder (sums_shown (case.now).files)) }
+{
     let mut page = Page::new(alloc);
     answer::close_answer(&mut page, case)?;
     match &case.told.found {

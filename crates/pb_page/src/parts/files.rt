@@ -1,4 +1,9 @@
 //! The files that the page is about, and how to check it.
+ghost use Rattle.std.specs.Prelude.{ℕ, List, [], ◌∷◌, ◌++◌, OnOk, map, option_to_list};
+ghost use Rattle.pb_page.specs.Sums.{HasInOrder};
+ghost use Rattle.pb_page.specs.Taken as spec;
+ghost use Rattle.pb_page.specs.Taken.{sums_shown};
+
 use crate::case::{Case, InputFile};
 use crate::markup::Page;
 use crate::naming::push_label;
@@ -12,14 +17,14 @@ use std::alloc::AllocError;
 const VERSION: &str = "0.1.0";
 
 /// Adds the files with their sizes and sums, and how to check the page, up to the line that the program prints.
-pub(crate) fn push_files(page: &mut Page, case: &Case<'_>) -> Result<(), AllocError> {
+pub(crate) fn push_files(page: &mut Page, case: &Case<'_>) -> Result<(), AllocError>
+    ensures { OnOk result (HasInOrder (sums_shown (case.now).files) page.new) }
+{
     page.open(Tag::Footer)?;
     page.element(Tag::H2, case.words.say(Sentence::Files))?;
     page.open_class(Tag::Dl, "files")?;
     push_file(page, case, Sentence::ElectionFile, &case.files.election)?;
-    if let Some(outcome) = &case.files.outcome {
-        push_file(page, case, Sentence::OutcomeFile, outcome)?;
-    }
+    push_outcome(page, case, &case.files.outcome)?;
     push_file(
         page,
         case,
@@ -27,7 +32,7 @@ pub(crate) fn push_files(page: &mut Page, case: &Case<'_>) -> Result<(), AllocEr
         &case.files.certificate,
     )?;
     page.close()?;
-    push_checks(page, case)
+    page.append(checks(case)?)
 }
 
 /// Adds what stands behind that line, and ends the part.
@@ -40,37 +45,68 @@ pub(crate) fn push_behind_line(page: &mut Page, case: &Case<'_>) -> Result<(), A
     page.close()
 }
 
+// Adds the outcome file, where one is given.
+fn push_outcome(
+    page: &mut Page,
+    case: &Case<'_>,
+    outcome: &Option<InputFile>,
+) -> Result<(), AllocError>
+    ensures { OnOk result ((texts : List (List ℕ)) → HasInOrder texts page.old → HasInOrder (texts ++ map spec.sum_of (option_to_list outcome.now)) page.new) }
+{
+    match outcome {
+        Some(outcome) => push_file(page, case, Sentence::OutcomeFile, outcome),
+        None => Ok(()),
+    }
+}
+
+// Adds a file, with its sum.
 fn push_file(
     page: &mut Page,
     case: &Case<'_>,
     role: Sentence,
     file: &InputFile,
-) -> Result<(), AllocError> {
-    let bytes = file.length as u64;
-    page.open(Tag::Div)?;
-    page.element(Tag::Dt, case.words.say(role))?;
-    page.open(Tag::Dd)?;
-    push_label(page, case, "named", base_name(file))?;
-    page.text(", ")?;
-    let fillings = Fillings::none(case.words.alloc).and_number("count", bytes)?;
-    case.say(page, Sentence::Bytes(case.words.plural(bytes)), &fillings)?;
-    page.open(Tag::Br)?;
-    page.text("SHA-256 ")?;
+) -> Result<(), AllocError>
+    ensures { OnOk result ((texts : List (List ℕ)) → HasInOrder texts page.old → HasInOrder (texts ++ spec.sum_of file.now ∷ []) page.new) }
+{
+    page.append(facts_of(case, role, file)?)?;
     page.element(Tag::Code, &file.sum)?;
     page.close()?;
     page.close()
 }
 
-fn push_checks(page: &mut Page, case: &Case<'_>) -> Result<(), AllocError> {
+// A file's name and size, up to its sum.
+fn facts_of(case: &Case<'_>, role: Sentence, file: &InputFile) -> Result<Page, AllocError> {
+    let bytes = file.length as u64;
+    let mut page = Page::new(case.words.alloc);
+    page.open(Tag::Div)?;
+    page.element(Tag::Dt, case.words.say(role))?;
+    page.open(Tag::Dd)?;
+    push_label(&mut page, case, "named", base_name(file))?;
+    page.text(", ")?;
+    let fillings = Fillings::none(case.words.alloc).and_number("count", bytes)?;
+    case.say(
+        &mut page,
+        Sentence::Bytes(case.words.plural(bytes)),
+        &fillings,
+    )?;
+    page.open(Tag::Br)?;
+    page.text("SHA-256 ")?;
+    Ok(page)
+}
+
+// How to check the page, up to the line that the program prints.
+fn checks(case: &Case<'_>) -> Result<Page, AllocError> {
+    let mut page = Page::new(case.words.alloc);
     page.open(Tag::P)?;
     page.text(case.words.say(Sentence::CheckProgram))?;
     page.open(Tag::Br)?;
     page.open(Tag::Code)?;
-    push_command(page, case)?;
+    push_command(&mut page, case)?;
     page.close()?;
     page.open(Tag::Br)?;
     page.text(case.words.say(Sentence::CheckAnswer))?;
-    page.text(" ")
+    page.text(" ")?;
+    Ok(page)
 }
 
 // Adds the command that gives the same answer.
