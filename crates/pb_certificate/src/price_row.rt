@@ -40,6 +40,7 @@ fn has_three_fields(row: &StringRecord, third: &str) -> bool
 }
 
 // The row that three cleaned fields state, or the fault with the lowest number that they have.
+#[inline(always)]
 fn cells_row(
     voter: &str,
     project: &str,

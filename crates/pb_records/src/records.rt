@@ -97,18 +97,21 @@ fn read_next(reader: &mut Reader<&[u8]>, row: &mut StringRecord) -> Result<Next,
     }
 }
 
-// The same for the first record of some lines, with the reader behind it.
+// The same for the first record of some lines, by a reader that is put in place of another. It is out of line, so that
+// no other call has room for a reader on its stack, which would be filled each time.
+#[cold]
+#[inline(never)]
 fn read_first<'a>(
+    reader: &mut Reader<&'a [u8]>,
     alloc: Global,
     lines: &'a str,
     row: &mut StringRecord,
-) -> (Reader<&'a [u8]>, Result<Next, AllocError>)
+) -> Result<Next, AllocError>
     requires { strip_bom lines.now ≡ lines.now }
-    ensures { Reads result.1 (lines_left lines.now) (fields_of row.new) result.0 }
+    ensures { Reads result (lines_left lines.now) (fields_of row.new) reader.new }
 {
-    let mut reader = reader_of(alloc, lines.as_bytes(), b',');
-    let next = read_next(&mut reader, row);
-    (reader, next)
+    *reader = reader_of(alloc, lines.as_bytes(), b',');
+    read_next(reader, row)
 }
 
 fn is_record(next: &Result<Next, AllocError>) -> bool
@@ -166,9 +169,8 @@ impl<'a> Records<'a> {
                 Ok(Next::Record)
             }
             Ok(None) => {
-                let (reader, next) = read_first(self.alloc, self.lines, row);
+                let next = read_first(&mut self.reader, self.alloc, self.lines, row);
                 self.lines = "";
-                self.reader = reader;
                 self.reading = is_record(&next);
                 next
             }

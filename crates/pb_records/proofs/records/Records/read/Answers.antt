@@ -43,8 +43,8 @@ pub invariant_of-self-in-Ok-None : goal.invariant_of-self-in-Ok-None
 unfolding strip_bom
 invariant_of-self-in-Ok-None c = (
   λ h.
-      stays c.read_first-reader.result.1 (lines_left c.self.inside.lines.now) (fields_of c.read_first-reader.new.row)
-      c.read_first-reader.result.0 c.read_first-reader.ensures (sym c.is_record-self-inside-in-Ok-None.ensures ∙ h),
+      stays c.read_first-next.result (lines_left c.self.inside.lines.now) (fields_of c.read_first-next.new.row)
+      c.read_first-next.new.reader c.read_first-next.ensures (sym c.is_record-self-inside-in-Ok-None.ensures ∙ h),
   refl,
 )
 
@@ -54,13 +54,13 @@ invariant_of-self-in-Err c = (c.self.invariant.0, refl)
 
 pub returns-in-Ok-None-clause-found : goal.returns-in-Ok-None-clause-found
 returns-in-Ok-None-clause-found c =
-    kept c.read_first-reader.result.1 (lines_left c.self.inside.lines.now) c.args.self.now
-    (fields_of c.read_first-reader.new.row) c.read_first-reader.result.0 c.is_record-self-inside-in-Ok-None.result
-    c.read_first-reader.ensures (rw c.if-self.false at c.self.view_is) c.is_record-self-inside-in-Ok-None.ensures
+    kept c.read_first-next.result (lines_left c.self.inside.lines.now) c.args.self.now
+    (fields_of c.read_first-next.new.row) c.read_first-next.new.reader c.is_record-self-inside-in-Ok-None.result
+    c.read_first-next.ensures (rw c.if-self.false at c.self.view_is) c.is_record-self-inside-in-Ok-None.ensures
 
 pub returns-in-Ok-None-clause-failed : goal.returns-in-Ok-None-clause-failed
 returns-in-Ok-None-clause-failed c =
-    none-kept c.read_first-reader.result.1 c.read_first-reader.result.0 c.is_record-self-inside-in-Ok-None.result
+    none-kept c.read_first-next.result c.read_first-next.new.reader c.is_record-self-inside-in-Ok-None.result
     c.is_record-self-inside-in-Ok-None.ensures
 
 pub returns-in-Err-clause-failed : goal.returns-in-Err-clause-failed
