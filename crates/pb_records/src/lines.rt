@@ -65,15 +65,15 @@ fn behind(text: &str, byte: u8) -> Option<&str>
     Some(&text[1..])
 }
 
-// The lines without empty ones at the front.
-fn behind_feeds(lines: &str) -> &str
+// The lines without an empty one at the front, which the end of the line before leaves there. More are left to the
+// reader.
+fn behind_feed(lines: &str) -> &str
     ensures { lines_left result.now ≡ lines_left lines.now }
 {
-    let mut rest = lines;
-    while let Some(more) = behind(rest, b'\n') {
-        rest = more;
+    match behind(lines, b'\n') {
+        Some(rest) => rest,
+        None => lines,
     }
-    rest
 }
 
 fn ends_line(rest: &str) -> bool
@@ -96,7 +96,7 @@ fn begins_full(text: &str) -> bool
 pub(crate) fn first_triple(lines: &str) -> Option<(Triple<'_>, &str)>
     ensures { IfSome result (λ found. GivesTriple lines.now found.0 found.1.now) }
 {
-    let (first, rest) = cut_field(behind_feeds(lines));
+    let (first, rest) = cut_field(behind_feed(lines));
     let (second, rest) = cut_field(behind(rest, b',')?);
     let (third, rest) = cut_field(behind(rest, b',')?);
     if !begins_full(third) || !ends_line(rest) {
@@ -123,7 +123,7 @@ pub(crate) fn fill<'a>(
         return Ok(None);
     }
     row.clear();
-    let (first, rest) = cut_field(behind_feeds(lines));
+    let (first, rest) = cut_field(behind_feed(lines));
     row.push_field(first)?;
     let mut left = rest;
     while row.len() < MOST_FIELDS {

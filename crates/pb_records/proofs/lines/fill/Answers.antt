@@ -8,12 +8,12 @@ loop-left-init c =
     let a = c.cut_field.result.0.now in
     let row : fields_of c.push_field.new.self ≡ a ∷ [] = rw c.clear.ensures.fields at c.in_ok-push_field.ensures.fields in (
       record {
-        text = c.behind_feeds.result.now;
-        same = c.behind_feeds.ensures;
+        text = c.behind_feed.result.now;
+        same = c.behind_feed.ensures;
         follows =
             λ more comma.
             rw row
-            (first-field c.behind_feeds.result.now a c.cut_field.result.1.now more c.cut_field.ensures.cut comma
+            (first-field c.behind_feed.result.now a c.cut_field.result.1.now more c.cut_field.ensures.cut comma
             c.cut_field.ensures.plain);
       },
       rw row (text-push [] a no-fields c.cut_field.ensures.utf8.0),

@@ -4,7 +4,7 @@ use Rattle.pb_records.proofs.lines.first_triple.Goals as goal
 
 pub returns : goal.returns
 returns c =
-    let line = c.behind_feeds.result.now in
+    let line = c.behind_feed.result.now in
     let a = c.cut_field.result.0.now in
     let b = c.cut_field-2.result.0.now in
     let d = c.cut_field-3.result.0.now in
@@ -20,7 +20,7 @@ returns c =
     c.cut_field-3.ensures.utf8.0 in (
       record {
         records =
-            sym c.behind_feeds.ensures
+            sym c.behind_feed.ensures
             ∙ last-field line (a ∷ b ∷ []) c.in_ok-behind-2.field-0.now d c.cut_field-3.result.1.now two
             c.cut_field-3.ensures.cut c.cut_field-3.ensures.plain end;
         is_utf8 = text;
