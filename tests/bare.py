@@ -21,8 +21,8 @@ from score import Score
 
 TOP = Path(__file__).resolve().parent.parent
 # With those on which they stand, and what each Debian has in any case.
-PACKAGES = ["bash", "coreutils", "dash", "dpkg", "findutils", "grep", "gzip", "libc-bin", "man-db", "python3",
-            "python3-pip-whl", "sed", "tar"]
+PACKAGES = ["bash", "coreutils", "dash", "diffutils", "dpkg", "findutils", "grep", "gzip", "libc-bin", "man-db",
+            "python3", "python3-pip-whl", "sed", "tar", "util-linux"]
 LINKS = {"bin": "usr/bin", "sbin": "usr/sbin", "lib": "usr/lib", "lib64": "usr/lib64"}
 CLONE = "home/a clone"
 AUDIT = "prices examples/district.pb examples/district.prices.csv"
@@ -137,7 +137,7 @@ def try_launcher(score, machine):
     score.same((0, ANSWER, ""), (done.returncode, done.stdout, done.stderr), "the second call")
     done = machine.run(f"rm -r out && cd / && '/{CLONE}/pbaudit' --version")
     score.same(0, done.returncode, f"a call from another folder: {done.stderr}")
-    shutil.rmtree(machine.root / CLONE / "out")
+    shutil.rmtree(machine.root / CLONE / "out", ignore_errors=True)
     done = machine.run(f"touch note 2> /dev/null || ./pbaudit {AUDIT}", read_only=True)
     score.same((0, ANSWER), (done.returncode, done.stdout), f"a clone that can't be written: {done.stderr}")
     done = machine.run("./pbaudit --build")
@@ -149,11 +149,11 @@ def try_launcher(score, machine):
     score.check(done.returncode == 0 and found <= wanted and "not found" not in done.stdout, f"ldd: {done}")
 
 
-def readme_lines():
+def first_lines():
     """The first Python lines of docs/LIBRARY.md, and what stands there that they print."""
     text = (TOP / "docs/LIBRARY.md").read_text(encoding="utf-8")
-    blocks = [[line[4:] for line in block.splitlines()] for block in re.findall(r"((?:^    .*\n|^\n(?=    ))+)", text, re.MULTILINE)]
-    return "\n".join(blocks[0]), "\n".join(blocks[1]) + "\n"
+    blocks = re.findall(r"(?<=\n\n)((?:    .*\n|\n(?=    ))+)", text)
+    return tuple(re.sub("^    ", "", block, flags=re.MULTILINE) for block in blocks[:2])
 
 
 def try_package(score, machine):
@@ -161,7 +161,7 @@ def try_package(score, machine):
     if not machine.has("python3") or machine.run("python3 -c 'import sys; sys.exit(sys.version_info < (3, 9))'").returncode:
         print("the package was not tried: there is no Python 3.9 in the root folder")
         return
-    program, printed = readme_lines()
+    program, printed = first_lines()
     ways = {"the wheel": 'python3 -m zipfile -e release/*.whl "$1"'}
     wheels = machine.run("ls /usr/share/python-wheels/pip-*.whl").stdout.split()
     if wheels:

@@ -91,7 +91,7 @@ def tags_of(data):
     """The tags of the wheel: for every Python 3, and for the oldest glibc that has what the library asks of it. Tags that
     older versions of pip know stand beside it."""
     asked = {tuple(map(int, found)) for found in re.findall(rb"\0GLIBC_(\d+)\.(\d+)", data)}
-    major, minor = max(asked)
+    major, minor = max(asked, default=(2, 5))
     platforms = [f"manylinux_{major}_{minor}_x86_64"]
     if (major, minor) <= (2, 17):
         platforms.append("manylinux2014_x86_64")
