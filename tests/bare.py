@@ -227,7 +227,8 @@ def main():
         try:
             root = work / "root"
             if len(sys.argv) == 3:
-                shutil.copytree(sys.argv[2], root, symlinks=True)
+                # Devices stay devices: to read one might never end.
+                subprocess.run(["cp", "-a", sys.argv[2], root], check=True)
             else:
                 root.mkdir()
                 make_root(root)
