@@ -115,13 +115,18 @@ class Machine:
         return self.run(f"command -v {command} > /dev/null").returncode == 0
 
 
+def copy_files(folder, to, left_out):
+    words = [f"--exclude={name}" for name in left_out]
+    packed = subprocess.Popen(["tar", "-C", folder, *words, "-cf", "-", "."], stdout=subprocess.PIPE)
+    subprocess.run(["tar", "-C", to, "-xf", "-"], stdin=packed.stdout, check=True)
+    if packed.wait():
+        raise CannotRun(f"{folder} can't be copied")
+
+
 def make_clone(clone, again):
     """A copy of the repository without what was built, with a release of what is built here."""
     clone.mkdir(parents=True)
-    left_out = ["--exclude=out", "--exclude=.git", "--exclude=./lib", "--exclude=./release", "--exclude=__pycache__"]
-    packed = subprocess.Popen(["tar", "-C", TOP, *left_out, "-cf", "-", "."], stdout=subprocess.PIPE)
-    subprocess.run(["tar", "-C", clone, "-xf", "-"], stdin=packed.stdout, check=True)
-    packed.wait()
+    copy_files(TOP, clone, ["out", ".git", "./lib", "./release", "__pycache__"])
     shutil.copytree(again, clone / "release")
     subprocess.run(["chmod", "-R", "a+rX", clone], check=True)
 
@@ -167,6 +172,10 @@ def try_package(score, machine):
     if wheels:
         install = f'PIP_ROOT_USER_ACTION=ignore python3 {wheels[0]}/pip install --quiet --no-index --target "$1"'
         ways |= {"pip install ./python": f"{install} ./python", "pip install WHEEL": f"{install} release/*.whl"}
+        # An older pip builds in a copy of the folder python alone.
+        if tuple(map(int, re.search(r"pip-(\d+)\.(\d+)", wheels[0]).groups())) < (21, 3):
+            done = machine.run(ways.pop("pip install ./python"), "/root/no site")
+            score.check(done.returncode and "install from a whole copy of the repository" in done.stderr, f"an old pip: {done}")
     else:
         print("pip install was not tried: the package python3-pip-whl is not installed")
     for number, (way, command) in enumerate(ways.items()):
@@ -226,11 +235,11 @@ def main():
         work = Path(name)
         try:
             root = work / "root"
+            root.mkdir()
             if len(sys.argv) == 3:
-                # Devices stay devices: to read one might never end.
-                subprocess.run(["cp", "-a", sys.argv[2], root], check=True)
+                # Devices stay where they are.
+                copy_files(sys.argv[2], root, ["./dev", "./proc", "./sys"])
             else:
-                root.mkdir()
                 make_root(root)
             machine = Machine(root)
             (root / CLONE).mkdir(parents=True)

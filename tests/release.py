@@ -2,7 +2,8 @@
 """Compares release/ with what is built here. Each file has to have the sum of SHA256SUMS, and all together at most 3 MB.
 Where MADE-OF names the sources and the tools of today, each file has to be, byte for byte, what `packaging/release` makes of
 what is built. Where a part is of other sources or tools one line says which. Then a byte of each file is turned, which has
-to be seen. The version is that of CHANGELOG.md wherever it stands. Prints 'N passed, M failed' last.
+to be seen. The version is that of CHANGELOG.md wherever it stands, and no newer glibc is asked for than is said. Prints
+'N passed, M failed' last.
 
 usage: tests/release.py [FOLDER]     FOLDER has what `packaging/release --again` made, which else is called here
 """
@@ -31,6 +32,8 @@ RESTS_ON = {
     "pbaudit.html": EVERY | {"page", "wasm-opt", "builtins"},
     ".whl": LIBRARY | {"python", "zlib"},
 }
+# The glibc for which each is.
+GLIBC = {"pbaudit": (2, 28), "libpbaudit.so": (2, 17)}
 # Where the version stands again, since Rattle's sources read no file.
 COPIES = ("crates/pb_command/src/command.rt", "crates/pb_page/src/parts/files.rt")
 
@@ -88,6 +91,11 @@ def compare(release, again):
     return wrong, notes
 
 
+def glibc_of(file):
+    """The newest glibc that a program or a library asks for."""
+    return max(tuple(map(int, found)) for found in re.findall(rb"\0GLIBC_(\d+)\.(\d+)", file.read_bytes()))
+
+
 def turned(data):
     middle = len(data) // 2
     return data[:middle] + bytes([data[middle] ^ 1]) + data[middle + 1:]
@@ -130,6 +138,13 @@ def try_versions(score):
         score.same([version], found, f"the version of {name}")
 
 
+def try_glibc(score, again):
+    """What is built asks for no newer glibc than is said."""
+    for name, newest in GLIBC.items():
+        if (again / name).exists():
+            score.check(glibc_of(again / name) <= newest, f"{name} asks for glibc {glibc_of(again / name)}, after {newest}")
+
+
 def try_release(score, again):
     wrong, notes = compare(RELEASE, again)
     score.check(not wrong, "\n".join(f"release/{text}" for text in wrong))
@@ -144,17 +159,23 @@ def try_release(score, again):
     try_wrong_bytes(score, RELEASE)
 
 
+def try_all(score, again):
+    try_glibc(score, again)
+    if RELEASE.is_dir():
+        try_release(score, again)
+    else:
+        print("release/ was not compared: there is none")
+
+
 def main():
     score = Score()
     try_versions(score)
-    if not RELEASE.is_dir():
-        print("release/ was not compared: there is none")
-    elif len(sys.argv) > 1:
-        try_release(score, Path(sys.argv[1]))
+    if len(sys.argv) > 1:
+        try_all(score, Path(sys.argv[1]))
     else:
         with tempfile.TemporaryDirectory() as again:
             subprocess.run([TOP / "packaging/release", "--again", again], check=True, stderr=subprocess.DEVNULL)
-            try_release(score, Path(again))
+            try_all(score, Path(again))
     print(f"{score.passed} passed, {score.failed} failed")
     return 1 if score.failed else 0
 

@@ -137,6 +137,7 @@ def files_of(data, tags):
 
 def build_wheel(wheel_directory, config_settings=None, metadata_directory=None):
     """Writes the wheel and answers its name, as PEP 517 asks."""
+    version()
     return write_wheel(wheel_directory, library().read_bytes())
 
 
