@@ -1,5 +1,5 @@
 //! The records of a file, one at a time.
-ghost use Rattle.std.specs.Prelude.{◌≡◌, ◌<◌, ◌^◌, [], length, IfOk, MatchOption, OnErr};
+ghost use Rattle.std.specs.Prelude.{◌≡◌, ◌<◌, ◌^◌, [], false, length, true, IfOk, MatchOption, OnErr};
 ghost use Rattle.csv.specs.Records.{fields_of};
 ghost use Rattle.csv.specs.Reading.{records, strip_bom};
 ghost use Rattle.pb_records.specs.Records.{csv_settings, drop_marks, records_of};
@@ -120,30 +120,35 @@ fn is_record(next: &Result<Next, AllocError>) -> bool
     matches!(next, Ok(Next::Record))
 }
 
+// Whether a reader reads a text; and what is left to be cut into lines, and what to the reader. Lines are cut where commas
+// divide the fields and the text is UTF-8.
+fn divided(text: &[u8], delimiter: u8) -> (bool, &str, &[u8])
+    requires { strip_bom text.now ≡ text.now }
+    ensures lines { result.0 ≡ false → (result.1.now ≡ text.now) × (delimiter ≡ 44) }
+    ensures rest { result.0 ≡ true → result.2.now ≡ text.now }
+    ensures no_mark { (strip_bom result.1.now ≡ result.1.now) × (strip_bom result.2.now ≡ result.2.now) }
+{
+    if delimiter == b',' {
+        if let Ok(lines) = str::from_utf8(text) {
+            return (false, lines, &[]);
+        }
+    }
+    (true, "", text)
+}
+
 impl<'a> Records<'a> {
     /// The records of a file whose fields are divided by the delimiter.
     pub fn open(alloc: Global, bytes: &'a [u8], delimiter: u8) -> Records<'a>
         ensures records { result ≡ records_of delimiter bytes.now }
         ensures few { length result < 2 ^ 63 }
     {
-        let text = after_marks(bytes);
-        if delimiter == b',' {
-            if let Ok(lines) = str::from_utf8(text) {
-                return Records {
-                    alloc,
-                    lines,
-                    copies: MOST_COPIES,
-                    reading: false,
-                    reader: reader_of(alloc, &[], delimiter),
-                };
-            }
-        }
+        let (reading, lines, rest) = divided(after_marks(bytes), delimiter);
         Records {
             alloc,
-            lines: "",
-            copies: 0,
-            reading: true,
-            reader: reader_of(alloc, text, delimiter),
+            lines,
+            copies: MOST_COPIES,
+            reading,
+            reader: reader_of(alloc, rest, delimiter),
         }
     }
 
