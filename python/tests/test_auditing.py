@@ -113,7 +113,7 @@ class Answers(unittest.TestCase):
             words = [sys.executable, "-c", "import pbaudit; pbaudit.read(b'')"]
             given = {"PATH": room, "PYTHONPATH": room}
             done = subprocess.run(words, cwd=room, capture_output=True, env=given, check=False)
-        self.assertIn(b"./pbaudit-library", done.stderr)
+        self.assertIn(b"pip install ./python", done.stderr)
 
 
 class Audits(unittest.TestCase):
