@@ -1,7 +1,6 @@
 -- One more row of a price certificate.
 use Rattle.std.proofs.Common.{◌≡◌, ◌∙◌, ◌≤◌, ℕ, Bool, true, false, List, [], ◌∷◌, ◌++◌, length, refl, sym, ap, subst, inl, inr, arith, Some, None, append_assoc, drop, take}
-use Rattle.std.specs.Prelude.{◌⊎◌, MatchResult, Option, Result, Ok, Err, filter_map, map}
-use Rattle.std.specs.Box.{with_value}
+use Rattle.std.specs.Prelude.{◌⊎◌, Ok, Err, filter_map, map}
 use Rattle.std.specs.Global.{Box}
 use Rattle.std.specs.List.{AllByRecursion}
 use Rattle.std.specs.List.Sorted.{IsNonDecreasing}
@@ -10,16 +9,14 @@ use Rattle.pb_election.specs.Instance.{Instance, all_voters}
 use Rattle.pb_records.specs.Records.{Rec}
 use Rattle.pb_records.specs.Cells.{is_text, nonblank}
 use Rattle.pb_records.specs.FirstFault.{fault_at}
-use Rattle.pb_records.specs.Inside.Position.{MeetsEnd, MeetsRecord, MeetsTriple, Position}
-use Rattle.pb_records.specs.Inside.Lines.{fields_in}
-use Rattle.pb_records.specs.declared.lines.Triple.{Triple}
+use Rattle.pb_records.specs.Inside.Position.{MeetsEnd, MeetsRecord, Position}
 use Rattle.pb_records.proofs.BlankText.{not-text-is-full}
 use Rattle.pb_certificate.specs.Faults.{certificate_records, no_memory, price_form}
 use Rattle.pb_certificate.specs.Inside.Places.{Comes, StandsBehind}
 use Rattle.pb_certificate.specs.Inside.PriceHead.{ReadsHead}
 use Rattle.pb_certificate.specs.PriceRows.{as_payment, payment_fault, row_fault}
 use Rattle.pb_certificate.specs.PriceText.{Payment, payment_of, payments_stated}
-use Rattle.pb_certificate.specs.Inside.PriorRows.{RefusesPayment, RiseFrom, TakesPayment, TakesRecord}
+use Rattle.pb_certificate.specs.Inside.PriorRows.{RefusesPayment, RiseFrom, TakesPayment}
 use Rattle.pb_certificate.specs.Inside.RowReader.{Advances, IsReading, place_of}
 use Rattle.pb_certificate.specs.Rows.{IsBetweenRows, IsInHead, RefusesNext, given}
 use Rattle.pb_certificate.specs.declared.price_row.PriceRow.{PriceRow}
@@ -66,7 +63,7 @@ between-rows r h =
     }
 
 -- a row is given
-row-taken : (old : RowReader) (cursor : Box Position) (prior : PriorRows) (q : PriceRow) → IsReading old
+pub row-taken : (old : RowReader) (cursor : Box Position) (prior : PriorRows) (q : PriceRow) → IsReading old
     → MeetsRecord old.cursor.value cursor.value → TakesPayment old.election.now cursor.value.row old.prior prior q
     → length prior.last_payers.items ≡ length old.prior.last_payers.items
     → Advances old (record old { cursor = cursor; prior = prior }) (Ok (Some q))
@@ -116,35 +113,6 @@ row-taken old cursor prior q h m t many =
       reading,
     )
 
--- the same where the fields of the row were lent
-triple-taken : (old : RowReader) (cursor : Box Position) (t : Triple) (prior : PriorRows) (q : PriceRow)
-    → IsReading old → MeetsTriple t old.cursor.value cursor.value
-    → TakesPayment old.election.now (fields_in t) old.prior prior q
-    → length prior.last_payers.items ≡ length old.prior.last_payers.items
-    → Advances old (record old { cursor = cursor; prior = prior }) (Ok (Some q))
-triple-taken old cursor t prior q h m takes many =
-    let given = row-taken old (with_value cursor (record cursor.value { row = fields_in t })) prior q h m.0 takes many in
-    let r = given.1 in (
-      given.0,
-      record {
-        heads = r.heads;
-        rows = r.rows;
-        payments = r.payments;
-        is_head = r.is_head;
-        each_row = r.each_row;
-        stands =
-            record {
-              within = r.stands.within;
-              left = r.stands.left;
-              behind = r.stands.behind;
-              text = r.stands.text;
-              clear = r.stands.clear;
-            };
-        remembers = r.remembers;
-        each_project = r.each_project;
-      },
-    )
-
 -- a row is refused
 row-form : (old : RowReader) (r : Rec) (f : CertFault) (h : IsReading old) → is_text r ≡ true
     → (row_fault old.election.now r ≡ Some f) ⊎ RefusesPayment old.election.now r old.prior f
@@ -156,7 +124,7 @@ row-form old r f h text why = elim why [
       h.each_row text by_place.no_fault by_place.states ∙ by_place.stops h.payments h.remembers
 ]
 
-row-refused : (old : RowReader) (new : Position) (f : CertFault) → IsReading old → MeetsRecord old.cursor.value new
+pub row-refused : (old : RowReader) (new : Position) (f : CertFault) → IsReading old → MeetsRecord old.cursor.value new
     → (row_fault old.election.now new.row ≡ Some f) ⊎ RefusesPayment old.election.now new.row old.prior f
     → RefusesNext (place_of old) (record { fault = f; place = new.place })
 row-refused old new f h m why =
@@ -176,29 +144,6 @@ row-refused old new f h m why =
           (refused-at (price_form e) (certificate_records old.bytes.now) old.cursor.value new (h.heads ++ h.rows) f
           h.stands m (row-form old new.row f h m.is_utf8 why)).first;
     }
-
--- a row is given or refused
-pub row-answered : (old : RowReader) (cursor : Box Position) (prior : PriorRows) (taken : Result PriceRow CertFault)
-    (place : ℕ) (r : Result (Option PriceRow) CertRefusal) → IsReading old → MeetsRecord old.cursor.value cursor.value
-    → TakesRecord old.election.now cursor.value.row old.prior prior taken
-    → length prior.last_payers.items ≡ length old.prior.last_payers.items → place ≡ cursor.value.place
-    → MatchResult taken (λ q. r ≡ Ok (Some q)) (λ f. r ≡ Err (record { fault = f; place = place }))
-    → Advances old (record old { cursor = cursor; prior = prior }) r
-row-answered old cursor prior (Ok q) place r h m takes many at is = rw is (row-taken old cursor prior q h m takes many)
-row-answered old cursor prior (Err f) place r h m takes many at is =
-    rw (is, at) (inr (row-refused old cursor.value f h m takes))
-
-pub triple-answered : (old : RowReader) (cursor : Box Position) (t : Triple) (prior : PriorRows)
-    (taken : Result PriceRow CertFault) (place : ℕ) (r : Result (Option PriceRow) CertRefusal) → IsReading old
-    → MeetsTriple t old.cursor.value cursor.value
-    → TakesRecord old.election.now (fields_in t) old.prior prior taken
-    → length prior.last_payers.items ≡ length old.prior.last_payers.items → place ≡ cursor.value.place
-    → MatchResult taken (λ q. r ≡ Ok (Some q)) (λ f. r ≡ Err (record { fault = f; place = place }))
-    → Advances old (record old { cursor = cursor; prior = prior }) r
-triple-answered old cursor t prior (Ok q) place r h m takes many at is =
-    rw is (triple-taken old cursor t prior q h m takes many)
-triple-answered old cursor t prior (Err f) place r h m takes many at is =
-    rw (is, at) (inr (row-refused old (record cursor.value { row = fields_in t }) f h m.0 takes))
 
 -- no record is met
 pub next-refused : (old : RowReader) (new : Position) (r : CertRefusal) → IsReading old

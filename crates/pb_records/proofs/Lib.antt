@@ -1,7 +1,6 @@
 mod WrittenParts
 mod RecordSteps
 mod RecordsLeft
-pub mod PlainLines
 mod ByteOrderMarks
 pub mod Each
 pub mod Lists

@@ -1,11 +1,10 @@
 //! Going over the records of a file that are not blank.
-ghost use Rattle.std.specs.Prelude.{◌≡◌, ◌≤◌, ◌^◌, [], IfOk, MatchOption, OnErr};
+ghost use Rattle.std.specs.Prelude.{◌≡◌, ◌≤◌, ◌^◌, [], IfOk, OnErr};
 ghost use Rattle.csv.specs.Records.{fields_of};
-ghost use Rattle.pb_records.specs.Inside.Position.{Meets, MeetsTriple};
+ghost use Rattle.pb_records.specs.Inside.Position.{Meets};
 ghost use Rattle.pb_records.specs.Records.{records_of};
 
 use crate::cells::is_blank;
-use crate::lines::Triple;
 use crate::records::{Next, Records};
 use csv::StringRecord;
 use std::alloc::{AllocError, Global};
@@ -65,16 +64,6 @@ impl<'a> Cursor<'a> {
                 return Ok(Next::Record);
             }
         }
-    }
-
-    /// Lends the fields of the next record and goes behind it, where it is a line of three fields without quotes and
-    /// the last of them begins with no space. Else nothing changes. What `row` holds is left as it was.
-    pub fn take_triple(&mut self) -> Option<Triple<'a>>
-        ensures { MatchOption result (self.new ≡ self.old) (λ triple. MeetsTriple triple self.old self.new) }
-    {
-        let triple = self.records.take_triple()?;
-        self.place += 1;
-        Some(triple)
     }
 
     /// The record that was given last. What it holds is left open before the first, and wherever none was given.

@@ -1,67 +1,40 @@
 use Rattle.std.proofs.Common.{◌∙◌, refl, sym}
-use Rattle.csv.specs.Reading.{strip_bom}
 use Rattle.csv.specs.Records.{fields_of}
-use Rattle.pb_records.specs.Inside.Lines.{lines_left}
-use Rattle.pb_records.specs.Inside.RecordReader.{reader_left}
-use Rattle.pb_records.proofs.PlainLines.{no-mark, nothing-left}
-use Rattle.pb_records.proofs.RecordsLeft.{empty-lines, kept, none-kept, stays}
+use Rattle.pb_records.proofs.RecordsLeft.{read_found, read_none, read_took, text-no, text-yes}
 use Rattle.pb_records.proofs.records.Records.read.Goals as goal
 
 pub invariant_of-self : goal.invariant_of-self
-unfolding strip_bom
-invariant_of-self c = (
-  λ h.
-      stays c.read_next-next.result (reader_left c.self.inside.reader) (fields_of c.read_next-next.new.row)
-      c.read_next-next.new.reader c.read_next-next.ensures (sym c.is_record-self-inside.ensures ∙ h),
-  refl,
-)
+invariant_of-self c =
+    let s = c.self.invariant c.if-self.false in
+    let e = c.in-Ok-true.ensures in
+    let r = rw c.in-Ok-true.field-0-test at (e.reads s.trim s.ready) in
+    λ n. (read_found c.self.inside.reader c.read_record.new.self (fields_of c.read_record.new.row) s r (e.ready s.trim)
+    e.flexible).0
 
-pub returns-then-self-clause-found : goal.returns-then-self-clause-found
-returns-then-self-clause-found c =
-    kept c.read_next-next.result (reader_left c.self.inside.reader) c.args.self.now
-    (fields_of c.read_next-next.new.row) c.read_next-next.new.reader c.is_record-self-inside.result
-    c.read_next-next.ensures (rw c.if-self.true at c.self.view_is) c.is_record-self-inside.ensures
+pub returns-in-Ok-true-clause-found : goal.returns-in-Ok-true-clause-found
+returns-in-Ok-true-clause-found c =
+    let s = c.self.invariant c.if-self.false in
+    let e = c.in-Ok-true.ensures in
+    let r = rw c.in-Ok-true.field-0-test at (e.reads s.trim s.ready) in
+    let found =
+    (read_found c.self.inside.reader c.read_record.new.self (fields_of c.read_record.new.row) s r (e.ready s.trim)
+    e.flexible).1 in
+    (sym c.self.view_is ∙ rw c.if-self.false found, text-yes (fields_of c.read_record.new.row) (e.text s.trim))
 
-pub returns-then-self-clause-failed : goal.returns-then-self-clause-failed
-returns-then-self-clause-failed c =
-    none-kept c.read_next-next.result c.read_next-next.new.reader c.is_record-self-inside.result
-    c.is_record-self-inside.ensures
+pub returns-in-Ok-false-clause-found : goal.returns-in-Ok-false-clause-found
+returns-in-Ok-false-clause-found c =
+    let s = c.self.invariant c.if-self.false in
+    let r = rw c.in-Ok-false.field-0-test at (c.in-Ok-false.ensures.reads s.trim s.ready) in (
+      sym c.self.view_is
+          ∙ rw c.if-self.false
+          (read_none c.self.inside.reader c.read_record.new.self (fields_of c.read_record.new.row) s r),
+      refl,
+    )
 
-pub returns-then-is_empty-clause-found : goal.returns-then-is_empty-clause-found
-returns-then-is_empty-clause-found c =
-    let none = sym (rw c.if-self.false at c.self.view_is)
-    ∙ empty-lines c.self.inside.lines.now (sym c.is_empty.ensures ∙ c.if-is_empty.true) in
-    (none, none)
-
-pub invariant_of-self-in-Ok-Some : goal.invariant_of-self-in-Ok-Some
-invariant_of-self-in-Ok-Some c = (
-  c.self.invariant.0,
-  no-mark c.in-Ok-Some.rest.now (rw c.in-Ok-Some.field-0-is at c.in-Ok-Some.ensures).at_end,
-)
-
-pub invariant_of-self-in-Ok-None : goal.invariant_of-self-in-Ok-None
-unfolding strip_bom
-invariant_of-self-in-Ok-None c = (
-  λ h.
-      stays c.read_first-next.result (lines_left c.self.inside.lines.now) (fields_of c.read_first-next.new.row)
-      c.read_first-next.new.reader c.read_first-next.ensures (sym c.is_record-self-inside-in-Ok-None.ensures ∙ h),
-  refl,
-)
-
-pub invariant_of-self-in-Err : goal.invariant_of-self-in-Err
-unfolding strip_bom
-invariant_of-self-in-Err c = (c.self.invariant.0, refl)
-
-pub returns-in-Ok-None-clause-found : goal.returns-in-Ok-None-clause-found
-returns-in-Ok-None-clause-found c =
-    kept c.read_first-next.result (lines_left c.self.inside.lines.now) c.args.self.now
-    (fields_of c.read_first-next.new.row) c.read_first-next.new.reader c.is_record-self-inside-in-Ok-None.result
-    c.read_first-next.ensures (rw c.if-self.false at c.self.view_is) c.is_record-self-inside-in-Ok-None.ensures
-
-pub returns-in-Ok-None-clause-failed : goal.returns-in-Ok-None-clause-failed
-returns-in-Ok-None-clause-failed c =
-    none-kept c.read_first-next.result c.read_first-next.new.reader c.is_record-self-inside-in-Ok-None.result
-    c.is_record-self-inside-in-Ok-None.ensures
-
-pub returns-in-Err-clause-failed : goal.returns-in-Err-clause-failed
-returns-in-Err-clause-failed c = rw c.if-self.false nothing-left
+pub returns-in-Utf8-clause-found : goal.returns-in-Utf8-clause-found
+returns-in-Utf8-clause-found c =
+    let s = c.self.invariant c.if-self.false in
+    let kind = sym c.kind.ensures ∙ c.in-Utf8.is in
+    let why = rw kind at (c.in-Err.ensures.why s.trim s.ready) in
+    let took = read_took c.self.inside.reader c.read_record.new.self why.1 s why.2 in
+    (why.1, took.0, sym c.self.view_is ∙ rw c.if-self.false took.1, text-no why.1 why.3, refl)
