@@ -1,7 +1,6 @@
 -- One more row of a price certificate.
 use Rattle.std.proofs.Common.{◌≡◌, ◌∙◌, ◌≤◌, ℕ, Bool, true, false, List, [], ◌∷◌, ◌++◌, length, refl, sym, ap, subst, inl, inr, arith, Some, None, append_assoc, drop, take}
-use Rattle.std.specs.Prelude.{◌⊎◌, Ok, Err, filter_map, map}
-use Rattle.std.specs.Global.{Box}
+use Rattle.std.specs.Prelude.{◌⊎◌, MatchResult, Option, Result, Ok, Err, filter_map, map}
 use Rattle.std.specs.List.{AllByRecursion}
 use Rattle.std.specs.List.Sorted.{IsNonDecreasing}
 use Rattle.std.proofs.lemmas.Bool.{false≢true}
@@ -9,14 +8,16 @@ use Rattle.pb_election.specs.Instance.{Instance, all_voters}
 use Rattle.pb_records.specs.Records.{Rec}
 use Rattle.pb_records.specs.Cells.{is_text, nonblank}
 use Rattle.pb_records.specs.FirstFault.{fault_at}
-use Rattle.pb_records.specs.Inside.Position.{MeetsEnd, MeetsRecord, Position}
+use Rattle.pb_records.specs.Inside.Position.{MeetsEnd, MeetsRecord, MeetsTriple, Position}
+use Rattle.pb_records.specs.Inside.Lines.{fields_in}
+use Rattle.pb_records.specs.declared.lines.Triple.{Triple}
 use Rattle.pb_records.proofs.BlankText.{not-text-is-full}
 use Rattle.pb_certificate.specs.Faults.{certificate_records, no_memory, price_form}
 use Rattle.pb_certificate.specs.Inside.Places.{Comes, StandsBehind}
 use Rattle.pb_certificate.specs.Inside.PriceHead.{ReadsHead}
 use Rattle.pb_certificate.specs.PriceRows.{as_payment, payment_fault, row_fault}
 use Rattle.pb_certificate.specs.PriceText.{Payment, payment_of, payments_stated}
-use Rattle.pb_certificate.specs.Inside.PriorRows.{RefusesPayment, RiseFrom, TakesPayment}
+use Rattle.pb_certificate.specs.Inside.PriorRows.{RefusesPayment, RiseFrom, TakesPayment, TakesRecord}
 use Rattle.pb_certificate.specs.Inside.RowReader.{Advances, IsReading, place_of}
 use Rattle.pb_certificate.specs.Rows.{IsBetweenRows, IsInHead, RefusesNext, given}
 use Rattle.pb_certificate.specs.declared.price_row.PriceRow.{PriceRow}
@@ -63,20 +64,20 @@ between-rows r h =
     }
 
 -- a row is given
-pub row-taken : (old : RowReader) (cursor : Box Position) (prior : PriorRows) (q : PriceRow) → IsReading old
-    → MeetsRecord old.cursor.value cursor.value → TakesPayment old.election.now cursor.value.row old.prior prior q
+row-taken : (old : RowReader) (cursor : Position) (prior : PriorRows) (q : PriceRow) → IsReading old
+    → MeetsRecord old.cursor cursor → TakesPayment old.election.now cursor.row old.prior prior q
     → length prior.last_payers.items ≡ length old.prior.last_payers.items
     → Advances old (record old { cursor = cursor; prior = prior }) (Ok (Some q))
 row-taken old cursor prior q h m t many =
     let e = old.election.now in
     let recs = certificate_records old.bytes.now in
-    let r = cursor.value.row in
+    let r = cursor.row in
     let admitted = t.admits h.payments h.remembers in
     let clear = form-of-payment e old.denominator old.budget h.heads h.rows h.payments r (as_payment q) h.is_head
     h.each_row m.is_utf8 t.no_fault t.states ∙ admitted.0 in
     let stands =
-    subst (StandsBehind (price_form e) recs cursor.value) (append_assoc h.heads h.rows (r ∷ []))
-    (goes-behind (price_form e) recs old.cursor.value cursor.value (h.heads ++ h.rows) h.stands m clear) in
+    subst (StandsBehind (price_form e) recs cursor) (append_assoc h.heads h.rows (r ∷ []))
+    (goes-behind (price_form e) recs old.cursor cursor (h.heads ++ h.rows) h.stands m clear) in
     let reading : IsReading (record old { cursor = cursor; prior = prior }) =
     record {
       heads = h.heads;
@@ -93,7 +94,7 @@ row-taken old cursor prior q h m t many =
         next =
             record {
               blanks = m.blanks;
-              rest = cursor.value.left;
+              rest = cursor.left;
               are_blank = m.are_blank;
               is_full = m.is_full;
               cut = sym h.stands.left ∙ m.cut;
@@ -113,6 +114,35 @@ row-taken old cursor prior q h m t many =
       reading,
     )
 
+-- the same where the fields of the row were lent
+triple-taken : (old : RowReader) (cursor : Position) (t : Triple) (prior : PriorRows) (q : PriceRow)
+    → IsReading old → MeetsTriple t old.cursor cursor
+    → TakesPayment old.election.now (fields_in t) old.prior prior q
+    → length prior.last_payers.items ≡ length old.prior.last_payers.items
+    → Advances old (record old { cursor = cursor; prior = prior }) (Ok (Some q))
+triple-taken old cursor t prior q h m takes many =
+    let given = row-taken old (record cursor { row = fields_in t }) prior q h m.0 takes many in
+    let r = given.1 in (
+      given.0,
+      record {
+        heads = r.heads;
+        rows = r.rows;
+        payments = r.payments;
+        is_head = r.is_head;
+        each_row = r.each_row;
+        stands =
+            record {
+              within = r.stands.within;
+              left = r.stands.left;
+              behind = r.stands.behind;
+              text = r.stands.text;
+              clear = r.stands.clear;
+            };
+        remembers = r.remembers;
+        each_project = r.each_project;
+      },
+    )
+
 -- a row is refused
 row-form : (old : RowReader) (r : Rec) (f : CertFault) (h : IsReading old) → is_text r ≡ true
     → (row_fault old.election.now r ≡ Some f) ⊎ RefusesPayment old.election.now r old.prior f
@@ -124,7 +154,7 @@ row-form old r f h text why = elim why [
       h.each_row text by_place.no_fault by_place.states ∙ by_place.stops h.payments h.remembers
 ]
 
-pub row-refused : (old : RowReader) (new : Position) (f : CertFault) → IsReading old → MeetsRecord old.cursor.value new
+row-refused : (old : RowReader) (new : Position) (f : CertFault) → IsReading old → MeetsRecord old.cursor new
     → (row_fault old.election.now new.row ≡ Some f) ⊎ RefusesPayment old.election.now new.row old.prior f
     → RefusesNext (place_of old) (record { fault = f; place = new.place })
 row-refused old new f h m why =
@@ -141,17 +171,40 @@ row-refused old new f h m why =
             at = m.at;
           };
       first =
-          (refused-at (price_form e) (certificate_records old.bytes.now) old.cursor.value new (h.heads ++ h.rows) f
+          (refused-at (price_form e) (certificate_records old.bytes.now) old.cursor new (h.heads ++ h.rows) f
           h.stands m (row-form old new.row f h m.is_utf8 why)).first;
     }
 
+-- a row is given or refused
+pub row-answered : (old : RowReader) (cursor : Position) (prior : PriorRows) (taken : Result PriceRow CertFault)
+    (place : ℕ) (r : Result (Option PriceRow) CertRefusal) → IsReading old → MeetsRecord old.cursor cursor
+    → TakesRecord old.election.now cursor.row old.prior prior taken
+    → length prior.last_payers.items ≡ length old.prior.last_payers.items → place ≡ cursor.place
+    → MatchResult taken (λ q. r ≡ Ok (Some q)) (λ f. r ≡ Err (record { fault = f; place = place }))
+    → Advances old (record old { cursor = cursor; prior = prior }) r
+row-answered old cursor prior (Ok q) place r h m takes many at is = rw is (row-taken old cursor prior q h m takes many)
+row-answered old cursor prior (Err f) place r h m takes many at is =
+    rw (is, at) (inr (row-refused old cursor f h m takes))
+
+pub triple-answered : (old : RowReader) (cursor : Position) (t : Triple) (prior : PriorRows)
+    (taken : Result PriceRow CertFault) (place : ℕ) (r : Result (Option PriceRow) CertRefusal) → IsReading old
+    → MeetsTriple t old.cursor cursor
+    → TakesRecord old.election.now (fields_in t) old.prior prior taken
+    → length prior.last_payers.items ≡ length old.prior.last_payers.items → place ≡ cursor.place
+    → MatchResult taken (λ q. r ≡ Ok (Some q)) (λ f. r ≡ Err (record { fault = f; place = place }))
+    → Advances old (record old { cursor = cursor; prior = prior }) r
+triple-answered old cursor t prior (Ok q) place r h m takes many at is =
+    rw is (triple-taken old cursor t prior q h m takes many)
+triple-answered old cursor t prior (Err f) place r h m takes many at is =
+    rw (is, at) (inr (row-refused old (record cursor { row = fields_in t }) f h m.0 takes))
+
 -- no record is met
 pub next-refused : (old : RowReader) (new : Position) (r : CertRefusal) → IsReading old
-    → Comes old.cursor.value new (Err r) → (r ≡ no_memory) ⊎ RefusesNext (place_of old) r
+    → Comes old.cursor new (Err r) → (r ≡ no_memory) ⊎ RefusesNext (place_of old) r
 next-refused old new r h comes = elim comes [
   | inl memory ↦ inl memory
   | inr bad ↦
-      elim (bytes-refused old.election.now (certificate_records old.bytes.now) (h.heads ++ h.rows) old.cursor.value new
+      elim (bytes-refused old.election.now (certificate_records old.bytes.now) (h.heads ++ h.rows) old.cursor new
       r h.stands (inr bad)) [
         | inl memory ↦ inl memory
         | inr refused ↦ inr (record {
@@ -182,12 +235,12 @@ rises low [] h = nil-rises
 rises low (x ∷ xs) h = cons-rises x xs (rise-low x xs h.1) (rises x xs h.1)
 
 -- the end
-pub none-left : (old : RowReader) (cursor : Box Position) → IsReading old → MeetsEnd old.cursor.value cursor.value
+pub none-left : (old : RowReader) (cursor : Position) → IsReading old → MeetsEnd old.cursor cursor
     → Advances old (record old { cursor = cursor }) (Ok None)
 none-left old cursor h m =
     let e = old.election.now in
     let recs = certificate_records old.bytes.now in
-    let end = at-end (price_form e) recs old.cursor.value cursor.value (h.heads ++ h.rows) h.stands m in
+    let end = at-end (price_form e) recs old.cursor cursor (h.heads ++ h.rows) h.stands m in
     let rows = stated-length (payment_of e) h.rows h.payments h.each_row in
     let most : length h.payments ≤ 10000000 = h.remembers.few in
     let reading : IsReading (record old { cursor = cursor }) =

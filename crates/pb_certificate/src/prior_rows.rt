@@ -1,15 +1,17 @@
 //! What is remembered of the rows of a price certificate that were read.
-ghost use Rattle.std.specs.Prelude.{◌≡◌, ◌≤◌, List, [], length, IfOk};
+ghost use Rattle.std.specs.Prelude.{◌≡◌, ◌≤◌, true, List, [], length, IfOk};
 ghost use Rattle.csv.specs.Records.{fields_of};
 ghost use Rattle.pb_election.specs.Instance.{projects};
+ghost use Rattle.pb_records.specs.Inside.Lines.{begins_full, fields_in};
 ghost use Rattle.pb_certificate.specs.PriceRows.{as_payment};
 ghost use Rattle.pb_certificate.specs.PriceText.{Payment};
 ghost use Rattle.pb_certificate.specs.Inside.PriorRows.{Admits, Remembers, TakesRecord};
 
 use crate::CertFault;
-use crate::price_row::{PriceRow, price_row};
+use crate::price_row::{PriceRow, price_row, triple_row};
 use csv::StringRecord;
 use pb_election::Election;
+use pb_records::Triple;
 use std::alloc::{AllocError, Global};
 
 /// The most rows that a price certificate can have.
@@ -71,6 +73,22 @@ impl PriorRows {
         ensures projects { length (self.new).last_payers.items ≡ length (self.old).last_payers.items }
     {
         let payment = price_row(row, election)?;
+        self.admit(&payment)?;
+        Ok(payment)
+    }
+
+    /// Takes the row that a record of three fields states, the last of which begins with no space, or tells its fault.
+    pub fn take_triple(
+        &mut self,
+        triple: Triple,
+        election: &Election,
+    ) -> Result<PriceRow, CertFault>
+        requires each_project { length (self.old).last_payers.items ≡ projects election.now }
+        requires full { begins_full triple.third.now ≡ true }
+        ensures takes { TakesRecord election.now (fields_in triple.entry) self.old self.new result }
+        ensures projects { length (self.new).last_payers.items ≡ length (self.old).last_payers.items }
+    {
+        let payment = triple_row(triple, election)?;
         self.admit(&payment)?;
         Ok(payment)
     }

@@ -1,11 +1,11 @@
 //! Going over the rows of a price certificate.
-ghost use Rattle.std.specs.Prelude.{◌≡◌, ◌⊎◌, IfOk, IfErr};
+ghost use Rattle.std.specs.Prelude.{◌≡◌, ◌⊎◌, Ok, Err, Some, IfOk, IfErr, MatchResult};
 
-use crate::CertRefusal;
 use crate::places::next_record;
 use crate::price_head::{PriceHead, read_head};
 use crate::price_row::PriceRow;
 use crate::prior_rows::PriorRows;
+use crate::{CertFault, CertRefusal};
 use pb_election::Election;
 use pb_records::Cursor;
 use std::alloc::Global;
@@ -20,7 +20,7 @@ pub struct RowReader<'a> {
     pub denominator: u32,
     /// The numerator of the voters' budget that the head states.
     pub budget: u128,
-    cursor: Box<Cursor<'a>>,
+    cursor: Cursor<'a>,
     prior: PriorRows,
 }
 
@@ -44,9 +44,7 @@ impl<'a> RowReader<'a> {
         ensures refused { IfErr result (λ r. (r ≡ no_memory) ⊎ Refuses (price_form election.now) bytes.now r) }
         ensures in_head { IfErr result (λ r. IsInHead (certificate_records bytes.now) r) }
     {
-        let Ok(mut cursor) = Box::new(alloc, Cursor::open(alloc, bytes, b',')) else {
-            return Err(CertRefusal::NO_MEMORY);
-        };
+        let mut cursor = Cursor::open(alloc, bytes, b',');
         let PriceHead {
             denominator,
             budget,
@@ -69,15 +67,24 @@ impl<'a> RowReader<'a> {
         requires { IsReading self.old }
         ensures { Advances self.old self.new result }
     {
+        if let Some(triple) = self.cursor.take_triple() {
+            let taken = self.prior.take_triple(triple, self.election);
+            return answer(taken, self.cursor.place());
+        }
         if !next_record(&mut self.cursor)? {
             return Ok(None);
         }
-        match self.prior.take(self.cursor.row(), self.election) {
-            Ok(row) => Ok(Some(row)),
-            Err(fault) => Err(CertRefusal {
-                fault,
-                place: self.cursor.place(),
-            }),
-        }
+        let taken = self.prior.take(self.cursor.row(), self.election);
+        answer(taken, self.cursor.place())
+    }
+}
+
+// A row as it is given, or its fault with the place of its record.
+fn answer(taken: Result<PriceRow, CertFault>, place: u64) -> Result<Option<PriceRow>, CertRefusal>
+    ensures { MatchResult taken (λ row. result ≡ Ok (Some row)) (λ fault. result ≡ Err (record { fault = fault; place = place })) }
+{
+    match taken {
+        Ok(row) => Ok(Some(row)),
+        Err(fault) => Err(CertRefusal { fault, place }),
     }
 }

@@ -38,23 +38,21 @@ range-lists-first g n j a none low high found =
     lists-first g (range_with_len 1 n) (j - 1) a none_in (within n j low high) found_at
 
 -- a sum over the numbers that pass a test
-pub sum-passing : (f : ℕ → ℕ) (q : ℕ → Bool) (j : ℕ) → 1 ≤ j → q j ≡ true
-    → sum_by f (filter q (range_with_len 1 (j + 1 - 1))) ≡ sum_by f (filter q (range_with_len 1 (j - 1))) + f j
-sum-passing f q j low pass =
-    let is : j + 1 - 1 ≡ (j - 1) + 1 = omega arith in
-    let last : 1 + (j - 1) ≡ j = omega arith in
-    ap (λ n. sum_by f (filter q (range_with_len 1 n))) is ∙ ap (λ xs. sum_by f (filter q xs)) (range-next (j - 1) 1)
-    ∙ ap (sum_by f) (filter-append q (range_with_len 1 (j - 1)) ((1 + (j - 1)) ∷ []))
-    ∙ rw (last, pass) (sum_by_push f (filter q (range_with_len 1 (j - 1))) j)
+pub sum-passing : (f : ℕ → ℕ) (q : ℕ → Bool) (k : ℕ) → q (k + 1) ≡ true
+    → sum_by f (filter q (range_with_len 1 (k + 1))) ≡ sum_by f (filter q (range_with_len 1 k)) + f (k + 1)
+sum-passing f q k pass =
+    let last : 1 + k ≡ k + 1 = omega arith in
+    ap (λ xs. sum_by f (filter q xs)) (range-next k 1)
+    ∙ ap (sum_by f) (filter-append q (range_with_len 1 k) ((1 + k) ∷ []))
+    ∙ rw (last, pass) (sum_by_push f (filter q (range_with_len 1 k)) (k + 1))
 
-pub sum-failing : (f : ℕ → ℕ) (q : ℕ → Bool) (j : ℕ) → 1 ≤ j → q j ≡ false
-    → sum_by f (filter q (range_with_len 1 (j + 1 - 1))) ≡ sum_by f (filter q (range_with_len 1 (j - 1)))
-sum-failing f q j low fail =
-    let is : j + 1 - 1 ≡ (j - 1) + 1 = omega arith in
-    let last : 1 + (j - 1) ≡ j = omega arith in
-    ap (λ n. sum_by f (filter q (range_with_len 1 n))) is ∙ ap (λ xs. sum_by f (filter q xs)) (range-next (j - 1) 1)
-    ∙ ap (sum_by f) (filter-append q (range_with_len 1 (j - 1)) ((1 + (j - 1)) ∷ []))
-    ∙ rw (last, fail) (sum_by-append f (filter q (range_with_len 1 (j - 1))) [] ∙ (omega arith))
+pub sum-failing : (f : ℕ → ℕ) (q : ℕ → Bool) (k : ℕ) → q (k + 1) ≡ false
+    → sum_by f (filter q (range_with_len 1 (k + 1))) ≡ sum_by f (filter q (range_with_len 1 k))
+sum-failing f q k fail =
+    let last : 1 + k ≡ k + 1 = omega arith in
+    ap (λ xs. sum_by f (filter q xs)) (range-next k 1)
+    ∙ ap (sum_by f) (filter-append q (range_with_len 1 k) ((1 + k) ∷ []))
+    ∙ rw (last, fail) (sum_by-append f (filter q (range_with_len 1 k)) [] ∙ (omega arith))
 
 -- an element of a set is between its bounds
 pub set-at : (low high : ℕ) (t : List ℕ) (k : ℕ) → IsSet low high t → k < length t

@@ -17,20 +17,20 @@ const BEGINNINGS: [(&[u8], &str); 10] = [
     (b"<html", WEB_PAGE),
 ];
 
-const UTF_16: &str = "the file is UTF-16, as some programs of Windows write it; save it as UTF-8";
+const UTF_16: &str = "the file is UTF-16, as some Windows programs write it; save it as UTF-8";
 
 const COMPRESSED: &str = "the file is compressed; unpack it first";
 
 const ARCHIVE: &str =
     "the file is a ZIP archive, as a spreadsheet is; unpack it, or save it as text";
 
-const WORKBOOK: &str = "the file is a spreadsheet of an older kind; save it as text";
+const WORKBOOK: &str = "the file is an older kind of spreadsheet; save it as text";
 
 const WEB_PAGE: &str = "the file is a web page";
 
 const OLDER: &str = "the text may be in an older encoding, such as Windows-1252; save it as UTF-8";
 
-const PATH: &str = "this looks like the path of a file; the contents of the file are expected";
+const PATH: &str = "this looks like the path of a file, and not like its contents";
 
 /// No path is longer than so many bytes.
 const MOST_OF_PATH: usize = 4_096;

@@ -13,24 +13,23 @@ use std::alloc::AllocError;
 
 const WHOLE: &str = "amounts are whole numbers over the denominator, without a decimal point";
 
-const BY_ROWS: &str =
-    "voters are named by their rows in VOTES, counted from 1, and not by voter_id";
+const BY_ROWS: &str = "voters are numbered by their rows in VOTES, from 1, and not by voter_id";
 
-const MEASURE: &str = "a measure is stated in version 2 only, by the record after pb-violation,2";
+const MEASURE: &str = "only version 2 states a measure, in the record after pb-violation,2";
 
 /// What is wrong with such a file, where its bytes can't be had.
 pub(crate) fn general(fault: CertFault) -> &'static str {
     match fault {
         CertFault::NotUtf8 => "the text isn't UTF-8",
-        CertFault::BadHead => "the head isn't that of such a file",
-        CertFault::BadRow => "the row isn't one of such a file",
+        CertFault::BadHead => "the head isn't that of a file of this kind",
+        CertFault::BadRow => "the row isn't one of a file of this kind",
         CertFault::BadNumber => "a number isn't a whole number in its range",
         CertFault::UnknownVoter => "the election has no such voter",
         CertFault::UnknownProject => "no project of the election has this id",
-        CertFault::OutOfOrder => "the voter is lower than that of the row before",
+        CertFault::OutOfOrder => "the voter is lower than in the row before",
         CertFault::Repeated => "the row repeats an earlier one",
         CertFault::TooMany => "there are more than 10,000,000 rows",
-        CertFault::Memory => "memory ran out",
+        CertFault::Memory => "out of memory",
     }
 }
 
@@ -55,9 +54,7 @@ impl Scene<'_> {
             CertFault::UnknownProject => self.with("no project has the id ", self.field(1)),
             CertFault::OutOfOrder => {
                 let mut sentence = self.with("voter ", self.voter())?;
-                sentence.push_str(
-                    " comes after a higher one; rows have to be in the order of their voters",
-                )?;
+                sentence.push_str(" comes after a higher one; rows have to be sorted by voter")?;
                 Ok(sentence)
             }
             CertFault::Repeated => {

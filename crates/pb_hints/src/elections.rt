@@ -20,7 +20,7 @@ pub(crate) fn general(fault: ElectionFault) -> &'static str {
             "the sections aren't META, PROJECTS and VOTES, in this order"
         }
         ElectionFault::MissingKey => "META has no budget or no vote_type",
-        ElectionFault::RepeatedKey => "a key of META is there twice",
+        ElectionFault::RepeatedKey => "META has a key twice",
         ElectionFault::NotApproval => "the vote_type isn't approval",
         ElectionFault::BadMoney => "the budget, or a cost, isn't an amount",
         ElectionFault::MissingColumn => "a header lacks a column",
@@ -34,7 +34,7 @@ pub(crate) fn general(fault: ElectionFault) -> &'static str {
         ElectionFault::NoOutcome => {
             "PROJECTS has no column selected, so an outcome file is needed (--outcome FILE)"
         }
-        ElectionFault::Memory => "memory ran out",
+        ElectionFault::Memory => "out of memory",
     }
 }
 
@@ -208,7 +208,7 @@ impl Scene<'_> {
         match fault {
             ElectionFault::NotApproval => self.remark("only approval ballots are audited"),
             ElectionFault::BadMoney if self.has_grouped_amount() => self.remark(
-                "an amount is digits, perhaps with a point or comma and up to six digits after it",
+                "an amount is written in digits, optionally with a point or comma and up to six digits after it",
             ),
             ElectionFault::UnknownProject => {
                 self.project_cause(find_project(self.alloc, self.file(), self.unknown_name())?)

@@ -70,7 +70,7 @@ impl Oddity {
             Oddity::Marker(section) => {
                 let name = section_name(section);
                 format!(in alloc;
-                    "should this be the line {name}? It has to be spelled so, with nothing else on it"
+                    "should this be the line {name}? It has to be spelled like that, with nothing else on it"
                 )
             }
             Oddity::Header(section) => {

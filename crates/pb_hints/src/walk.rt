@@ -1,15 +1,18 @@
 //! Going over the records of a file, with where each begins.
 use crate::lines::is_line_end;
-use csv::StringRecord;
-use pb_records::{Cursor, Next};
+use csv::{ErrorKind, Reader, ReaderBuilder, StringRecord};
+use pb_records::{Next, is_blank};
 use std::alloc::{AllocError, Global};
 
-/// A place between the records of a file.
+/// A place between the records of a file. It is that of a `Cursor`; but `csv` alone reads here, since it tells where each
+/// record begins.
 #[derive(Drop)]
 pub(crate) struct Walk<'a> {
     /// The file without the byte order marks at its start.
     pub text: &'a [u8],
-    cursor: Box<Cursor<'a>>,
+    reader: Box<Reader<&'a [u8]>>,
+    row: StringRecord,
+    place: u64,
     met: Next,
 }
 
@@ -31,25 +34,57 @@ impl<'a> Walk<'a> {
     /// Before the first record of a file whose fields are divided by the delimiter.
     pub fn open(alloc: Global, bytes: &'a [u8], delimiter: u8) -> Result<Walk<'a>, AllocError> {
         let text = without_marks(bytes);
+        let reader = ReaderBuilder::new()
+            .has_headers(false)
+            .flexible(true)
+            .delimiter(delimiter)
+            .from_reader(alloc, text);
         Ok(Walk {
             text,
-            cursor: Box::new(alloc, Cursor::open(alloc, text, delimiter))?,
+            reader: Box::new(alloc, reader)?,
+            row: StringRecord::new(alloc),
+            place: 0,
             met: Next::End,
         })
     }
 
     /// Goes behind the next record that isn't blank, and tells whether it is one before this place.
     pub fn advance_before(&mut self, place: u64) -> Result<bool, AllocError> {
-        self.met = self.cursor.advance()?;
-        Ok(self.met == Next::Record && self.cursor.place() < place)
+        self.met = self.advance()?;
+        Ok(self.met == Next::Record && self.place < place)
+    }
+
+    fn advance(&mut self) -> Result<Next, AllocError> {
+        // Each record has a byte at least.
+        for _ in 0..=self.text.len() {
+            let next = self.read()?;
+            if next != Next::End {
+                self.place = self.place.saturating_add(1);
+            }
+            if next != Next::Record || !is_blank(&self.row) {
+                return Ok(next);
+            }
+        }
+        Ok(Next::End)
+    }
+
+    fn read(&mut self) -> Result<Next, AllocError> {
+        match self.reader.read_record(&mut self.row) {
+            Ok(true) => Ok(Next::Record),
+            Ok(false) => Ok(Next::End),
+            Err(error) => match error.kind() {
+                ErrorKind::Utf8 { .. } => Ok(Next::NotText),
+                _ => Err(AllocError),
+            },
+        }
     }
 
     /// Whether what was met last is at this place: a record, or the end of the file, which has the place after the last
     /// record.
     pub fn is_at(&self, place: u64) -> bool {
         match self.met {
-            Next::End => self.cursor.place() + 1 == place,
-            Next::Record | Next::NotText => self.cursor.place() == place,
+            Next::End => self.place.checked_add(1) == Some(place),
+            Next::Record | Next::NotText => self.place == place,
         }
     }
 
@@ -60,12 +95,12 @@ impl<'a> Walk<'a> {
 
     /// The record that was met last, where it is text.
     pub fn row(&self) -> &StringRecord {
-        self.cursor.row()
+        &self.row
     }
 
     /// Where the record that was met last begins: how many bytes of the text stand before it.
     pub fn start(&self) -> usize {
-        let behind = match self.cursor.row().position() {
+        let behind = match self.row.position() {
             Some(position) => position.byte() as usize,
             None => 0,
         };

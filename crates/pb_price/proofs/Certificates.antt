@@ -15,9 +15,9 @@ use Rattle.pb_certificate.specs.declared.refusal.CertRefusal.{CertRefusal}
 use Rattle.pb_certificate.proofs.PriceClear.{price-clear}
 use Rattle.pb_certificate.proofs.Texts.{stated-payment}
 use Rattle.pb_certificate.proofs.Unique.{price-text-same}
-use Rattle.pb_price.specs.Inside.Takings.{IsTallied, TakesCertificate, taken_from}
+use Rattle.pb_price.specs.Inside.Tallying.{IsTallied, TakesCertificate, taken_from}
 use Rattle.pb_price.specs.Inside.Tallies.{IsTallyOf, Taken, Tallied}
-use Rattle.pb_price.specs.declared.takings.CertificateTally.{CertificateTally}
+use Rattle.pb_price.specs.declared.tallying.CertificateTally.{CertificateTally}
 use Rattle.pb_price.specs.declared.tally.Tally.{Tally}
 use Rattle.pb_price.proofs.Rows.{count-is, given-is}
 use Rattle.pb_price.proofs.Starting.{no_payment}

@@ -12,7 +12,7 @@ use Rattle.pb_cohesion.specs.Amounts.{beta}
 use Rattle.pb_price.specs.Inside.Tallies.{CanTakeRow, IsTallyOf, Taken, TakesRow, Tallied}
 use Rattle.pb_price.proofs.Starting.{no_payment}
 use Rattle.pb_price.proofs.Whole.{Agree, whole}
-use Rattle.pb_price.specs.Inside.Takings.{TakesUntil, pays_until}
+use Rattle.pb_price.specs.Inside.Tallying.{TakesUntil, pays_until}
 use Rattle.pb_price.specs.declared.tally.Tally.{Tally}
 
 -- the projects that are paid for

@@ -18,7 +18,7 @@ use Rattle.pb_certificate.specs.declared.price_row.PriceRow.{PriceRow}
 use Rattle.pb_certificate.proofs.GatherSteps.{may-follow}
 use Rattle.pb_certificate.proofs.Texts.{stated-length}
 use Rattle.pb_price.specs.Inside.Tallies.{CanTakeRow, TakesRow, Tallied}
-use Rattle.pb_price.specs.Inside.Takings.{taken_from}
+use Rattle.pb_price.specs.Inside.Tallying.{taken_from}
 use Rattle.pb_price.specs.declared.tally.Tally.{Tally}
 
 -- what is stated with one more payment

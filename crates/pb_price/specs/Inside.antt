@@ -2,4 +2,4 @@
 pub mod Tallies
 pub mod Noted
 pub mod Looked
-pub mod Takings
+pub mod Tallying

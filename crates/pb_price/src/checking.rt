@@ -14,8 +14,8 @@ ghost use Rattle.pb_price.specs.First.{First, verdict_of};
 ghost use Rattle.pb_price.specs.Inside.Tallies.{AreInRange, IsTallyOf, most_grains, sums_of};
 
 use crate::explaining::findings_by;
-use crate::takings::{take_certificate, take_prices};
 use crate::tally::Tally;
+use crate::tallying::{take_certificate, take_prices};
 use crate::{Checked, Failure, Mode, Verdict};
 use pb_certificate::{CertRefusal, Prices};
 use pb_election::{Election, Outcome};

@@ -14,8 +14,8 @@ ghost use Rattle.pb_price.specs.Inside.Looked.{AreFoundTo, AreSmallFindings, wit
 ghost use Rattle.pb_price.specs.Inside.Tallies.{AreInRange, IsTallyOf, IsWithin, most_grains, sums_of};
 
 use crate::noting::NOTHING_FOUND;
-use crate::takings::take_certificate;
 use crate::tally::{ProjectSums, Tally};
+use crate::tallying::take_certificate;
 use crate::{Comparison, Finding, Findings};
 use pb_certificate::CertRefusal;
 use pb_election::{Election, Outcome};
@@ -101,10 +101,10 @@ fn cost_of_funded(election: &Election, outcome: &Outcome, steps: &mut u64) -> u1
     ensures steps { steps.new ≡ steps.old + projects election.now }
 {
     let mut cost = 0;
-    for j in 1..=election.projects() {
+    for k in 0..election.projects() {
         *steps += 1;
-        if outcome.has(j) {
-            cost += u128::from(election.cost(j).millionths());
+        if outcome.has(k + 1) {
+            cost += u128::from(election.cost(k + 1).millionths());
         }
     }
     cost

@@ -14,8 +14,8 @@ ghost use Rattle.pb_price.specs.Margins.{AreMargins};
 ghost use Rattle.pb_price.specs.Inside.Tallies.{IsTallyOf, figures_of};
 
 use crate::explaining::findings_by;
-use crate::takings::{CertificateTally, NO_MEMORY, take_certificate};
 use crate::tally::ProjectSums;
+use crate::tallying::{CertificateTally, NO_MEMORY, take_certificate};
 use crate::{Findings, Margins, ProjectMargins};
 use pb_certificate::CertRefusal;
 use pb_election::{Election, Outcome};

@@ -9,8 +9,8 @@ mod figures;
 pub mod laws;
 mod noting;
 mod samples;
-mod takings;
 mod tally;
+mod tallying;
 mod telling;
 
 pub use checking::{check, check_rows};

@@ -1,6 +1,7 @@
 mod WrittenParts
 mod RecordSteps
 mod RecordsLeft
+pub mod PlainLines
 mod ByteOrderMarks
 pub mod Each
 pub mod Lists

@@ -1,25 +1,26 @@
 -- What a read of `csv` does to the records that are left.
-use Rattle.std.proofs.Common.{Bor, ◌≡◌, ◌∙◌, ◌+◌, ℕ, List, [], ◌∷◌, length, refl, inl, Bool, true, false, Option, Some, None}
-use Rattle.std.specs.Prelude.{IsSome, ◌&&◌}
+use Rattle.std.proofs.Common.{Bor, ◌≡◌, ◌∙◌, ◌+◌, ℕ, List, [], ◌∷◌, length, refl, arith, inl, Bool, true, false, Option, Some, None}
+use Rattle.std.specs.Prelude.{IsSome, ◌==◌, ◌&&◌}
 use Rattle.std.specs.List.{list_all}
 use Rattle.std.specs.Str.{IsUtf8, is_utf8}
 use Rattle.std.proofs.lemmas.Bool.{false_from_ne_true}
+use Rattle.std.proofs.lemmas.Bool.Decides.{nat_tests}
 use Rattle.std.proofs.lemmas.Str.{IsUtf8-from_is_utf8, is_utf8-from_IsUtf8}
 use Rattle.csv.specs.Machine.{Read, ends_at_end, next_record}
-use Rattle.csv.specs.Reading.{NextIs, ReadRecord, ReadsNext, TookRecord, pending_of, records, records_from, source_of, strip_bom}
+use Rattle.csv.specs.Reading.{NextIs, ReadRecord, ReadsNext, TookRecord, pending_of, records_from, source_of}
 use Rattle.csv.specs.declared.parser.Config.{Config}
 use Rattle.csv.specs.declared.parser.State.{State}
 use Rattle.csv.specs.declared.reader.Reader.{Reader}
-use Rattle.csv.specs.declared.parser.State.TheVariants as st
-use Rattle.pb_records.proofs.ByteOrderMarks.{strip_bom-drop_marks}
-use Rattle.pb_records.specs.Records.{drop_marks, Rec}
-use Rattle.pb_records.specs.Inside.RecordReader.{Stands, left_in, records_in, records_left}
+use Rattle.pb_records.specs.Records.{Rec}
+use Rattle.pb_records.specs.Inside.Lines.{lines_left}
+use Rattle.pb_records.specs.Inside.RecordReader.{Stands, left_in, reader_left}
 use Rattle.pb_records.specs.Cells.{is_text}
 use Rattle.csv.specs.Records.{AllText}
+use Rattle.pb_records.proofs.PlainLines.{nothing-left}
 use Rattle.pb_records.proofs.RecordSteps.{took, records-some, records-none}
 
 -- what is left after a record
-pub record Next (cfg : Config) (s : State) (xs : List ℕ) (k : Option (List ℕ)) (fields : Rec) (s2 : State) : Type
+record After (cfg : Config) (s : State) (xs : List ℕ) (k : Option (List ℕ)) (fields : Rec) (s2 : State) : Type
     0 where
   pub rest : List ℕ
   pub known : k ≡ Some rest
@@ -28,7 +29,7 @@ pub record Next (cfg : Config) (s : State) (xs : List ℕ) (k : Option (List ℕ
 
 next_is : (cfg : Config) (s : State) (xs : List ℕ) (o : Option Read) (fields : Rec) (s2 : State) (z : List ℕ)
     → ends_at_end s ≡ false
-    → next_record cfg s [] [] xs ≡ o → NextIs o true fields s2 z → Next cfg s xs (Some z) fields s2
+    → next_record cfg s [] [] xs ≡ o → NextIs o true fields s2 z → After cfg s xs (Some z) fields s2
 next_is cfg s xs None fields s2 z b e n = cc n
 next_is cfg s xs (Some p) fields s2 z b e n =
     let r = records-some cfg s xs p b e in
@@ -37,7 +38,7 @@ next_is cfg s xs (Some p) fields s2 z b e n =
 
 next_some : (cfg : Config) (s : State) (xs : List ℕ) (k : Option (List ℕ)) (fields : Rec) (s2 : State)
     → ends_at_end s ≡ false
-    → ReadsNext cfg s (Some xs) k true fields s2 → Next cfg s xs k fields s2
+    → ReadsNext cfg s (Some xs) k true fields s2 → After cfg s xs k fields s2
 next_some cfg s xs None fields s2 b r = absurd r
 next_some cfg s xs (Some z) fields s2 b r = next_is cfg s xs _ fields s2 z b refl r
 
@@ -53,11 +54,11 @@ next_none cfg s xs (Some z) fields s2 r = records-none cfg s xs (none_is _ field
 -- a read that found a record
 pub read_found : (a b : Reader (Bor (List ℕ))) (fields : Rec) → Stands a → ReadRecord left_in a b true fields
     → b.first ≡ true → b.flexible ≡ a.flexible
-    → Stands b × (records_left false a ≡ fields ∷ records_left false b)
+    → Stands b × (reader_left a ≡ fields ∷ reader_left b)
 read_found a b fields h r first flexible = by (source_of left_in a) refl h.known
   where
     by : (o : Option (List ℕ)) → source_of left_in a ≡ o → IsSome o
-        → Stands b × (records_left false a ≡ fields ∷ records_left false b)
+        → Stands b × (reader_left a ≡ fields ∷ reader_left b)
     by None e k = cc k
     by (Some xs) e k =
         let n = next_some a.config a.state xs (pending_of (left_in b.rdr) b) fields b.state h.between (rw e at r.0) in
@@ -74,26 +75,20 @@ read_found a b fields h r first flexible = by (source_of left_in a) refl h.known
 
 -- a read that found none
 pub read_none : (a b : Reader (Bor (List ℕ))) (fields : Rec) → Stands a → ReadRecord left_in a b false fields
-    → records_left false a ≡ []
+    → reader_left a ≡ []
 read_none a b fields h r = by (source_of left_in a) refl h.known
   where
-    by : (o : Option (List ℕ)) → source_of left_in a ≡ o → IsSome o → records_left false a ≡ []
+    by : (o : Option (List ℕ)) → source_of left_in a ≡ o → IsSome o → reader_left a ≡ []
     by None e k = cc k
     by (Some xs) e k = rw e (next_none a.config a.state xs (pending_of (left_in b.rdr) b) fields b.state (rw e at r.0))
 
--- a reader at the start of a text
-pub opened : (r : Reader (Bor (List ℕ))) (cfg : Config) (text bytes : List ℕ) → r.config ≡ cfg
-    → r.state ≡ st.StartRecord → source_of left_in r ≡ Some (strip_bom text)
-    → text ≡ drop_marks bytes → records_in r (source_of left_in r) ≡ records cfg (drop_marks bytes)
-opened r cfg text bytes config state source marks = rw (source, config, state, marks, strip_bom-drop_marks bytes) refl
-
 -- a read that took a record which is no text
 pub read_took : (a b : Reader (Bor (List ℕ))) (fields : Rec) → Stands a → TookRecord left_in a b fields
-    → (rest : List Rec) × (records_left false a ≡ fields ∷ rest)
+    → (rest : List Rec) × (reader_left a ≡ fields ∷ rest)
 read_took a b fields h r = by (source_of left_in a) refl h.known
   where
     by : (o : Option (List ℕ)) → source_of left_in a ≡ o → IsSome o
-        → (rest : List Rec) × (records_left false a ≡ fields ∷ rest)
+        → (rest : List Rec) × (reader_left a ≡ fields ∷ rest)
     by None e k = cc k
     by (Some xs) e k =
         let n = next_some a.config a.state xs (pending_of (left_in b.rdr) b) fields b.state h.between (rw e at r) in
@@ -117,3 +112,9 @@ all-text (f ∷ fs) h = by (is_utf8 f) refl (all-text fs) h
 
 pub text-no : (r : Rec) → ¬ (AllText r) → is_text r ≡ false
 text-no r h = false_from_ne_true (is_text r) (λ t. h (all-text r t))
+
+pub empty-lines : (lines : List ℕ) → (length lines == 0) ≡ true → lines_left lines ≡ []
+empty-lines [] h = nothing-left
+empty-lines (b ∷ bs) h =
+    let none : length (b ∷ bs) ≡ 0 = grind (arith, nat_tests) in
+    absurd (omega (arith, none))

@@ -1,17 +1,17 @@
 //! Going over the records of a file that are not blank.
-ghost use Rattle.std.specs.Prelude.{◌≡◌, ◌≤◌, ◌^◌, [], IfOk, OnErr};
+ghost use Rattle.std.specs.Prelude.{◌≡◌, ◌≤◌, ◌^◌, [], IfOk, MatchOption, OnErr};
 ghost use Rattle.csv.specs.Records.{fields_of};
-ghost use Rattle.pb_records.specs.Inside.Position.{Meets};
+ghost use Rattle.pb_records.specs.Inside.Position.{Meets, MeetsTriple};
 ghost use Rattle.pb_records.specs.Records.{records_of};
 
 use crate::cells::is_blank;
+use crate::lines::Triple;
 use crate::records::{Next, Records};
 use csv::StringRecord;
 use std::alloc::{AllocError, Global};
 use std::marker::Model;
 
-/// A place between the records of a file. Whoever goes over a file pulls its records from here, one at a time. A cursor
-/// is about 16 KiB large: what holds one and is moved keeps it in a `Box`.
+/// A place between the records of a file. Whoever goes over a file pulls its records from here, one at a time.
 #[derive(Drop)]
 pub struct Cursor<'a> {
     records: Records<'a>,
@@ -64,6 +64,16 @@ impl<'a> Cursor<'a> {
                 return Ok(Next::Record);
             }
         }
+    }
+
+    /// Lends the fields of the next record and goes behind it, where it is a line of three fields without quotes and
+    /// the last of them begins with no space. Else nothing changes. What `row` holds is left as it was.
+    pub fn take_triple(&mut self) -> Option<Triple<'a>>
+        ensures { MatchOption result (self.new ≡ self.old) (λ triple. MeetsTriple triple self.old self.new) }
+    {
+        let triple = self.records.take_triple()?;
+        self.place += 1;
+        Some(triple)
     }
 
     /// The record that was given last. What it holds is left open before the first, and wherever none was given.

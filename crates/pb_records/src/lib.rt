@@ -5,6 +5,7 @@
 mod cells;
 mod cursor;
 mod drafts;
+mod lines;
 mod loading;
 mod records;
 mod runs;
@@ -12,6 +13,7 @@ mod runs;
 pub use cells::{cell, clean, is_blank, is_blank_from};
 pub use cursor::Cursor;
 pub use drafts::{Draft, FaultAt, Stop, take_all};
+pub use lines::Triple;
 pub use loading::{Input, LoadFault, Output, PutFault, Sink, Source, load, put};
 pub use records::Next;
 pub use runs::Runs;

@@ -20,7 +20,7 @@ place_of r =
       records = certificate_records r.bytes.now;
       denominator = r.denominator;
       budget = r.budget;
-      place = r.cursor.value.place;
+      place = r.cursor.place;
     }
 
 -- the head and some rows lie behind, no fault stands there, and the reader remembers what the rows state
@@ -30,7 +30,7 @@ pub record IsReading (r : RowReader) : Type 0 where
   pub payments : List Payment
   pub is_head : IsPriceHead r.denominator r.budget heads
   pub each_row : map (payment_of r.election.now) rows ≡ map Some payments
-  pub stands : StandsBehind (price_form r.election.now) (certificate_records r.bytes.now) r.cursor.value (heads ++ rows)
+  pub stands : StandsBehind (price_form r.election.now) (certificate_records r.bytes.now) r.cursor (heads ++ rows)
   pub remembers : Remembers r.prior payments
   pub each_project : length r.prior.last_payers.items ≡ projects r.election.now
 

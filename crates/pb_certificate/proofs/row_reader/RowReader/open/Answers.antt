@@ -7,19 +7,17 @@ use Rattle.pb_certificate.proofs.row_reader.RowReader.open.Goals as goal
 pub returns-in_err-denominator-clause-in_head : goal.returns-in_err-denominator-clause-in_head
 returns-in_err-denominator-clause-in_head c =
     let p = err_from_is_err_and c.from_residual.result c.from_residual.ensures.1 in
-    let at = opened c.args.election.now (certificate_records c.args.bytes.now) c.open.result c.open.ensures.place
-    c.open.ensures.left in
-    let start = rw (c.deref_mut.ensures.value ∙ c.in-Ok.ensures.ok) at c.in_err-denominator.ensures in
+    let at = opened c.args.election.now (certificate_records c.args.bytes.now) c.open-cursor.result c.open-cursor.ensures.place
+    c.open-cursor.ensures.left in
     rw (p.1, p.2)
     (refused-in-head (certificate_records c.args.bytes.now) c.args.election.now c.read_head.new.cursor
-    c.in_err-denominator.field-0.0 (start c.args.election.now (certificate_records c.args.bytes.now) at))
+    c.in_err-denominator.field-0.0 (c.in_err-denominator.ensures c.args.election.now (certificate_records c.args.bytes.now) at))
 
 pub returns-clause-reading : goal.returns-clause-reading
 returns-clause-reading c =
-    let at = opened c.args.election.now (certificate_records c.args.bytes.now) c.open.result c.open.ensures.place
-    c.open.ensures.left in
-    let start = rw (c.deref_mut.ensures.value ∙ c.in-Ok.ensures.ok) at c.in_ok-denominator.ensures in
-    let read = start c.args.election.now (certificate_records c.args.bytes.now) at in
+    let at = opened c.args.election.now (certificate_records c.args.bytes.now) c.open-cursor.result c.open-cursor.ensures.place
+    c.open-cursor.ensures.left in
+    let read = c.in_ok-denominator.ensures c.args.election.now (certificate_records c.args.bytes.now) at in
     record {
       heads = read.0;
       rows = [];
@@ -27,8 +25,8 @@ returns-clause-reading c =
       is_head = read.1;
       each_row = refl;
       stands = rw append-nil read.2;
-      remembers = c.in-Ok-new.ensures.remembers;
-      each_project = c.in-Ok-new.ensures.projects ∙ c.projects.ensures.value;
+      remembers = c.in-Ok.ensures.remembers;
+      each_project = c.in-Ok.ensures.projects ∙ c.projects.ensures.value;
     }
 
 pub returns-clause-none_given : goal.returns-clause-none_given

@@ -4,7 +4,7 @@ use Rattle.pb_certificate.specs.Rows.{prices_given}
 use Rattle.pb_price.proofs.Bounds.{steps-bound, sums-of-bound}
 use Rattle.pb_price.proofs.Certificates.{before-rows, certified, tallied-by}
 use Rattle.pb_price.proofs.Whole.{whole-steps}
-use Rattle.pb_price.proofs.takings.take_certificate.Goals as goal
+use Rattle.pb_price.proofs.tallying.take_certificate.Goals as goal
 
 pub take_rows-requires : goal.take_rows-requires
 take_rows-requires c = record {

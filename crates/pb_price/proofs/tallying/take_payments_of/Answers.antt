@@ -2,7 +2,7 @@ use Rattle.std.proofs.Common.{◌<◌, get_or, length, sym, ap, subst, arith}
 use Rattle.pb_certificate.specs.Prices.{IsPaymentMap, payments_of}
 use Rattle.pb_price.specs.Inside.Tallies.{CanTakeRow, TakesRow, Tallied}
 use Rattle.pb_price.proofs.Payments.{can-take, row_of, takes-next, took-next, took-voter, with_next}
-use Rattle.pb_price.proofs.takings.take_payments_of.Goals as goal
+use Rattle.pb_price.proofs.tallying.take_payments_of.Goals as goal
 
 pub take-requires : goal.take-requires
 take-requires c =

@@ -1,7 +1,7 @@
 use Rattle.std.proofs.Common.{length, refl, ◌∙◌, ap, arith}
 use Rattle.pb_certificate.specs.Rows.{Rows}
 use Rattle.pb_price.proofs.Rows.{can-take, falls, few-then, last-then, takes-row}
-use Rattle.pb_price.proofs.takings.take_rows.Goals as goal
+use Rattle.pb_price.proofs.tallying.take_rows.Goals as goal
 
 pub loop-behind-init : goal.loop-behind-init
 loop-behind-init c = record {

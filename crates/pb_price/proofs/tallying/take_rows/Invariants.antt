@@ -1,9 +1,9 @@
 use Rattle.std.proofs.Common.{◌≡◌, ◌≤◌, ◌-◌, length}
 use Rattle.pb_certificate.specs.PriceRows.{last_voter}
 use Rattle.pb_certificate.specs.Rows.{given}
-use Rattle.pb_price.specs.Inside.Takings.{taken_from}
+use Rattle.pb_price.specs.Inside.Tallying.{taken_from}
 use Rattle.pb_price.specs.Inside.Tallies.{Tallied}
-use Rattle.pb_price.proofs.takings.take_rows.Given as goal
+use Rattle.pb_price.proofs.tallying.take_rows.Given as goal
 
 abbrev pub invariant-loop-behind : goal.invariant-loop-behind
 invariant-loop-behind l = record {

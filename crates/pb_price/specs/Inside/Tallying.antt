@@ -11,7 +11,7 @@ use Rattle.pb_certificate.specs.Rows.{Rows, given, prices_given}
 use Rattle.pb_cohesion.specs.Amounts.{beta}
 use Rattle.pb_price.specs.Inside.Tallies.{AreInRange, IsTallyOf, Taken, Tallied, most_grains, sums_of}
 use Rattle.pb_price.specs.Answers.{AreStepsOf, row_count}
-use Rattle.pb_price.specs.declared.takings.CertificateTally.{CertificateTally}
+use Rattle.pb_price.specs.declared.tallying.CertificateTally.{CertificateTally}
 use Rattle.pb_price.specs.declared.tally.Tally.{Tally}
 
 -- what the rows behind state

@@ -6,7 +6,7 @@ ghost use Rattle.pb_records.specs.FirstFault.{IsFirstFault};
 ghost use Rattle.pb_certificate.specs.Faults.{Refuses, no_memory, price_form};
 ghost use Rattle.pb_certificate.specs.Prices.{PricesFit};
 ghost use Rattle.pb_certificate.specs.Rows.{given};
-ghost use Rattle.pb_price.specs.Inside.Takings.{IsTallied, TakesCertificate, TakesUntil, taken_from};
+ghost use Rattle.pb_price.specs.Inside.Tallying.{IsTallied, TakesCertificate, TakesUntil, taken_from};
 ghost use Rattle.pb_price.specs.Inside.Tallies.{Tallied};
 
 use crate::tally::Tally;
@@ -74,8 +74,8 @@ pub(crate) fn take_prices(tally: &mut Tally, election: &Election, prices: &Price
     requires none { TakesUntil election.now prices.now 1 0 tally.old }
     ensures { TakesUntil election.now prices.now (voters election.now + 1) 0 tally.new }
 {
-    for i in 1..=election.voters() {
-        take_payments_of(tally, election, prices, i);
+    for k in 0..election.voters() {
+        take_payments_of(tally, election, prices, k + 1);
     }
 }
 
