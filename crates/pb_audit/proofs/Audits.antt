@@ -1,19 +1,19 @@
 -- The answers on several inputs.
 use Rattle.std.proofs.Common.{◌≡◌, ◌∙◌, ap, refl, subst, sym, Bool, Option, List}
-use Rattle.std.specs.Prelude.{IfOk, IfSome, Result, Ok, Err, None}
+use Rattle.std.specs.Prelude.{IfOk, IfSome, Result, Ok, Err, Some, None}
 use Rattle.pb_election.specs.Instance.{Instance}
 use Rattle.pb_records.specs.Loading.{Delivery}
 use Rattle.pb_records.specs.Loading as delivery
 use Rattle.pb_certificate.specs.Prices.{Prices}
-use Rattle.pb_reply.specs.Replies.{Answer, Reply, TellsReply, answer_of, refused, with_input}
+use Rattle.pb_reply.specs.Replies.{Answer, Reply, answer_of, refused, with_input}
 use Rattle.pb_audit.specs.Answers.{AnswersAudit, AnswersTidy, AuditRules, tidy_answer}
 use Rattle.pb_reply.specs.Inputs.{InTurn, Stated, StatesElection, StatesPrices}
 use Rattle.pb_reply.specs.declared.input.InputName.TheVariants as name
 use Rattle.pb_reply.specs.declared.input.Refusal.{Refusal}
 use Rattle.pb_audit.specs.Readers.{AuditReadings, ReadsAudit, ReadsTidy}
 use Rattle.pb_reply.specs.Readings.{Delivers, NothingRead, Reading}
-use Rattle.pb_audit.specs.Inside.Certificates.{AnswersCertificate, IfTold, Promised, TidiesPrices}
-use Rattle.pb_reply.specs.Inside.Taking.{AuditsOutcome, Gives, IfTaken, ReadsOutcome, settled, settled_answer, stopped}
+use Rattle.pb_audit.specs.Inside.Certificates.{AnswersCertificate, IfTold, Promised, Tells, TidiesPrices}
+use Rattle.pb_reply.specs.Inside.Taking.{AuditsOutcome, Gives, IfTaken, ReadsOutcome, settled, stopped}
 use Rattle.pb_reply.specs.declared.input.Stop.{Stop}
 use Rattle.pb_reply.specs.declared.input.Stop.TheVariants as stop
 use Rattle.pb_reply.specs.declared.status.Status.{Status}
@@ -30,17 +30,21 @@ told_weaker told P Q each (Err stop.Memory) is = tt
 
 -- The lines that are told of a reply are the reply.
 pub lines_told : (P Q : Reply → Type 0) → ((r : Reply) → P r → Q r) → (work : Result Reply Stop)
-    → IfSome (settled work) P → IfTold (λ r. r) Q work
+    → IfSome (settled (λ r. r) work) P → IfTold (λ r. r) Q work
 lines_told P Q each (Ok own) is = (own, (each own is, refl))
 lines_told P Q each (Err (stop.Refused r)) is = each (refused r) is
 lines_told P Q each (Err stop.Memory) is = tt
 
--- The text that is told of a reply is the answer.
-pub text_settled : (is_reply : Reply → Type 0) (work : Result (Answer Status) Stop) → IfTold answer_of is_reply work
-    → IfSome (settled_answer work) (TellsReply is_reply)
-text_settled is_reply (Ok own) is = record { reply = is.0; of_inputs = is.1.0; out = is.1.1 }
-text_settled is_reply (Err (stop.Refused r)) is = record { reply = refused r; of_inputs = is; out = refl }
-text_settled is_reply (Err stop.Memory) is = tt
+-- What the work came to is told of one of these replies.
+pub settled_told : {T : Type 0} (told : Reply → T) (is_reply : Reply → Type 0) (work : Result T Stop) (own : T)
+    → settled told work ≡ Some own → IfTold told is_reply work → Tells told is_reply own
+settled_told told is_reply (Ok mine) own is h =
+    let same : Some mine ≡ Some own = is in
+    let one : own ≡ mine = cc in (h.0, (h.1.0, one ∙ h.1.1))
+settled_told told is_reply (Err (stop.Refused r)) own is h =
+    let same : Some (told (refused r)) ≡ Some own = is in
+    let one : own ≡ told (refused r) = cc in (refused r, (h, one))
+settled_told told is_reply (Err stop.Memory) own is h = cc
 
 -- An audit of an election, an outcome and a certificate. Where the election is refused, the others may state anything.
 abbrev pub election_refused : {A : Type 0} (rules : AuditRules A)
@@ -205,7 +209,7 @@ readers_settled rules told each inputs e w d work given taken delivered answered
 -- Tidying. Where the election is refused, the certificate may state anything.
 pub tidy_stopped : (election certificate : Delivery) (why : Stop)
     → IfTaken {A = Instance} (Err why) (StatesElection election)
-    → IfSome (settled_answer (Err why)) (AnswersTidy election certificate)
+    → IfSome (settled answer_of (Err why)) (AnswersTidy election certificate)
 tidy_stopped election certificate (stop.Refused r) given =
     record {
       e = Err r;
@@ -233,7 +237,7 @@ readers_tidied election certificate e p d answer given states delivered out = re
 
 pub readers_tidy_stopped : (election certificate : Reading) (why : Stop)
     → IfTaken {A = Instance} (Err why) (Gives StatesElection election) → NothingRead certificate
-    → IfSome (settled_answer (Err why)) (ReadsTidy election certificate)
+    → IfSome (settled answer_of (Err why)) (ReadsTidy election certificate)
 readers_tidy_stopped election certificate (stop.Refused r) given untouched =
     readers_tidied election certificate (Err r) (Err r) delivery.Read _ given tt untouched refl
 readers_tidy_stopped election certificate stop.Memory given untouched = tt
@@ -241,7 +245,7 @@ readers_tidy_stopped election certificate stop.Memory given untouched = tt
 pub readers_tidy_answered : (election certificate : Reading) (e : Instance) (d : Delivery)
     (work : Result (Answer Status) Stop)
     → Gives StatesElection election (Ok e) → Delivers certificate d → IfTaken work (TidiesPrices e d)
-    → IfSome (settled_answer work) (ReadsTidy election certificate)
+    → IfSome (settled answer_of work) (ReadsTidy election certificate)
 readers_tidy_answered election certificate e d (Ok answer) given delivered tidied =
     readers_tidied election certificate (Ok e) (Ok tidied.0) d answer given tidied.1.0 delivered tidied.1.1
 readers_tidy_answered election certificate e d (Err (stop.Refused r)) given delivered tidied =

@@ -99,7 +99,7 @@ stopped_at_prices m e w prices violation stop.Memory judged = tt
 pub both_settled : (m : Mode) (e : Instance) (w : List Bool) (prices violation : Delivery) (verdict : Verdict)
     (work : Result Reply Stop)
     → JudgesPrices name.Prices m e w prices (Ok verdict)
-    → IfSome (settled work) (AnswersCertificate (StatesViolation name.Violation) (beside m verdict) e w violation)
+    → IfSome (settled (λ r. r) work) (AnswersCertificate (StatesViolation name.Violation) (beside m verdict) e w violation)
     → IfTold (λ r. r) (AnswersCertificate (StatesBoth violation) (both_reply m) e w prices) work
 both_settled m e w prices violation verdict work judged answered =
     lines_told _ _ (λ r. both_answered m e w prices violation verdict r judged) work answered
@@ -108,7 +108,7 @@ both_settled m e w prices violation verdict work judged answered =
 pub both_stopped_at_election : (m : Mode) (inputs : AuditReadings) (violation : Reading) (why : Stop)
     → IfTaken {A = Instance} (Err why) (Gives StatesElection inputs.election)
     → inputs.outcome.after ≡ inputs.outcome.before → NothingRead inputs.certificate → NothingRead violation
-    → IfSome (stopped why) (ReadsBoth m inputs violation)
+    → IfSome (settled (λ r. r) (Err why)) (ReadsBoth m inputs violation)
 unfolding readers_stopped_at_election
 both_stopped_at_election m inputs violation (stop.Refused r) given same untouched violation_same = record {
   of_violation = delivery.Read;
@@ -121,7 +121,7 @@ both_stopped_at_election m inputs violation stop.Memory given same untouched vio
 pub both_stopped_at_outcome : (m : Mode) (inputs : AuditReadings) (violation : Reading) (e : Instance) (why : Stop)
     → Gives StatesElection inputs.election (Ok e) → IfTaken {A = List Bool} (Err why) (ReadsOutcome e inputs.outcome)
     → NothingRead inputs.certificate → NothingRead violation
-    → IfSome (stopped why) (ReadsBoth m inputs violation)
+    → IfSome (settled (λ r. r) (Err why)) (ReadsBoth m inputs violation)
 unfolding readers_stopped_at_outcome
 both_stopped_at_outcome m inputs violation e (stop.Refused r) given taken untouched violation_same = record {
   of_violation = delivery.Read;
@@ -158,7 +158,7 @@ pub both_stopped_at_prices : (m : Mode) (inputs : AuditReadings) (violation : Re
     → Gives StatesElection inputs.election (Ok e) → ReadsOutcome e inputs.outcome (Ok w)
     → IfTaken {A = Verdict} (Err why) (Gives (JudgesPrices name.Prices m e w) inputs.certificate)
     → NothingRead violation
-    → IfSome (stopped why) (ReadsBoth m inputs violation)
+    → IfSome (settled (λ r. r) (Err why)) (ReadsBoth m inputs violation)
 both_stopped_at_prices m inputs violation e w (stop.Refused r) given taken judged same =
     both_read m inputs violation e w judged.delivery delivery.Read _ given taken judged.delivered
     (prices_refused m e w judged.delivery delivery.Read r judged.stating) same

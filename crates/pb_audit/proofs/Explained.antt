@@ -43,7 +43,7 @@ explained_promise m e w d (OfViolation v) given = violation_promises e w v
 -- a certificate that is taken as prices, or as a violation, is one of either kind
 pub as_prices : (m : Mode) (e : Instance) (w : List Bool) (d : Delivery) (work : Result Reply Stop)
     → is_violation d ≡ false
-    → IfSome (settled work) (AnswersCertificate (StatesPrices Certificate) (explained_prices m) e w d)
+    → IfSome (settled (λ r. r) work) (AnswersCertificate (StatesPrices Certificate) (explained_prices m) e w d)
     → IfTold (λ r. r) (AnswersCertificate StatesCertificate (explained_reply m) e w d) work
 as_prices m e w d work is answers = lines_told _ _ (λ r found. go r found.c found.given found.out) work answers
   where
@@ -55,7 +55,7 @@ as_prices m e w d work is answers = lines_told _ _ (λ r found. go r found.c fou
 
 pub as_violation : (m : Mode) (e : Instance) (w : List Bool) (d : Delivery) (work : Result Reply Stop)
     → is_violation d ≡ true
-    → IfSome (settled work) (AnswersCertificate (StatesViolation Certificate) explained_violation e w d)
+    → IfSome (settled (λ r. r) work) (AnswersCertificate (StatesViolation Certificate) explained_violation e w d)
     → IfTold (λ r. r) (AnswersCertificate StatesCertificate (explained_reply m) e w d) work
 as_violation m e w d work is answers = lines_told _ _ (λ r found. go r found.c found.given found.out) work answers
   where

@@ -3,7 +3,7 @@ use Rattle.std.proofs.lemmas.List.FromFn.{length-map-range_with_len}
 use Rattle.pb_records.proofs.Lists.{range-push}
 use Rattle.pb_certificate.proofs.Written.{lines-push}
 use mir.Syntax.{w128}
-use Rattle.std.proofs.Common.{◌≡◌, ◌∙◌, ◌<◌, ◌≤◌, ◌+◌, ◌-◌, ◌*◌, ◌^◌, ℕ, zero, suc, List, [], ◌∷◌, ◌++◌, length, map, refl, sym, ap, arith, SFits, append_assoc, append-nil, get_or, Bool, true, false}
+use Rattle.std.proofs.Common.{◌≡◌, ◌∙◌, ◌<◌, ◌+◌, ◌*◌, ◌^◌, ℕ, zero, suc, List, [], ◌∷◌, ◌++◌, length, map, refl, sym, ap, arith, SFits, append_assoc, append-nil, get_or, Bool, true, false}
 use Rattle.std.specs.Prelude.{codes, decimal, ℤ, pos, negsuc}
 use Rattle.std.specs.Fmt.{signed_decimal}
 use Rattle.std.specs.List.{range_with_len}
@@ -92,31 +92,29 @@ pub as_many_rows : (e : Instance) (w : List Bool) (p : Prices) (m : Margins) →
     → length m.projects.items ≡ projects e
 as_many_rows e w p m are = ap length are.projects ∙ length-map-range_with_len (margins_of_project e w p) 1 (projects e)
 
--- one more row, that of project c
-pub row_pushed : (e : Instance) (w : List Bool) (p : Prices) (m : Margins) (c : ℕ) (d : ProjectMargins)
-    (before after : Text) → AreMargins e w p m → 1 ≤ c → c ≤ projects e
-    → before ≡ lines (margin_head m.grains_per_unit ++ margin_rows e w p (range_with_len 1 (c - 1)))
-    → after ≡ before ++ line (row_of (id_of e c) (get_or m.projects.items (c - 1) d))
-    → after ≡ lines (margin_head m.grains_per_unit ++ margin_rows e w p (range_with_len 1 c))
-row_pushed e w p m c d before after are low high b a =
-    let past : suc (c - 1) ≡ c = omega arith in
-    let here : 1 + (c - 1) ≡ c = omega arith in
+-- one more row, that of the project at place k
+pub row_pushed : (e : Instance) (w : List Bool) (p : Prices) (m : Margins) (k : ℕ) (d : ProjectMargins)
+    (before after : Text) → AreMargins e w p m → k < projects e
+    → before ≡ lines (margin_head m.grains_per_unit ++ margin_rows e w p (range_with_len 1 k))
+    → after ≡ before ++ line (row_of (id_of e (k + 1)) (get_or m.projects.items k d))
+    → after ≡ lines (margin_head m.grains_per_unit ++ margin_rows e w p (range_with_len 1 (k + 1)))
+row_pushed e w p m k d before after are low b a =
+    let next : k + 1 ≡ suc k = omega arith in
+    let here : 1 + k ≡ k + 1 = omega arith in
     let row : ℕ → Rec = λ j. row_of (id_of e j) (margins_of_project e w p j) in
-    let figures : get_or m.projects.items (c - 1) d ≡ margins_of_project e w p c =
-    ap (λ (ms : List ProjectMargins). get_or ms (c - 1) d) are.projects
-    ∙ (at_place (margins_of_project e w p) 1 (projects e) (c - 1) d (omega arith)
-    ∙ ap (margins_of_project e w p) here) in
+    let figures : get_or m.projects.items k d ≡ margins_of_project e w p (k + 1) =
+    ap (λ (ms : List ProjectMargins). get_or ms k d) are.projects
+    ∙ (at_place (margins_of_project e w p) 1 (projects e) k d low ∙ ap (margins_of_project e w p) here) in
     let head : List Rec = margin_head m.grains_per_unit in
-    let others : List Rec = margin_rows e w p (range_with_len 1 (c - 1)) in
-    let range : range_with_len 1 c ≡ range_with_len 1 (c - 1) ++ (c ∷ []) =
-    ap (range_with_len 1) (sym past)
-    ∙ (range-push 1 (c - 1) ∙ ap (λ (j : ℕ). range_with_len 1 (c - 1) ++ (j ∷ [])) here) in
-    let rows : margin_rows e w p (range_with_len 1 c) ≡ others ++ (row c ∷ []) =
-    ap (margin_rows e w p) range ∙ map-append row (range_with_len 1 (c - 1)) (c ∷ []) in
-    a ∙ (ap (λ (x : Text). x ++ line (row_of (id_of e c) (get_or m.projects.items (c - 1) d))) b
-    ∙ (ap (λ (f : ProjectMargins). lines (head ++ others) ++ line (row_of (id_of e c) f)) figures
-    ∙ (sym (lines-push (head ++ others) (row c))
-    ∙ ap lines (append_assoc head others (row c ∷ []) ∙ ap (λ (x : List Rec). head ++ x) (sym rows)))))
+    let others : List Rec = margin_rows e w p (range_with_len 1 k) in
+    let range : range_with_len 1 (k + 1) ≡ range_with_len 1 k ++ ((k + 1) ∷ []) =
+    ap (range_with_len 1) next ∙ (range-push 1 k ∙ ap (λ (j : ℕ). range_with_len 1 k ++ (j ∷ [])) here) in
+    let rows : margin_rows e w p (range_with_len 1 (k + 1)) ≡ others ++ (row (k + 1) ∷ []) =
+    ap (margin_rows e w p) range ∙ map-append row (range_with_len 1 k) ((k + 1) ∷ []) in
+    a ∙ (ap (λ (x : Text). x ++ line (row_of (id_of e (k + 1)) (get_or m.projects.items k d))) b
+    ∙ (ap (λ (f : ProjectMargins). lines (head ++ others) ++ line (row_of (id_of e (k + 1)) f)) figures
+    ∙ (sym (lines-push (head ++ others) (row (k + 1)))
+    ∙ ap lines (append_assoc head others (row (k + 1) ∷ []) ∙ ap (λ (x : List Rec). head ++ x) (sym rows)))))
 
 -- all rows
 pub table_written : (e : Instance) (w : List Bool) (p : Prices) (m : Margins) (c : ℕ) (text : Text) → AreMargins e w p m

@@ -3,32 +3,18 @@ ghost use Rattle.std.specs.Prelude.{IfOk, Ok, option_copied, option_map};
 ghost use Rattle.pb_audit.specs.Answers.{AnswersAudit, AuditRules};
 ghost use Rattle.pb_reply.specs.Inputs.{StatesElection, in_memory};
 ghost use Rattle.pb_reply.specs.Inside.Loaded.{lent};
-ghost use Rattle.pb_audit.specs.Inside.Certificates.{AnswersCertificate, IfTold, Promised};
+ghost use Rattle.pb_audit.specs.Inside.Certificates.{AnswersCertificate, IfTold, Promised, Tells};
 ghost use Rattle.pb_audit.specs.Readers.{ReadsAudit, audit_readings};
-ghost use Rattle.pb_reply.specs.Replies as replies;
 ghost use Rattle.pb_reply.specs.Writing.{WritesReply};
 ghost use Rattle.pb_election.specs.Outcome.{OutcomeFits};
 ghost use Rattle.pb_records.specs.Loading.{Delivery};
 
 use pb_election::{Election, Outcome, Sink, Source};
 use pb_reply::{
-    Answer, Fault, File, Loaded, Reply, Status, Stop, election_of, optional_file, outcome_of,
-    push_notes, settled, take_election, take_outcome, write_reply,
+    Fault, File, Loaded, Status, Stop, Telling, election_of, optional_file, outcome_of, push_notes,
+    settled, take_election, take_outcome,
 };
 use std::alloc::{AllocError, Global};
-
-/// What is told of a reply: its lines, or its text.
-pub(crate) trait Telling {
-    ghost told: { replies.Reply → Self };
-}
-
-impl Telling for Reply {
-    ghost told = { λ reply. reply };
-}
-
-impl Telling for Answer<Status> {
-    ghost told = { replies.answer_of };
-}
 
 /// How certificates of one kind are audited.
 pub(crate) trait Audit {
@@ -55,15 +41,15 @@ pub(crate) trait Audit {
         ensures promised { Promised (rules self.now) };
 }
 
-/// The reply on an election, an outcome file where one is given, and a certificate, all in memory.
-pub(crate) fn audit_reply<A: Audit<Told = Reply>>(
+/// What is told of the reply on an election, an outcome file where one is given, and a certificate, all in memory.
+pub(crate) fn audit_in_memory<A: Audit>(
     alloc: Global,
     audit: &A,
     election: &[u8],
     outcome: Option<&[u8]>,
     certificate: &[u8],
-) -> Result<Reply, AllocError>
-    ensures { IfOk result (AnswersAudit (A.rules audit.now) (in_memory election.now) (option_map in_memory (option_copied outcome.entry)) (in_memory certificate.now)) }
+) -> Result<A::Told, AllocError>
+    ensures { IfOk result (Tells A.Told.told (AnswersAudit (A.rules audit.now) (in_memory election.now) (option_map in_memory (option_copied outcome.entry)) (in_memory certificate.now))) }
 {
     let work = audit_files(
         alloc,
@@ -77,7 +63,7 @@ pub(crate) fn audit_reply<A: Audit<Told = Reply>>(
 
 /// Reads an election, an outcome file where one is given, and a certificate, and writes the text of the reply. The notes
 /// on the election, each as `read` prints it, are added to `notes`.
-pub(crate) fn run_audit<A: Audit<Told = Reply>, E: Source, O: Source, C: Source, W: Sink>(
+pub(crate) fn run_audit<A: Audit, E: Source, O: Source, C: Source, W: Sink>(
     alloc: Global,
     audit: &A,
     election: &mut E,
@@ -89,12 +75,12 @@ pub(crate) fn run_audit<A: Audit<Told = Reply>, E: Source, O: Source, C: Source,
     ensures { WritesReply W.Sink (ReadsAudit (A.rules audit.now) (audit_readings E.Source election.old election.new O.Source outcome.old outcome.new C.Source certificate.old certificate.new)) result out.old out.new }
 {
     let work = audit_readers(alloc, audit, election, outcome, certificate, notes);
-    let reply = settled(alloc, work)?;
-    write_reply(alloc, &reply, out)
+    let told = settled(alloc, work)?;
+    told.write_out(alloc, out)
 }
 
 /// The reply on what files state.
-pub(crate) fn audit_files<A: Audit>(
+fn audit_files<A: Audit>(
     alloc: Global,
     audit: &A,
     election: File<'_>,
@@ -122,7 +108,7 @@ pub(crate) fn audit_for<A: Audit>(
 }
 
 /// The reply on what readers deliver.
-pub(crate) fn audit_readers<A: Audit, E: Source, O: Source, C: Source>(
+fn audit_readers<A: Audit, E: Source, O: Source, C: Source>(
     alloc: Global,
     audit: &A,
     election: &mut E,

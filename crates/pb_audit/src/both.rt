@@ -12,7 +12,7 @@ ghost use Rattle.pb_reply.specs.Inside.Taking.{Gives, IfTaken, settled};
 ghost use Rattle.pb_reply.specs.Writing.{WritesReply};
 ghost use Rattle.pb_election.specs.Outcome.{OutcomeFits};
 
-use crate::auditing::{Audit, audit_reply};
+use crate::auditing::{Audit, audit_in_memory};
 use crate::prices::{price_verdict, verdict_reply};
 use crate::violation::group_reply;
 use pb_election::{Election, Outcome, Sink, Source};
@@ -43,7 +43,7 @@ pub fn both_reply(
 {
     let violation = File::in_memory(violation);
     let audit = BothAudit { mode, violation };
-    audit_reply(alloc, &audit, election, outcome, prices)
+    audit_in_memory(alloc, &audit, election, outcome, prices)
 }
 
 /// Reads an election, an outcome file where one is given, a price certificate and a violation certificate, of at most
@@ -105,7 +105,7 @@ fn take_work<E: Source, O: Source, P: Source, V: Source>(
     violation: &mut V,
     mode: Mode,
 ) -> Result<Reply, Stop>
-    ensures { IfSome (settled result) (ReadsBoth mode (audit_readings E.Source election.old election.new O.Source outcome.old outcome.new P.Source prices.old prices.new) (reading V.Source violation.old violation.new)) }
+    ensures { IfSome (settled (λ r. r) result) (ReadsBoth mode (audit_readings E.Source election.old election.new O.Source outcome.old outcome.new P.Source prices.old prices.new) (reading V.Source violation.old violation.new)) }
 {
     let election = take_election(alloc, election)?;
     let outcome = take_outcome(alloc, outcome, &election)?;
@@ -148,7 +148,7 @@ fn beside(
 ) -> Result<Reply, Stop>
     requires outcome { OutcomeFits outcome.now election.now }
     requires projects { PricesNameProject election.now verdict }
-    ensures { IfSome (settled result) (AnswersCertificate (StatesViolation InputName.Violation) (spec.beside mode verdict) election.now (outcome.now).marks (lent violation.entry)) }
+    ensures { IfSome (settled (λ r. r) result) (AnswersCertificate (StatesViolation InputName.Violation) (spec.beside mode verdict) election.now (outcome.now).marks (lent violation.entry)) }
 {
     let violation = violation_of(alloc, InputName::Violation, violation, election)?;
     let first = verdict_reply(alloc, election, verdict, mode)?;

@@ -16,7 +16,7 @@ ghost use Rattle.pb_explain.specs.PriceTable.{NameProjects, price_table};
 ghost use Rattle.pb_price.specs.First.{verdict_of};
 ghost use Rattle.pb_price.specs.Told.{first_told};
 
-use crate::auditing::{Audit, audit_reply, run_audit};
+use crate::auditing::{Audit, audit_in_memory, run_audit};
 use crate::prices::verdict_reply;
 use crate::violation::group_verdict_reply;
 use pb_certificate::{Violation, is_violation};
@@ -46,7 +46,7 @@ pub fn explained_reply(
     ensures { IfOk result (AnswersExplainedFiles mode election.now (option_copied outcome.entry) certificate.now) }
 {
     let audit = ExplainAudit { mode };
-    audit_reply(alloc, &audit, election, outcome, certificate)
+    audit_in_memory(alloc, &audit, election, outcome, certificate)
 }
 
 /// Reads an election, an outcome file where one is given, and a certificate of either kind, of at most 2^28 bytes each,
@@ -119,7 +119,7 @@ fn prices_on(
     mode: Mode,
 ) -> Result<Reply, Stop>
     requires { OutcomeFits outcome.now election.now }
-    ensures { IfSome (settled result) (AnswersCertificate (StatesPrices InputName.Certificate) (explained_prices mode) election.now (outcome.now).marks (lent certificate.entry)) }
+    ensures { IfSome (settled (λ r. r) result) (AnswersCertificate (StatesPrices InputName.Certificate) (explained_prices mode) election.now (outcome.now).marks (lent certificate.entry)) }
 {
     let findings = price_findings(alloc, election, outcome, certificate)?;
     Ok(findings_reply(alloc, election, &findings, mode)?)
@@ -168,7 +168,7 @@ fn violation_on(
     certificate: File<'_>,
 ) -> Result<Reply, Stop>
     requires { OutcomeFits outcome.now election.now }
-    ensures { IfSome (settled result) (AnswersCertificate (StatesViolation InputName.Certificate) explained_violation election.now (outcome.now).marks (lent certificate.entry)) }
+    ensures { IfSome (settled (λ r. r) result) (AnswersCertificate (StatesViolation InputName.Certificate) explained_violation election.now (outcome.now).marks (lent certificate.entry)) }
 {
     let violation = violation_of(alloc, InputName::Certificate, certificate, election)?;
     Ok(tests_reply(alloc, election, outcome, &violation)?)

@@ -29,9 +29,9 @@ pub(crate) fn table_text(
 {
     let mut writer = record_writer::open(alloc);
     add_head(&mut writer, margins.grains_per_unit)?;
-    for project in 1..=election.projects() {
-        let of_project = &margins.projects[project as usize - 1];
-        add_row(&mut writer, election.id(project), of_project)?;
+    for k in 0..election.projects() {
+        let of_project = &margins.projects[k as usize];
+        add_row(&mut writer, election.id(k + 1), of_project)?;
     }
     record_writer::close(writer)
 }

@@ -9,14 +9,11 @@ ghost use Rattle.pb_reply.specs.Inside.Loaded.{lent};
 ghost use Rattle.pb_reply.specs.Inside.Taking.{IfTaken};
 ghost use Rattle.pb_reply.specs.Writing.{Writes};
 
-use crate::auditing::{Audit, audit_files, audit_readers};
+use crate::auditing::{Audit, audit_in_memory, run_audit};
 use crate::margin_table::table_text;
 use pb_election::{Election, Outcome, Sink, Source};
 use pb_price::{Margins, margins_of};
-use pb_reply::{
-    Answer, Fault, File, InputFault, InputName, Status, Stop, bytes_of, optional_file,
-    settled_answer, stop_at,
-};
+use pb_reply::{Answer, Fault, File, InputFault, InputName, Status, Stop, bytes_of, stop_at};
 use std::alloc::{AllocError, Global};
 
 /// The answer on an election, an outcome file where one is given, and a price certificate, all in memory: the table of
@@ -33,14 +30,7 @@ pub fn margins_answer(
     // The answer is the one on these bytes.
     ensures { IfOk result (AnswersMarginFiles election.now (option_copied outcome.entry) certificate.now) }
 {
-    let work = audit_files(
-        alloc,
-        &MarginAudit,
-        File::in_memory(election),
-        optional_file(outcome),
-        File::in_memory(certificate),
-    );
-    settled_answer(alloc, work)
+    audit_in_memory(alloc, &MarginAudit, election, outcome, certificate)
 }
 
 /// Reads an election, an outcome file where one is given, and a price certificate, of at most 2^28 bytes each, and
@@ -58,15 +48,15 @@ pub fn run_margins<E: Source, O: Source, C: Source, W: Sink>(
     ensures { Writes W.Sink (ReadsMargins (audit_readings E.Source election.old election.new O.Source outcome.old outcome.new C.Source certificate.old certificate.new)) result out.old out.new }
 {
     let mut notes = Vec::new(alloc);
-    let work = audit_readers(
+    run_audit(
         alloc,
         &MarginAudit,
         election,
         outcome,
         certificate,
         &mut notes,
-    );
-    settled_answer(alloc, work)?.write(out)
+        out,
+    )
 }
 
 /// The audit that answers with the table of margins.

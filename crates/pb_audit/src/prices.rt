@@ -11,7 +11,7 @@ ghost use Rattle.pb_reply.specs.Writing.{WritesReply};
 ghost use Rattle.pb_certificate.specs.Prices.{Prices};
 ghost use Rattle.pb_election.specs.Outcome.{OutcomeFits};
 
-use crate::auditing::{Audit, audit_reply, run_audit};
+use crate::auditing::{Audit, audit_in_memory, run_audit};
 use pb_election::{Election, Outcome, Sink, Source};
 use pb_price::{Mode, Verdict, check_rows};
 use pb_reply::{
@@ -36,7 +36,7 @@ pub fn prices_reply(
     ensures { IfOk result (AnswersPriceFiles mode election.now (option_copied outcome.entry) certificate.now) }
 {
     let audit = PriceAudit { mode };
-    audit_reply(alloc, &audit, election, outcome, certificate)
+    audit_in_memory(alloc, &audit, election, outcome, certificate)
 }
 
 /// Reads an election, an outcome file where one is given, and a price certificate, of at most 2^28 bytes each, and

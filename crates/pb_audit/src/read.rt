@@ -42,7 +42,7 @@ pub fn run_read<R: Source, W: Sink>(
 
 /// The reply on an election that a file states.
 fn read_work(alloc: Global, election: File<'_>) -> Result<Reply, Stop>
-    ensures { IfSome (settled result) (AnswersElection (lent election.entry)) }
+    ensures { IfSome (settled (λ r. r) result) (AnswersElection (lent election.entry)) }
 {
     let election = election_of(alloc, election)?;
     Ok(election_reply(alloc, &election)?)
@@ -50,7 +50,7 @@ fn read_work(alloc: Global, election: File<'_>) -> Result<Reply, Stop>
 
 /// The reply on an election that a reader delivers.
 fn take_work<R: Source>(alloc: Global, election: &mut R) -> Result<Reply, Stop>
-    ensures { IfSome (settled result) (ReadsElection (reading R.Source election.old election.new)) }
+    ensures { IfSome (settled (λ r. r) result) (ReadsElection (reading R.Source election.old election.new)) }
 {
     let election = take_election(alloc, election)?;
     Ok(election_reply(alloc, &election)?)

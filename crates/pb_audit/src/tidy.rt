@@ -4,7 +4,8 @@ ghost use Rattle.pb_audit.specs.Answers.{AnswersTidy, AnswersTidyFiles};
 ghost use Rattle.pb_reply.specs.Inside.Loaded.{lent};
 ghost use Rattle.pb_audit.specs.Readers.{ReadsTidy};
 ghost use Rattle.pb_reply.specs.Readings.{reading};
-ghost use Rattle.pb_reply.specs.Inside.Taking.{IfTaken, settled_answer};
+ghost use Rattle.pb_reply.specs.Replies.{answer_of};
+ghost use Rattle.pb_reply.specs.Inside.Taking.{IfTaken, settled};
 ghost use Rattle.pb_audit.specs.Inside.Certificates.{TidiesPrices};
 ghost use Rattle.pb_reply.specs.Writing.{Writes};
 
@@ -12,7 +13,7 @@ use pb_certificate::canonical_text_of;
 use pb_election::{Election, Sink, Source};
 use pb_reply::{
     Answer, Fault, File, InputFault, InputName, Loaded, Status, Stop, bytes_of, election_of,
-    settled_answer, stop_at, take_election,
+    settled, stop_at, take_election,
 };
 use std::alloc::{AllocError, Global};
 
@@ -31,7 +32,7 @@ pub fn tidy_answer(
         File::in_memory(election),
         File::in_memory(certificate),
     );
-    settled_answer(alloc, work)
+    settled(alloc, work)
 }
 
 /// Reads an election and a price certificate for it, of at most 2^28 bytes each, and writes the certificate's canonical
@@ -47,7 +48,7 @@ pub fn run_tidy<E: Source, C: Source, W: Sink>(
     ensures { Writes W.Sink (ReadsTidy (reading E.Source election.old election.new) (reading C.Source certificate.old certificate.new)) result out.old out.new }
 {
     let work = take_work(alloc, election, certificate);
-    settled_answer(alloc, work)?.write(out)
+    settled(alloc, work)?.write(out)
 }
 
 /// The answer on what files state.
@@ -56,7 +57,7 @@ fn tidy_work(
     election: File<'_>,
     certificate: File<'_>,
 ) -> Result<Answer<Status>, Stop>
-    ensures { IfSome (settled_answer result) (AnswersTidy (lent election.entry) (lent certificate.entry)) }
+    ensures { IfSome (settled answer_of result) (AnswersTidy (lent election.entry) (lent certificate.entry)) }
 {
     let election = election_of(alloc, election)?;
     tidied(alloc, &election, certificate)
@@ -68,7 +69,7 @@ fn take_work<E: Source, C: Source>(
     election: &mut E,
     certificate: &mut C,
 ) -> Result<Answer<Status>, Stop>
-    ensures { IfSome (settled_answer result) (ReadsTidy (reading E.Source election.old election.new) (reading C.Source certificate.old certificate.new)) }
+    ensures { IfSome (settled answer_of result) (ReadsTidy (reading E.Source election.old election.new) (reading C.Source certificate.old certificate.new)) }
 {
     let election = take_election(alloc, election)?;
     let certificate = Loaded::load(alloc, certificate)?;

@@ -10,7 +10,7 @@ ghost use Rattle.pb_certificate.specs.Claim.{ClaimFits};
 ghost use Rattle.pb_election.specs.Instance.{IsSet, projects};
 ghost use Rattle.pb_election.specs.Outcome.{OutcomeFits};
 
-use crate::auditing::{Audit, audit_reply, run_audit};
+use crate::auditing::{Audit, audit_in_memory, run_audit};
 use pb_certificate::Violation;
 use pb_cohesion::{ViolationVerdict, check_violation};
 use pb_election::{Election, Outcome, Sink, Source};
@@ -34,7 +34,7 @@ pub fn violation_reply(
     // demand are a violation by the measure that the certificate states.
     ensures { IfOk result (AnswersViolationFiles election.now (option_copied outcome.entry) certificate.now) }
 {
-    audit_reply(alloc, &ViolationAudit, election, outcome, certificate)
+    audit_in_memory(alloc, &ViolationAudit, election, outcome, certificate)
 }
 
 /// Reads an election, an outcome file where one is given, and a violation certificate, of at most 2^28 bytes each, and

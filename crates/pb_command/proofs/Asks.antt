@@ -14,7 +14,7 @@ use Rattle.clap.specs.Walk.{Held, Names, Outcome, Row, Rule, Step, Text, Waiting
 use Rattle.pb_command.specs.Commands.{pbaudit}
 use Rattle.pb_command.proofs.Written.{commands_written}
 use Rattle.pb_command.specs.Tasks.{Asked, Paths, TaskOf, asked_by, asked_in, from_both, paths_in}
-use Rattle.pb_command.proofs.Places.{IsFull, IsPlaced, found_row_full, level_full}
+use Rattle.pb_command.proofs.Positionals.{IsFull, IsPlaced, found_row_full, level_full}
 
 or_else_none : (a b : Kinds) → or_else a b ≡ [] → (a ≡ []) × (b ≡ [])
 or_else_none [] b e = (refl, e)
@@ -212,28 +212,19 @@ paths_some certificate s rest election placed election_given given =
     (given_first (codes "election") s rest election election_given) (given_first certificate s rest placed given)
 
 -- a command of the shared paths
-pair_asks : (make : Paths → Asked) (s : Shape) (rest : List Text) → IsPlaced (codes "election") s.rules
+pair_asks : (make : List Row → Paths → Asked) (s : Shape) → IsPlaced (codes "election") s.rules
     → IsPlaced (codes "certificate") s.rules
-    → let rows = rows_after s.rules [] rest in
-    (not (is_given (codes "election") rows) || (not (is_given (codes "certificate") rows) || false)) ≡ false
-    → is_some (option_map make (paths_in (codes "certificate") rows)) ≡ true
-pair_asks make s rest election certificate e =
+    → ((rows : List Row) → check_fault s rows false ≡ []
+    → (not (is_given (codes "election") rows) || (not (is_given (codes "certificate") rows) || false)) ≡ false)
+    → ((rows : List Row) → asked_by s.name rows ≡ option_map (make rows) (paths_in (codes "certificate") rows))
+    → AsksByName s
+pair_asks make s election certificate needs asks n met other rest e =
     let rows = rows_after s.rules [] rest in
-    let given = two_given (is_given (codes "election") rows) (is_given (codes "certificate") rows) e in
-    map_some make (paths_in (codes "certificate") rows)
-    (paths_some (codes "certificate") s rest election certificate given.0 given.1)
-
-prices_asks : AsksByName (sub_of (codes "prices"))
-unfolding sub_of commands_written
-prices_asks n met other rest e =
-    let s = sub_of (codes "prices") in
-    pair_asks _ s rest refl refl (last_passes false false _ (level_check s [] rest e))
-
-violation_asks : AsksByName (sub_of (codes "violation"))
-unfolding sub_of commands_written
-violation_asks n met other rest e =
-    let s = sub_of (codes "violation") in
-    pair_asks _ s rest refl refl (last_passes false false _ (level_check s [] rest e))
+    let given = two_given (is_given (codes "election") rows) (is_given (codes "certificate") rows)
+    (needs rows (level_check s [] rest e)) in
+    rw (asks rows)
+    (map_some (make rows) (paths_in (codes "certificate") rows)
+    (paths_some (codes "certificate") s rest election certificate given.0 given.1))
 
 both_asks : AsksByName (sub_of (codes "both"))
 unfolding sub_of commands_written
@@ -246,30 +237,6 @@ both_asks n met other rest e =
     both_some _ (paths_in (codes "prices") rows) (first_of (codes "violation") rows)
     (paths_some (codes "prices") s rest refl refl given.0 given.1.0)
     (given_first (codes "violation") s rest refl given.1.1)
-
-explain_asks : AsksByName (sub_of (codes "explain"))
-unfolding sub_of commands_written
-explain_asks n met other rest e =
-    let s = sub_of (codes "explain") in
-    pair_asks _ s rest refl refl (last_passes false false _ (level_check s [] rest e))
-
-page_asks : AsksByName (sub_of (codes "page"))
-unfolding sub_of commands_written
-page_asks n met other rest e =
-    let s = sub_of (codes "page") in
-    pair_asks _ s rest refl refl (last_passes false false _ (level_check s [] rest e))
-
-margins_asks : AsksByName (sub_of (codes "margins"))
-unfolding sub_of commands_written
-margins_asks n met other rest e =
-    let s = sub_of (codes "margins") in
-    pair_asks _ s rest refl refl (last_passes false false _ (level_check s [] rest e))
-
-tidy_asks : AsksByName (sub_of (codes "tidy"))
-unfolding sub_of commands_written
-tidy_asks n met other rest e =
-    let s = sub_of (codes "tidy") in
-    pair_asks _ s rest refl refl (last_passes false false _ (level_check s [] rest e))
 
 folder_asks : AsksByName (sub_of (codes "folder"))
 unfolding sub_of commands_written
@@ -295,8 +262,26 @@ unfolding sub_of commands_written
 all_ask = (
   read_asks,
   (
-    prices_asks,
-    (violation_asks, (both_asks, (explain_asks, (page_asks, (margins_asks, (tidy_asks, (folder_asks, (help_asks, tt)))))))),
+    pair_asks _ (sub_of (codes "prices")) refl refl (λ rows. last_passes false false _) (λ rows. refl),
+    (
+      pair_asks _ (sub_of (codes "violation")) refl refl (λ rows. last_passes false false _) (λ rows. refl),
+      (
+        both_asks,
+        (
+          pair_asks _ (sub_of (codes "explain")) refl refl (λ rows. last_passes false false _) (λ rows. refl),
+          (
+            pair_asks _ (sub_of (codes "page")) refl refl (λ rows. last_passes false false _) (λ rows. refl),
+            (
+              pair_asks _ (sub_of (codes "margins")) refl refl (λ rows. last_passes false false _) (λ rows. refl),
+              (
+                pair_asks _ (sub_of (codes "tidy")) refl refl (λ rows. last_passes false false _) (λ rows. refl),
+                (folder_asks, (help_asks, tt)),
+              ),
+            ),
+          ),
+        ),
+      ),
+    ),
   ),
 )
 

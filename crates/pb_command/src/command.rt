@@ -2,7 +2,7 @@
 ghost use Rattle.std.specs.Prelude.{◌≡◌, IfOk, codes, false, fold};
 ghost use Rattle.clap.specs.Words.{App, new_app, rule_of};
 ghost use Rattle.pb_command.specs.Commands.{IsCommand, pbaudit, with_version};
-ghost use Rattle.pb_command.specs.Entries.{app_of_entry, rule_of_parameter, with_entry};
+ghost use Rattle.pb_command.specs.Descriptions.{app_described, rule_of_parameter, with_described};
 
 use crate::help::{
     BOTH_NOTES, EXPLAIN_NOTES, FOLDER_NOTES, MARGINS_NOTES, PAGE_NOTES, PRICES_NOTES,
@@ -14,7 +14,7 @@ use std::alloc::{AllocError, Global};
 const VERSION: &str = "0.1.0";
 
 /// What a command is called and takes, and what its help says.
-struct Entry {
+struct Description {
     name: &'static str,
     about: &'static str,
     /// In the order of the paths among the words, and of the options in help.
@@ -75,16 +75,16 @@ const COVER: Parameter = Parameter::Switch {
 };
 
 /// The commands that audit one outcome, in the order of help.
-const AUDITS: [Entry; 6] = [
-    Entry {
+const AUDITS: [Description; 6] = [
+    Description {
         name: "read",
         about: "Read an election and print how many voters and projects it has",
         parameters: &[ELECTION],
         notes: READ_NOTES,
     },
-    Entry {
+    Description {
         name: "prices",
-        about: "Check that the payments of a price certificate support the outcome",
+        about: "Check whether the payments of a price certificate support the outcome",
         parameters: &[
             ELECTION,
             PRICE_CERTIFICATE,
@@ -95,9 +95,9 @@ const AUDITS: [Entry; 6] = [
         ],
         notes: PRICES_NOTES,
     },
-    Entry {
+    Description {
         name: "violation",
-        about: "Check that the outcome treats a group of voters worse than EJR allows",
+        about: "Check whether the outcome treats a group of voters worse than EJR allows",
         parameters: &[
             ELECTION,
             Parameter::Path {
@@ -109,7 +109,7 @@ const AUDITS: [Entry; 6] = [
         ],
         notes: VIOLATION_NOTES,
     },
-    Entry {
+    Description {
         name: "both",
         about: "Check a price certificate and a violation certificate for one outcome",
         parameters: &[
@@ -131,9 +131,9 @@ const AUDITS: [Entry; 6] = [
         ],
         notes: BOTH_NOTES,
     },
-    Entry {
+    Description {
         name: "explain",
-        about: "Check a certificate and print what each condition or test comes to",
+        about: "Check a certificate and print the figures of each condition or test",
         parameters: &[
             ELECTION,
             ANY_CERTIFICATE,
@@ -144,9 +144,9 @@ const AUDITS: [Entry; 6] = [
         ],
         notes: EXPLAIN_NOTES,
     },
-    Entry {
+    Description {
         name: "page",
-        about: "Check a certificate and print a page for people, as HTML",
+        about: "Check a certificate and print a page in plain words, as HTML",
         parameters: &[
             ELECTION,
             ANY_CERTIFICATE,
@@ -161,20 +161,20 @@ const AUDITS: [Entry; 6] = [
 ];
 
 /// The commands behind those, in the order of help.
-const OTHERS: [Entry; 3] = [
-    Entry {
+const OTHERS: [Description; 3] = [
+    Description {
         name: "margins",
-        about: "Print what each project costs, is paid and could be offered, as a CSV file",
+        about: "Print what each project costs, is paid and could be offered, as CSV",
         parameters: &[ELECTION, PRICE_CERTIFICATE, Parameter::Outcome],
         notes: MARGINS_NOTES,
     },
-    Entry {
+    Description {
         name: "tidy",
         about: "Print a price certificate in its canonical form",
         parameters: &[ELECTION, PRICE_CERTIFICATE],
         notes: TIDY_NOTES,
     },
-    Entry {
+    Description {
         name: "folder",
         about: "Audit the elections of a folder with their certificates",
         parameters: &[
@@ -195,8 +195,8 @@ const OTHERS: [Entry; 3] = [
 pub(crate) fn pbaudit_command<'a>(alloc: Global) -> Result<Command<'a>, AllocError>
     ensures { IfOk result (IsCommand pbaudit) }
 {
-    let audits = with_entries(alloc, bare_program(alloc), &AUDITS)?;
-    let all = with_entries(alloc, audits, &OTHERS)?;
+    let audits = with_commands(alloc, bare_program(alloc), &AUDITS)?;
+    let all = with_commands(alloc, audits, &OTHERS)?;
     Ok(all.after_help(PROGRAM_NOTES))
 }
 
@@ -205,34 +205,34 @@ fn bare_program<'a>(alloc: Global) -> Command<'a>
     ensures { IsCommand (with_version (new_app (codes "pbaudit"))) result }
 {
     Command::new(alloc, "pbaudit").version(VERSION).about(
-        "Audit the outcomes of participatory budgeting elections by exact arithmetic",
+        "Audit the outcomes of participatory budgeting elections, in exact arithmetic",
     )
 }
 
-/// A command, with those of these entries beside its own.
-fn with_entries<'a>(
+/// A command, with those of these descriptions beside its own.
+fn with_commands<'a>(
     alloc: Global,
     program: Command<'a>,
-    entries: &[Entry],
+    descriptions: &[Description],
 ) -> Result<Command<'a>, AllocError>
-    ensures { (app : App) → IsCommand app program.entry → IfOk result (IsCommand (fold with_entry app entries.now)) }
+    ensures { (app : App) → IsCommand app program.entry → IfOk result (IsCommand (fold with_described app descriptions.now)) }
 {
     let mut command = program;
-    for entry in entries {
-        command = command.subcommand(command_of(alloc, entry)?)?;
+    for description in descriptions {
+        command = command.subcommand(command_of(alloc, description)?)?;
     }
     Ok(command)
 }
 
-/// The command of this entry.
-fn command_of<'a>(alloc: Global, entry: &Entry) -> Result<Command<'a>, AllocError>
-    ensures { IfOk result (IsCommand (app_of_entry entry.now)) }
+/// The command of this description.
+fn command_of<'a>(alloc: Global, description: &Description) -> Result<Command<'a>, AllocError>
+    ensures { IfOk result (IsCommand (app_described description.now)) }
 {
-    let mut command = Command::new(alloc, entry.name).about(entry.about);
-    for parameter in entry.parameters {
+    let mut command = Command::new(alloc, description.name).about(description.about);
+    for parameter in description.parameters {
         command = command.arg(arg_of(alloc, parameter))?;
     }
-    Ok(command.after_help(entry.notes))
+    Ok(command.after_help(description.notes))
 }
 
 /// The argument by which a command takes this.

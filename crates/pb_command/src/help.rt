@@ -9,10 +9,10 @@ A path that begins with '-' needs '--' before it: pbaudit read -- -town.pb
 
 Exit statuses:
   0  yes: the answer is yes, or what was asked for is printed
-  1  no: a condition or a test failed; the first that failed is printed
-  2  refused: a file is not what it has to be; the first thing wrong is printed
-  3  usage: the words of the command line were not understood
-  4  fault: memory ran out, or the answer could not be written
+  1  no: a condition or a test failed; the first one is printed
+  2  refused: a file has an error or cannot be read; the first error is printed
+  3  usage: the arguments were not understood
+  4  error: out of memory, or the answer could not be written
 
 Examples:
   pbaudit read town.pb
@@ -28,16 +28,16 @@ Examples:
 
 /// What `read` prints.
 pub(crate) const READ_NOTES: &str = "\
-Prints the numbers of voters, projects and funded projects. A project is funded
-where its field in the column 'selected' is 1; without that column the election
-has no outcome. A note follows where the file declares another number of
-projects or votes than it has, and where 'selected' is neither 0 nor 1.
+Prints how many voters, projects and funded projects an election has. A project
+is funded if it has a 1 in the column 'selected'; without that column the
+election has no outcome. Notes follow if the file declares another number of
+projects or votes than it has, or if 'selected' is neither 0 nor 1 somewhere.
 
 A file that is not an election with approval ballots is refused. The line names
-the first thing wrong and its record, counted from 1 without empty lines:
+the first error and its record, counted from 1 without empty lines:
   refused election 9 BadMoney record 6
 
-Exit statuses: 0 read, 2 refused, 3 usage, 4 fault.
+Exit statuses: 0 read, 2 refused, 3 usage, 4 error.
 
 Example:
   pbaudit read town.pb";
@@ -53,35 +53,35 @@ pays for each project, all as whole numbers over one denominator:
   1,park,3
 Here every voter has a budget of 9/2, and voter 1 pays 3/2 for the project
 'park'. Voters are numbered from 1 by their rows in the election, whatever its
-column 'voter_id' says, and do not fall from row to row. The denominator is at
-most 1000000000. The certificate supports the outcome where these conditions
-hold, which are tried in this order:
+column 'voter_id' says, and the payments are in the order of their voters. The
+denominator is at most 1000000000. The certificate supports the outcome if these
+conditions hold, which are tried in this order:
   Feasible    the funded projects cost no more than the budget limit in all
   Exhaustive  no unfunded project still fits within the budget limit
-  Cover       the voter budgets of all voters add up to more than the budget limit
-  C1          a voter pays only for projects of the voter's own ballot
-  C2          a voter pays no more than the voter budget in all
-  C3          the payments for a funded project add up to its cost
+  Cover       the budgets of all voters add up to more than the budget limit
+  C1          voters pay only for projects on their own ballots
+  C2          no voter pays more than the voter budget in all
+  C3          the payments for each funded project add up to its cost
   C4          nobody pays for an unfunded project
   C5          what the supporters of an unfunded project have left over adds up
               to no more than its cost
-  S5          the same sum, where for each supporter the largest single payment
-              counts if it is more than what is left over
-C5 is tried without --stable, S5 with it; Exhaustive without --no-exhaustive,
-and Cover with --cover. The supporters of a project are the
-voters whose ballots hold it.
+  S5          the same as C5, but a supporter's largest single payment counts
+              instead of what is left over if it is more
+C5 is tried without --stable and S5 with it, Exhaustive unless --no-exhaustive
+is given, and Cover only with --cover. The supporters of a project are the
+voters who approve it.
 
 Prints 'supported priceable' or 'supported stable', or the first condition that
-fails, with the lowest voter and then the lowest project, by their rows in the
-election, where it names one:
+fails. If that names a voter or a project, it is the first voter and then the
+first project, by their rows in the election, at which the condition fails:
   failed C5 project pool
-A no by C1 or a later condition speaks of these payments alone: others may
-support the outcome.
+A no by C1 or a later condition is about these payments only: others may support
+the outcome.
 
 An outcome file has the record pb-outcome,1 and then a record project,ID for
 each funded project.
 
-Exit statuses: 0 supported, 1 failed, 2 refused, 3 usage, 4 fault.
+Exit statuses: 0 supported, 1 failed, 2 refused, 3 usage, 4 error.
 
 Examples:
   pbaudit prices town.pb prices.csv
@@ -95,29 +95,29 @@ A violation certificate is a file of records such as
   voter,1
   voter,2
 Its voters are the group, numbered from 1 by their rows in the election; its
-projects are the demand, named by their ids. The two show a violation of extended
-justified representation (EJR) where each of these tests is passed:
+projects are the demand, named by their ids. They show a violation of extended
+justified representation (EJR) if all of these tests are passed, which are tried
+in this order:
   V1  the group has at least one voter
   V2  every voter of the group approves every project of the demand
   V3  the group's share of the budget limit, by its share of all voters, covers
-      the costs of the demand
-  V4  the funded projects that a voter of the group approves are worth less than
-      the demand
-They are tried in this order. Each project is worth 1. A certificate that begins
-with these two records measures by cost, and each project is then worth what it
-costs:
+      the cost of the demand
+  V4  for every voter of the group, the funded projects that the voter approves
+      are worth less than the demand
+Each project is worth 1, unless the certificate measures by cost: then each is
+worth what it costs. Such a certificate begins with these two records:
   pb-violation,2
   satisfaction,cost
 
-Prints 'violation', or the first test that fails, with the lowest voter and then
-its lowest project where it names one:
+Prints 'violation', or the first test that fails. If that names a voter or a
+project, it is the first voter and then the first project at which it fails:
   failed V2 voter 1 project park
-A no speaks of this group and demand alone: another pair may be a violation.
+A no is about this group and demand only: others may be a violation.
 
 An outcome file has the record pb-outcome,1 and then a record project,ID for
 each funded project.
 
-Exit statuses: 0 violation, 1 failed, 2 refused, 3 usage, 4 fault.
+Exit statuses: 0 violation, 1 failed, 2 refused, 3 usage, 4 error.
 
 Examples:
   pbaudit violation town.pb violation.csv
@@ -126,21 +126,23 @@ Examples:
 /// What `both` checks.
 pub(crate) const BOTH_NOTES: &str = "\
 Checks a price certificate as 'prices' does, and a violation certificate as
-'violation' does, for the same election and outcome. Prints a line for each, that
-of the prices first:
+'violation' does, for the same election and outcome. Prints a line for each, the
+one on the prices first:
   supported stable
   failed V4 voter 1
-With --stable and --cover, 'supported stable' never stands beside 'violation' for
-a certificate that counts projects: prices of this kind prove that no group and no
-demand are a violation by counting. In other modes, and by cost, both may be a yes.
+With --stable and --cover, 'supported stable' and 'violation' are never printed
+together if the violation certificate counts projects: such prices prove that no
+group and demand are a violation by count. In other modes, and by cost, both may
+be a yes.
 
-The inputs are taken in this order: the election, the outcome file, the price
-certificate, the violation certificate. The first that is refused gives the only
-line, and the certificates go by the names 'prices' and 'violation' in it:
+The files are read in this order: the election, the outcome file, the price
+certificate, the violation certificate. If one is refused, the only line is
+about the first such file, and it calls the certificates 'prices' and
+'violation':
   refused violation 21 BadHead record 1
 
 Exit statuses: 0 supported and a violation, 1 a condition or a test failed,
-2 refused, 3 usage, 4 fault.
+2 refused, 3 usage, 4 error.
 
 Examples:
   pbaudit both town.pb prices.csv violation.csv --stable --cover
@@ -148,29 +150,29 @@ Examples:
 
 /// What `explain` prints.
 pub(crate) const EXPLAIN_NOTES: &str = "\
-Prints the line of 'prices', or that of 'violation' for a certificate whose
+Prints the line that 'prices' prints, or 'violation' for a certificate whose
 first record is pb-violation,1 or pb-violation,2. An empty line follows, and
 then a line for each condition or test, with the figures that it compares:
   failed C5 project pool
 
   Feasible    holds      the funded projects cost 12.00; the limit is 20.00
   Exhaustive  holds      8.00 of the limit remains; the cheapest unfunded [...]
-Those behind the first that fails have their figures too, and so have those that
-are not asked for, each with how to ask for it.
+Those after the first that fails have their figures too, and so do those that
+were not asked for, each with how to ask for it.
 
-At a condition that fails the figures are those of the first culprit, which is
-the lowest voter or project, and the number of culprits follows in brackets. At
-one that holds they are those of the voter or project that comes closest, where
-that says something.
+Where a condition fails, the figures are those of the first voter or project at
+which it fails, and the number of these follows in brackets. Where it holds,
+they are those of the voter or project that comes closest to failing, if there
+is one.
 
-All figures are exact: an amount is a decimal with two to six places where it is
-one, and else a whole number and a fraction, such as 12865 1/3.
+All figures are exact: an amount is a decimal with two to six places if that is
+exact, and otherwise a whole number and a fraction, such as 12865 1/3.
 
-The switches count for prices alone. The outcome is as for 'prices', and so is
-what is printed where a file is refused.
+The options --stable, --no-exhaustive and --cover matter only for prices. The
+outcome is as for 'prices', and so is the answer if a file is refused.
 
 Exit statuses: 0 supported or a violation, 1 a condition or a test failed,
-2 refused, 3 usage, 4 fault.
+2 refused, 3 usage, 4 error.
 
 Examples:
   pbaudit explain town.pb prices.csv
@@ -179,18 +181,20 @@ Examples:
 
 /// What `page` prints.
 pub(crate) const PAGE_NOTES: &str = "\
-Prints one HTML file that tells people what 'explain' finds: the answer in a
-sentence, the projects with their figures, each condition or test, and the files
-with their SHA-256 sums. It has no script and loads nothing, so it can be opened
-in any browser, sent, or printed.
+Prints one HTML file that says in plain words what 'explain' finds: the answer
+in a sentence, the projects with their figures, each condition or test, and the
+files with their SHA-256 sums. It has no script and loads nothing, so it can be
+opened in any browser, sent, or printed.
 
-The language is English unless another is named: en, pl, de or fr.
+The language is English (en), Polish (pl), German (de) or French (fr), and
+English if none is given.
 
-The switches count for prices alone. The outcome is as for 'prices'. Where a
-file is refused, the line of 'prices' is printed, and no page.
+The options --stable, --no-exhaustive and --cover matter only for prices. The
+outcome is as for 'prices'. If a file is refused, the line that 'explain' prints
+is printed, and no page.
 
 Exit statuses: 0 supported or a violation, 1 a condition or a test failed,
-2 refused, 3 usage, 4 fault.
+2 refused, 3 usage, 4 error.
 
 Examples:
   pbaudit page town.pb prices.csv > page.html
@@ -212,16 +216,16 @@ denominator of the certificate. Here the park costs 24000000/2000000 = 12.
   cost        what it costs
   paid        what all voters pay for it
   left        what its supporters have left over, which may be less than 0
-  offer       the same sum, where for each supporter the largest single payment
-              counts if it is more than what is left over
-By these figures C3 wants 'paid' to be 'cost' where 'funded' is 1. Where it is 0,
-C4 wants 'paid' to be 0, C5 wants 'left' to be no more than 'cost', and S5 wants
-'offer' to be no more than 'cost'.
+  offer       the same, but a supporter's largest single payment counts instead
+              of what is left over if it is more
+In these figures C3 asks that 'paid' is 'cost' where 'funded' is 1. Where it is
+0, C4 asks that 'paid' is 0, C5 that 'left' is no more than 'cost', and S5 that
+'offer' is no more than 'cost'.
 
-A file that is refused gives a line instead of the table, as with 'prices'. The
-table is printed whether or not the certificate supports the outcome.
+If a file is refused, a line is printed instead of the table, as with 'prices'.
+The table is printed whether or not the certificate supports the outcome.
 
-Exit statuses: 0 printed, 2 refused, 3 usage, 4 fault.
+Exit statuses: 0 printed, 2 refused, 3 usage, 4 error.
 
 Examples:
   pbaudit margins town.pb prices.csv > margins.csv
@@ -240,23 +244,24 @@ Here every voter has a budget of 9/2, voter 1 pays 3/2 for the project 'park'
 and voter 2 pays 9/2. Voters are numbered from 1 by their rows in the election,
 whatever its column 'voter_id' says.
 
-The canonical form has a row for each payment that is not 0, by rising voter and
-then as the projects stand in the election, its numbers without leading zeros.
-It states the same denominator, voter budget and payments.
+The canonical form has a row for each payment that is not 0, ordered by voter
+and then by project as in the election, and no number has leading zeros. It
+states the same denominator, voter budget and payments.
 
 A file that is not an election, or not a price certificate for it, is refused.
-The line names the first thing wrong and its record, counted from 1 without
-empty lines:
+The line names the first error and its record, counted from 1 without empty
+lines:
   refused certificate 27 Repeated record 6
 
-Exit statuses: 0 printed, 2 refused, 3 usage, 4 fault.
+Exit statuses: 0 printed, 2 refused, 3 usage, 4 error.
 
 Example:
   pbaudit tidy town.pb prices.csv > canonical.csv";
 
 /// What `folder` audits.
 pub(crate) const FOLDER_NOTES: &str = "\
-The names of the files say which belong together. In a folder with these files
+Files that belong together have the same name before their endings. In a folder
+with these files
   krakow-2023.pb
   krakow-2023.prices.csv
   krakow-2023.violation.csv
@@ -264,23 +269,23 @@ The names of the files say which belong together. In a folder with these files
   lodz-2022.prices.csv
   notes.txt
 there are two elections: krakow-2023 has a price certificate and a violation
-certificate, and lodz-2022 has a price certificate. Other files are passed over,
-and so are folders and links.
+certificate, and lodz-2022 has a price certificate. Other files are ignored, and
+so are folders and links.
 
-The elections are taken in the order of their names, byte by byte. Each election
-has a line, as with 'read' but without notes, and each certificate of an
-election that is accepted has one, as with 'prices' and 'violation'. Each line
-begins with the name of the file. The last line has the numbers of elections, of
-certificates that are answered yes and no, and of files that are refused:
+The elections are audited in the order of their names, byte by byte. For each
+there is a line, as with 'read' but without notes, and if it is accepted a line
+for each of its certificates, as with 'prices' and 'violation'. Each line begins
+with the name of the file. The last line counts the elections, the certificates
+answered yes, those answered no, and the refused files:
   krakow-2023.pb: read 3 voters 3 projects 2 funded
   krakow-2023.prices.csv: supported priceable
   krakow-2023.violation.csv: failed V4 voter 1
   lodz-2022.pb: refused election 2 NoMeta record 1
   total 2 elections 1 yes 1 no 1 refused
-The outcomes are the elections' own: outcome files are not looked for.
+The outcomes are those that the elections state: outcome files are not used.
 
 Exit statuses: 0 nothing refused and no certificate failed, 1 nothing refused
-and a certificate failed, 2 a file is refused, 3 usage, 4 fault.
+and a certificate failed, 2 a file is refused, 3 usage, 4 error.
 
 Example:
   pbaudit folder elections --stable";

@@ -88,26 +88,50 @@ pub fn write_reply<W: Sink>(alloc: Global, reply: &Reply, out: &mut W) -> Result
     reply.answer(alloc)?.write(out)
 }
 
-/// The reply that the work on some inputs came to: its own, or the line of the input that was refused.
-pub fn settled(alloc: Global, work: Result<Reply, Stop>) -> Result<Reply, AllocError>
-    ensures { IfOk result (λ reply. spec.settled work ≡ Some reply) }
-{
-    match work {
-        Ok(reply) => Ok(reply),
-        Err(stop) => stopped(alloc, &stop),
+/// What is told of a reply: its lines, or its text.
+pub trait Telling: Sized + Drop {
+    ghost told: { replies.Reply → Self };
+
+    /// What is told of this reply.
+    fn tell(alloc: Global, reply: Reply) -> Result<Self, AllocError>
+        ensures { IfOk result (λ own. own ≡ told reply) };
+
+    /// Writes the text of the replies of which this is told.
+    fn write_out<W: Sink>(&self, alloc: Global, out: &mut W) -> Result<Status, Fault>
+        ensures { (reply : replies.Reply) → self.now ≡ told reply → Writes W.Sink (λ answer. answer ≡ answer_of reply) result out.old out.new };
+}
+
+impl Telling for Reply {
+    ghost told = { λ reply. reply };
+
+    fn tell(_alloc: Global, reply: Reply) -> Result<Reply, AllocError> {
+        Ok(reply)
+    }
+
+    fn write_out<W: Sink>(&self, alloc: Global, out: &mut W) -> Result<Status, Fault> {
+        write_reply(alloc, self, out)
     }
 }
 
-/// The answer that the work came to: its own, or the line of the input that was refused.
-pub fn settled_answer(
-    alloc: Global,
-    work: Result<Answer<Status>, Stop>,
-) -> Result<Answer<Status>, AllocError>
-    ensures { IfOk result (λ answer. spec.settled_answer work ≡ Some answer) }
+impl Telling for Answer<Status> {
+    ghost told = { answer_of };
+
+    fn tell(alloc: Global, reply: Reply) -> Result<Answer<Status>, AllocError> {
+        reply.answer(alloc)
+    }
+
+    fn write_out<W: Sink>(&self, _alloc: Global, out: &mut W) -> Result<Status, Fault> {
+        self.write(out)
+    }
+}
+
+/// What the work on some inputs came to: its own, or what is told of the line of the input that was refused.
+pub fn settled<T: Telling>(alloc: Global, work: Result<T, Stop>) -> Result<T, AllocError>
+    ensures { IfOk result (λ own. spec.settled T.told work ≡ Some own) }
 {
     match work {
-        Ok(answer) => Ok(answer),
-        Err(stop) => stopped(alloc, &stop)?.answer(alloc),
+        Ok(own) => Ok(own),
+        Err(stop) => T::tell(alloc, stopped(alloc, &stop)?),
     }
 }
 

@@ -9,7 +9,7 @@ mod status;
 mod taking;
 mod verdict_lines;
 
-pub use answer::{Answer, Reply, one_line, refused, settled, settled_answer, stopped, write_reply};
+pub use answer::{Answer, Reply, Telling, one_line, refused, settled, stopped, write_reply};
 pub use input::{InputFault, InputName, Refusal, Stop, stop_at};
 pub use lines::{push_line, push_notes, push_number, read_line};
 pub use loaded::{File, Loaded, bytes_of, optional_file};

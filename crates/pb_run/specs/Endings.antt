@@ -20,11 +20,12 @@ HasStatus (Usage _) status = status ≡ 3
 HasStatus NotText status = status ≡ 3
 HasStatus (Faulted _) status = status ≡ 4
 
--- Nothing is written on standard output at the end, unless help was asked for. Here O is the type of that output.
-abbrev pub WritesOnlyHelp : {O : Type 0} → End → O → O → Type 0
-WritesOnlyHelp (Answered _) old new = new ≡ old
-WritesOnlyHelp (Reported _) old new = new ≡ old
-WritesOnlyHelp (Help _) old new = ⊤
-WritesOnlyHelp (Usage _) old new = new ≡ old
-WritesOnlyHelp NotText old new = new ≡ old
-WritesOnlyHelp (Faulted _) old new = new ≡ old
+-- Nothing is written on standard output at the end, unless help was asked for, of which it isn't said here what is
+-- written. Here O is the type of that output.
+abbrev pub WritesNothingUnlessHelp : {O : Type 0} → End → O → O → Type 0
+WritesNothingUnlessHelp (Answered _) old new = new ≡ old
+WritesNothingUnlessHelp (Reported _) old new = new ≡ old
+WritesNothingUnlessHelp (Help _) old new = ⊤
+WritesNothingUnlessHelp (Usage _) old new = new ≡ old
+WritesNothingUnlessHelp NotText old new = new ≡ old
+WritesNothingUnlessHelp (Faulted _) old new = new ≡ old

@@ -1,6 +1,6 @@
 //! How a run of the program ends.
 ghost use Rattle.std.specs.Prelude.{◌≡◌};
-ghost use Rattle.pb_run.specs.Endings.{HasStatus, WritesOnlyHelp};
+ghost use Rattle.pb_run.specs.Endings.{HasStatus, WritesNothingUnlessHelp};
 
 use pb_audit::{Fault, FolderStatus, Status, UsageFault};
 use pb_election::{Output, put};
@@ -13,11 +13,11 @@ pub enum End {
     Answered(Status),
     /// The report on a folder was written, and ends so.
     Reported(FolderStatus),
-    /// The words ask for this text.
+    /// The arguments ask for this text.
     Help(String),
-    /// The words are not understood, as this text says.
+    /// The arguments are not understood, as this text says.
     Usage(String),
-    /// A word is not UTF-8.
+    /// An argument is not UTF-8.
     NotText,
     /// An answer was not written whole.
     Faulted(Fault),
@@ -37,7 +37,7 @@ impl End {
     /// The exit status, once help is written on `out`, or what went wrong on `err`. What `err` does not take is lost.
     pub fn tell<O: Write, E: Write>(&self, out: &mut O, err: &mut E) -> u8
         ensures status { HasStatus self.now result }
-        ensures printed { WritesOnlyHelp self.now out.old out.new }
+        ensures printed { WritesNothingUnlessHelp self.now out.old out.new }
     {
         match self {
             End::Answered(Status::Yes) => 0,
@@ -51,7 +51,7 @@ impl End {
                 Err(fault) => tell_fault(Fault::from(fault), err),
             },
             End::Usage(text) => tell_usage(text, err),
-            End::NotText => tell_usage("error: a word of the command line is not UTF-8\n", err),
+            End::NotText => tell_usage("error: an argument is not UTF-8\n", err),
             End::Faulted(fault) => tell_fault(*fault, err),
         }
     }

@@ -1,6 +1,6 @@
 //! The commands, on files at paths.
 use crate::file::FileReader;
-use crate::noted::NotedReader;
+use crate::watched::WatchedReader;
 use pb_audit::{
     Fault, Inputs, Status, run_both, run_explain, run_margins, run_prices, run_read, run_tidy,
     run_violation,
@@ -20,7 +20,7 @@ struct Opened<'a> {
 }
 
 /// A file at a path, whose failure is noted.
-type NamedFile<'a> = Input<NotedReader<'a, FileReader<'a>>>;
+type NamedFile<'a> = Input<WatchedReader<'a, FileReader<'a>>>;
 
 /// Files that are opened for one task, with the failure of the one that couldn't be read.
 #[derive(Clone, Copy)]
@@ -32,7 +32,7 @@ pub struct Files<'a> {
 impl<'a> Files<'a> {
     /// The file at a path.
     fn open(self, path: &'a str) -> NamedFile<'a> {
-        Input::new(NotedReader::new(FileReader::new(self.rt, path), self.failure))
+        Input::new(WatchedReader::new(FileReader::new(self.rt, path), self.failure))
     }
 
     /// The files that commands on a certificate share.
@@ -49,7 +49,7 @@ impl<'a> Files<'a> {
 
     /// Answers `read` on an election that is no file.
     pub fn read_from<I: Read, O: Sink>(self, input: &mut I, out: &mut O) -> Result<Status, Fault> {
-        let mut election = Input::new(NotedReader::new(input, self.failure));
+        let mut election = Input::new(WatchedReader::new(input, self.failure));
         run_read(self.rt.alloc(), &mut election, out)
     }
 

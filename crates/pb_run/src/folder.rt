@@ -59,7 +59,7 @@ fn tell_beside<E: Write>(rt: &HostRuntime, listing: &Listing, err: &mut E) {
     if listing.elections().is_empty() {
         let _ = writeln!(
             err,
-            "pbaudit: no election was found: no file of the folder is named NAME.pb"
+            "pbaudit: no election was found: the folder has no file named NAME.pb"
         );
     }
     if let Ok(Some(line)) = overlooked_line(rt, listing) {
@@ -84,7 +84,7 @@ fn overlooked_line(rt: &HostRuntime, listing: &Listing) -> Result<Option<String>
         write!(line, " and {} more", names.len() - MOST_NAMED)?;
     }
     line.push_str(
-        "; an election is NAME.pb, and its certificates are NAME.prices.csv and NAME.violation.csv, in these letters\n",
+        "; an election is NAME.pb, and its certificates are NAME.prices.csv and NAME.violation.csv, with endings in lower case\n",
     )?;
     Ok(Some(line))
 }

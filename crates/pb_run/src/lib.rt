@@ -8,10 +8,10 @@ mod file;
 mod files;
 mod folder;
 mod listing;
-mod noted;
 mod progress;
 mod refusals;
 mod task;
+mod watched;
 mod whole_run;
 mod words;
 

@@ -17,7 +17,7 @@ pub struct Listing {
 
 /// What a file of a folder is.
 #[derive(Clone, Copy)]
-enum Kind {
+enum Role {
     Election,
     Prices,
     Violation,
@@ -34,10 +34,10 @@ pub enum ListFault {
 }
 
 /// What a file is by the ending of its name.
-const KINDS: [(&str, Kind); 3] = [
-    (ELECTION, Kind::Election),
-    (PRICES, Kind::Prices),
-    (VIOLATION, Kind::Violation),
+const ROLES: [(&str, Role); 3] = [
+    (ELECTION, Role::Election),
+    (PRICES, Role::Prices),
+    (VIOLATION, Role::Violation),
 ];
 
 impl From<AllocError> for ListFault {
@@ -77,7 +77,7 @@ impl Listing {
     /// Takes what is listed, where it is an election or a certificate, or has such a name but for capital letters.
     fn take(&mut self, alloc: Global, entry: &DirEntry) -> Result<(), ListFault> {
         let file_name = entry.file_name();
-        let Some((kind, name)) = split(file_name) else {
+        let Some((role, name)) = split(file_name) else {
             if is_misnamed(file_name) && is_file(entry)? {
                 let name = String::from_str(alloc, file_name)?;
                 self.misnamed.push(name).map_err(AllocError::from)?;
@@ -88,10 +88,10 @@ impl Listing {
             return Ok(());
         }
         let name = String::from_str(alloc, name)?;
-        let taken = match kind {
-            Kind::Election => self.elections.push(name),
-            Kind::Prices => self.prices.push(name),
-            Kind::Violation => self.violations.push(name),
+        let taken = match role {
+            Role::Election => self.elections.push(name),
+            Role::Prices => self.prices.push(name),
+            Role::Violation => self.violations.push(name),
         };
         taken.map_err(AllocError::from)?;
         Ok(())
@@ -152,10 +152,10 @@ impl Listing {
 }
 
 /// What a file is by its name, and the name without the ending.
-fn split(file_name: &str) -> Option<(Kind, &str)> {
-    for (ending, kind) in KINDS {
+fn split(file_name: &str) -> Option<(Role, &str)> {
+    for (ending, role) in ROLES {
         if let Some(name) = file_name.strip_suffix(ending) {
-            return Some((kind, name));
+            return Some((role, name));
         }
     }
     None
@@ -164,7 +164,7 @@ fn split(file_name: &str) -> Option<(Kind, &str)> {
 /// Whether a file's name has one of the endings but for small and capital letters.
 fn is_misnamed(file_name: &str) -> bool {
     let name = file_name.as_bytes();
-    KINDS.into_iter().any(|(ending, _)| {
+    ROLES.into_iter().any(|(ending, _)| {
         let front = name.len().saturating_sub(ending.len());
         front > 0 && name[front..].eq_ignore_ascii_case(ending.as_bytes())
     })

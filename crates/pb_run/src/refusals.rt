@@ -52,7 +52,7 @@ fn push_note(text: &mut String, path: &str, note: &str) -> Result<(), AllocError
 
 /// Tells on `err` why a folder was not listed.
 pub fn tell_unlisted<E: Write>(rt: &HostRuntime, folder: &str, failure: Option<i32>, err: &mut E) {
-    let words = "the name of a file in it isn't UTF-8";
+    let words = "it has a file whose name isn't UTF-8";
     if let Ok(remarks) = unread(rt, Some(folder), failure, words) {
         tell_remarks(rt, folder, &remarks, err);
     }

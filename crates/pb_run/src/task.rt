@@ -70,6 +70,6 @@ fn language_of(code: Option<&str>) -> Option<Language> {
 fn no_language(rt: &HostRuntime) -> Result<String, AllocError> {
     String::from_str(
         rt.alloc(),
-        "error: the language of a page is en, pl, de or fr\n",
+        "error: the language of a page has to be en, pl, de or fr\n",
     )
 }

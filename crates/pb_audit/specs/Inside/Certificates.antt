@@ -28,10 +28,14 @@ pub record AnswersCertificate {A : Type 0} (states : Instance → Delivery → S
   pub given : states e certificate c
   pub out : r ≡ with_input c (λ a. reply e w a)
 
+-- it is told of one of these replies
+abbrev pub Tells : {T : Type 0} → (Reply → T) → (Reply → Type 0) → T → Type 0
+Tells told is_reply own = (reply : Reply) × (is_reply reply × (own ≡ told reply))
+
 -- What some work came to, memory aside: what is told of one of these replies, or why an input was refused, on which the
 -- reply is one of these.
 abbrev pub IfTold : {T : Type 0} → (Reply → T) → (Reply → Type 0) → Result T Stop → Type 0
-IfTold told is_reply (Ok own) = (reply : Reply) × (is_reply reply × (own ≡ told reply))
+IfTold told is_reply (Ok own) = Tells told is_reply own
 IfTold told is_reply (Err why) = IfSome (stopped why) is_reply
 
 -- the status of each reply on what a certificate of a kind states keeps what it promises

@@ -12,7 +12,7 @@ use Rattle.pb_certificate.specs.Claim.{Claim}
 use Rattle.pb_certificate.specs.declared.measure.Measure.{Measure}
 use Rattle.pb_certificate.specs.declared.refusal.CertFault.{CertFault}
 use Rattle.pb_certificate.specs.declared.refusal.CertFault.TheVariants as cert_fault
-use Rattle.pb_reply.specs.Replies.{Answer, Reply, answer_of, refused}
+use Rattle.pb_reply.specs.Replies.{Reply, refused}
 use Rattle.pb_reply.specs.Inputs.{Stated, StatesFile, StatesOutcome, audited, refusal_of}
 use Rattle.pb_reply.specs.Readings.{Delivers, DeliversFile, FileReading, Reading}
 use Rattle.pb_reply.specs.declared.input.InputFault.{InputFault}
@@ -20,7 +20,6 @@ use Rattle.pb_reply.specs.declared.input.InputFault.TheVariants as fault
 use Rattle.pb_reply.specs.declared.input.InputName.{InputName}
 use Rattle.pb_reply.specs.declared.input.Stop.{Stop}
 use Rattle.pb_reply.specs.declared.input.Stop.TheVariants as stop
-use Rattle.pb_reply.specs.declared.status.Status.{Status}
 
 -- what an input that was taken states, memory aside
 abbrev pub IfTaken : {A : Type 0} → Result A Stop → (Stated A → Type 0) → Type 0
@@ -80,17 +79,12 @@ pub record ReadsOutcome (e : Instance) (outcome : FileReading) (stated : Stated 
   pub delivered : DeliversFile outcome.before outcome.after delivery
   pub audits : AuditsOutcome e delivery stated
 
--- the reply that some work came to: its own, or the line of the input that was refused; there is none where memory was
--- wanted
+-- the reply on what the work stopped for; there is none where memory was wanted
 abbrev pub stopped : Stop → Option Reply
 stopped (stop.Refused r) = Some (refused r)
 stopped stop.Memory = None
 
-abbrev pub settled : Result Reply Stop → Option Reply
-settled (Ok own) = Some own
-settled (Err why) = stopped why
-
--- the same of an answer
-abbrev pub settled_answer : Result (Answer Status) Stop → Option (Answer Status)
-settled_answer (Ok own) = Some own
-settled_answer (Err why) = option_map answer_of (stopped why)
+-- what some work came to: its own, or what is told of the reply on what it stopped for
+abbrev pub settled : {T : Type 0} → (Reply → T) → Result T Stop → Option T
+settled told (Ok own) = Some own
+settled told (Err why) = option_map told (stopped why)

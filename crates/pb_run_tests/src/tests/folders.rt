@@ -19,7 +19,7 @@ const READ: &str = "read 3 voters 3 projects 2 funded";
 
 /// What stands behind the names of files that aren't audited.
 const NAMES: &str =
-    "; an election is NAME.pb, and its certificates are NAME.prices.csv and NAME.violation.csv, in these letters";
+    "; an election is NAME.pb, and its certificates are NAME.prices.csv and NAME.violation.csv, with endings in lower case";
 
 const REFUSED: &str = "refused election 2 NoMeta record 1";
 

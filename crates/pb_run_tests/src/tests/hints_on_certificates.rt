@@ -86,17 +86,17 @@ certificate 23 BadNumber record 5
 + x,a,2
 certificate 23 BadNumber record 5
 :5: the voter isn't a whole number: 'x'
-: voters are named by their rows in VOTES, counted from 1, and not by voter_id
+: voters are numbered by their rows in VOTES, from 1, and not by voter_id
 @ 4 1
 + 7010,a,2
 certificate 24 UnknownVoter record 5
 :5: there is no voter '7010'; the election has 3 voters
-: voters are named by their rows in VOTES, counted from 1, and not by voter_id; the one with voter_id '7010' is voter 3
+: voters are numbered by their rows in VOTES, from 1, and not by voter_id; the one with voter_id '7010' is voter 3
 @ 4 1
 + 0,a,2
 certificate 24 UnknownVoter record 5
 :5: there is no voter '0'; the election has 3 voters
-: voters are named by their rows in VOTES, counted from 1, and not by voter_id
+: voters are numbered by their rows in VOTES, from 1, and not by voter_id
 @ 4 1
 + 1,d,2
 certificate 25 UnknownProject record 5
@@ -114,7 +114,7 @@ certificate 25 UnknownProject record 5
 + 2,a,4
 + 1,a,2
 certificate 26 OutOfOrder record 6
-:6: voter '1' comes after a higher one; rows have to be in the order of their voters
+:6: voter '1' comes after a higher one; rows have to be sorted by voter
 @ 4 4
 + 1,a,2
 + 1,b,2
@@ -186,22 +186,22 @@ certificate 21 BadHead record 2
 + satisfaction,cost
 certificate 22 BadRow record 2
 :2: expected a row project,ID or voter,NUMBER, but found 'satisfaction,cost'
-: a measure is stated in version 2 only, by the record after pb-violation,2
+: only version 2 states a measure, in the record after pb-violation,2
 @ 3 2
 + voter_id,1
 certificate 22 BadRow record 4
 :4: expected a row project,ID or voter,NUMBER, but found 'voter_id,1'
-: voters are named by their rows in VOTES, counted from 1, and not by voter_id
+: voters are numbered by their rows in VOTES, from 1, and not by voter_id
 @ 3 2
 + voter,one
 certificate 23 BadNumber record 4
 :4: the voter isn't a whole number: 'one'
-: voters are named by their rows in VOTES, counted from 1, and not by voter_id
+: voters are numbered by their rows in VOTES, from 1, and not by voter_id
 @ 3 2
 + voter,7002
 certificate 24 UnknownVoter record 4
 :4: there is no voter '7002'; the election has 3 voters
-: voters are named by their rows in VOTES, counted from 1, and not by voter_id; the one with voter_id '7002' is voter 2
+: voters are numbered by their rows in VOTES, from 1, and not by voter_id; the one with voter_id '7002' is voter 2
 @ 3 2
 + voter,1
 + voter,01
@@ -280,7 +280,7 @@ prices 22 BadRow record 5
 + 7010,a,2
 prices 24 UnknownVoter record 5
 :5: there is no voter '7010'; the election has 3 voters
-: voters are named by their rows in VOTES, counted from 1, and not by voter_id; the one with voter_id '7010' is voter 3
+: voters are numbered by their rows in VOTES, from 1, and not by voter_id; the one with voter_id '7010' is voter 3
 "#;
 
 #[test]

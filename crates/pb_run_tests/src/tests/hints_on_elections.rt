@@ -51,7 +51,7 @@ const MARKERS: &str = r#"
 + Project:
 election 5 UnexpectedSection record 13
 :13: the section VOTES begins here, but PROJECTS has to come before it
-:8: should this be the line PROJECTS? It has to be spelled so, with nothing else on it
+:8: should this be the line PROJECTS? It has to be spelled like that, with nothing else on it
 @ 7 1
 election 5 UnexpectedSection record 12
 :12: the section VOTES begins here, but PROJECTS has to come before it
@@ -60,12 +60,12 @@ election 5 UnexpectedSection record 12
 + VOTERS
 election 9 BadMoney record 13
 :13: the cost is empty
-:13: should this be the line VOTES? It has to be spelled so, with nothing else on it
+:13: should this be the line VOTES? It has to be spelled like that, with nothing else on it
 @ 12 1
 + VOTES;3
 election 9 BadMoney record 14
 :14: the cost isn't an amount: 'vote'
-:13: should this be the line VOTES? It has to be spelled so, with nothing else on it
+:13: should this be the line VOTES? It has to be spelled like that, with nothing else on it
 @ 12 1
 election 9 BadMoney record 13
 :13: the cost isn't an amount: 'vote'
@@ -74,7 +74,7 @@ election 9 BadMoney record 13
 + PROJEKTE
 election 4 MissingSection record 13
 : the file ends at line 12; the section PROJECTS is missing
-:8: should this be the line PROJECTS? It has to be spelled so, with nothing else on it
+:8: should this be the line PROJECTS? It has to be spelled like that, with nothing else on it
 "#;
 
 #[test]
@@ -166,7 +166,7 @@ election 9 BadMoney record 6
 + budget;1 000
 election 9 BadMoney record 5
 :9: the budget isn't an amount: '1 000'
-: an amount is digits, perhaps with a point or comma and up to six digits after it
+: an amount is written in digits, optionally with a point or comma and up to six digits after it
 @ 9 1
 + a;1.0000001;Park;1
 election 9 BadMoney record 10

@@ -12,7 +12,7 @@ struct Given<'a> {
     cause: &'a str,
 }
 
-const UTF_16: &str = ": the file is UTF-16, as some programs of Windows write it; save it as UTF-8";
+const UTF_16: &str = ": the file is UTF-16, as some Windows programs write it; save it as UTF-8";
 
 const GIVEN: [Given<'static>; 9] = [
     Given {
@@ -31,7 +31,7 @@ const GIVEN: [Given<'static>; 9] = [
         bytes: b"towns/a.pb",
         fault: "2 NoMeta",
         told: ":1: the file doesn't begin with META, but with 'towns/a.pb'",
-        cause: ": this looks like the path of a file; the contents of the file are expected",
+        cause: ": this looks like the path of a file, and not like its contents",
     },
     Given {
         bytes: b"M\0E\0T\0A\0\n\0",
@@ -61,7 +61,7 @@ const GIVEN: [Given<'static>; 9] = [
         bytes: b"\xD0\xCF\x11\xE0\n",
         fault: "1 NotUtf8",
         told: ":1: the text isn't UTF-8: '\\xd0\\xcf\\u{11}\\xe0'",
-        cause: ": the file is a spreadsheet of an older kind; save it as text",
+        cause: ": the file is an older kind of spreadsheet; save it as text",
     },
     Given {
         bytes: b"META\xE9\n",

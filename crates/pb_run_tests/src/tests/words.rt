@@ -31,7 +31,7 @@ fn word_that_is_not_text_is_a_usage_fault(rt: HostRuntime) -> Result<(), Fail> {
     let mut input = b"".as_slice();
     assert_eq!(rt; run(&rt, words, &mut input, &mut out, &mut err), 3);
     assert!(rt; out.written.is_empty());
-    let told = b"error: a word of the command line is not UTF-8\n".as_slice();
+    let told = b"error: an argument is not UTF-8\n".as_slice();
     assert!(rt; err.written.as_slice() == told);
     Ok(())
 }

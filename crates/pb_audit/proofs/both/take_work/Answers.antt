@@ -51,7 +51,7 @@ returns g c =
     both_read_settled c.args.mode _ _ _ _ c.in_ok-verdict.verdict _ _
     c.in_ok-election.ensures c.in_ok-outcome.ensures.taken c.in_ok-verdict.ensures.verdict c.in_ok-violation.ensures
     (subst
-    (λ (d : Delivery). IfSome (settled c.beside.result)
+    (λ (d : Delivery). IfSome (settled (λ r. r) c.beside.result)
     (AnswersCertificate (StatesViolation Violation) (beside c.args.mode c.in_ok-verdict.verdict)
     c.in_ok-election.election c.in_ok-outcome.outcome.marks d))
     c.lend.ensures c.beside.ensures)

@@ -1,6 +1,5 @@
-use Rattle.std.proofs.Common.{◌≡◌, ◌≤◌, ◌++◌, ◌-◌, Bool, List}
+use Rattle.std.proofs.Common.{◌≡◌, ◌++◌, Bool, List}
 use Rattle.std.specs.List.{range_with_len}
-use Rattle.pb_election.specs.Instance.{projects}
 use Rattle.pb_certificate.specs.Canon.{lines}
 use Rattle.pb_certificate.specs.Prices.{Prices}
 use Rattle.pb_certificate.specs.Inside.RecordWriter.{IsOpen, held}
@@ -8,13 +7,11 @@ use Rattle.pb_price.specs.Margins.{AreMargins}
 use Rattle.pb_audit.specs.Margins.{margin_head, margin_rows}
 use Rattle.pb_audit.proofs.margin_table.table_text.Given as goal
 
-abbrev pub invariant-loop-project : goal.invariant-loop-project
-invariant-loop-project l =
+abbrev pub invariant-loop-k : goal.invariant-loop-k
+invariant-loop-k l =
     record {
       open_still : IsOpen l.writer;
-      within : l.project - 1 ≤ projects l.election;
       text : (w : List Bool) (p : Prices) → AreMargins l.election w p l.margins
           → held l.writer
-          ≡ lines
-          (margin_head l.margins.grains_per_unit ++ margin_rows l.election w p (range_with_len 1 (l.project - 1)));
+          ≡ lines (margin_head l.margins.grains_per_unit ++ margin_rows l.election w p (range_with_len 1 l.k));
     }

@@ -1,5 +1,5 @@
 use Rattle.std.proofs.Common.{refl}
-use Rattle.pb_command.specs.Entries.{with_parameter}
+use Rattle.pb_command.specs.Descriptions.{with_parameter}
 use Rattle.pb_command.proofs.Building.{adds_rule, gone_through, same_command, takes_next}
 use Rattle.pb_command.proofs.command.command_of.Goals as goal
 
@@ -9,7 +9,7 @@ loop-parameter-init c = same_command c.new.result c.about-command.result _ _ (c.
 
 pub loop-parameter-preserved : goal.loop-parameter-preserved
 loop-parameter-preserved c =
-    takes_next with_parameter _ c.args.entry.now.parameters.now _ _ c.loop-parameter-test.true _
+    takes_next with_parameter _ c.args.description.now.parameters.now _ _ c.loop-parameter-test.true _
     (adds_rule _ _ _ _ _ c.loop-parameter.invariant c.arg_of.ensures.rule c.arg_of.ensures.local
     c.in_ok-command.ensures)
 

@@ -4,8 +4,7 @@ use crate::tests::refusals::{in_certificate, in_election, refused};
 use pb_certificate::CertFault;
 use pb_election::ElectionFault;
 use pb_reply::{
-    Answer, Fault, InputFault, InputName, Reply, Status, one_line, settled, settled_answer,
-    stop_at, stopped,
+    Answer, Fault, InputFault, InputName, Reply, Status, one_line, settled, stop_at, stopped,
 };
 use std::alloc::{AllocError, Global};
 use std::process::Abort;
@@ -44,14 +43,9 @@ fn reply_is_answered_by_its_lines_each_with_its_end(rt: HostRuntime) -> Result<(
 #[test]
 fn work_that_came_to_its_end_is_settled_as_it_is(rt: HostRuntime) -> Result<(), Fail> {
     let alloc = rt.alloc();
-    let settled = settled(alloc, Ok(reply(alloc)?))?;
-    expect_reply(
-        &rt,
-        &settled,
-        &["supported stable", "failed V1"],
-        Status::No,
-    );
-    let answer = settled_answer(alloc, Ok(settled.answer(alloc)?))?;
+    let own = settled(alloc, Ok(reply(alloc)?))?;
+    expect_reply(&rt, &own, &["supported stable", "failed V1"], Status::No);
+    let answer = settled(alloc, Ok(own.answer(alloc)?))?;
     expect_answer(&rt, &answer, "supported stable\nfailed V1\n", Status::No);
     Ok(())
 }
@@ -67,9 +61,11 @@ fn expect_stopped(
     let stop = stop_at(input, fault);
     let status = refused(input, fault);
     expect_reply(rt, &stopped(alloc, &stop)?, &[line], status);
-    expect_reply(rt, &settled(alloc, Err(stop))?, &[line], status);
+    let reply: Reply = settled(alloc, Err(stop))?;
+    expect_reply(rt, &reply, &[line], status);
     let text = format!(in alloc; "{line}\n")?;
-    expect_answer(rt, &settled_answer(alloc, Err(stop))?, &text, status);
+    let answer: Answer<Status> = settled(alloc, Err(stop))?;
+    expect_answer(rt, &answer, &text, status);
     Ok(())
 }
 
@@ -126,8 +122,8 @@ fn want_of_memory_is_told_in_no_line(rt: HostRuntime) {
     ] {
         let stop = stop_at(InputName::Election, fault);
         assert!(rt; stopped(rt.alloc(), &stop).is_err());
-        assert!(rt; settled(rt.alloc(), Err(stop)).is_err());
-        assert!(rt; settled_answer(rt.alloc(), Err(stop)).is_err());
+        assert!(rt; settled::<Reply>(rt.alloc(), Err(stop)).is_err());
+        assert!(rt; settled::<Answer<Status>>(rt.alloc(), Err(stop)).is_err());
     }
 }
 

@@ -1,8 +1,8 @@
--- What an entry of the program's own table of commands stands for.
+-- What a description in the program's own table of commands stands for.
 use Rattle.std.specs.Prelude.{fold}
 use Rattle.clap.specs.Words.{App, Rule, new_app, with_rule, with_subcommand}
 use Rattle.pb_command.specs.Commands.{language_rule, outcome_rule, path_rule, switch_rule}
-use Rattle.pb_command.specs.declared.command.Entry.{Entry}
+use Rattle.pb_command.specs.declared.command.Description.{Description}
 use Rattle.pb_command.specs.declared.command.Parameter.{Parameter}
 use Rattle.pb_command.specs.declared.command.Parameter.TheVariants as parameter
 
@@ -16,9 +16,9 @@ abbrev pub with_parameter : App → Parameter → App
 with_parameter a p = with_rule a (rule_of_parameter p)
 
 -- a command of this name, with these parameters in turn
-abbrev pub app_of_entry : Entry → App
-app_of_entry e = fold with_parameter (new_app e.name.now) e.parameters.now
+abbrev pub app_described : Description → App
+app_described e = fold with_parameter (new_app e.name.now) e.parameters.now
 
 -- a program with one more command
-abbrev pub with_entry : App → Entry → App
-with_entry a e = with_subcommand a (app_of_entry e).top
+abbrev pub with_described : App → Description → App
+with_described a e = with_subcommand a (app_described e).top
