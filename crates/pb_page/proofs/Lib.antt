@@ -1,5 +1,7 @@
+pub mod InOrder
 pub mod Pages
 pub mod Plain
-pub mod Sums
+pub mod Ranked
+pub mod Rows
 pub mod Tells
 pub mod Texts

@@ -6,7 +6,7 @@ use Rattle.pb_records.specs.Loading.{Delivery}
 use Rattle.pb_price.specs.declared.Mode.{Mode}
 use Rattle.pb_reply.specs.Inputs.{Stated, StatesElection}
 use Rattle.pb_reply.specs.Replies.{Answer, answer_of, price_status, refused, violation_status}
-use Rattle.pb_reply.specs.Inside.Taking.{AuditsOutcome, IfTaken, settled_answer}
+use Rattle.pb_reply.specs.Inside.Taking.{AuditsOutcome, IfTaken, settled}
 use Rattle.pb_reply.specs.declared.input.Stop.{Stop}
 use Rattle.pb_reply.specs.declared.input.Stop.TheVariants as stop
 use Rattle.pb_reply.specs.declared.status.Status.{Status}
@@ -22,7 +22,7 @@ use Rattle.pb_page.specs.declared.told.Told.{Told}
 -- where the election is refused, the others may state anything
 pub stopped-at-election : (m : Mode) (l : Language) (election : Delivery) (outcome : Option Delivery)
     (certificate : Delivery) (why : Stop) → IfTaken {A = Instance} (Err why) (StatesElection election)
-    → IfSome (settled_answer (Err why)) (AnswersPage m l election outcome certificate)
+    → IfSome (settled answer_of (Err why)) (AnswersPage m l election outcome certificate)
 stopped-at-election m l election outcome certificate (stop.Refused r) given = record {
   e = Err r;
   o = None;
@@ -36,7 +36,7 @@ stopped-at-election m l election outcome certificate stop.Memory given = tt
 pub stopped-at-outcome : (m : Mode) (l : Language) (election : Delivery) (outcome : Option Delivery)
     (certificate : Delivery) (e : Instance) (why : Stop) → StatesElection election (Ok e)
     → IfTaken {A = List Bool} (Err why) (AuditsOutcome e outcome)
-    → IfSome (settled_answer (Err why)) (AnswersPage m l election outcome certificate)
+    → IfSome (settled answer_of (Err why)) (AnswersPage m l election outcome certificate)
 stopped-at-outcome m l election outcome certificate e (stop.Refused r) given taken = record {
   e = Ok e;
   o = taken.file;
@@ -56,7 +56,7 @@ stopped-at-outcome m l election outcome certificate e stop.Memory given taken = 
 pub stopped-at-certificate : (m : Mode) (l : Language) (election : Delivery) (outcome : Option Delivery)
     (certificate : Delivery) (e : Instance) (w : List Bool) (why : Stop) → StatesElection election (Ok e)
     → AuditsOutcome e outcome (Ok w) → IfTaken {A = Told} (Err why) (TellsCertificate m e w certificate)
-    → IfSome (settled_answer (Err why)) (AnswersPage m l election outcome certificate)
+    → IfSome (settled answer_of (Err why)) (AnswersPage m l election outcome certificate)
 stopped-at-certificate m l election outcome certificate e w (stop.Refused r) given taken states = record {
   e = Ok e;
   o = taken.file;
@@ -109,6 +109,7 @@ page-answered m l election outcome certificate e w t a given taken tells languag
       in_language = language;
       answers = renders.answers;
       sums = renders.has_sums;
+      projects = renders.projects;
       text = renders.text;
       status = renders.status ∙ told-status m e w tells.0 t tells.2;
     }

@@ -19,6 +19,7 @@ use Rattle.pb_reply.specs.declared.status.Status.{Status}
 use Rattle.pb_audit.specs.Answers.{FilesState}
 use Rattle.pb_audit.specs.Explained.{Certificate, OfPrices, OfViolation, StatesCertificate, explained_reply}
 use Rattle.pb_page.specs.Pieces.{Close, Headline, Line, Open, Piece, rendering}
+use Rattle.pb_page.specs.Rows.{ListsProjects}
 use Rattle.pb_page.specs.Sums.{HasInOrder, files_of, sums_of}
 use Rattle.pb_page.specs.Told.{shows_of}
 use Rattle.pb_page.specs.declared.language.Language.{Language}
@@ -72,7 +73,7 @@ pub record HasAnswer (pieces : List Piece) : Type 0 where
   pub is : pieces ≡ front ++ (headline_box ++ (middle ++ (line_box ++ back)))
 
 -- The page about a certificate, in a language: what the pieces show is what is told, the sums are those of these files,
--- and the status is that of `explain`.
+-- the projects stand in their orders, and the status is that of `explain`.
 pub record IsPage (m : Mode) (language : Language) (files : List Delivery) (e : Instance) (w : List Bool)
     (c : Certificate) (a : Answer Status) : Type 0 where
   pub told : Told
@@ -81,6 +82,7 @@ pub record IsPage (m : Mode) (language : Language) (files : List Delivery) (e : 
   pub in_language : told.style.language ≡ language
   pub answers : HasAnswer pieces
   pub sums : HasInOrder (sums_of files) pieces
+  pub projects : ListsProjects told.mode told.found pieces
   pub text : a.text ≡ rendering (shows_of told) pieces
   pub status : a.status ≡ (explained_reply m e w c).status
 

@@ -1,8 +1,9 @@
 -- The SHA-256 sums of files, as a page shows them.
-use Rattle.std.specs.Prelude.{◌≡◌, ⊤, ℕ, List, [], ◌∷◌, ◌++◌, ◌/◌, ◌%◌, Option, codes, map, option_to_list, slice_index}
+use Rattle.std.specs.Prelude.{ℕ, List, [], ◌∷◌, ◌++◌, ◌/◌, ◌%◌, Option, codes, map, option_to_list, slice_index}
 use Rattle.std.specs.List.{flat_map}
 use Rattle.sha2.specs.Sha256.{sha256}
 use Rattle.pb_records.specs.Loading.{Delivery, Bytes, Read, TooLong}
+use Rattle.pb_page.specs.InOrder.{HasParts}
 use Rattle.pb_page.specs.Pieces.{Close, Open, Piece, Words}
 use Rattle.pb_page.specs.declared.tag.Tag.TheVariants as tag
 
@@ -35,6 +36,4 @@ abbrev pub code_box : List ℕ → List Piece
 code_box text = Open tag.Code [] ∷ Words text ∷ Close ∷ []
 
 abbrev pub HasInOrder : List (List ℕ) → List Piece → Type 0
-HasInOrder [] pieces = ⊤
-HasInOrder (text ∷ texts) pieces =
-    (front : List Piece) × (back : List Piece) × (pieces ≡ front ++ (code_box text ++ back)) × HasInOrder texts back
+HasInOrder texts pieces = HasParts code_box texts pieces

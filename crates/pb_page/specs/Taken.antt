@@ -15,6 +15,7 @@ use Rattle.pb_reply.specs.declared.input.InputName.TheVariants as name
 use Rattle.pb_audit.specs.Explained.{Certificate, StatesCertificate}
 use Rattle.pb_page.specs.Answers.{HasAnswer, Tells}
 use Rattle.pb_page.specs.Pieces.{Piece, rendering}
+use Rattle.pb_page.specs.Rows.{ListsProjects}
 use Rattle.pb_page.specs.Sums.{HasInOrder}
 use Rattle.pb_page.specs.Told.{shows_of, status_of}
 use Rattle.pb_page.specs.declared.case.Files.{Files}
@@ -47,10 +48,11 @@ abbrev pub sums_shown : Files → List (List ℕ)
 sums_shown files =
     sum_of files.election ∷ (map sum_of (option_to_list files.outcome) ++ sum_of files.certificate ∷ [])
 
--- the page shows what is told, and these sums
+-- the page shows what is told, the projects in their orders, and these sums
 pub record RendersTold (t : Told) (sums : List (List ℕ)) (a : Answer Status) : Type 0 where
   pub pieces : List Piece
   pub answers : HasAnswer pieces
   pub has_sums : HasInOrder sums pieces
+  pub projects : ListsProjects t.mode t.found pieces
   pub text : a.text ≡ rendering (shows_of t) pieces
   pub status : a.status ≡ status_of t.mode t.found

@@ -1,11 +1,10 @@
 //! What a page is about: the files, and what was found of them.
-use crate::amounts::push_amount;
-use crate::figure::Figure;
+use crate::amounts::{Balance, push_amount};
 use crate::labels::Labels;
 use crate::saying::Words;
 use crate::told::Told;
 use pb_election::{Election, Outcome};
-use std::alloc::{AllocError, Global};
+use std::alloc::AllocError;
 
 /// What a page is about. Names and facts of files are there as they are shown: with what can't be seen made visible.
 #[derive(Drop)]
@@ -50,10 +49,9 @@ impl Case<'_> {
             && self.outcome.has(j)
     }
 
-    /// The text of a figure, for where no piece of the page can stand, as in an attribute.
-    pub(crate) fn figure_text(&self, alloc: Global, figure: Figure) -> Result<String, AllocError> {
-        let mut text = String::new(alloc);
-        let amount = self.told.amount_of(figure);
+    /// The text of an amount, for where no piece of the page can stand, as in an attribute.
+    pub(crate) fn amount_text(&self, amount: Balance) -> Result<String, AllocError> {
+        let mut text = String::new(self.words.alloc);
         push_amount(
             &mut text,
             self.told.style,

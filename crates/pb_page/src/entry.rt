@@ -1,7 +1,8 @@
 //! The page on some files.
 ghost use Rattle.std.specs.Prelude.{◌≡◌, IfOk, IfSome, map, option_map, option_to_list};
 ghost use Rattle.pb_reply.specs.Inside.Loaded.{lent};
-ghost use Rattle.pb_reply.specs.Inside.Taking.{settled_answer};
+ghost use Rattle.pb_reply.specs.Inside.Taking.{settled};
+ghost use Rattle.pb_reply.specs.Replies.{answer_of};
 ghost use Rattle.pb_page.specs.Answers.{AnswersPage};
 ghost use Rattle.pb_page.specs.Sums.{bytes_of, files_of, sum_text, sums_of};
 ghost use Rattle.pb_page.specs.Taken as spec;
@@ -21,7 +22,7 @@ use crate::telling::told_of;
 use crate::told::Told;
 use pb_election::{Election, Outcome};
 use pb_price::Mode;
-use pb_reply::{Answer, File, Status, Stop, election_of, outcome_of, settled_answer};
+use pb_reply::{Answer, File, Status, Stop, election_of, outcome_of, settled};
 use std::alloc::{AllocError, Global};
 
 /// A file that a page is asked for, with the name that the page shows.
@@ -58,7 +59,7 @@ pub fn page_answer(
     // and which show what is told of them; or the line of the input that is refused.
     ensures { IfOk result (AnswersPage mode language (lent files.entry.election.file) (option_map file_of files.entry.outcome) (lent files.entry.certificate.file)) }
 {
-    settled_answer(alloc, page_work(alloc, files, mode, language))
+    settled(alloc, page_work(alloc, files, mode, language))
 }
 
 // The page, or why there is none.
@@ -68,7 +69,7 @@ fn page_work(
     mode: Mode,
     language: Language,
 ) -> Result<Answer<Status>, Stop>
-    ensures { IfSome (settled_answer result) (AnswersPage mode language (lent files.entry.election.file) (option_map file_of files.entry.outcome) (lent files.entry.certificate.file)) }
+    ensures { IfSome (settled answer_of result) (AnswersPage mode language (lent files.entry.election.file) (option_map file_of files.entry.outcome) (lent files.entry.certificate.file)) }
 {
     let election = election_of(alloc, files.election.file)?;
     let outcome = outcome_of(alloc, outcome_file(files.outcome), &election)?;

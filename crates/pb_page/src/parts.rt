@@ -1,6 +1,7 @@
 //! The parts of the page, in the order in which it shows them.
 ghost use Rattle.std.specs.Prelude.{◌≡◌, ◌++◌, IfOk, OnOk};
 ghost use Rattle.pb_page.specs.Answers.{HasAnswer, headline_box, line_box};
+ghost use Rattle.pb_page.specs.Rows.{ListsFunded, ListsProjects, ListsUnfunded};
 ghost use Rattle.pb_page.specs.Sums.{HasInOrder};
 ghost use Rattle.pb_page.specs.Taken.{sums_shown};
 
@@ -37,6 +38,7 @@ const POLICY: &str =
 pub(crate) fn whole_page(alloc: Global, case: &Case<'_>) -> Result<Page, AllocError>
     ensures answer { IfOk result HasAnswer }
     ensures sums { IfOk result (HasInOrder (sums_shown (case.now).files)) }
+    ensures projects { IfOk result (ListsProjects (case.now).told.mode (case.now).told.found) }
 {
     let mut page = up_to_answer(alloc, case)?;
     push_headline(&mut page)?;
@@ -79,14 +81,38 @@ fn up_to_answer(alloc: Global, case: &Case<'_>) -> Result<Page, AllocError> {
 
 // The page behind the answer in a sentence, and up to the line that the program prints.
 fn behind_answer(alloc: Global, case: &Case<'_>) -> Result<Page, AllocError>
+    ensures sums { IfOk result (HasInOrder (sums_shown (case.now).files)) }
+    ensures projects { IfOk result (ListsProjects (case.now).told.mode (case.now).told.found) }
+{
+    let mut page = up_to_figures(alloc, case)?;
+    page.append(figures_of(alloc, case)?)?;
+    page.append(behind_figures(alloc, case)?)?;
+    Ok(page)
+}
+
+// What stands between the answer and the figures.
+fn up_to_figures(alloc: Global, case: &Case<'_>) -> Result<Page, AllocError> {
+    let mut page = Page::new(alloc);
+    answer::close_answer(&mut page, case)?;
+    glance::push_glance(&mut page, case)?;
+    Ok(page)
+}
+
+// The figures: for prices the projects and the conditions, and for a violation the group and the tests.
+fn figures_of(alloc: Global, case: &Case<'_>) -> Result<Page, AllocError>
+    ensures { IfOk result (ListsProjects (case.now).told.mode (case.now).told.found) }
+{
+    match &case.told.found {
+        Found::Prices(figures) => prices(alloc, case, figures),
+        Found::Violation(figures) => violation(alloc, case, figures),
+    }
+}
+
+// What stands behind the figures, up to the line that the program prints.
+fn behind_figures(alloc: Global, case: &Case<'_>) -> Result<Page, AllocError>
     ensures { IfOk result (HasInOrder (sums_shown (case.now).files)) }
 {
     let mut page = Page::new(alloc);
-    answer::close_answer(&mut page, case)?;
-    match &case.told.found {
-        Found::Prices(figures) => push_prices(&mut page, case, figures)?,
-        Found::Violation(figures) => push_violation(&mut page, case, figures)?,
-    }
     closing::push_closing(&mut page, case)?;
     page.close()?;
     files::push_files(&mut page, case)?;
@@ -134,19 +160,34 @@ fn push_meta(
     page.open_with(Tag::Meta, attributes)
 }
 
-fn push_prices(page: &mut Page, case: &Case<'_>, figures: &PriceFigures) -> Result<(), AllocError> {
-    glance::push_glance(page, case, figures)?;
-    unfunded::push_unfunded(page, case, figures)?;
-    funded::push_funded(page, case, figures)?;
-    conditions::push_conditions(page, case, figures)
+fn prices(alloc: Global, case: &Case<'_>, figures: &PriceFigures) -> Result<Page, AllocError>
+    ensures unfunded { IfOk result (ListsUnfunded (case.now).told.mode.stable (figures.now).margins.projects.items) }
+    ensures funded { IfOk result (ListsFunded (figures.now).margins.projects.items) }
+{
+    let mut page = unfunded::unfunded(case, figures)?;
+    page.append(funded::funded(case, figures)?)?;
+    page.append(conditions_of(alloc, case, figures)?)?;
+    Ok(page)
 }
 
-fn push_violation(
-    page: &mut Page,
+fn conditions_of(
+    alloc: Global,
+    case: &Case<'_>,
+    figures: &PriceFigures,
+) -> Result<Page, AllocError> {
+    let mut page = Page::new(alloc);
+    conditions::push_conditions(&mut page, case, figures)?;
+    Ok(page)
+}
+
+fn violation(
+    alloc: Global,
     case: &Case<'_>,
     figures: &ViolationFigures,
-) -> Result<(), AllocError> {
-    group::push_group(page, case, figures)?;
-    group::push_demand(page, case, figures)?;
-    tests_of_group::push_tests(page, case, figures)
+) -> Result<Page, AllocError> {
+    let mut page = Page::new(alloc);
+    group::push_group(&mut page, case, figures)?;
+    group::push_demand(&mut page, case, figures)?;
+    tests_of_group::push_tests(&mut page, case, figures)?;
+    Ok(page)
 }

@@ -8,9 +8,7 @@ use crate::language::Language;
 use crate::telling::told_of;
 use pb_election::{Election, Sink, Source};
 use pb_price::Mode;
-use pb_reply::{
-    Answer, Fault, File, Loaded, Status, Stop, election_of, outcome_of, settled_answer,
-};
+use pb_reply::{Answer, Fault, File, Loaded, Status, Stop, election_of, outcome_of, settled};
 use std::alloc::{AllocError, Global};
 
 /// The names of the files that a page shows.
@@ -37,7 +35,7 @@ pub fn run_page<E: Source, O: Source, C: Source, W: Sink>(
     out: &mut W,
 ) -> Result<Status, Fault> {
     let work = page_read(alloc, names, election, outcome, certificate, mode, language);
-    settled_answer(alloc, work)?.write(out)
+    settled(alloc, work)?.write(out)
 }
 
 // The page on what readers deliver, or why there is none.

@@ -1,5 +1,5 @@
 //! Sentences in a language, with their placeholders filled.
-use crate::amounts::push_grouped;
+use crate::amounts::{Balance, push_grouped};
 use crate::case::Case;
 use crate::figure::Figure;
 use crate::language::Language;
@@ -41,6 +41,8 @@ enum Content {
     Plain(String),
     /// An amount, with the currency behind it.
     Money(Figure),
+    /// The same of one that was computed for the page, in grains.
+    Grains(u128),
 }
 
 impl Words {
@@ -111,12 +113,16 @@ impl Case<'_> {
             Some(Content::Text(filling)) => text.push_str(filling),
             Some(Content::Label(label)) => text.push_str(label),
             Some(Content::Plain(label)) => text.push_str(label),
-            Some(Content::Money(figure)) => self.push_money_text(text, *figure),
+            Some(Content::Money(figure)) => self.push_money_text(
+                text,
+                self.told.amount_of(*figure),
+            ),
+            Some(Content::Grains(grains)) => self.push_money_text(text, Balance::of(*grains)),
         }
     }
 
-    fn push_money_text(&self, text: &mut String, figure: Figure) -> Result<(), AllocError> {
-        text.push_str(&self.figure_text(self.words.alloc, figure)?)?;
+    fn push_money_text(&self, text: &mut String, amount: Balance) -> Result<(), AllocError> {
+        text.push_str(&self.amount_text(amount)?)?;
         if !self.currency.is_empty() {
             text.push_str("\u{a0}")?;
             text.push_str(&self.currency)?;
@@ -130,13 +136,19 @@ impl Case<'_> {
             Some(Content::Text(text)) => page.text(text),
             Some(Content::Label(label)) => push_label(page, self, "named", label),
             Some(Content::Plain(label)) => push_label(page, self, "", label),
-            Some(Content::Money(figure)) => self.money(page, *figure),
+            Some(Content::Money(figure)) => {
+                page.figure(*figure)?;
+                self.push_currency(page)
+            }
+            Some(Content::Grains(grains)) => {
+                page.text(&self.amount_text(Balance::of(*grains))?)?;
+                self.push_currency(page)
+            }
         }
     }
 
-    /// Adds an amount with the currency behind it.
-    pub(crate) fn money(&self, page: &mut Page, figure: Figure) -> Result<(), AllocError> {
-        page.figure(figure)?;
+    // Adds the currency behind an amount.
+    fn push_currency(&self, page: &mut Page) -> Result<(), AllocError> {
         if self.currency.is_empty() {
             return Ok(());
         }
@@ -181,6 +193,11 @@ impl Fillings {
     /// These fillings and one more, an amount.
     pub(crate) fn and_money(self, slot: &str, figure: Figure) -> Result<Fillings, AllocError> {
         self.with(slot, Content::Money(figure))
+    }
+
+    /// These fillings and one more, an amount that was computed for the page, in grains.
+    pub(crate) fn and_grains(self, slot: &str, grains: u128) -> Result<Fillings, AllocError> {
+        self.with(slot, Content::Grains(grains))
     }
 
     fn with(mut self, slot: &str, content: Content) -> Result<Fillings, AllocError> {

@@ -98,6 +98,7 @@ dd { margin: 0; }
   vertical-align: -.06rem; background: var(--fill); box-shadow: inset 0 0 0 1px var(--edge);
 }
 .rest { background: var(--track); }
+.beyond { background: repeating-linear-gradient(45deg, var(--over) 0 3px, var(--card) 3px 4px); }
 .sort {
   border: 0; margin: .25rem 0 .75rem; padding: 0; font-size: .9rem; display: flex;
   flex-wrap: wrap; gap: .25rem .5rem; align-items: baseline; min-width: 0;
@@ -166,7 +167,7 @@ code {
   print-color-adjust: exact; -webkit-print-color-adjust: exact; forced-color-adjust: none;
 }
 tr, .answer, .chart, .conditions li, .tiles div { break-inside: avoid; }
-h2, h3, thead, caption { break-after: avoid; }
+h2, h2 + p, h3, thead, dt { break-after: avoid; }
 @media (max-width: 46rem) {
   body { font-size: 1rem; }
   thead {
@@ -174,7 +175,9 @@ h2, h3, thead, caption { break-after: avoid; }
     white-space: nowrap;
   }
   table, tbody { display: flex; flex-direction: column; }
-  tr { display: flex; flex-wrap: wrap; gap: .35rem .75rem; padding: .9rem 0; }
+  tr {
+    display: flex; flex-wrap: wrap; gap: .35rem .75rem; padding: .9rem 0; align-items: end;
+  }
   th, td { flex: 1 1 5.5rem; }
   th:first-child, td:last-child { flex: 1 1 100%; }
   .number { text-align: left; min-width: auto; }

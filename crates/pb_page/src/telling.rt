@@ -11,6 +11,7 @@ ghost use Rattle.pb_page.specs.Taken.{FindsFigures, TellsCertificate};
 ghost use Rattle.pb_page.specs.Told as spec;
 
 use crate::amounts::Style;
+use crate::extremes::extremes_of;
 use crate::told::{Found, PriceFigures, Told, ViolationFigures};
 use pb_certificate::{Violation, is_violation};
 use pb_cohesion::violation_findings;
@@ -87,7 +88,14 @@ fn price_figures(
 {
     let bytes = bytes_of(InputName::Certificate, certificate)?;
     match findings_and_margins_of(alloc, election, outcome, bytes) {
-        Ok((findings, margins)) => Ok(PriceFigures { findings, margins }),
+        Ok((findings, margins)) => match extremes_of(alloc, election, bytes, &findings) {
+            Ok(extremes) => Ok(PriceFigures {
+                findings,
+                margins,
+                extremes,
+            }),
+            Err(_) => Err(Stop::Memory),
+        },
         Err(refusal) => Err(stop_at(InputName::Certificate, InputFault::Certificate(refusal))),
     }
 }

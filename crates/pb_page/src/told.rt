@@ -6,6 +6,7 @@ ghost use Rattle.pb_page.specs.Told as spec;
 ghost use Rattle.pb_page.specs.Told.{amount_in};
 
 use crate::amounts::{Balance, Style};
+use crate::extremes::Extremes;
 use crate::figure::{Compared, Figure};
 use pb_certificate::{Measure, Violation};
 use pb_cohesion::{ViolationFindings, ViolationVerdict};
@@ -33,6 +34,7 @@ pub(crate) enum Found {
 pub(crate) struct PriceFigures {
     pub(crate) findings: Findings,
     pub(crate) margins: Margins,
+    pub(crate) extremes: Extremes,
 }
 
 /// What was found of a violation. Amounts are in millionths of the currency.

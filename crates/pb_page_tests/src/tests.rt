@@ -1,5 +1,8 @@
 //! What stands on pages.
 mod answers;
+mod facts;
 mod making;
 mod names;
+mod places;
+mod ranking;
 mod sums;

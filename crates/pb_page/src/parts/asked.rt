@@ -34,12 +34,23 @@ fn push_asked_of_prices(
     case: &Case<'_>,
     figures: &PriceFigures,
 ) -> Result<(), AllocError> {
-    push_stable_answer(page, case, figures)?;
+    push_other_answer(page, case, figures)?;
     let mode = case.told.mode;
     for sentence in [form_asked(mode), exhaustive_asked(mode), cover_asked(mode)] {
         page.element(Tag::Li, case.words.say(sentence))?;
     }
     Ok(())
+}
+
+/// Whether the stable form was asked, and fails, and the plain one holds.
+pub(crate) fn fails_as_stable_alone(case: &Case<'_>, figures: &PriceFigures) -> bool {
+    let mode = case.told.mode;
+    let plain = Mode {
+        stable: false,
+        ..mode
+    };
+    let findings = &figures.findings;
+    findings.verdict(mode) != Verdict::Supported && findings.verdict(plain) == Verdict::Supported
 }
 
 fn form_asked(mode: Mode) -> Sentence {
@@ -66,12 +77,16 @@ fn cover_asked(mode: Mode) -> Sentence {
     }
 }
 
-// Where the plain form holds: whether the stable one would hold as well, and for how many projects it would not.
-fn push_stable_answer(
+// Where the plain form holds, the answer in the other form: whether the stable one would hold as well, and for how many
+// projects it would not, or that the plain one holds where only the stable one fails.
+fn push_other_answer(
     page: &mut Page,
     case: &Case<'_>,
     figures: &PriceFigures,
 ) -> Result<(), AllocError> {
+    if fails_as_stable_alone(case, figures) {
+        return page.element_class(Tag::Li, "stable", case.words.say(Sentence::PlainHolds));
+    }
     let mode = case.told.mode;
     if mode.stable || figures.findings.verdict(mode) != Verdict::Supported {
         return Ok(());

@@ -1,6 +1,8 @@
 //! Bars.
 use crate::attributes::Attributes;
 use crate::markup::Page;
+use crate::saying::Words;
+use crate::sentence::Sentence;
 use crate::tag::{Name, Tag};
 use itoa::Buffer;
 use std::alloc::{AllocError, Global};
@@ -72,12 +74,18 @@ fn push_part(alloc: Global, page: &mut Page, length: u32) -> Result<(), AllocErr
     page.close()
 }
 
-/// Hundredths of a percent in percent, with two decimals behind a sign.
-pub(crate) fn percent(
-    alloc: Global,
-    hundredths: u32,
-    decimal_sign: &str,
-) -> Result<String, AllocError> {
+/// A length as a part of the whole width, in percent, or in words where it is longer.
+pub(crate) fn part_in_words(words: Words, length: u32) -> Result<String, AllocError> {
+    if length > WIDTH {
+        return String::from_str(words.alloc, words.say(Sentence::MoreThanWhole));
+    }
+    let mut text = percent(words.alloc, length, words.language.decimal_sign())?;
+    text.push_str("\u{a0}%")?;
+    Ok(text)
+}
+
+// Hundredths of a percent in percent, with two decimals behind a sign.
+fn percent(alloc: Global, hundredths: u32, decimal_sign: &str) -> Result<String, AllocError> {
     let mut text = String::new(alloc);
     text.push_str(Buffer::new().format(hundredths / 100))?;
     text.push_str(decimal_sign)?;

@@ -2,6 +2,7 @@
 use crate::case::Case;
 use crate::condition::Condition;
 use crate::markup::Page;
+use crate::parts::asked::fails_as_stable_alone;
 use crate::sentence::Sentence;
 use crate::tag::Tag;
 use crate::told::{Found, Headline, PriceFigures};
@@ -48,6 +49,7 @@ fn claim(case: &Case<'_>) -> Sentence {
         Headline::Supported => Sentence::ClaimSupported,
         Headline::SupportedStable => Sentence::ClaimStable,
         Headline::NotSupported if is_of_outcome(case) => Sentence::ClaimOutcome,
+        Headline::NotSupported if is_plain_alone(case) => Sentence::ClaimPlain,
         Headline::NotSupported => Sentence::ClaimNotSupported,
         Headline::Violation => Sentence::ClaimViolation,
         Headline::NoViolation => Sentence::ClaimNoViolation,
@@ -58,6 +60,14 @@ fn claim(case: &Case<'_>) -> Sentence {
 fn is_of_outcome(case: &Case<'_>) -> bool {
     match &case.told.found {
         Found::Prices(figures) => fails_by_outcome(case, figures),
+        Found::Violation(_) => false,
+    }
+}
+
+// Whether the payments support the outcome in the plain form, and not in the stable one that was asked.
+fn is_plain_alone(case: &Case<'_>) -> bool {
+    match &case.told.found {
+        Found::Prices(figures) => fails_as_stable_alone(case, figures),
         Found::Violation(_) => false,
     }
 }

@@ -140,15 +140,19 @@ fn push_options(page: &mut Page, mode: Mode) -> Result<(), AllocError> {
 
 // Adds the name of a file as a word of a command: in quotes, unless it has plain letters alone.
 fn push_word(page: &mut Page, case: &Case<'_>, file: &InputFile) -> Result<(), AllocError> {
+    let alloc = case.words.alloc;
+    let mut word = String::new(alloc);
     let name = base_name(file);
-    if name.chars().all(is_plain) {
-        return push_label(page, case, "", name);
+    // What begins with a dash is an option.
+    if name.starts_with('-') {
+        word.push_str("./")?;
     }
-    let mut word = String::new(case.words.alloc);
-    word.push_str("\u{27}")?;
-    word.push_str(&name.replace(case.words.alloc, '\'', "'\\''")?)?;
-    word.push_str("\u{27}")?;
-    push_label(page, case, "", &word)
+    word.push_str(name)?;
+    if word.chars().all(is_plain) {
+        return push_label(page, case, "", &word);
+    }
+    let quoted = word.replace(alloc, '\'', "'\\''")?;
+    push_label(page, case, "", &format!(in alloc; "'{quoted}'")?)
 }
 
 // The name of a file without its folders.
@@ -160,5 +164,5 @@ fn base_name(file: &InputFile) -> &str {
 }
 
 fn is_plain(c: char) -> bool {
-    c.is_ascii_alphanumeric() || c == '.' || c == '_' || c == '-'
+    c.is_ascii_alphanumeric() || matches!(c, '.' | '_' | '-' | '/')
 }

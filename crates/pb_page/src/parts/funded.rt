@@ -1,13 +1,18 @@
 //! The projects that were funded, by the part of the limit that they take.
-use crate::amounts::{Balance, push_amount};
+ghost use Rattle.std.specs.Prelude.{IfOk, map};
+ghost use Rattle.pb_page.specs.InOrder.{HasParts};
+ghost use Rattle.pb_page.specs.Rows.{ListsFunded, amount_piece, funded_amount};
+
+use crate::amounts::Balance;
 use crate::case::Case;
 use crate::figure::Figure;
 use crate::markup::Page;
-use crate::parts::bars::{Look, WIDTH, length_of, percent, push_bar};
+use crate::parts::bars::{Look, WIDTH, length_of, part_in_words, push_bar};
 use crate::parts::rows::{
-    Column, Kind, MOST_ROWS, begin_cell, begin_row, begin_table, end_table, push_left_out,
+    Column, Kind, MOST_ROWS, begin_cell, begin_row, begin_table, behind_rows, narrow,
 };
 use crate::parts::unfunded::order_of;
+use crate::ranking::wrongly_paid_first;
 use crate::saying::{Fillings, grouped};
 use crate::sentence::Sentence;
 use crate::tag::Tag;
@@ -46,89 +51,90 @@ const PART: Column = Column {
     kind: Kind::Bar,
 };
 
-/// Adds the projects that were funded: first those that aren't paid for exactly, the largest difference first, and then
-/// the dearest first.
-pub(crate) fn push_funded(
-    page: &mut Page,
-    case: &Case<'_>,
-    figures: &PriceFigures,
-) -> Result<(), AllocError> {
+/// The projects that were funded: first those that aren't paid for exactly, the largest difference first, and then the
+/// dearest first.
+pub(crate) fn funded(case: &Case<'_>, figures: &PriceFigures) -> Result<Page, AllocError>
+    ensures { IfOk result (ListsFunded (figures.now).margins.projects.items) }
+{
+    let mut ranked = wrongly_paid_first(case.words.alloc, &figures.margins.projects)?;
+    let count = ranked.len();
+    ranked.truncate(MOST_ROWS);
+    let mut page = up_to_rows(case, count)?;
+    page.append(rows(case, figures, &ranked)?)?;
+    page.append(behind_rows(case, count)?)?;
+    Ok(page)
+}
+
+// The part up to its rows, of which there are so many.
+fn up_to_rows(case: &Case<'_>, count: usize) -> Result<Page, AllocError> {
+    let mut page = Page::new(case.words.alloc);
     page.open(Tag::Section)?;
     page.element(Tag::H2, case.words.say(Sentence::Funded))?;
-    let order = wrongly_paid_first(case, figures)?;
-    if order.is_empty() {
+    if count == 0 {
         page.element(Tag::P, case.words.say(Sentence::NoneFunded))?;
-        return page.close();
+        return Ok(page);
     }
     page.element(Tag::P, case.words.say(Sentence::HowFunded))?;
-    begin_table(page, case, Sentence::Funded, "projects", &COLUMNS)?;
-    for (_, _, j) in order.iter().rev().take(MOST_ROWS) {
-        if let Some(project) = figures.project(u32::MAX - *j) {
-            push_row(page, case, u32::MAX - *j, project)?;
-        }
-    }
-    end_table(page)?;
-    push_left_out(page, case, order.len())?;
-    page.close()
+    begin_table(&mut page, case, Sentence::Funded, "projects", &COLUMNS)?;
+    Ok(page)
 }
 
-// The funded projects, each behind how far its payments are from its cost, and its cost; the last is to come first. The
-// number of a project is what it lacks to the largest number, so that of two that are alike the lower comes first.
-fn wrongly_paid_first(
+// The rows of projects in this order.
+fn rows(
     case: &Case<'_>,
     figures: &PriceFigures,
-) -> Result<Vec<(u128, u128, u32)>, AllocError> {
-    let mut order = Vec::new(case.words.alloc);
-    for (j, project) in (1u32..).zip(&figures.margins.projects) {
-        if project.funded {
-            order.push((
-                project.paid.abs_diff(project.cost),
-                project.cost,
-                u32::MAX - j,
-            ))?;
-        }
+    ranked: &[(u128, u128, usize)],
+) -> Result<Page, AllocError>
+    ensures { IfOk result (HasParts amount_piece (map funded_amount ranked.now)) }
+{
+    let mut page = Page::new(case.words.alloc);
+    for one in ranked {
+        let j = narrow(one.2);
+        page.append(up_to_cost(case, figures, j)?)?;
+        page.figure(Figure::Cost(j))?;
+        page.append(behind_cost(case, figures, j)?)?;
     }
-    order.sort_unstable();
-    Ok(order)
+    Ok(page)
 }
 
-fn push_row(
-    page: &mut Page,
-    case: &Case<'_>,
-    j: u32,
-    project: &ProjectMargins,
-) -> Result<(), AllocError> {
-    begin_row(page, case, j, order_of(case, project))?;
-    begin_cell(page, case, COST)?;
-    page.figure(Figure::Cost(j))?;
+// The row of a project up to its cost. There is nothing for one that isn't there.
+fn up_to_cost(case: &Case<'_>, figures: &PriceFigures, j: u32) -> Result<Page, AllocError> {
+    let mut page = Page::new(case.words.alloc);
+    let Some(project) = figures.project(j) else {
+        return Ok(page);
+    };
+    begin_row(&mut page, case, j, order_of(case, project))?;
+    begin_cell(&mut page, case, COST)?;
+    Ok(page)
+}
+
+// The row of a project behind its cost.
+fn behind_cost(case: &Case<'_>, figures: &PriceFigures, j: u32) -> Result<Page, AllocError> {
+    let mut page = Page::new(case.words.alloc);
+    let Some(project) = figures.project(j) else {
+        return Ok(page);
+    };
     page.close()?;
-    begin_cell(page, case, SUPPORTERS)?;
+    begin_cell(&mut page, case, SUPPORTERS)?;
     page.text(&grouped(case.words.alloc, u64::from(project.supporters))?)?;
     page.close()?;
-    begin_cell(page, case, PER_SUPPORTER)?;
+    begin_cell(&mut page, case, PER_SUPPORTER)?;
     page.text(&cost_per_supporter(case, project)?)?;
     page.close()?;
-    begin_cell(page, case, PART)?;
-    push_part(page, case, j, project)?;
+    begin_cell(&mut page, case, PART)?;
+    push_part(&mut page, case, j, project)?;
     page.close()?;
-    page.close()
+    page.close()?;
+    Ok(page)
 }
 
 // What a project costs for each supporter; a dash where it has none.
 fn cost_per_supporter(case: &Case<'_>, project: &ProjectMargins) -> Result<String, AllocError> {
-    let mut text = String::new(case.words.alloc);
     if project.supporters == 0 {
-        text.push_str("\u{2013}")?;
-        return Ok(text);
+        return String::from_str(case.words.alloc, "\u{2013}");
     }
-    let each = Balance::of(rounded(case, project.cost / u128::from(project.supporters)));
-    push_amount(
-        &mut text,
-        case.told.style,
-        case.told.grains_per_unit(),
-        each,
-    )?;
-    Ok(text)
+    let each = rounded(case, project.cost / u128::from(project.supporters));
+    case.amount_text(Balance::of(each))
 }
 
 // An amount that was divided, to as many decimals as amounts have here.
@@ -157,18 +163,11 @@ fn push_part(
         Look::Part
     };
     push_bar(alloc, page, look, &part_label(case, j)?, length)?;
-    if length <= WIDTH {
-        push_percent(page, case, length)?;
-    }
-    push_payment(page, case, j, project)
-}
-
-fn push_percent(page: &mut Page, case: &Case<'_>, length: u32) -> Result<(), AllocError> {
-    let decimal_sign = case.words.language.decimal_sign();
     page.open_class(Tag::Span, "note")?;
-    page.text(&percent(case.words.alloc, length, decimal_sign)?)?;
-    page.text("\u{a0}% \u{b7} ")?;
-    page.close()
+    page.text(&part_in_words(case.words, length)?)?;
+    page.text(" \u{b7} ")?;
+    page.close()?;
+    push_payment(page, case, j, project)
 }
 
 fn part_label(case: &Case<'_>, j: u32) -> Result<String, AllocError> {

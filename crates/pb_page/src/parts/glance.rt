@@ -1,4 +1,4 @@
-//! The summary of prices: how much of the limit and of the budgets is used.
+//! The summary: how much of the limit is used, and by prices of the budgets.
 use crate::case::Case;
 use crate::figure::Figure;
 use crate::markup::Page;
@@ -6,32 +6,34 @@ use crate::parts::bars::{Look, WIDTH, length_of, push_bar};
 use crate::saying::{Fillings, grouped};
 use crate::sentence::Sentence;
 use crate::tag::Tag;
-use crate::told::PriceFigures;
+use crate::told::Found;
 use std::alloc::AllocError;
 
 /// Adds the summary.
-pub(crate) fn push_glance(
-    page: &mut Page,
-    case: &Case<'_>,
-    figures: &PriceFigures,
-) -> Result<(), AllocError> {
+pub(crate) fn push_glance(page: &mut Page, case: &Case<'_>) -> Result<(), AllocError> {
+    let is_of_prices = matches!(case.told.found, Found::Prices(_));
     page.open(Tag::Section)?;
     page.element(Tag::H2, case.words.say(Sentence::Glance))?;
     page.open_class(Tag::Dl, "tiles")?;
-    push_tiles(page, case, figures)?;
+    push_tiles(page, case)?;
+    if is_of_prices {
+        push_money_tile(page, case, Sentence::VoterBudget, Figure::VoterBudget)?;
+    }
     page.close()?;
     push_limit(page, case)?;
-    push_budgets(page, case)?;
+    if is_of_prices {
+        push_budgets(page, case)?;
+    }
     page.close()
 }
 
-fn push_tiles(page: &mut Page, case: &Case<'_>, figures: &PriceFigures) -> Result<(), AllocError> {
-    let projects = &figures.margins.projects;
-    let funded = projects.iter().filter(|project| project.funded).count();
+fn push_tiles(page: &mut Page, case: &Case<'_>) -> Result<(), AllocError> {
+    let all = case.election.projects();
+    let funded = (1..=all).filter(|j| case.is_funded(*j)).count();
     begin_tile(page, case, Sentence::ProjectsFunded)?;
     let fillings = Fillings::none(case.words.alloc)
         .and_number("count", funded as u64)?
-        .and_number("all", projects.len() as u64)?;
+        .and_number("all", u64::from(all))?;
     case.say(page, Sentence::SomeOfAll, &fillings)?;
     end_tile(page)?;
     push_number_tile(
@@ -40,8 +42,7 @@ fn push_tiles(page: &mut Page, case: &Case<'_>, figures: &PriceFigures) -> Resul
         Sentence::Voters,
         u64::from(case.election.voters()),
     )?;
-    push_money_tile(page, case, Sentence::Limit, Figure::Limit)?;
-    push_money_tile(page, case, Sentence::VoterBudget, Figure::VoterBudget)
+    push_money_tile(page, case, Sentence::Limit, Figure::Limit)
 }
 
 /// Begins a tile, a figure with its name.
@@ -132,34 +133,37 @@ fn push_budgets(page: &mut Page, case: &Case<'_>) -> Result<(), AllocError> {
 
 fn push_use(page: &mut Page, case: &Case<'_>, shown: Use) -> Result<(), AllocError> {
     let alloc = case.words.alloc;
-    let whole = case.told.amount_of(shown.whole).grains;
-    let used = case.told.amount_of(shown.used).grains;
-    let rest_words = if used > whole {
-        shown.over_words
-    } else {
-        shown.left_words
-    };
     let caption = Fillings::none(alloc).and_money(shown.slot, shown.whole)?;
-    let used_amount = Fillings::none(alloc).and_money("amount", shown.used)?;
-    let rest_amount = Fillings::none(alloc).and_money("amount", shown.rest)?;
     page.open_class(Tag::Div, "chart")?;
     page.open(Tag::P)?;
     case.say(page, shown.caption, &caption)?;
     page.close()?;
+    let used_amount = Fillings::none(alloc).and_money("amount", shown.used)?;
+    let label = joined(
+        case.said(shown.caption, &caption)?,
+        &case.said(shown.used_words, &used_amount)?,
+    )?;
+    let whole = case.told.amount_of(shown.whole).grains;
+    let used = case.told.amount_of(shown.used).grains;
     let look = if used > whole {
         Look::Beyond
     } else {
         Look::Part
     };
-    let label = joined(
-        case.said(shown.caption, &caption)?,
-        &case.said(shown.used_words, &used_amount)?,
-    )?;
     push_bar(alloc, page, look, &label, length_of(used, whole, WIDTH))?;
+    push_keys(page, case, shown, look)?;
+    page.close()
+}
+
+// Adds what the bar shows, with patches that look like it.
+fn push_keys(page: &mut Page, case: &Case<'_>, shown: Use, look: Look) -> Result<(), AllocError> {
+    let (patch, rest_patch, rest_words) = match look {
+        Look::Beyond => ("patch beyond", "", shown.over_words),
+        _ => ("patch", "patch rest", shown.left_words),
+    };
     page.open_class(Tag::Ul, "key")?;
-    push_key(page, case, "patch", shown.used_words, &used_amount)?;
-    push_key(page, case, "patch rest", rest_words, &rest_amount)?;
-    page.close()?;
+    push_key(page, case, patch, shown.used_words, shown.used)?;
+    push_key(page, case, rest_patch, rest_words, shown.rest)?;
     page.close()
 }
 
@@ -172,12 +176,15 @@ fn joined(mut caption: String, words: &str) -> Result<String, AllocError> {
 fn push_key(
     page: &mut Page,
     case: &Case<'_>,
-    class: &str,
+    patch: &str,
     sentence: Sentence,
-    fillings: &Fillings,
+    amount: Figure,
 ) -> Result<(), AllocError> {
     page.open(Tag::Li)?;
-    page.element_class(Tag::Span, class, "")?;
-    case.say(page, sentence, fillings)?;
+    if !patch.is_empty() {
+        page.element_class(Tag::Span, patch, "")?;
+    }
+    let fillings = Fillings::none(case.words.alloc).and_money("amount", amount)?;
+    case.say(page, sentence, &fillings)?;
     page.close()
 }

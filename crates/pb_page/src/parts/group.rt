@@ -2,7 +2,7 @@
 use crate::case::Case;
 use crate::figure::Figure;
 use crate::markup::Page;
-use crate::parts::bars::{Look, MARK, WIDTH, length_of, percent, push_bar};
+use crate::parts::bars::{Look, MARK, WIDTH, length_of, part_in_words, push_bar};
 use crate::parts::glance::{begin_tile, end_tile, push_money_tile};
 use crate::parts::rows::{
     Column, Kind, MOST_ROWS, Order, begin_cell, begin_row, begin_table, end_table, push_left_out,
@@ -72,7 +72,7 @@ fn push_share(page: &mut Page, case: &Case<'_>) -> Result<(), AllocError> {
         .and_money("bound", Figure::Demand)?;
     page.open_class(Tag::Div, "chart")?;
     page.element(Tag::P, case.words.say(Sentence::BarShare))?;
-    let label = case.said(Sentence::AmountOfAmount, &fillings)?;
+    let label = case.said(Sentence::FoundV3, &share_fillings(case)?)?;
     push_bar(
         alloc,
         page,
@@ -106,7 +106,7 @@ fn push_gets(
     } else {
         Look::Over
     };
-    let label = case.said(Sentence::AmountOfAmount, &fillings)?;
+    let label = gets_label(case, figures)?;
     let length = length_of(found.gets, found.demanded, MARK);
     push_bar(alloc, page, look, &label, length)?;
     case.say_in(
@@ -117,6 +117,25 @@ fn push_gets(
         &fillings,
     )?;
     page.close()
+}
+
+/// The group's share and the cost of what it demands, as fillings.
+pub(crate) fn share_fillings(case: &Case<'_>) -> Result<Fillings, AllocError> {
+    Fillings::none(case.words.alloc)
+        .and_money("share", Figure::Share)?
+        .and_money("cost", Figure::Demand)
+}
+
+// The words for who can't see the bar of what a member gets.
+fn gets_label(case: &Case<'_>, figures: &ViolationFigures) -> Result<String, AllocError> {
+    let fillings = with_worths(case, figures, "gets", "demanded")?;
+    match figures.findings.satisfied.first {
+        None => case.said(Sentence::FoundV4, &fillings),
+        Some(voter) => {
+            let fillings = fillings.and_number("voter", u64::from(voter))?;
+            case.said(Sentence::BrokenV4, &fillings)
+        }
+    }
 }
 
 fn push_gets_caption(
@@ -201,18 +220,9 @@ fn push_row(page: &mut Page, case: &Case<'_>, j: u32) -> Result<(), AllocError> 
         Look::Part
     };
     push_bar(alloc, page, look, &part_label(case, j)?, length)?;
-    if length <= WIDTH {
-        push_percent(page, case, length)?;
-    }
+    let part = part_in_words(case.words, length)?;
+    page.element_class(Tag::Span, "verdict", &part)?;
     page.close()?;
-    page.close()
-}
-
-fn push_percent(page: &mut Page, case: &Case<'_>, length: u32) -> Result<(), AllocError> {
-    let decimal_sign = case.words.language.decimal_sign();
-    page.open_class(Tag::Span, "verdict")?;
-    page.text(&percent(case.words.alloc, length, decimal_sign)?)?;
-    page.text("\u{a0}%")?;
     page.close()
 }
 

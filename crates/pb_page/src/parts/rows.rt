@@ -1,4 +1,7 @@
 //! Tables of projects. A row is a row of a table also where the style makes a card of it, which its roles say.
+ghost use Rattle.std.specs.Prelude.{◌≡◌};
+ghost use Rattle.pb_page.specs.Rows as spec;
+
 use crate::attributes::Attributes;
 use crate::case::Case;
 use crate::markup::Page;
@@ -65,6 +68,13 @@ pub(crate) fn begin_table(
     page.close()?;
     page.close()?;
     page.open_with(Tag::Tbody, Attributes::of(alloc, Name::Role, "rowgroup")?)
+}
+
+/// The number of a project as figures have it. No election has so many projects that it would be another.
+pub(crate) fn narrow(number: usize) -> u32
+    ensures { result ≡ spec.narrow number }
+{
+    u32::try_from(number).unwrap_or(0)
 }
 
 /// Ends a table.
@@ -162,4 +172,15 @@ pub(crate) fn push_left_out(
     let fillings = Fillings::none(case.words.alloc).and_number("count", count)?;
     let sentence = Sentence::LeftOut(case.words.plural(count));
     case.say_in(page, Tag::P, "fails", sentence, &fillings)
+}
+
+/// The end of a part with a table, behind so many rows: where there are none, there is no table.
+pub(crate) fn behind_rows(case: &Case<'_>, count: usize) -> Result<Page, AllocError> {
+    let mut page = Page::new(case.words.alloc);
+    if count != 0 {
+        end_table(&mut page)?;
+        push_left_out(&mut page, case, count)?;
+    }
+    page.close()?;
+    Ok(page)
 }

@@ -1,10 +1,9 @@
 //! The tests of a violation, one by one.
 use crate::case::Case;
 use crate::condition::State;
-use crate::figure::Figure;
 use crate::markup::Page;
 use crate::parts::conditions::push_name;
-use crate::parts::group::with_worths;
+use crate::parts::group::{share_fillings, with_worths};
 use crate::saying::Fillings;
 use crate::sentence::Sentence;
 use crate::tag::Tag;
@@ -163,10 +162,7 @@ fn push_v3(page: &mut Page, case: &Case<'_>, figures: &ViolationFigures) -> Resu
     } else {
         Sentence::BrokenV3
     };
-    let fillings = Fillings::none(case.words.alloc)
-        .and_money("share", Figure::Share)?
-        .and_money("cost", Figure::Demand)?;
-    case.say(page, sentence, &fillings)
+    case.say(page, sentence, &share_fillings(case)?)
 }
 
 fn push_v4(page: &mut Page, case: &Case<'_>, figures: &ViolationFigures) -> Result<(), AllocError> {

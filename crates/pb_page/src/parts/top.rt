@@ -113,8 +113,11 @@ fn push_listed(
 fn push_dates(page: &mut Page, case: &Case<'_>) -> Result<(), AllocError> {
     let begin = case.labels.fact("date_begin");
     let end = case.labels.fact("date_end");
-    if begin.is_empty() || end.is_empty() {
-        return Ok(());
+    if begin.is_empty() || begin == end {
+        return push_fact(page, case, Sentence::VotingDates, "date_end");
+    }
+    if end.is_empty() {
+        return push_fact(page, case, Sentence::VotingDates, "date_begin");
     }
     begin_fact(page, case, Sentence::VotingDates)?;
     let fillings = Fillings::none(case.words.alloc)

@@ -1,12 +1,18 @@
 //! The projects that weren't funded, by what their supporters have left or can offer.
+ghost use Rattle.std.specs.Prelude.{◌≡◌, if◌then◌else◌, IfOk, map};
+ghost use Rattle.pb_page.specs.InOrder.{HasParts};
+ghost use Rattle.pb_page.specs.Rows.{ListsUnfunded, amount_piece, unfunded_amount};
+ghost use Rattle.pb_page.specs.declared.figure.Figure.TheVariants as figure;
+
 use crate::attributes::Attributes;
 use crate::case::Case;
 use crate::figure::Figure;
 use crate::markup::Page;
 use crate::parts::bars::{Look, MARK, length_of, push_bar};
 use crate::parts::rows::{
-    Column, Kind, MOST_ROWS, Order, begin_cell, begin_row, begin_table, end_table, push_left_out,
+    Column, Kind, MOST_ROWS, Order, begin_cell, begin_row, begin_table, behind_rows, narrow,
 };
+use crate::ranking::{closest_first, has};
 use crate::saying::{Fillings, grouped};
 use crate::sentence::Sentence;
 use crate::tag::{Name, Tag};
@@ -37,18 +43,28 @@ const PROJECT: Column = Column {
     kind: Kind::Words,
 };
 
-/// Adds the projects that weren't funded, those closest to breaking the condition first.
-pub(crate) fn push_unfunded(
-    page: &mut Page,
-    case: &Case<'_>,
-    figures: &PriceFigures,
-) -> Result<(), AllocError> {
+/// The projects that weren't funded, those closest to breaking the condition first.
+pub(crate) fn unfunded(case: &Case<'_>, figures: &PriceFigures) -> Result<Page, AllocError>
+    ensures { IfOk result (ListsUnfunded (case.now).told.mode.stable (figures.now).margins.projects.items) }
+{
+    let stable = case.told.mode.stable;
+    let mut ranked = closest_first(case.words.alloc, &figures.margins.projects, stable)?;
+    let count = ranked.len();
+    ranked.truncate(MOST_ROWS);
+    let mut page = up_to_rows(case, count)?;
+    page.append(rows(case, figures, &ranked)?)?;
+    page.append(behind_rows(case, count)?)?;
+    Ok(page)
+}
+
+// The part up to its rows, of which there are so many.
+fn up_to_rows(case: &Case<'_>, count: usize) -> Result<Page, AllocError> {
+    let mut page = Page::new(case.words.alloc);
     page.open_class(Tag::Section, "sorted")?;
     page.element(Tag::H2, case.words.say(Sentence::Unfunded))?;
-    let order = closest_first(case, figures)?;
-    if order.is_empty() {
+    if count == 0 {
         page.element(Tag::P, case.words.say(Sentence::AllFunded))?;
-        return page.close();
+        return Ok(page);
     }
     let how = if case.told.mode.stable {
         Sentence::HowUnfundedStable
@@ -56,17 +72,28 @@ pub(crate) fn push_unfunded(
         Sentence::HowUnfunded
     };
     page.element(Tag::P, case.words.say(how))?;
-    push_orders(page, case)?;
+    push_orders(&mut page, case)?;
     let columns = [PROJECT, COST, SUPPORTERS, has_column(case), AGAINST_COST];
-    begin_table(page, case, Sentence::Unfunded, "projects", &columns)?;
-    for (_, j) in order.iter().take(MOST_ROWS) {
-        if let Some(project) = figures.project(*j) {
-            push_row(page, case, *j, project)?;
-        }
+    begin_table(&mut page, case, Sentence::Unfunded, "projects", &columns)?;
+    Ok(page)
+}
+
+// The rows of projects in this order.
+fn rows(
+    case: &Case<'_>,
+    figures: &PriceFigures,
+    ranked: &[(i128, usize)],
+) -> Result<Page, AllocError>
+    ensures { IfOk result (HasParts amount_piece (map (unfunded_amount (case.now).told.mode.stable) ranked.now)) }
+{
+    let mut page = Page::new(case.words.alloc);
+    for one in ranked {
+        let j = narrow(one.1);
+        page.append(up_to_amount(case, figures, j)?)?;
+        page.figure(has_figure(case, j))?;
+        page.append(behind_amount(case, figures, j)?)?;
     }
-    end_table(page)?;
-    push_left_out(page, case, order.len())?;
-    page.close()
+    Ok(page)
 }
 
 fn has_column(case: &Case<'_>) -> Column {
@@ -78,28 +105,6 @@ fn has_column(case: &Case<'_>) -> Column {
     Column {
         head,
         kind: Kind::Money,
-    }
-}
-
-// The unfunded projects, each behind what its supporters miss, the least first.
-fn closest_first(case: &Case<'_>, figures: &PriceFigures) -> Result<Vec<(i128, u32)>, AllocError> {
-    let mut order = Vec::new(case.words.alloc);
-    for (j, project) in (1u32..).zip(&figures.margins.projects) {
-        if !project.funded {
-            let cost = i128::try_from(project.cost).unwrap_or(i128::MAX);
-            order.push((cost.saturating_sub(has(case, project)), j))?;
-        }
-    }
-    order.sort_unstable();
-    Ok(order)
-}
-
-// What the supporters of a project have left, or in the stable form can offer.
-fn has(case: &Case<'_>, project: &ProjectMargins) -> i128 {
-    if case.told.mode.stable {
-        project.offer
-    } else {
-        project.left
     }
 }
 
@@ -141,29 +146,40 @@ pub(crate) fn order_of(case: &Case<'_>, project: &ProjectMargins) -> Order {
     }
 }
 
-fn push_row(
-    page: &mut Page,
-    case: &Case<'_>,
-    j: u32,
-    project: &ProjectMargins,
-) -> Result<(), AllocError> {
-    begin_row(page, case, j, order_of(case, project))?;
-    begin_cell(page, case, COST)?;
+// The row of a project up to what its supporters have left or can offer. There is nothing for one that isn't there.
+fn up_to_amount(case: &Case<'_>, figures: &PriceFigures, j: u32) -> Result<Page, AllocError> {
+    let mut page = Page::new(case.words.alloc);
+    let Some(project) = figures.project(j) else {
+        return Ok(page);
+    };
+    begin_row(&mut page, case, j, order_of(case, project))?;
+    begin_cell(&mut page, case, COST)?;
     page.figure(Figure::Cost(j))?;
     page.close()?;
-    begin_cell(page, case, SUPPORTERS)?;
+    begin_cell(&mut page, case, SUPPORTERS)?;
     page.text(&grouped(case.words.alloc, u64::from(project.supporters))?)?;
     page.close()?;
-    begin_cell(page, case, has_column(case))?;
-    page.figure(has_figure(case, j))?;
-    page.close()?;
-    begin_cell(page, case, AGAINST_COST)?;
-    push_against(page, case, j, project)?;
-    page.close()?;
-    page.close()
+    begin_cell(&mut page, case, has_column(case))?;
+    Ok(page)
 }
 
-fn has_figure(case: &Case<'_>, j: u32) -> Figure {
+// The row of a project behind that amount.
+fn behind_amount(case: &Case<'_>, figures: &PriceFigures, j: u32) -> Result<Page, AllocError> {
+    let mut page = Page::new(case.words.alloc);
+    let Some(project) = figures.project(j) else {
+        return Ok(page);
+    };
+    page.close()?;
+    begin_cell(&mut page, case, AGAINST_COST)?;
+    push_against(&mut page, case, j, project)?;
+    page.close()?;
+    page.close()?;
+    Ok(page)
+}
+
+fn has_figure(case: &Case<'_>, j: u32) -> Figure
+    ensures { result ≡ (if (case.now).told.mode.stable then figure.Offer j else figure.Left j) }
+{
     if case.told.mode.stable {
         Figure::Offer(j)
     } else {
@@ -179,7 +195,7 @@ fn push_against(
     project: &ProjectMargins,
 ) -> Result<(), AllocError> {
     let alloc = case.words.alloc;
-    let has = u128::try_from(has(case, project)).unwrap_or(0);
+    let has = u128::try_from(has(project, case.told.mode.stable)).unwrap_or(0);
     let is_over = has > project.cost;
     let look = if is_over { Look::Over } else { Look::Against };
     let label = bar_label(case, j)?;

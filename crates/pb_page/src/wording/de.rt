@@ -49,6 +49,8 @@ pub(crate) fn wording(sentence: Sentence) -> &'static str {
         Sentence::NotStable(Plural::Few | Plural::Many) =>
             "In der stabilen Form, die mehr verlangt, wäre die Antwort nein: Für {count} Projekte \
              könnten die Unterstützenden mehr bieten, als das Projekt kostet.",
+        Sentence::PlainHolds =>
+            "Die einfache Form, die weniger verlangt, ist erfüllt: In ihr wäre die Antwort ja.",
         Sentence::AtProjects(Plural::One) => "Das gilt für {count} Projekt.",
         Sentence::AtProjects(Plural::Few | Plural::Many) => "Das gilt für {count} Projekte.",
         Sentence::AtVoters(Plural::One) => "Das gilt für {count} Person.",
@@ -61,6 +63,13 @@ pub(crate) fn wording(sentence: Sentence) -> &'static str {
             "Es gibt {count} solche Paare aus Mitglied und Projekt.",
         Sentence::LargestAt => "Am größten ist der Unterschied bei Projekt {project}: {amount}.",
         Sentence::LargestHere => "Dort ist der Unterschied am größten: {amount}.",
+        Sentence::AmountAt => "Am größten ist der Betrag bei Projekt {project}: {amount}.",
+        Sentence::AmountHere => "Dort ist der Betrag am größten.",
+        Sentence::DearestAt => "Das teuerste davon ist Projekt {project}, das {amount} kostet.",
+        Sentence::DearestHere => "Das teuerste davon ist das hier genannte.",
+        Sentence::PaymentAt => "Die größte leistet Person {voter} für Projekt {project}: {amount}.",
+        Sentence::PaymentHere => "Die größte ist die hier genannte: {amount}.",
+        Sentence::SpenderHere => "Mehr gibt keine andere Person aus.",
         Sentence::OverBy => "um {amount} darüber",
         Sentence::UnderBy => "um {amount} darunter",
         Sentence::JustTheCost => "genau die Kosten",
@@ -102,6 +111,7 @@ pub(crate) fn wording(sentence: Sentence) -> &'static str {
         Sentence::AgainstCost => "Gemessen an den Kosten",
         Sentence::CostPerSupporter => "Kosten je Unterstützende",
         Sentence::PartOfLimit => "Teil des Gesamtbudgets",
+        Sentence::MoreThanWhole => "mehr als das Ganze",
         Sentence::PaidExactly => "genau bezahlt",
         Sentence::PaidOver => "{paid} bezahlt, um {amount} zu viel",
         Sentence::PaidUnder => "{paid} bezahlt, um {amount} zu wenig",
@@ -279,6 +289,11 @@ pub(crate) fn wording(sentence: Sentence) -> &'static str {
         Sentence::ClaimNotSupported =>
             "Diese Zahlungen stützen das Ergebnis nicht. Mehr lässt sich nicht sagen: Andere \
              können es stützen.",
+        Sentence::ClaimPlain =>
+            "Diese Preise stützen dieses Ergebnis in der einfachen Form, aber nicht in der \
+             stabilen: Jedes geförderte Projekt wird von Abstimmenden, die dafür sind, aus gleich \
+             großen Budgets genau bezahlt, und keine Gruppe von Unterstützenden hat mehr übrig, \
+             als ein anderes Projekt kostet.",
         Sentence::ClaimOutcome => "Das Ergebnis verletzt eine Bedingung, gleich welche Zahlungen.",
         Sentence::ClaimViolation =>
             "Das Ergebnis behandelt eine Gruppe von Abstimmenden schlechter, als ihr zusteht: Es \

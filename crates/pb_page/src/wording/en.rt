@@ -44,6 +44,8 @@ pub(crate) fn wording(sentence: Sentence) -> &'static str {
         Sentence::NotStable(Plural::Few | Plural::Many) =>
             "In the stable form, which asks more, the answer would be no: for {count} projects the \
              supporters could offer more than the project costs.",
+        Sentence::PlainHolds =>
+            "The plain form, which asks less, holds: there the answer would be yes.",
         Sentence::AtProjects(Plural::One) => "This is so for {count} project.",
         Sentence::AtProjects(Plural::Few | Plural::Many) => "This is so for {count} projects.",
         Sentence::AtVoters(Plural::One) => "This is so for {count} voter.",
@@ -56,6 +58,13 @@ pub(crate) fn wording(sentence: Sentence) -> &'static str {
             "There are {count} such pairs of a member and a project.",
         Sentence::LargestAt => "The difference is largest for project {project}: {amount}.",
         Sentence::LargestHere => "The difference is largest there: {amount}.",
+        Sentence::AmountAt => "The amount is largest for project {project}: {amount}.",
+        Sentence::AmountHere => "The amount is largest there.",
+        Sentence::DearestAt => "The dearest of them is project {project}, which costs {amount}.",
+        Sentence::DearestHere => "The dearest of them is the one named here.",
+        Sentence::PaymentAt => "The largest is by voter {voter} for project {project}: {amount}.",
+        Sentence::PaymentHere => "The largest is the one named here: {amount}.",
+        Sentence::SpenderHere => "No other voter spends more.",
         Sentence::OverBy => "over by {amount}",
         Sentence::UnderBy => "under by {amount}",
         Sentence::JustTheCost => "exactly the cost",
@@ -96,6 +105,7 @@ pub(crate) fn wording(sentence: Sentence) -> &'static str {
         Sentence::AgainstCost => "Against the cost",
         Sentence::CostPerSupporter => "Cost per supporter",
         Sentence::PartOfLimit => "Part of the limit",
+        Sentence::MoreThanWhole => "more than the whole",
         Sentence::PaidExactly => "paid for exactly",
         Sentence::PaidOver => "{paid} is paid, over by {amount}",
         Sentence::PaidUnder => "{paid} is paid, under by {amount}",
@@ -262,6 +272,10 @@ pub(crate) fn wording(sentence: Sentence) -> &'static str {
              rather pay for another project.",
         Sentence::ClaimNotSupported =>
             "These payments don’t support the outcome. More can’t be said: others may.",
+        Sentence::ClaimPlain =>
+            "These prices support this outcome in the plain form, but not in the stable one: each \
+             funded project is paid for exactly by voters who approve it, from equal budgets, and \
+             no group of supporters has enough left to pay more than another project costs.",
         Sentence::ClaimOutcome => "The outcome breaks a condition, whatever the payments.",
         Sentence::ClaimViolation =>
             "The outcome treats a group of voters worse than it deserves: it fails extended \

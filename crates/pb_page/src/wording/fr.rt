@@ -49,6 +49,9 @@ pub(crate) fn wording(sentence: Sentence) -> &'static str {
         Sentence::NotStable(Plural::Few | Plural::Many) =>
             "Sous la forme stable, plus exigeante, la réponse serait non\u{a0}: pour {count} \
              projets, les soutiens pourraient offrir plus que le coût du projet.",
+        Sentence::PlainHolds =>
+            "La forme simple, moins exigeante, est respectée\u{a0}: sous elle, la réponse serait \
+             oui.",
         Sentence::AtProjects(Plural::One) => "C’est le cas de {count} projet.",
         Sentence::AtProjects(Plural::Few | Plural::Many) => "C’est le cas de {count} projets.",
         Sentence::AtVoters(Plural::One) => "C’est le cas de {count} votant.",
@@ -62,6 +65,16 @@ pub(crate) fn wording(sentence: Sentence) -> &'static str {
         Sentence::LargestAt =>
             "L’écart est le plus grand pour le projet {project}\u{a0}: {amount}.",
         Sentence::LargestHere => "C’est là que l’écart est le plus grand\u{a0}: {amount}.",
+        Sentence::AmountAt =>
+            "Le montant est le plus grand pour le projet {project}\u{a0}: {amount}.",
+        Sentence::AmountHere => "C’est là que le montant est le plus grand.",
+        Sentence::DearestAt =>
+            "Le plus cher d’entre eux est le projet {project}, qui coûte {amount}.",
+        Sentence::DearestHere => "Le plus cher d’entre eux est celui qui est nommé ici.",
+        Sentence::PaymentAt =>
+            "Le plus grand est celui du votant {voter} pour le projet {project}\u{a0}: {amount}.",
+        Sentence::PaymentHere => "Le plus grand est celui qui est nommé ici\u{a0}: {amount}.",
+        Sentence::SpenderHere => "Aucun autre votant ne dépense plus.",
         Sentence::OverBy => "{amount} de plus",
         Sentence::UnderBy => "{amount} de moins",
         Sentence::JustTheCost => "exactement le coût",
@@ -102,6 +115,7 @@ pub(crate) fn wording(sentence: Sentence) -> &'static str {
         Sentence::AgainstCost => "Face au coût",
         Sentence::CostPerSupporter => "Coût par soutien",
         Sentence::PartOfLimit => "Part de l’enveloppe",
+        Sentence::MoreThanWhole => "plus que la totalité",
         Sentence::PaidExactly => "payé exactement",
         Sentence::PaidOver => "{paid} payés, soit {amount} de trop",
         Sentence::PaidUnder => "{paid} payés, soit {amount} de moins",
@@ -276,6 +290,11 @@ pub(crate) fn wording(sentence: Sentence) -> &'static str {
         Sentence::ClaimNotSupported =>
             "Ces paiements ne justifient pas le résultat. On ne peut en dire plus\u{a0}: d’autres \
              le peuvent.",
+        Sentence::ClaimPlain =>
+            "Ces prix justifient ce résultat sous la forme simple, mais pas sous la forme \
+             stable\u{a0}: chaque projet financé est payé exactement par des votants qui \
+             l’approuvent, sur des budgets égaux, et à aucun groupe de soutiens il ne reste plus \
+             que le coût d’un autre projet.",
         Sentence::ClaimOutcome =>
             "Le résultat viole une condition, quels que soient les paiements.",
         Sentence::ClaimViolation =>

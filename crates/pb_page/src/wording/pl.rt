@@ -51,6 +51,9 @@ pub(crate) fn wording(sentence: Sentence) -> &'static str {
         Sentence::NotStable(Plural::Many) =>
             "W postaci stabilnej, która wymaga więcej, odpowiedź byłaby przecząca: dla {count} \
              projektów zwolennicy mogliby zaoferować więcej, niż projekt kosztuje.",
+        Sentence::PlainHolds =>
+            "Postać zwykła, która wymaga mniej, jest spełniona: w niej odpowiedź byłaby \
+             twierdząca.",
         Sentence::AtProjects(Plural::One) => "Dotyczy to {count} projektu.",
         Sentence::AtProjects(Plural::Few) => "Dotyczy to {count} projektów.",
         Sentence::AtProjects(Plural::Many) => "Dotyczy to {count} projektów.",
@@ -65,6 +68,14 @@ pub(crate) fn wording(sentence: Sentence) -> &'static str {
         Sentence::AtApprovals(Plural::Many) => "Jest {count} takich par członka i projektu.",
         Sentence::LargestAt => "Różnica jest największa dla projektu {project}: {amount}.",
         Sentence::LargestHere => "Różnica jest tam największa: {amount}.",
+        Sentence::AmountAt => "Kwota jest największa dla projektu {project}: {amount}.",
+        Sentence::AmountHere => "Kwota jest tam największa.",
+        Sentence::DearestAt => "Najdroższy z nich to projekt {project}, który kosztuje {amount}.",
+        Sentence::DearestHere => "Najdroższy z nich to ten, który tu wymieniono.",
+        Sentence::PaymentAt =>
+            "Największą, za projekt {project}, wnosi głosujący {voter}: {amount}.",
+        Sentence::PaymentHere => "Największa to ta, którą tu wymieniono: {amount}.",
+        Sentence::SpenderHere => "Żaden inny głosujący nie wydaje więcej.",
         Sentence::OverBy => "o {amount} więcej",
         Sentence::UnderBy => "o {amount} mniej",
         Sentence::JustTheCost => "dokładnie tyle, ile kosztuje",
@@ -105,6 +116,7 @@ pub(crate) fn wording(sentence: Sentence) -> &'static str {
         Sentence::AgainstCost => "Wobec kosztu",
         Sentence::CostPerSupporter => "Koszt na zwolennika",
         Sentence::PartOfLimit => "Część puli",
+        Sentence::MoreThanWhole => "więcej niż całość",
         Sentence::PaidExactly => "opłacony dokładnie",
         Sentence::PaidOver => "zapłacono {paid}, o {amount} za dużo",
         Sentence::PaidUnder => "zapłacono {paid}, o {amount} za mało",
@@ -264,6 +276,10 @@ pub(crate) fn wording(sentence: Sentence) -> &'static str {
         Sentence::ClaimNotSupported =>
             "Te płatności nie uzasadniają wyniku. Więcej powiedzieć nie można: inne mogą go \
              uzasadniać.",
+        Sentence::ClaimPlain =>
+            "Te ceny uzasadniają ten wynik w postaci zwykłej, ale nie w stabilnej: każdy wybrany \
+             projekt dokładnie opłacają głosujący, którzy go popierają, z równych budżetów, i \
+             żadnej grupie zwolenników nie zostało więcej, niż kosztuje inny projekt.",
         Sentence::ClaimOutcome => "Wynik łamie warunek, bez względu na płatności.",
         Sentence::ClaimViolation =>
             "Wynik traktuje grupę głosujących gorzej, niż na to zasługuje: nie zapewnia \

@@ -1,6 +1,7 @@
 //! Names on a page that mean something in markup, or turn what follows.
 use super::making::page;
-use pb_page::{Language, visible};
+use pb_page::{Language, PageFile, PageFiles, page_answer, visible};
+use pb_reply::File;
 use pb_samples::files::{ELECTION, PRICES};
 use pb_samples::modes::PLAIN;
 use std::test::Fail;
@@ -43,5 +44,26 @@ fn turning_marks_are_shown(rt: HostRuntime) -> Result<(), Fail> {
 fn bytes_that_are_no_text_are_replaced(rt: HostRuntime) -> Result<(), Fail> {
     let shown = visible(rt.alloc(), b"a\xffb\n\xe2\x80\x8e")?;
     assert!(rt; shown.as_str() == "a\u{fffd}b\\u{a}\\u{200e}", "{shown}");
+    Ok(())
+}
+
+#[test]
+fn names_in_the_command_are_no_options(rt: HostRuntime) -> Result<(), Fail> {
+    let files = PageFiles {
+        election: PageFile {
+            name: b"towns/-x.pb",
+            file: File::in_memory(ELECTION.as_bytes()),
+        },
+        outcome: None,
+        certificate: PageFile {
+            name: b"--it's all.csv",
+            file: File::in_memory(PRICES.as_bytes()),
+        },
+    };
+    let answer = page_answer(rt.alloc(), files, PLAIN, Language::English)?;
+    let text = String::from_utf8_lossy(rt.alloc(), &answer.text)?;
+    let command =
+        "pbaudit explain <bdi>./-x.pb</bdi> <bdi>&#39;./--it&#39;\\&#39;&#39;s all.csv&#39;</bdi></code>";
+    assert!(rt; text.contains(command), "{text}");
     Ok(())
 }

@@ -1,13 +1,27 @@
-use Rattle.std.proofs.Common.{subst, sym}
-use Rattle.pb_page.specs.Sums.{HasInOrder}
+use Rattle.std.proofs.Common.{List, subst, sym}
+use Rattle.pb_page.specs.Pieces.{Piece}
+use Rattle.pb_page.specs.Rows.{ListsProjects}
+use Rattle.pb_page.specs.Sums.{HasInOrder, code_box}
 use Rattle.pb_page.specs.Taken.{sums_shown}
-use Rattle.pb_page.proofs.Sums.{in-order-before, in-order-behind}
+use Rattle.pb_page.proofs.InOrder.{in-order-before, in-order-behind}
+use Rattle.pb_page.proofs.Rows.{lists-before, lists-behind}
 use Rattle.pb_page.proofs.parts.whole_page.Goals as goal
 
 pub returns-clause-sums : goal.returns-clause-sums
 returns-clause-sums c =
     let sums = sums_shown c.args.case.now.files in
     let appended =
-    subst (HasInOrder sums) (sym c.in_ok-append.ensures) (in-order-behind sums _ _ c.in_ok-behind_answer.ensures) in
-    let lined = subst (HasInOrder sums) (sym c.in_ok-push_line.ensures) (in-order-before sums _ _ appended) in
-    subst (HasInOrder sums) (sym c.in_ok-append-2.ensures) (in-order-before sums _ _ lined)
+    subst (HasInOrder sums) (sym c.in_ok-append.ensures)
+    (in-order-behind code_box sums _ _ c.in_ok-behind_answer.ensures.sums) in
+    let lined = subst (HasInOrder sums) (sym c.in_ok-push_line.ensures) (in-order-before code_box sums _ _ appended) in
+    subst (HasInOrder sums) (sym c.in_ok-append-2.ensures) (in-order-before code_box sums _ _ lined)
+
+pub returns-clause-projects : goal.returns-clause-projects
+returns-clause-projects c =
+    let told = c.args.case.now.told in
+    let lists : List Piece → Type 0 = ListsProjects told.mode told.found in
+    let appended =
+    subst lists (sym c.in_ok-append.ensures)
+    (lists-behind told.mode told.found _ _ c.in_ok-behind_answer.ensures.projects) in
+    let lined = subst lists (sym c.in_ok-push_line.ensures) (lists-before told.mode told.found _ _ appended) in
+    subst lists (sym c.in_ok-append-2.ensures) (lists-before told.mode told.found _ _ lined)

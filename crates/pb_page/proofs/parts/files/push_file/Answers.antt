@@ -4,7 +4,7 @@ use Rattle.std.proofs.lemmas.Result.{on_ok_weaker}
 use Rattle.pb_page.specs.Pieces.{Close, Piece}
 use Rattle.pb_page.specs.Sums.{HasInOrder, code_box}
 use Rattle.pb_page.specs.Taken as spec
-use Rattle.pb_page.proofs.Sums.{in-order-next}
+use Rattle.pb_page.proofs.InOrder.{in-order-next}
 use Rattle.pb_page.proofs.parts.files.push_file.Goals as goal
 
 pub returns : goal.returns
@@ -24,5 +24,5 @@ returns c =
       c.in_ok-append.ensures,
     ) in
     subst (λ (l : List Piece). HasInOrder (texts ++ sum ∷ []) l) (sym is)
-    (in-order-next texts sum c.args.page.now c.in_ok-facts_of.field-0 (Close ∷ Close ∷ []) has))
+    (in-order-next code_box texts sum c.args.page.now c.in_ok-facts_of.field-0 (Close ∷ Close ∷ []) has))
     c.close-2.ensures

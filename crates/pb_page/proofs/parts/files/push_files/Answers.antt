@@ -2,9 +2,9 @@ use Rattle.std.proofs.Common.{◌∙◌, ap, List, [], ◌∷◌, ◌++◌, map,
 use Rattle.std.specs.Prelude.{option_to_list}
 use Rattle.std.proofs.lemmas.Result.{on_ok_weaker}
 use Rattle.pb_page.specs.Pieces.{Close, Piece}
-use Rattle.pb_page.specs.Sums.{HasInOrder}
+use Rattle.pb_page.specs.Sums.{HasInOrder, code_box}
 use Rattle.pb_page.specs.Taken.{sum_of, sums_shown}
-use Rattle.pb_page.proofs.Sums.{in-order-before}
+use Rattle.pb_page.proofs.InOrder.{in-order-before}
 use Rattle.pb_page.proofs.parts.files.push_files.Goals as goal
 
 pub returns : goal.returns
@@ -18,6 +18,6 @@ returns c =
     (λ appended.
     let is = appended ∙ ap (λ (l : List Piece). l ++ c.in_ok-checks.field-0) c.in_ok-close.ensures in
     subst (HasInOrder (sums_shown files)) (sym is)
-    (in-order-before (sums_shown files) _ c.in_ok-checks.field-0
-    (in-order-before (sums_shown files) _ (Close ∷ []) all)))
+    (in-order-before code_box (sums_shown files) _ c.in_ok-checks.field-0
+    (in-order-before code_box (sums_shown files) _ (Close ∷ []) all)))
     c.append.ensures
