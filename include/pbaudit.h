@@ -14,7 +14,7 @@
  * A file of more than 2^28 bytes is refused. The files' formats, the texts and the numbers of refusals are those of the
  * program (docs/FORMATS.md).
  *
- * What the caller has to see to, since nothing tests it:
+ * What the caller has to make sure of, since nothing checks it:
  * - No pointer is null, even if its length or room is 0, nor is outcome if has_outcome is false.
  * - A file holds as many bytes as its length says, outcome even if has_outcome is false, and out as many as room.
  * - out and *needed overlap neither each other nor a file, and nothing else touches them during the call. The files
@@ -67,7 +67,7 @@ uint8_t pbaudit_both(const uint8_t *election, size_t election_length,
 
 /* The verdict on a certificate of either kind, an empty line, and what each condition on prices, or each test of a
  * violation, comes to: the table of `pbaudit explain`. A certificate that begins as a violation certificate is taken as
- * one, and then the switches count for nothing; any other is taken as prices. The outcome and the switches are as for
+ * one, and then the switches don't matter; any other is taken as prices. The outcome and the switches are as for
  * prices. 0, 1, 2 or 4. */
 uint8_t pbaudit_explain(const uint8_t *election, size_t election_length,
                         const uint8_t *outcome, size_t outcome_length, bool has_outcome,
@@ -87,7 +87,7 @@ uint8_t pbaudit_tidy(const uint8_t *election, size_t election_length,
                      const uint8_t *certificate, size_t certificate_length,
                      uint8_t *out, size_t room, size_t *needed);
 
-/* A page about a certificate of either kind, for people, as one HTML file in UTF-8. The page shows the files by these
+/* A page in plain words about a certificate of either kind, as one HTML file in UTF-8. The page shows the files by these
  * names. language is a code: en, pl, de or fr. The rest is as for explain, and where a file is refused, the text is the
  * line of the refusal. 0, 1, 2 or 4; 3 where there is no such language, and then *needed is 0 and nothing is written. */
 uint8_t pbaudit_page(const uint8_t *election, size_t election_length,
@@ -102,14 +102,14 @@ uint8_t pbaudit_page(const uint8_t *election, size_t election_length,
 
 /* Why a file is refused, for a person: as an example, for the refusal `refused certificate 24 UnknownVoter record 5`
  *   there is no voter '7010'; the election has 3 voters
- *   voters are named by their rows in VOTES, counted from 1, and not by voter_id; ..
+ *   voters are numbered by their rows in VOTES, from 1, and not by voter_id; ..
  * with 5 in *line. input is what the file has to be: 0 an election, 1 an outcome file, 2 a price certificate, 3 a
  * violation certificate, 4 a certificate of either kind. number and record are those of the refusal's line. election is
  * the one beside which the file was read, or an empty file with has_election false. *line is the line of the file on
  * which the refused record begins, from 1, or 0 where there is none, as at the end of the file. The text has a sentence
  * a line; one on another line of the file begins with `line N: `. It is empty where no refusal has this number, or
- * input is none of these. The words are for people and may change. What is said above of files, out and *needed goes
- * for these too, and *line is the caller's alone as *needed is; where memory ran out, *line is open. 0 or 4. */
+ * input is none of these. The words are for people and may change. What is said above of files, out and *needed
+ * holds here too, and for *line what is said of *needed; after out of memory, *line may be anything. 0 or 4. */
 uint8_t pbaudit_hint(uint8_t input, uint32_t number, uint64_t record,
                      const uint8_t *file, size_t file_length,
                      const uint8_t *election, size_t election_length, bool has_election,

@@ -33,7 +33,7 @@
  * @property {string} excerpt
  */
 
-const PIECE = 1 << 23;
+const PIECE = 1 << 22;
 const LONGEST_EXCERPT = 300;
 /**
  * The inputs as the line of a refusal names them.
@@ -49,7 +49,34 @@ class Unreadable extends Error {}
 const tell = told => postMessage(told);
 
 /**
- * Reads a file into the module's memory, piece by piece.
+ * The bytes of a file, in order and piece by piece. A stream gives them sooner than slices do, where it fills room that
+ * is used again. Other browsers read slices.
+ * @param {File} file
+ * @returns {AsyncGenerator<Uint8Array, void>}
+ */
+async function* piecesOf(file) {
+  /** @type {any} */
+  let reader;
+  try {
+    // Debian's tsc knows no such readers.
+    reader = /** @type {any} */ (file.stream()).getReader({ mode: "byob" });
+  } catch {
+    for (let at = 0; at < file.size; at += PIECE) {
+      yield new Uint8Array(await file.slice(at, at + PIECE).arrayBuffer());
+    }
+    return;
+  }
+  let room = new ArrayBuffer(PIECE);
+  for (;;) {
+    const { value, done } = await reader.read(new Uint8Array(room));
+    if (done) return;
+    yield value;
+    room = value.buffer;
+  }
+}
+
+/**
+ * Reads a file into the module's memory.
  * @param {Auditor} auditor
  * @param {File} file
  * @param {(bytes: number) => void} tellRead
@@ -57,17 +84,17 @@ const tell = told => postMessage(told);
  */
 async function load(auditor, file, tellRead) {
   const place = auditor.room(file.size);
-  for (let at = 0; at < file.size; at += PIECE) {
-    /** @type {Uint8Array} */
-    let piece;
-    try {
-      piece = new Uint8Array(await file.slice(at, at + PIECE).arrayBuffer());
-    } catch {
-      throw new Unreadable(file.name);
+  let at = 0;
+  try {
+    for await (const piece of piecesOf(file)) {
+      auditor.bytes(place).set(piece, at);
+      at += piece.length;
+      tellRead(piece.length);
     }
-    auditor.bytes(place).set(piece, at);
-    tellRead(piece.length);
+  } catch {
+    throw new Unreadable(file.name);
   }
+  if (at !== file.size) throw new Unreadable(file.name);
   return place;
 }
 
@@ -79,9 +106,11 @@ async function load(auditor, file, tellRead) {
 async function questionOf(auditor, order) {
   const { election, outcome, certificate } = order.files;
   const all = [election, outcome, certificate].reduce((sum, file) => sum + (file?.size ?? 0), 0);
-  let done = 0;
+  let done = 0, told = 0;
   const tellRead = (/** @type {number} */ bytes) => {
     done += bytes;
+    if (done < told + PIECE && done < all) return;
+    told = done;
     tell({ tells: "reading", done, all });
   };
   // Together they are read sooner than one after the other.

@@ -82,8 +82,8 @@ def library():
         print("pbaudit: building the library: everything is proved first", file=sys.stderr)
         subprocess.run([str(builder)], check=True, stdout=sys.stderr)
     if not LIBRARY.exists():
-        raise NoLibrary("pbaudit: the library is not built, the one of release/ is not known to be of these sources, and "
-                        "rt, the command of the Rattle kit, is not on the PATH; the wheel of release/ can be installed")
+        raise NoLibrary("pbaudit: the library is not built, the one in release/ may not be made of these sources, and "
+                        "rt, the command of the Rattle kit, is not on the PATH; the wheel in release/ can be installed")
     return LIBRARY
 
 

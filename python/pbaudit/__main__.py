@@ -18,22 +18,22 @@ PAGE_USAGE = (
     "       python -m pbaudit page --folder FOLDER [OPTIONS] -o OUT"
 )
 WHAT_IT_DOES = (
-    "Writes a page for people on what the audit of a price or a violation certificate finds: one HTML file, which has "
-    "no script and fetches nothing. With --folder it writes a page for each certificate of a folder, and an index."
+    "Writes a page that says in plain words what the audit of a price or a violation certificate finds: one HTML file, "
+    "which has no script and loads nothing. With --folder it writes a page for each certificate of a folder, and an index."
 )
 HOW_IT_ENDS = (
     "Exit statuses: 0 if the page was written, whatever the answer on it; 2 if a file is refused, with the line of the "
     "refusal on standard output, and what is wrong and where on standard error; 3 if the arguments aren't understood, "
     "or the page would replace one of the files; 4 if memory runs out, the page or that line can't be written, or the "
     "auditor isn't found or can't be used. With --folder the report of `pbaudit folder` is printed, and the status is "
-    "its own: 0 if no certificate failed, 1 if one did, 2 if a file is refused; and 3 if a file that isn't a page of "
-    "pbaudit is in the way, and then nothing is written."
+    "that of the report: 0 if no certificate failed, 1 if one did, 2 if a file is refused; and 3 if a file is in the way that "
+    "isn't a page of pbaudit, and then nothing is written."
 )
 
 WHAT_SHARES_DO = (
-    "Computes an outcome of the Method of Equal Shares, exactly and with ties for the project that comes first; makes "
-    "a price certificate from what the voters pay; has it audited; and says what holds. The rule isn't proved, and "
-    "needn't be: what it makes is audited by code that is."
+    "Computes an outcome of the Method of Equal Shares exactly, with ties going to the project that comes first; makes "
+    "a price certificate from what the voters pay; has it audited; and says what holds. The computation isn't proved, "
+    "and needn't be: its result is audited by code that is."
 )
 HOW_SHARES_END = (
     "Exit statuses: 0 if there is a certificate; 1 if there is none, or the election states another outcome than the "

@@ -16,8 +16,8 @@ _HERE = pathlib.Path(__file__).resolve().parent
 # Beside this file where the package is installed, and in the folder `lib` of a checkout.
 _LIBRARIES = [_HERE / "libpbaudit.so", _HERE.parent.parent / "lib" / "libpbaudit.so"]
 _HOW_TO_BUILD = (
-    "neither libpbaudit.so nor the program pbaudit was found; in the repository of pbaudit install this package again by "
-    "pip install ./python, or the program by ./install, into a folder of the PATH"
+    "neither libpbaudit.so nor the program pbaudit was found; from the repository of pbaudit, install this package again "
+    "with pip install ./python, or the program with ./install into a folder on the PATH"
 )
 
 
@@ -25,7 +25,7 @@ def switch(name: str, value: object) -> bool:
     """A switch, which is True or False, and anything else a TypeError."""
     # A true one of numpy equals 1, and a text doesn't.
     if not any(value is each or type(value).__name__ == "bool_" and value == each for each in (False, True)):
-        raise TypeError(f"{name} is {value!r}, and not True or False")
+        raise TypeError(f"{name} is {value!r}, not True or False")
     return bool(value)
 
 
@@ -300,8 +300,8 @@ def _loaded(path: pathlib.Path) -> _Library:
     try:
         return _Library(path)
     except (OSError, AttributeError) as why:
-        raise ImportError(f"{path} can't be used: {why}; build it again by ./pbaudit-library, and where it lies in the "
-                          "package install that again by pip install ./python") from why
+        raise ImportError(f"{path} can't be used: {why}; build it again with ./pbaudit-library, and if it is that of "
+                          "the package, install this package again with pip install ./python") from why
 
 
 def _find() -> Auditor:

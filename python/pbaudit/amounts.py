@@ -37,7 +37,7 @@ def is_float(amount: object) -> bool:
 def exact(amount: object, what: str, advice: str = "") -> Fraction:
     """An amount that is a whole number, a fraction or a Decimal. A float is a TypeError that names what it was for."""
     if is_float(amount):
-        raise TypeError(f"{what} is the float {amount!r}, and a check of rounded numbers isn't one: "
+        raise TypeError(f"{what} is the float {amount!r}, and a check of rounded numbers shows nothing: "
                         f"give whole numbers, Fractions or Decimals{advice}")
     return near(amount, what)
 
@@ -63,7 +63,7 @@ def near(amount: object, what: str) -> Fraction:
 def ratio(amount: object, what: str) -> Tuple[int, int]:
     """The numerator and the denominator of an amount of any kind, which needn't be in lowest terms."""
     if isinstance(amount, bool):
-        raise TypeError(f"{what} is {amount!r}, and not a number")
+        raise TypeError(f"{what} is {amount!r}, not a number")
     if isinstance(amount, int):
         return amount, 1
     if isinstance(amount, Fraction):
@@ -76,10 +76,10 @@ def ratio(amount: object, what: str) -> Tuple[int, int]:
         if is_float(amount):
             return Fraction(str(amount)).as_integer_ratio()
     except (ValueError, OverflowError):
-        raise ValueError(f"{what} is {amount!r}, which is no amount") from None
+        raise ValueError(f"{what} is {amount!r}, which isn't an amount") from None
     if hasattr(amount, "numerator") and hasattr(amount, "denominator"):
         return int(amount.numerator), int(amount.denominator)
-    raise TypeError(f"{what} is {amount!r}, and not a number")
+    raise TypeError(f"{what} is {amount!r}, not a number")
 
 
 def ratio_of_float(amount: float) -> Tuple[int, int]:

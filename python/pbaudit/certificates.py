@@ -93,7 +93,7 @@ def certified(town: Town, projects: Projects, voter_budget: Optional[NearAmount]
 
 def _whole(denominator: object) -> int:
     if isinstance(denominator, bool) or not hasattr(denominator, "__index__"):
-        raise TypeError(f"the denominator is {denominator!r}, and not a whole number")
+        raise TypeError(f"the denominator is {denominator!r}, not a whole number")
     return operator.index(denominator)
 
 

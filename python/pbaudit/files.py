@@ -57,7 +57,7 @@ def _bytes_at(path: str) -> bytes:
 
 def _bytes_in(file: BinaryIO) -> bytes:
     if not callable(getattr(file, "read", None)):
-        raise TypeError(f"{reprlib.repr(file)} is no file: give its path, its bytes, or the file opened by "
+        raise TypeError(f"{reprlib.repr(file)} isn't a file: give its path, its bytes, or the file opened by "
                         "open(path, 'rb')")
     data = file.read(MOST_BYTES + 1)
     if not isinstance(data, bytes):

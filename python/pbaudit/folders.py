@@ -81,7 +81,7 @@ def audit_folder(path: Path, executor: Optional[Executor] = None, *, stable: boo
 def _text_of(path: Path) -> str:
     text = os.fspath(path)
     if not isinstance(text, str):
-        raise TypeError(f"the path of the folder is {text!r}, and not a str")
+        raise TypeError(f"the path of the folder is {text!r}, not a str")
     return text
 
 

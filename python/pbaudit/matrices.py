@@ -16,7 +16,7 @@ def ballots_in(matrix: Any, ids: Sequence[str]) -> Iterator[List[int]]:
         approved = row[places]
         if not (approved == 1).all():
             odd = next(entry for entry in approved if entry != 1)
-            raise TypeError(f"the row of voter {voter} has {odd}, and not 0 or 1 alone: approvals are what is audited")
+            raise TypeError(f"the row of voter {voter} has {odd}, not only 0 and 1: only approvals are audited")
         yield places.tolist()
 
 

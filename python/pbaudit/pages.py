@@ -42,7 +42,7 @@ def _made(election: File, certificate: File, outcome: Optional[File], mode: Mode
 def checked_language(language: str) -> str:
     """The code of a language that there is. Raises a ValueError for another."""
     if language not in LANGUAGES:
-        raise ValueError(f"the language is {language!r}, and not one of {', '.join(LANGUAGES)}")
+        raise ValueError(f"the language is {language!r}, not one of {', '.join(LANGUAGES)}")
     return language
 
 

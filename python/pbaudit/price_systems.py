@@ -38,7 +38,7 @@ def validate_price_system(instance: AnyInstance, profile: Profile, budget_alloca
     of approval ballots, each a set of projects; payments are, for each voter in the order of the profile, a mapping
     from projects or their names to amounts. Both may also be matrices, as numpy has them, with a row for each voter
     and a column for each project in the order of the instance. Amounts are whole numbers, Fractions or Decimals, and
-    are taken exactly. A float is a TypeError, since a check of rounded numbers isn't one; `price_certificate` makes
+    are taken exactly. A float is a TypeError, since a check of rounded numbers shows nothing; `price_certificate` makes
     exact payments of floats. What no certificate can say (a payment below 0, amounts that are too large) is a
     ValueError, and so is a voter who pays for a project twice, by its name and as itself.
 

@@ -74,7 +74,7 @@ class Rule:
 
     def __init__(self, costs: Sequence[Fraction], limit: Fraction, ballots: Ballots, by: str):
         if by not in MEASURES:
-            raise ValueError(f"by is {by!r}, and not 'cost' or 'count'")
+            raise ValueError(f"by is {by!r}, not 'cost' or 'count'")
         self.costs, self.limit, self.voters = costs, limit, len(ballots)
         self.worth = [cost if by == "cost" else Fraction(1) for cost in costs]
         self.supporters = [array("I") for _ in costs]
@@ -85,7 +85,7 @@ class Rule:
     def completed(self, completion: str, tell: Optional[Tell] = None) -> Tuple[List[Purchase], Fraction, int]:
         """What is bought, the budget of a voter, and how often the rule was run."""
         if completion not in COMPLETIONS:
-            raise ValueError(f"the completion is {completion!r}, and not 'none' or 'add1'")
+            raise ValueError(f"the completion is {completion!r}, not 'none' or 'add1'")
         budget, runs = self.limit / max(1, self.voters), 1
         if completion == "add1":
             budget, runs = self._raised(budget, tell)

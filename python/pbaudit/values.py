@@ -88,7 +88,7 @@ class Projects:
         name = id_of(project, what)
         if name not in self.place:
             if not self._is_open:
-                raise ValueError(f"{what} {name}, which is no project of the instance")
+                raise ValueError(f"{what} {name}, which isn't a project of the instance")
             self.place[name] = len(self.ids)
             self.ids.append(name)
         at = self.place[name]
@@ -143,7 +143,7 @@ class Payments:
         self.kinds: Set[type] = set()
         for voter, function in enumerate(self.functions, 1):
             if not callable(getattr(function, "values", None)):
-                raise TypeError(f"the payment function of voter {voter} is {reprlib.repr(function)}, and not a mapping "
+                raise TypeError(f"the payment function of voter {voter} is {reprlib.repr(function)}, not a mapping "
                                 "from projects to amounts")
             self.kinds.update(map(type, function.values()))
         self._is_whole, self._is_rational = self.kinds <= {int}, self.kinds <= {int, Fraction}
@@ -236,7 +236,7 @@ def _ballots(profile: Profile) -> Iterator[Collection[AnyProject]]:
     for voter, ballot in enumerate(listed(profile, "the profile is", "ballots"), 1):
         if isinstance(ballot, AnyMapping):
             raise TypeError(f"the ballot of voter {voter} is {reprlib.repr(ballot)}, a mapping as cardinal ballots "
-                            f"are, and not a list of {PROJECTS}: approvals are what is audited")
+                            f"are, not a list of {PROJECTS}: only approvals are audited")
         approved = listed(ballot, f"the ballot of voter {voter} is", PROJECTS)
         yield approved if isinstance(approved, Collection) else list(approved)
 
@@ -266,7 +266,7 @@ def ids_of(projects: Iterable[AnyProject], what: str, names: str) -> List[str]:
 def listed(values: Any, what: str, wanted: str, *unwanted: type) -> Iterable[Any]:
     """Values that are an iterable. A text isn't what is wanted, since it would be taken letter by letter."""
     if isinstance(values, (str, bytes, *unwanted)) or not hasattr(values, "__iter__"):
-        raise TypeError(f"{what} {reprlib.repr(values)}, and not a list of {wanted}")
+        raise TypeError(f"{what} {reprlib.repr(values)}, not a list of {wanted}")
     return values  # type: ignore[no-any-return]
 
 
@@ -285,7 +285,7 @@ def id_of(project: AnyProject, names: str = "the instance has") -> str:
     if isinstance(project, str):
         return _checked_id(project)
     if not hasattr(project, "name"):
-        raise TypeError(f"{names} {reprlib.repr(project)}, which is no project: one has a name, or is given by its "
+        raise TypeError(f"{names} {reprlib.repr(project)}, which isn't a project: one has a name, or is given by its "
                         "id, a str")
     return _checked_id(str(project.name))
 
@@ -296,5 +296,5 @@ def _checked_id(name: str) -> str:
     if not name or name != name.strip(BLANKS) or any(letter < " " or letter == "\x7f" for letter in name):
         raise ValueError(f"the id {name!r} can't be written: it is empty, has a blank at an end, or a control byte")
     if not name.isascii() and any("\ud800" <= letter <= "\udfff" for letter in name):
-        raise ValueError(f"the id {name!r} can't be written: it has half of a pair of surrogates, which is no letter")
+        raise ValueError(f"the id {name!r} can't be written: it has half of a surrogate pair, which isn't a letter")
     return name

@@ -59,7 +59,7 @@ def write_violation(voters: Iterable[int], projects: Iterable[AnyProject], satis
     projects that it demands. `satisfaction` is "count" or "cost"; None is "count" in the older version of the file.
     Raises ValueError, TypeError and OSError."""
     if satisfaction not in (None, "count", "cost"):
-        raise ValueError(f"the satisfaction is {satisfaction!r}, and not 'count' or 'cost'")
+        raise ValueError(f"the satisfaction is {satisfaction!r}, not 'count' or 'cost'")
     head = [["pb-violation", "1"]] if satisfaction is None else [["pb-violation", "2"], ["satisfaction", satisfaction]]
     ids = ids_of(projects, "the demand is", "the demand names")
     group = once(list(map(_whole, listed(voters, "the group is", "numbers of voters"))), "the group names voter")
@@ -176,7 +176,7 @@ def _whole(voter: object) -> int:
             return operator.index(voter)  # type: ignore[arg-type]
     except TypeError:
         pass
-    raise TypeError(f"the group names voter {voter!r}, which is no whole number")
+    raise TypeError(f"the group names voter {voter!r}, which isn't a whole number")
 
 
 def _at_most(most: int, number: int, what: str) -> None:

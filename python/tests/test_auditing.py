@@ -224,7 +224,7 @@ class Audits(unittest.TestCase):
             self.assertEqual((refusal.printed, refusal.line), ("refused certificate 24 UnknownVoter record 4", 4))
             self.assertEqual(refusal.file, str(EXAMPLES / "district.voter-id.violation.csv"))
             told = [f"{refusal.file}:4: there is no voter '20582'; the election has 60 voters",
-                    f"{refusal.file}: voters are named by their rows in VOTES, counted from 1, and not by voter_id; the "
+                    f"{refusal.file}: voters are numbered by their rows in VOTES, from 1, and not by voter_id; the "
                     "one with voter_id '20582' is voter 9"]
             self.assertEqual(str(refusal).split("\n"), [refusal.printed, *told])
             self.assertEqual(refusal.reason.split("\n"), [each.split(": ", 1)[1] for each in told])
@@ -278,7 +278,7 @@ class Audits(unittest.TestCase):
         with open(EXAMPLES / "sample.pb", encoding="utf-8") as file, self.assertRaisesRegex(TypeError, "opened as text"):
             pbaudit.read(file)
         for given in (7, ["e.pb"], range(10**6), None):
-            with self.assertRaisesRegex(TypeError, "is no file: give its path"):
+            with self.assertRaisesRegex(TypeError, "isn't a file: give its path"):
                 pbaudit.read(given)
 
     def test_contents_in_the_place_of_a_path(self):
@@ -292,7 +292,7 @@ class Audits(unittest.TestCase):
     def test_switches_are_true_or_false(self):
         for name in ("stable", "exhaustive", "cover"):
             for value in ("no", 0, 1, None):
-                with self.assertRaisesRegex(TypeError, f"^{name} is {value!r}, and not True or False$"):
+                with self.assertRaisesRegex(TypeError, f"^{name} is {value!r}, not True or False$"):
                     pbaudit.audit_prices(EXAMPLES / "sample.pb", EXAMPLES / "sample.prices.csv", **{name: value})
 
     def test_too_long(self):

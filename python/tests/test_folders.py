@@ -119,7 +119,7 @@ class Folders(unittest.TestCase):
         self.assert_refused(self.room, errno.EILSEQ)
 
     def test_a_path_of_bytes(self):
-        with self.assertRaisesRegex(TypeError, "^the path of the folder is b'folder', and not a str$"):
+        with self.assertRaisesRegex(TypeError, "^the path of the folder is b'folder', not a str$"):
             pbaudit.audit_folder(b"folder")
 
     def test_no_executor(self):

@@ -49,7 +49,7 @@ class Matrices(unittest.TestCase):
     def test_what_is_wrong_is_told(self):
         array = self.numpy.array
         for error, told, ballots, paid in (
-            (TypeError, "the row of voter 3 has 5, and not 0 or 1", array([[1, 0, 0], [0, 1, 0], [0, 5, 1]]), PAYMENTS),
+            (TypeError, "the row of voter 3 has 5, not only 0 and 1", array([[1, 0, 0], [0, 1, 0], [0, 5, 1]]), PAYMENTS),
             (ValueError, "the profile has 2 columns, and the instance has 3 projects", array([[1, 0]] * 3), PAYMENTS),
             (ValueError, "the matrix of payments has 2 columns", PROFILE, array([[1, 0]] * 3)),
             (ValueError, "there are 3 ballots and 2 payment functions", PROFILE, array(PAID[:2])),

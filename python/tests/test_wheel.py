@@ -113,7 +113,7 @@ class Wheels(unittest.TestCase):
                 self.library.unlink()
                 self.release()
                 (self.top / name).write_bytes(b"changed")
-                with self.assertRaisesRegex(SystemExit, "release/ is not known to be of these sources"):
+                with self.assertRaisesRegex(SystemExit, "release/ may not be made of these sources"):
                     self.in_the_wheel(rt=None)
                 self.assertEqual(self.in_the_wheel(), NEW)
                 self.assertEqual(self.built, [[str(self.top / "pbaudit-library")]])

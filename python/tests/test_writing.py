@@ -106,7 +106,7 @@ class PriceSystems(unittest.TestCase):
         self.assertIsNone(validate_price_system(SAMPLE, PROFILE, [A, B], 4, PAYMENTS, near=True).moved)
         with self.assertRaises(pbaudit.CannotKeep):
             validate_price_system(*given[:3], 1, payments, near=True)
-        with self.assertRaisesRegex(TypeError, "^near is 'no', and not True or False$"):
+        with self.assertRaisesRegex(TypeError, "^near is 'no', not True or False$"):
             validate_price_system(*given, near="no")
 
     def test_a_no_that_no_denominator_changes(self):
@@ -248,13 +248,13 @@ class Files(unittest.TestCase):
 
     def test_values_of_a_wrong_kind(self):
         for make, told in (
-            (lambda: pbaudit.write_violation([1.9], ["a"]), "the group names voter 1.9, which is no whole number"),
-            (lambda: pbaudit.write_violation(["1"], ["a"]), "the group names voter '1', which is no whole number"),
-            (lambda: pbaudit.write_violation([1], [1]), "the demand names 1, which is no project: "),
-            (lambda: pbaudit.write_outcome([2]), "the outcome names 2, which is no project: "),
-            (lambda: pbaudit.write_election(SAMPLE, [[A], [None]]), "voter 2 approves None, which is no project: "),
-            (lambda: pbaudit.write_election(Instance([A, 3], 10), []), "the instance has 3, which is no project: "),
-            (lambda: pbaudit.write_prices(4, [{A: 1}, {7: 1}]), "voter 2 pays for 7, which is no project: "),
+            (lambda: pbaudit.write_violation([1.9], ["a"]), "the group names voter 1.9, which isn't a whole number"),
+            (lambda: pbaudit.write_violation(["1"], ["a"]), "the group names voter '1', which isn't a whole number"),
+            (lambda: pbaudit.write_violation([1], [1]), "the demand names 1, which isn't a project: "),
+            (lambda: pbaudit.write_outcome([2]), "the outcome names 2, which isn't a project: "),
+            (lambda: pbaudit.write_election(SAMPLE, [[A], [None]]), "voter 2 approves None, which isn't a project: "),
+            (lambda: pbaudit.write_election(Instance([A, 3], 10), []), "the instance has 3, which isn't a project: "),
+            (lambda: pbaudit.write_prices(4, [{A: 1}, {7: 1}]), "voter 2 pays for 7, which isn't a project: "),
         ):
             with self.assertRaisesRegex(TypeError, f"^{told}"):
                 make()
@@ -262,14 +262,14 @@ class Files(unittest.TestCase):
     def test_values_without_what_is_wanted(self):
         checks = (validate_price_system, pbaudit.price_certificate)
         no_limit, no_costs = "the instance is .*, which has no budget_limit$", "the instance's project a has no cost$"
-        of_voter, no_list = "the payment function of voter", "and not a list of mappings, one for each voter$"
+        of_voter, no_list = "the payment function of voter", "not a list of mappings, one for each voter$"
         for told, instance, profile, payments in (
             (no_limit, [A, B, C], PROFILE, PAYMENTS), (no_costs, Instance(["a"], 10), [["a"]], [{"a": 1}]),
-            ("the instance is None, and not a list of projects", None, PROFILE, PAYMENTS),
-            ("the ballot of voter 2 is None, and not a list of projects", SAMPLE, [{A}, None, {B}], PAYMENTS),
-            ("the profile is None, and not a list of ballots$", SAMPLE, None, PAYMENTS),
-            (f"{of_voter} 1 is \\['a'\\], and not a mapping from projects", SAMPLE, PROFILE, [["a"], {}, {}]),
-            (f"{of_voter} 3 is None, and not a mapping from projects", SAMPLE, PROFILE, [{}, {}, None]),
+            ("the instance is None, not a list of projects", None, PROFILE, PAYMENTS),
+            ("the ballot of voter 2 is None, not a list of projects", SAMPLE, [{A}, None, {B}], PAYMENTS),
+            ("the profile is None, not a list of ballots$", SAMPLE, None, PAYMENTS),
+            (f"{of_voter} 1 is \\['a'\\], not a mapping from projects", SAMPLE, PROFILE, [["a"], {}, {}]),
+            (f"{of_voter} 3 is None, not a mapping from projects", SAMPLE, PROFILE, [{}, {}, None]),
             (f"the payment functions are {{1: .*}}, {no_list}", SAMPLE, PROFILE, dict(enumerate(PAYMENTS, 1))),
             (f"the payment functions are None, {no_list}", SAMPLE, PROFILE, None),
         ):
@@ -286,7 +286,7 @@ class Files(unittest.TestCase):
             lambda: pbaudit.price_certificate(SAMPLE, PROFILE, None, 4, PAYMENTS),
             lambda: pbaudit.write_outcome(None),
         ):
-            with self.assertRaisesRegex(TypeError, "^the budget allocation is None, and not a list of projects or "):
+            with self.assertRaisesRegex(TypeError, "^the budget allocation is None, not a list of projects or "):
                 make()
 
     def test_ballots_of_other_kinds(self):
@@ -303,12 +303,12 @@ class Files(unittest.TestCase):
     def test_numbers_of_other_kinds(self):
         """Floats are told as such, whoever's they are, and a bool is no amount."""
         rest = [{A: 4}, {B: 2}]
-        for amount, told in [(True, "and not a number"), *floats_of_others()]:
+        for amount, told in [(True, "not a number"), *floats_of_others()]:
             with self.subTest(amount=amount), self.assertRaisesRegex(TypeError, f"^what voter 1 pays for a is .*{told}"):
                 validate_price_system(SAMPLE, PROFILE, [A, B], 4, [{A: amount, B: 2}, *rest])
-        with self.assertRaisesRegex(TypeError, "^what voter 1 pays for a is True, and not a number"):
+        with self.assertRaisesRegex(TypeError, "^what voter 1 pays for a is True, not a number"):
             pbaudit.price_certificate(SAMPLE, PROFILE, [A, B], 4, [{A: True, B: 2}, *rest])
-        with self.assertRaisesRegex(TypeError, "^the voter budget is True, and not a number"):
+        with self.assertRaisesRegex(TypeError, "^the voter budget is True, not a number"):
             validate_price_system(SAMPLE, PROFILE, [A, B], True, PAYMENTS)
         for amount, _ in floats_of_others():
             made = pbaudit.price_certificate(SAMPLE, PROFILE, [A, B], 4, [{A: amount, B: 2}, *rest])
@@ -327,7 +327,7 @@ class Files(unittest.TestCase):
             self.assertEqual(pbaudit.price_certificate(SAMPLE, PROFILE, [A, B], kind(4), payments).denominator, 1)
 
     def test_half_of_a_letter_is_no_name(self):
-        told = r"^the id 'a\\ud800' can't be written: it has half of a pair of surrogates"
+        told = r"^the id 'a\\ud800' can't be written: it has half of a surrogate pair"
         for make in (lambda: pbaudit.write_outcome(["a\ud800"]),
                      lambda: pbaudit.write_election(Instance([Project("a\ud800", 1)], 1), [])):
             with self.assertRaisesRegex(ValueError, told):
@@ -343,13 +343,13 @@ class Files(unittest.TestCase):
     def test_a_text_is_no_list(self):
         """It would be taken letter by letter: here a and b are projects."""
         checks = (validate_price_system, pbaudit.price_certificate)
-        ballots, projects = ["ab", ["a"], ["b"]], "and not a list of projects or their ids$"
+        ballots, projects = ["ab", ["a"], ["b"]], "not a list of projects or their ids$"
         for make, told in (
             (lambda: pbaudit.write_outcome("park"), f"the budget allocation is 'park', {projects}"),
             (lambda: pbaudit.write_violation([1], "park"), f"the demand is 'park', {projects}"),
-            (lambda: pbaudit.write_violation("1", ["a"]), "the group is '1', and not a list of numbers of voters$"),
+            (lambda: pbaudit.write_violation("1", ["a"]), "the group is '1', not a list of numbers of voters$"),
             (lambda: pbaudit.write_election(SAMPLE, ballots), f"the ballot of voter 1 is 'ab', {projects}"),
-            (lambda: pbaudit.write_election(SAMPLE, "ab"), "the profile is 'ab', and not a list of ballots$"),
+            (lambda: pbaudit.write_election(SAMPLE, "ab"), "the profile is 'ab', not a list of ballots$"),
             (lambda: pbaudit.write_election(SAMPLE, PROFILE, "ab"), f"the budget allocation is 'ab', {projects}"),
             *((lambda check=check: check(SAMPLE, ballots, [A, B], 4, PAYMENTS), "the ballot of voter 1 is 'ab', ")
               for check in checks),

@@ -61,7 +61,7 @@ WORDS.de = {
   print: "Drucken",
   margins: "Zahlen speichern (CSV)",
   tidy: "Kanonische Form speichern",
-  refused: file => `Es gibt keine Antwort: ${file} ist nicht so, wie es sein muss.`,
+  refused: file => `Es gibt keine Antwort: ${file} enthält einen Fehler.`,
   atLine: (file, line) => `${file}, Zeile ${line}:`,
   programPrints: "Das Programm schreibt:",
   stopped: "Angehalten. Es gibt keine Antwort.",

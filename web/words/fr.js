@@ -61,7 +61,7 @@ WORDS.fr = {
   print: "Imprimer",
   margins: "Enregistrer les chiffres (CSV)",
   tidy: "Enregistrer la forme canonique",
-  refused: file => `Il n’y a pas de réponse : ${file} n’est pas comme il doit être.`,
+  refused: file => `Il n’y a pas de réponse : ${file} contient une erreur.`,
   atLine: (file, line) => `${file}, ligne ${line} :`,
   programPrints: "Le programme écrit :",
   stopped: "Arrêté. Il n’y a pas de réponse.",

@@ -61,7 +61,7 @@ WORDS.pl = {
   print: "Drukuj",
   margins: "Zapisz liczby (CSV)",
   tidy: "Zapisz postać kanoniczną",
-  refused: file => `Nie ma odpowiedzi: plik ${file} nie jest taki, jaki być musi.`,
+  refused: file => `Nie ma odpowiedzi: w pliku ${file} jest błąd.`,
   atLine: (file, line) => `${file}, wiersz ${line}:`,
   programPrints: "Program wypisuje:",
   stopped: "Zatrzymano. Nie ma odpowiedzi.",
