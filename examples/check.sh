@@ -212,7 +212,7 @@ if [ "${#ways[@]}" -gt 1 ]; then
     echo 'parallel did not start processes on both machines'
   fi
 fi
-ends 2 'refused folder 18 Read record 0' "$work/latin: the name of a file in it isn't UTF-8" folder "$work/latin"
+ends 2 'refused folder 18 Read record 0' "$work/latin: it has a file whose name isn't UTF-8" folder "$work/latin"
 ends 2 'refused folder 18 Read record 0' 'sample.pb: Not a directory' folder sample.pb
 ends 2 'refused folder 18 Read record 0' "'': the path is empty" folder ''
 ends 2 'refused election 18 Read record 0' "'': the path is empty" read ''

@@ -1,6 +1,6 @@
 #!/usr/bin/env bash
 # Audits a folder of elections on all processors, and writes byte for byte what `pbaudit folder` writes, with its status.
-# usage: examples/many.sh FOLDER [words of pbaudit folder]
+# usage: examples/many.sh FOLDER [options of pbaudit folder]
 # PBAUDIT names the program (without it: the launcher at the top of the repository), and JOBS how many run at a time (without
 # it: one for each processor). Each election gets a folder of its own below TMPDIR, with hard links to its files, or copies
 # where TMPDIR is on another disk.
@@ -8,7 +8,7 @@ set -uo pipefail
 export LC_ALL=C
 
 if [ $# = 0 ]; then
-    echo 'usage: examples/many.sh FOLDER [words of pbaudit folder]' >&2
+    echo 'usage: examples/many.sh FOLDER [options of pbaudit folder]' >&2
     exit 3
 fi
 given=$1 folder=$1

@@ -22,7 +22,7 @@ from score import Score
 TOP = Path(__file__).resolve().parent.parent
 # With those on which they stand, and what each Debian has in any case.
 PACKAGES = ["bash", "coreutils", "dash", "diffutils", "dpkg", "findutils", "grep", "gzip", "libc-bin", "man-db",
-            "python3", "python3-pip-whl", "sed", "tar", "util-linux"]
+            "python3", "python3-pip-whl", "sed", "tar", "util-linux", "xz-utils"]
 LINKS = {"bin": "usr/bin", "sbin": "usr/sbin", "lib": "usr/lib", "lib64": "usr/lib64"}
 CLONE = "home/a clone"
 AUDIT = "prices examples/district.pb examples/district.prices.csv"

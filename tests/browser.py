@@ -54,7 +54,7 @@ from page_scripts import (  # noqa: E402
 from pages import GroupBars, PriceBars, cases, language_of, shortened, shown  # noqa: E402
 from pixels import Picture, contrast  # noqa: E402
 
-HEADS = {"prices": 10, "violation": 9}
+HEADS = 10
 NO = "The prices don\u2019t support this outcome"
 HEADLINES = {
     "yes": "The prices support this outcome", "stable": NO,
@@ -84,6 +84,11 @@ class Failed(Exception):
 def check(is_right, what):
     if not is_right:
         raise Failed(what)
+
+
+def of_project(bar):
+    """Whether a bar of `pages.py` is that of a project."""
+    return bar[0] is not None
 
 
 class Page:
@@ -199,7 +204,7 @@ def test_nothing_is_changed(browser, url, page):
     strange = browser.ask(STRANGE)
     check(strange == 0, f"{strange} strange elements")
     heads = browser.ask("return document.querySelectorAll('h1, h2').length")
-    check(heads == HEADS["violation" if page.is_violation else "prices"], f"{heads} heads")
+    check(heads == HEADS, f"{heads} heads")
     own = browser.ask(OWN_WORDS)
     check("{" not in own and "}" not in own, "a placeholder is left")
 
@@ -208,7 +213,7 @@ def test_names(browser, url, page):
     """Each project stands there by its id and name as they are shown, isolated and in the language of the election."""
     rows = browser.ask("return [...document.querySelectorAll('tbody th')].map(head => "
                        "[...head.querySelectorAll('.name, .id bdi')].map(each => each.textContent))")
-    for (project, _, _), told in zip(page.bars[2:], rows):
+    for (project, _, _), told in zip(filter(of_project, page.bars), rows):
         wanted = [shortened(shown(text)) for text in (page.town.names[project], project) if text]
         check(told == wanted, f"{project} is shown as {told}")
     loose = browser.ask(LOOSE_NAMES)
@@ -240,8 +245,8 @@ def test_bars(browser, url, page):
         check(bar["cut"] == (part > 1), f"a bar doesn't say whether it is cut: {project}")
         check((bar["mark"] is not None) == has_mark, f"a mark: {project}")
         check(not has_mark or abs(bar["mark"] - 0.75 * bar["room"]) <= 1, f"a mark is at {bar['mark']}: {project}")
-        is_named = bar["name"] is None or bar["label"].startswith(bar["name"])
-        check(is_named, f"the label {bar['label']} doesn't name {bar['name']}")
+        is_named = bar["label"].startswith(bar["name"]) if bar["name"] else bar["label"][:1].isalpha()
+        check(is_named, f"the label {bar['label']} doesn't name {bar['name'] or 'what it is of'}")
 
 
 def test_contrast(browser, url, page):
@@ -290,7 +295,8 @@ def test_it_can_be_heard(browser, url, page):
     nodes = browser.driver.execute_cdp_cmd("Accessibility.getFullAXTree", {})["nodes"]
     roles = Counter(node["role"]["value"] for node in nodes if not node["ignored"])
     rows = browser.ask("return document.querySelectorAll('tr').length")
-    check(roles["row"] == rows and roles["rowheader"] == len(page.bars) - 2, f"rows are heard as {roles}")
+    heads = len(list(filter(of_project, page.bars)))
+    check(roles["row"] == rows and roles["rowheader"] == heads, f"rows are heard as {roles}")
 
 
 def test_axe(browser, url, page):

@@ -63,7 +63,7 @@ def kinds_of(text):
 # The status of a reference that ended by an error of its own.
 CRASHED = -1
 # What is said of a folder without elections, on standard error.
-NO_ELECTION = b"pbaudit: no election was found: no file of the folder is named NAME.pb\n"
+NO_ELECTION = b"pbaudit: no election was found: the folder has no file named NAME.pb\n"
 # What is said there of files that may be meant to be audited and aren't.
 NOT_AUDITED = re.compile(rb"^pbaudit: not audited: .*\n\Z", re.MULTILINE)
 

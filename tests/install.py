@@ -5,8 +5,8 @@ man, groff, mandoc, pkg-config, bash completion by bash) is left out, and one li
 
 usage: tests/install.py
 """
-import gzip
 import hashlib
+import lzma
 import os
 import re
 import shlex
@@ -296,8 +296,8 @@ def try_refusals(score, work):
     cases = [
         ("no PREFIX", [], {}, 3, "PREFIX is missing"),
         ("an empty PREFIX", [""], {}, 3, "PREFIX is empty"),
-        ("two words", ["a", "b"], {}, 3, "there are 2 words"),
-        ("an option", ["--prefix=/usr"], {}, 3, "no option is --prefix=/usr"),
+        ("two words", ["a", "b"], {}, 3, "one PREFIX is expected, not 2 arguments"),
+        ("an option", ["--prefix=/usr"], {}, 3, "there is no option --prefix=/usr"),
         ("a PREFIX that isn't whole", ["usr"], {"DESTDIR": str(work)}, 3, "has to begin with /"),
         ("a file for a folder", [file / "below"], {}, 1, f"{file}/below/bin can't be made (Not a directory)"),
         ("a DESTDIR that is a file", ["/usr"], {"DESTDIR": str(file)}, 1, f"{file}/usr/bin can't be made"),
@@ -365,7 +365,7 @@ def make_release(copy):
     shutil.copy(TOP / "crates/pbaudit/out/pbaudit", release)
     for name in ("libpbaudit.so", "pbaudit.h", "pbaudit.pc"):
         shutil.copy(TOP / "lib" / name, release)
-    with gzip.open(release / "libpbaudit.a.gz", "wb") as packed:
+    with lzma.open(release / "libpbaudit.a.xz", "wb") as packed:
         packed.write((TOP / "lib/libpbaudit.a").read_bytes())
     ran(copy / "packaging/man_and_completions.py", release / "pbaudit", release)
     sums = [f"{part} {ran(copy / 'packaging/sources', part).stdout}" for part in ("crates", "library")]
@@ -383,8 +383,8 @@ def try_releasing(score, work):
     release = make_release(copy)
     tools = work / "tools of a release"
     tools.mkdir()
-    for tool in ("bash", "cp", "dirname", "find", "grep", "gzip", "install", "mkdir", "mktemp", "readlink", "rm", "sed",
-                 "sha256sum", "sort", "xargs"):
+    for tool in ("bash", "cp", "dirname", "find", "grep", "install", "mkdir", "mktemp", "readlink", "rm", "sed",
+                 "sha256sum", "sort", "xargs", "xz"):
         (tools / tool).symlink_to(shutil.which(tool))
     environment = os.environ | {"PATH": str(tools), "DESTDIR": ""}
     prefix = work / "from release"

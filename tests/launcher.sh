@@ -175,7 +175,7 @@ touch "$copy/crates.txt"
 path=$work/no_find
 wants 'without find nothing is run' 70 0 'find, which looks for newer sources, is not on the PATH' build
 path=$work/rt:$work/no_flock
-wants 'without flock nothing is built' 70 0 'flock, by which builds take turns, is not on the PATH' build
+wants 'without flock nothing is built' 70 0 'flock, which builds need to take turns, is not on the PATH' build
 path=$work/rt:$work/tools
 wants 'a source is changed while it builds' 7 1 'pbaudit: building' meanwhile
 wants 'what was changed meanwhile is built' 7 1 'pbaudit: building' build
@@ -306,8 +306,8 @@ library() {
 for word in --help -h; do
   library "$word of the library" 0 some nothing "$word"
 done
-library 'an option that is none' 3 '' 'pbaudit-library: no option is -x' -x
-library 'two folders' 3 '' 'one FOLDER is wanted, and there are 2 words' one two
+library 'an option that is none' 3 '' 'pbaudit-library: there is no option -x' -x
+library 'two folders' 3 '' 'one FOLDER is expected, not 2 arguments' one two
 library 'a folder without a name' 3 '' 'FOLDER is empty' ''
 library 'linkers are not on the PATH' 70 '' 'cc is not on the PATH' one
 path=$work/linkers:$work/tools
@@ -334,7 +334,7 @@ mkdir "$work/python"
 ln -s "$(command -v python3)" "$work/python"
 script=pbaudit-web
 library '--help of the page' 0 some nothing --help
-library 'an option of the page that is none' 3 '' 'pbaudit-web: no option is -x' -x
+library 'an option of the page that is none' 3 '' 'pbaudit-web: there is no option -x' -x
 library 'a file for the page that is not there' 70 '' "two can't be read" one two
 library 'a folder for the page without a name' 3 '' 'FOLDER is empty' ''
 library 'python3 is not on the PATH for the page' 70 '' 'python3 is not on the PATH' one

@@ -201,8 +201,8 @@ def numbers_of(score, words):
 def hint_calls():
     """Calls for hints of library.c, each with its text: the words and what the file has to be, as the header says."""
     yield ["hint", "3:24:4", "district.voter-id.violation.csv", "district.pb"], (
-        b"there is no voter '20582'; the election has 60 voters\nvoters are named by their rows in VOTES, counted from 1, "
-        b"and not by voter_id; the one with voter_id '20582' is voter 9\n")
+        b"there is no voter '20582'; the election has 60 voters\nvoters are numbered by their rows in VOTES, from 1, and not "
+        b"by voter_id; the one with voter_id '20582' is voter 9\n")
     yield ["hint", "2:21:1", "sample.outcome.csv"], (
         b"expected the record pb-prices,1, but found 'pb-outcome,1'\n"
         b"this is an outcome file, not a price certificate\n")

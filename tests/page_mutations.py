@@ -67,6 +67,8 @@ DRAWN = [
     styled("marks in another place", "stable", BARS, ".mark { left: 80%; }"),
     Mutation("a bar that doesn't say that it is cut", "stable", BARS, '<span class="cut">\u00bb</span>', ""),
     Mutation("a label of another project", "stable", BARS, 'aria-label="Konzerte im', 'aria-label="Hallenbad im'),
+    Mutation("a label that doesn't say of what", "violation", BARS, 'aria-label="The group\u2019s share of the limit is ',
+             'aria-label="'),
     Mutation("a mark where the whole is the end", "over", BARS, '<span class="cut">',
              '<span class="mark"></span><span class="cut">'),
     styled("an order that isn't made", "stable", ORDERS, ".sorted tbody tr { order: 0 !important; }"),

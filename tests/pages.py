@@ -222,6 +222,7 @@ class GroupBars:
         gets = [len(town.ballots[voter - 1] & town.funded) for voter in self.group]
         # The first member that gets enough, or else the most that one gets.
         shown = next((get for get in gets if get >= len(self.demand)), max(gets))
+        yield None, sum(town.costs[project] for project in town.funded) / town.limit, False
         yield None, MARK * share / sum(town.costs[project] for project in self.demand), True
         yield None, MARK * Fraction(shown, len(self.demand)), True
         for project in (project for project in town.costs if project in self.demand):

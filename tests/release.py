@@ -26,7 +26,7 @@ EVERY = {"version", "crates", "kit", "packaging"}
 LIBRARY = EVERY | {"library", "cc", "ld"}
 RESTS_ON = {
     "libpbaudit.so": LIBRARY,
-    "libpbaudit.a.gz": LIBRARY | {"gzip"},
+    "libpbaudit.a.xz": LIBRARY | {"xz"},
     "pbaudit.h": LIBRARY,
     "pbaudit.pc": LIBRARY,
     "pbaudit.html": EVERY | {"page", "wasm-opt", "builtins"},
