@@ -1,0 +1,121 @@
+/* pbaudit: an auditor for participatory budgeting outcomes, over files in memory.
+ *
+ * Each function reads whole files, given as a pointer and a length in bytes, and answers what the command of the same
+ * name prints. The result is that command's exit status:
+ *   0  yes: the answer is yes, or what was asked for is given
+ *   1  no: a condition or a test failed, which the text names
+ *   2  refused: a file has an error; the text says which file, and the first thing wrong
+ *   4  out of memory: *needed is 0 and out is as it was (that this comes only after a failed allocation is tested, and
+ *      not proved)
+ * Otherwise *needed is the length of the text in bytes, which ends in LF and has no NUL after it. If it is at most room,
+ * the text stands at the front of out, and the rest of out is as it was. If it is more, out is as it was: call again
+ * with as much room.
+ *
+ * A file of more than 2^28 bytes is refused. The files' formats, the texts and the numbers of refusals are those of the
+ * program (docs/FORMATS.md).
+ *
+ * What the caller has to make sure of, since nothing checks it:
+ * - No pointer is null, even if its length or room is 0, nor is outcome if has_outcome is false.
+ * - A file holds as many bytes as its length says, outcome even if has_outcome is false, and out as many as room.
+ * - out and *needed overlap neither each other nor a file, and nothing else touches them during the call. The files
+ *   do not change during the call.
+ * - A bool is 0 or 1.
+ * - malloc, realloc and free are one allocator's. No call from a signal handler, nor from the forked child of a
+ *   process with threads.
+ * - The stack has room: 128 KiB is enough where it was measured.
+ * The functions keep nothing between calls, so threads may call them side by side.
+ */
+#ifndef PBAUDIT_H
+#define PBAUDIT_H
+
+#include <stdbool.h>
+#include <stddef.h>
+#include <stdint.h>
+
+#ifdef __cplusplus
+extern "C" {
+#endif
+
+/* What an election has: the line of `pbaudit read`, with its notes. 0, 2 or 4. */
+uint8_t pbaudit_read(const uint8_t *election, size_t election_length,
+                     uint8_t *out, size_t room, size_t *needed);
+
+/* Whether the payments of a price certificate support the outcome: that of an outcome file where has_outcome, and else
+ * the election's own, the column `selected`. stable asks for S5 in place of C5, exhaustive for the condition Exhaustive
+ * (which the program asks for unless it is left out), and cover for the condition Cover. 0, 1, 2 or 4. */
+uint8_t pbaudit_prices(const uint8_t *election, size_t election_length,
+                       const uint8_t *outcome, size_t outcome_length, bool has_outcome,
+                       const uint8_t *certificate, size_t certificate_length,
+                       bool stable, bool exhaustive, bool cover,
+                       uint8_t *out, size_t room, size_t *needed);
+
+/* Whether a group and its demand are a violation of EJR, by the measure that the certificate states. The outcome is as
+ * for prices. 0, 1, 2 or 4. */
+uint8_t pbaudit_violation(const uint8_t *election, size_t election_length,
+                          const uint8_t *outcome, size_t outcome_length, bool has_outcome,
+                          const uint8_t *certificate, size_t certificate_length,
+                          uint8_t *out, size_t room, size_t *needed);
+
+/* Prices, and a group with its demand, for one outcome: a line for each, that of the prices first. 0 where both are a yes,
+ * else 1; or 2 or 4. */
+uint8_t pbaudit_both(const uint8_t *election, size_t election_length,
+                     const uint8_t *outcome, size_t outcome_length, bool has_outcome,
+                     const uint8_t *prices, size_t prices_length,
+                     const uint8_t *violation, size_t violation_length,
+                     bool stable, bool exhaustive, bool cover,
+                     uint8_t *out, size_t room, size_t *needed);
+
+/* The verdict on a certificate of either kind, an empty line, and what each condition on prices, or each test of a
+ * violation, comes to: the table of `pbaudit explain`. A certificate that begins as a violation certificate is taken as
+ * one, and then the switches don't matter; any other is taken as prices. The outcome and the switches are as for
+ * prices. 0, 1, 2 or 4. */
+uint8_t pbaudit_explain(const uint8_t *election, size_t election_length,
+                        const uint8_t *outcome, size_t outcome_length, bool has_outcome,
+                        const uint8_t *certificate, size_t certificate_length,
+                        bool stable, bool exhaustive, bool cover,
+                        uint8_t *out, size_t room, size_t *needed);
+
+/* What each project costs, is paid and could be offered by a price certificate: the table of `pbaudit margins`, as
+ * comma-separated values. The outcome is as for prices. 0, 2 or 4. */
+uint8_t pbaudit_margins(const uint8_t *election, size_t election_length,
+                        const uint8_t *outcome, size_t outcome_length, bool has_outcome,
+                        const uint8_t *certificate, size_t certificate_length,
+                        uint8_t *out, size_t room, size_t *needed);
+
+/* A price certificate in its canonical form. 0, 2 or 4. */
+uint8_t pbaudit_tidy(const uint8_t *election, size_t election_length,
+                     const uint8_t *certificate, size_t certificate_length,
+                     uint8_t *out, size_t room, size_t *needed);
+
+/* A page in plain words about a certificate of either kind, as one HTML file in UTF-8. The page shows the files by these
+ * names. language is a code: en, pl, de or fr. The rest is as for explain, and where a file is refused, the text is the
+ * line of the refusal. 0, 1, 2 or 4; 3 where there is no such language, and then *needed is 0 and nothing is written. */
+uint8_t pbaudit_page(const uint8_t *election, size_t election_length,
+                     const uint8_t *election_name, size_t election_name_length,
+                     const uint8_t *outcome, size_t outcome_length,
+                     const uint8_t *outcome_name, size_t outcome_name_length, bool has_outcome,
+                     const uint8_t *certificate, size_t certificate_length,
+                     const uint8_t *certificate_name, size_t certificate_name_length,
+                     bool stable, bool exhaustive, bool cover,
+                     const uint8_t *language, size_t language_length,
+                     uint8_t *out, size_t room, size_t *needed);
+
+/* Why a file is refused, for a person: as an example, for the refusal `refused certificate 24 UnknownVoter record 5`
+ *   there is no voter '7010'; the election has 3 voters
+ *   voters are numbered by their rows in VOTES, from 1, and not by voter_id; ..
+ * with 5 in *line. input is what the file has to be: 0 an election, 1 an outcome file, 2 a price certificate, 3 a
+ * violation certificate, 4 a certificate of either kind. number and record are those of the refusal's line. election is
+ * the one beside which the file was read, or an empty file with has_election false. *line is the line of the file on
+ * which the refused record begins, from 1, or 0 where there is none, as at the end of the file. The text has a sentence
+ * a line; one on another line of the file begins with `line N: `. It is empty where no refusal has this number, or
+ * input is none of these. The words are for people and may change. What is said above of files, out and *needed
+ * holds here too, and for *line what is said of *needed; after out of memory, *line may be anything. 0 or 4. */
+uint8_t pbaudit_hint(uint8_t input, uint32_t number, uint64_t record,
+                     const uint8_t *file, size_t file_length,
+                     const uint8_t *election, size_t election_length, bool has_election,
+                     uint64_t *line, uint8_t *out, size_t room, size_t *needed);
+
+#ifdef __cplusplus
+}
+#endif
+#endif
