@@ -1,5 +1,5 @@
 //! Numbers that are written in digits.
-ghost use Rattle.std.specs.Prelude.{◌≡◌, ◌≤◌, ◌^◌, IfSome, IsTrue};
+ghost use Rattle.std.specs.Prelude.{◌≡◌, ◌≤◌, ◌<◌, ◌^◌, IfSome, IsTrue, length, take};
 ghost use Rattle.std.specs.Char.{is_ascii_digit};
 ghost use Rattle.std.specs.List.{list_all};
 ghost use Rattle.std.specs.Str.{all_ascii_digits};
@@ -55,20 +55,31 @@ pub(crate) fn long_number_up_to(digits: &[u8], most: u128) -> Option<u128>
     (number <= most).then_some(number)
 }
 
+/// The whole number of one to eighteen digits that a text begins with, and how many digits state it.
+pub fn leading_number(text: &[u8]) -> Option<(u64, usize)>
+    ensures states { IfSome result (λ found. WholeText (take found.1 text.now) found.0) }
+    ensures within { IfSome result (λ found. found.1 ≤ length text.now) }
+    ensures small { IfSome result (λ found. found.0 < 10 ^ 18) }
+{
+    let most = text.len().min(MOST_SHORT);
+    let mut number = 0u64;
+    let mut len = 0;
+    while len < most && text[len].is_ascii_digit() {
+        number = number * 10 + u64::from(text[len] - b'0');
+        len += 1;
+    }
+    if len == 0 {
+        return None;
+    }
+    Some((number, len))
+}
+
 /// The number that a text of one to eighteen digits states, and none for any other text.
-#[tactic(auto, using(crate::proofs::Numbers::digit_tests))]
 pub(crate) fn short_number(text: &[u8]) -> Option<u128>
     ensures { IfSome result (λ n. WholeText text.now n) }
 {
-    if text.is_empty() || text.len() > MOST_SHORT {
-        return None;
+    match leading_number(text) {
+        Some((number, len)) if len == text.len() => Some(u128::from(number)),
+        _ => None,
     }
-    let mut number = 0u64;
-    for byte in text {
-        if !byte.is_ascii_digit() {
-            return None;
-        }
-        number = number * 10 + u64::from(*byte - b'0');
-    }
-    Some(u128::from(number))
 }

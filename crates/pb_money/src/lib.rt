@@ -10,6 +10,7 @@ mod grains;
 mod money;
 mod whole;
 
+pub use digits::leading_number;
 pub use grains::{cost_grains, payment_grains};
 pub use money::{Money, MoneyFault};
 pub use whole::{WholeFault, read_whole};
