@@ -1,20 +1,25 @@
 -- Plain lines, as csv reads them.
-use Rattle.std.proofs.Common.{◌≡◌, ◌∙◌, ◌++◌, ℕ, List, [], ◌∷◌, refl, sym, ap, Bool, true, false, Option, Some, None, append-nil, append_assoc}
+use Rattle.std.proofs.Common.{◌≡◌, ◌<◌, ◌∙◌, ◌++◌, arith, ℕ, List, [], ◌∷◌, refl, sym, ap, Bool, true, false, Option, Some, None, append-nil, append_assoc}
 use Rattle.std.specs.Prelude.{◌==◌, ◌&&◌, ◌||◌, not, ⊤}
 use Rattle.std.specs.List.{list_all}
-use Rattle.std.specs.Str.{IsUtf8, is_utf8}
+use Rattle.std.specs.Char.{is_ascii_digit}
+use Rattle.std.specs.Str.{IsAscii, IsUtf8, all_ascii_digits, is_utf8}
+use Rattle.std.proofs.lemmas.Bool.{and_parts}
+use Rattle.std.proofs.lemmas.Bool.Decides.{nat_tests}
 use Rattle.std.proofs.lemmas.Str.{is_utf8-from_IsUtf8}
+use Rattle.std.proofs.lemmas.Str.Ascii.{IsAscii-cons, IsAscii-nil}
 use Rattle.csv.specs.Machine.{Read, next_record, step}
 use Rattle.csv.specs.Reading.{strip_bom}
 use Rattle.csv.specs.declared.parser.Config.{Config}
 use Rattle.csv.specs.declared.parser.State.{State}
 use Rattle.csv.specs.declared.parser.State.TheVariants as st
 use Rattle.csv.specs.declared.parser.Action.TheVariants as act
-use Rattle.pb_money.specs.Digits.{drop_front, is_empty}
+use Rattle.pb_money.specs.Digits.{drop_back, drop_front, is_empty}
+use Rattle.pb_money.specs.Whole.{WholeText}
+use Rattle.pb_money.proofs.Numbers.{digit-range}
 use Rattle.pb_records.specs.Records.{Rec, csv_settings}
 use Rattle.pb_records.specs.Cells.{clean, is_blank, is_space, is_text}
-use Rattle.pb_records.specs.Inside.Lines.{IsLineEnd, begins_full, is_plain, lines_left}
-use Rattle.pb_records.proofs.Cleaning.{empty-by-front}
+use Rattle.pb_records.specs.Inside.Lines.{IsLineEnd, is_plain, lines_left}
 use Rattle.pb_records.proofs.RecordSteps.{records-none, records-some}
 
 abbrev commas : Config
@@ -222,19 +227,53 @@ pub no-fields : is_text [] ≡ true
 unfolding is_text
 no-fields = refl
 
--- a record is full where a field of it begins with a byte that is no space
-not-true : (b : Bool) → not b ≡ true → b ≡ false
-not-true true h = cc h
-not-true false h = refl
+-- digits are plain text, and stay as they are where they are cleaned
+digit-plain : (b : ℕ) → is_ascii_digit b ≡ true → (is_plain b ≡ true) × (is_space b ≡ false) × (b < 128)
+digit-plain b h =
+    let range = digit-range b h in (grind (arith, nat_tests), grind (arith, nat_tests), omega (arith, range.1))
 
-pub full-field : (f : List ℕ) → begins_full f ≡ true → is_empty (clean f) ≡ false
-unfolding drop_front
-full-field [] h = cc h
-full-field (b ∷ bs) h = empty-by-front (b ∷ bs) ∙ rw (not-true (is_space b) h) refl
+pub digits-plain : (ds : List ℕ) → all_ascii_digits ds ≡ true → list_all is_plain ds ≡ true
+digits-plain [] h = refl
+digits-plain (d ∷ ds) h =
+    let parts = and_parts (is_ascii_digit d) (all_ascii_digits ds) h in
+    rw ((digit-plain d parts.0).0, digits-plain ds parts.1) refl
 
-pub third-full : (a b c : List ℕ) → begins_full c ≡ true → is_blank (a ∷ b ∷ c ∷ []) ≡ false
+pub digits-ascii : (ds : List ℕ) → all_ascii_digits ds ≡ true → IsAscii ds
+digits-ascii [] h = IsAscii-nil
+digits-ascii (d ∷ ds) h =
+    let parts = and_parts (is_ascii_digit d) (all_ascii_digits ds) h in
+    IsAscii-cons d ds (digit-plain d parts.0).2 (digits-ascii ds parts.1)
+
+back-same : (ds : List ℕ) → all_ascii_digits ds ≡ true → drop_back is_space ds ≡ ds
+unfolding drop_back
+back-same [] h = refl
+back-same (d ∷ ds) h =
+    let parts = and_parts (is_ascii_digit d) (all_ascii_digits ds) h in
+    rw ((digit-plain d parts.0).1, back-same ds parts.1) refl
+
+pub digits-clean : (ds : List ℕ) → all_ascii_digits ds ≡ true → clean ds ≡ ds
+unfolding drop_back drop_front
+digits-clean [] h = refl
+digits-clean (d ∷ ds) h =
+    let parts = and_parts (is_ascii_digit d) (all_ascii_digits ds) h in
+    rw (digit-plain d parts.0).1 (back-same (d ∷ ds) h)
+
+-- a text that states a number is digits, of which there are some
+pub whole-digits : (f : List ℕ) (n : ℕ) → WholeText f n → all_ascii_digits f ≡ true
+whole-digits f n w = (and_parts (not (is_empty f)) (all_ascii_digits f) w.digits).1
+
+pub whole-some : (f : List ℕ) (n : ℕ) → WholeText f n → is_empty f ≡ false
+whole-some [] n w = cc w.digits
+whole-some (b ∷ bs) n w = refl
+
+pub whole-clean : (f : List ℕ) (n : ℕ) → WholeText f n → clean f ≡ f
+whole-clean f n w = digits-clean f (whole-digits f n w)
+
+-- a record of three fields is full where its last states a number
+pub third-full : (a b c : List ℕ) (n : ℕ) → WholeText c n → is_blank (a ∷ b ∷ c ∷ []) ≡ false
 unfolding is_blank
-third-full a b c h = rw (full-field c h) (by (is_empty (clean a)) (is_empty (clean b)))
+third-full a b c n w =
+    rw (whole-clean c n w, whole-some c n w) (by (is_empty (clean a)) (is_empty (clean b)))
   where
     by : (p q : Bool) → (p && (q && false)) ≡ false
     by true true = refl

@@ -32,7 +32,7 @@ impl<'a> Model for Cursor<'a> {
 }
 
 impl<'a> Cursor<'a> {
-    /// Before the first record of a file whose fields are divided by the delimiter.
+    /// Before the first record of a file whose fields are separated by the delimiter.
     pub fn open(alloc: Global, bytes: &'a [u8], delimiter: u8) -> Cursor<'a>
         ensures place { result.place ≡ 0 }
         ensures left { result.left ≡ records_of delimiter bytes.now }
@@ -66,8 +66,9 @@ impl<'a> Cursor<'a> {
         }
     }
 
-    /// Lends the fields of the next record and goes behind it, where it is a line of three fields without quotes and
-    /// the last of them begins with no space. Else nothing changes. What `row` holds is left as it was.
+    /// Gives the next record and goes behind it, where it is a line of three fields without quotes, the first and the
+    /// last of which are whole numbers of up to eighteen digits. Else nothing changes. What `row` holds is left as it
+    /// was.
     pub fn take_triple(&mut self) -> Option<Triple<'a>>
         ensures { MatchOption result (self.new ≡ self.old) (λ triple. MeetsTriple triple self.old self.new) }
     {

@@ -4,18 +4,18 @@ ghost use Rattle.std.specs.List.{list_all};
 ghost use Rattle.std.specs.Str.{IsCharBoundary, IsUtf8};
 ghost use Rattle.csv.specs.Records.{fields_of};
 ghost use Rattle.pb_records.specs.Inside.Lines as spec;
-ghost use Rattle.pb_records.specs.Inside.Lines.{GivesLine, GivesTriple, IsLineEnd, lines_left};
+ghost use Rattle.pb_records.specs.Inside.Lines.{CutsNumber, GivesLine, GivesTriple, IsLineEnd, lines_left};
 
-use crate::cells::is_space;
 use csv::StringRecord;
+use pb_money::leading_number;
 use std::alloc::AllocError;
 
-/// The fields of a record that has three.
+/// A record of three fields, the first and the last of which are whole numbers of up to eighteen digits.
 #[derive(Clone, Copy)]
 pub struct Triple<'a> {
-    pub first: &'a str,
+    pub first: u64,
     pub second: &'a str,
-    pub third: &'a str,
+    pub third: u64,
 }
 
 /// A line with more fields is left to the reader of csv.
@@ -83,23 +83,23 @@ fn ends_line(rest: &str) -> bool
     bytes.is_empty() || bytes[0] == b'\n'
 }
 
-// Whether a text begins with a byte that is no space.
-fn begins_full(text: &str) -> bool
-    ensures { result ≡ true → spec.begins_full text.now ≡ true }
+// The whole number that a text begins with, and the rest.
+fn cut_number(text: &str) -> Option<(u64, &str)>
+    ensures { IfSome result (λ found. CutsNumber text.now found.0 found.1.now) }
 {
-    let bytes = text.as_bytes();
-    !bytes.is_empty() && !is_space(bytes[0])
+    let (number, len) = leading_number(text.as_bytes())?;
+    Some((number, &text[len..]))
 }
 
-/// The first record, where it is a plain line of three fields and the last of them begins with no space, and the lines
-/// behind it.
+/// The first record, where it is a plain line of three fields, the first and the last of which are whole numbers of up
+/// to eighteen digits, and the lines behind it.
 pub(crate) fn first_triple(lines: &str) -> Option<(Triple<'_>, &str)>
     ensures { IfSome result (λ found. GivesTriple lines.now found.0 found.1.now) }
 {
-    let (first, rest) = cut_field(behind_feed(lines));
+    let (first, rest) = cut_number(behind_feed(lines))?;
     let (second, rest) = cut_field(behind(rest, b',')?);
-    let (third, rest) = cut_field(behind(rest, b',')?);
-    if !begins_full(third) || !ends_line(rest) {
+    let (third, rest) = cut_number(behind(rest, b',')?)?;
+    if !ends_line(rest) {
         return None;
     }
     let triple = Triple {

@@ -4,7 +4,7 @@ ghost use Rattle.csv.specs.Records.{fields_of};
 ghost use Rattle.csv.specs.Reading.{records, strip_bom};
 ghost use Rattle.pb_records.specs.Records.{csv_settings, drop_marks, records_of};
 ghost use Rattle.pb_records.specs.Inside.Lines.{lines_left};
-ghost use Rattle.pb_records.specs.Inside.RecordReader.{FindsRecord, FindsTriple, IsReady, Reads, Stands, reader_left, records_left};
+ghost use Rattle.pb_records.specs.Inside.RecordReader.{FindsRecord, FindsTriple, IsReady, Reads, ReadsOne, Stands, reader_left, records_left};
 
 use crate::lines::{Triple, behind_feed, fill, first_triple};
 use csv::{ErrorKind, Reader, ReaderBuilder, StringRecord};
@@ -26,9 +26,9 @@ pub enum Next {
 /// What is left of a file.
 #[derive(Drop)]
 enum Rest<'a> {
-    /// Lines whose fields are divided by commas, of which no reader has begun.
+    /// Lines whose fields are separated by commas, which no reader has begun to read.
     Lines(&'a str),
-    /// A text that a reader has yet to begin, and the byte that divides its fields.
+    /// A text that no reader has begun to read, and the byte that separates its fields.
     Text(&'a [u8], u8),
     /// A reader that stands between two records. It is about 16 KiB large.
     Reader(Box<Reader<&'a [u8]>>),
@@ -38,7 +38,7 @@ enum Rest<'a> {
 
 /// The records that a file has yet to give. After a record that is not UTF-8 it gives none.
 ///
-/// Where the fields are divided by commas, plain lines are cut out of the text. The first record that is none is left
+/// Where the fields are separated by commas, plain lines are cut out of the text. The first record that is none is left
 /// to a reader of csv, and so are all records behind it. The reader is made when the first record is read by it.
 #[derive(Drop)]
 pub(crate) struct Records<'a> {
@@ -107,22 +107,35 @@ fn reader_of(alloc: Global, text: &[u8], delimiter: u8) -> Result<Box<Reader<&[u
     Ok(Box::new(alloc, reader)?)
 }
 
-// Reads the next record of a reader into the row, and answers what is left then.
-fn read_by<'a>(
+// Reads the next record of a reader into the row, and answers what was met. Behind a record the reader stands ready.
+fn next_of(reader: &mut Reader<&[u8]>, row: &mut StringRecord) -> Result<Next, AllocError>
+    requires { Stands reader.old }
+    ensures { IfOk result (λ next. ReadsOne next reader.old (fields_of row.new) reader.new) }
+{
+    match reader.read_record(row) {
+        Ok(true) => Ok(Next::Record),
+        Ok(false) => Ok(Next::End),
+        Err(error) => match error.kind() {
+            ErrorKind::Utf8 { .. } => Ok(Next::NotText),
+            _ => Err(AllocError),
+        },
+    }
+}
+
+// The same for a reader that is new, with what is left then.
+fn begin<'a>(
     mut reader: Box<Reader<&'a [u8]>>,
     row: &mut StringRecord,
 ) -> Result<(Next, Rest<'a>), AllocError>
     requires { Stands reader.value }
     ensures { IfOk result (λ read. Reads read.0 (reader_left reader.entry.value) (fields_of row.new) read.1) }
 {
-    match reader.read_record(row) {
-        Ok(true) => Ok((Next::Record, Rest::Reader(reader))),
-        Ok(false) => Ok((Next::End, Rest::Nothing)),
-        Err(error) => match error.kind() {
-            ErrorKind::Utf8 { .. } => Ok((Next::NotText, Rest::Nothing)),
-            _ => Err(AllocError),
-        },
-    }
+    let next = next_of(&mut reader, row)?;
+    let rest = match next {
+        Next::Record => Rest::Reader(reader),
+        _ => Rest::Nothing,
+    };
+    Ok((next, rest))
 }
 
 // The same for lines. The first is cut out, where it is plain and may be copied; else a reader begins there.
@@ -140,13 +153,13 @@ fn read_line<'a>(
     }
     match fill(lines, may_copy, row)? {
         Some(rest) => Ok((Next::Record, Rest::Lines(rest))),
-        None => read_by(reader_of(alloc, lines.as_bytes(), b',')?, row),
+        None => begin(reader_of(alloc, lines.as_bytes(), b',')?, row),
     }
 }
 
 impl<'a> Rest<'a> {
-    // Reads the next record into the row, and answers what is left then.
-    fn read(
+    // Reads the next record into the row where no reader has begun, and answers what is left then.
+    fn begin(
         self,
         alloc: Global,
         may_copy: bool,
@@ -156,16 +169,16 @@ impl<'a> Rest<'a> {
         ensures { IfOk result (λ read. Reads read.0 (records_left self.entry) (fields_of row.new) read.1) }
     {
         match self {
-            Rest::Reader(reader) => read_by(reader, row),
             Rest::Lines(lines) => read_line(lines, alloc, may_copy, row),
-            Rest::Text(text, delimiter) => read_by(reader_of(alloc, text, delimiter)?, row),
+            Rest::Text(text, delimiter) => begin(reader_of(alloc, text, delimiter)?, row),
+            Rest::Reader(reader) => begin(reader, row),
             Rest::Nothing => Ok((Next::End, Rest::Nothing)),
         }
     }
 }
 
 impl<'a> Records<'a> {
-    /// The records of a file whose fields are divided by the delimiter.
+    /// The records of a file whose fields are separated by the delimiter.
     pub fn open(alloc: Global, bytes: &'a [u8], delimiter: u8) -> Records<'a>
         ensures records { result ≡ records_of delimiter bytes.now }
         ensures few { length result < 2 ^ 63 }
@@ -182,16 +195,23 @@ impl<'a> Records<'a> {
         ensures found { IfOk result (λ next. FindsRecord next self.old (fields_of row.new) self.new) }
         ensures failed { OnErr result (self.new ≡ []) }
     {
+        if let Rest::Reader(reader) = &mut self.rest {
+            let next = next_of(reader, row);
+            if !matches!(next, Ok(Next::Record)) {
+                self.rest = Rest::Nothing;
+            }
+            return next;
+        }
         let may_copy = self.copies > 0;
         self.copies = self.copies.saturating_sub(1);
         let rest = mem::replace(&mut self.rest, Rest::Nothing);
-        let (next, rest) = rest.read(self.alloc, may_copy, row)?;
+        let (next, rest) = rest.begin(self.alloc, may_copy, row)?;
         self.rest = rest;
         Ok(next)
     }
 
-    /// Lends the fields of the next record and goes behind it, where it is a plain line of three fields and the last of
-    /// them begins with no space. Else nothing changes.
+    /// Gives the next record and goes behind it, where it is a plain line of three fields, the first and the last of
+    /// which are whole numbers of up to eighteen digits. Else nothing changes.
     pub fn take_triple(&mut self) -> Option<Triple<'a>>
         ensures { MatchOption result (self.new ≡ self.old) (λ triple. FindsTriple triple self.old self.new) }
     {

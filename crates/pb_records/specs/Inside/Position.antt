@@ -2,7 +2,7 @@
 use Rattle.std.specs.Prelude.{◌≡◌, ◌+◌, ◌++◌, false, true, ℕ, List, [], ◌∷◌, length}
 use Rattle.pb_records.specs.Records.{Rec}
 use Rattle.pb_records.specs.Cells.{is_blank, is_text, nonblank}
-use Rattle.pb_records.specs.Inside.Lines.{begins_full, fields_in}
+use Rattle.pb_records.specs.Inside.Lines.{IsTriple}
 use Rattle.pb_records.specs.declared.lines.Triple.{Triple}
 use Rattle.pb_records.specs.declared.records.Next.{Next}
 use Rattle.pb_records.specs.declared.records.Next.TheVariants.{End, NotText, Record}
@@ -44,6 +44,8 @@ Meets Record old new = MeetsRecord old new
 Meets NotText old new = MeetsNotText old new
 Meets End old new = MeetsEnd old new
 
--- a record of three fields was met, which were lent and not put into the row. The last of them begins with no space
-abbrev pub MeetsTriple : Triple → Position → Position → Type 0
-MeetsTriple t old new = MeetsRecord old (record new { row = fields_in t }) × (begins_full t.third.now ≡ true)
+-- a record of three fields was met, which were lent and not put into the row
+pub record MeetsTriple (t : Triple) (old new : Position) : Type 0 where
+  pub row : Rec
+  pub fields : IsTriple t row
+  pub met : MeetsRecord old (record new { row = row })

@@ -7,7 +7,7 @@ use Rattle.csv.specs.Reading.{Ready, records, records_from, source_of, strip_bom
 use Rattle.csv.specs.declared.reader.Reader.{Reader}
 use Rattle.csv.specs.declared.reader.Trim.TheVariants as trim
 use Rattle.pb_records.specs.Records.{Rec, csv_settings}
-use Rattle.pb_records.specs.Inside.Lines.{begins_full, fields_in, lines_left}
+use Rattle.pb_records.specs.Inside.Lines.{IsTriple, lines_left}
 use Rattle.pb_records.specs.Cells.{is_blank, is_text}
 use Rattle.pb_records.specs.declared.lines.Triple.{Triple}
 use Rattle.pb_records.specs.declared.records.Next.{Next}
@@ -61,9 +61,16 @@ FindsRecord End old row new = (old ≡ []) × (new ≡ [])
 abbrev pub Reads : Next → List Rec → Rec → Rest → Type 0
 Reads next old row left = FindsRecord next old row (records_left left) × IsReady left
 
--- a record of three fields was found, and the last of them begins with no space
+-- what a reader found, and where it stands then: ready behind a record
+abbrev pub ReadsOne : Next → Reader (Bor (List ℕ)) → Rec → Reader (Bor (List ℕ)) → Type 0
+ReadsOne Record old row new = FindsRecord Record (reader_left old) row (reader_left new) × Stands new
+ReadsOne NotText old row new = FindsRecord NotText (reader_left old) row []
+ReadsOne End old row new = FindsRecord End (reader_left old) row []
+
+-- a record of three fields was found
 pub record FindsTriple (t : Triple) (old new : List Rec) : Type 0 where
-  pub cut : old ≡ fields_in t ∷ new
-  pub is_utf8 : is_text (fields_in t) ≡ true
-  pub is_full : is_blank (fields_in t) ≡ false
-  pub third_is_full : begins_full t.third.now ≡ true
+  pub row : Rec
+  pub fields : IsTriple t row
+  pub cut : old ≡ row ∷ new
+  pub is_utf8 : is_text row ≡ true
+  pub is_full : is_blank row ≡ false
