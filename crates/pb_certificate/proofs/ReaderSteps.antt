@@ -9,7 +9,7 @@ use Rattle.pb_records.specs.Records.{Rec}
 use Rattle.pb_records.specs.Cells.{is_text, nonblank}
 use Rattle.pb_records.specs.FirstFault.{fault_at}
 use Rattle.pb_records.specs.Inside.Position.{MeetsEnd, MeetsRecord, MeetsTriple, Position}
-use Rattle.pb_records.specs.Inside.Lines.{fields_in}
+use Rattle.pb_records.specs.Inside.Lines.{IsTriple}
 use Rattle.pb_records.specs.declared.lines.Triple.{Triple}
 use Rattle.pb_records.proofs.BlankText.{not-text-is-full}
 use Rattle.pb_certificate.specs.Faults.{certificate_records, no_memory, price_form}
@@ -114,14 +114,14 @@ row-taken old cursor prior q h m t many =
       reading,
     )
 
--- the same where the fields of the row were lent
+-- the same where the row was given by its numbers
 triple-taken : (old : RowReader) (cursor : Position) (t : Triple) (prior : PriorRows) (q : PriceRow)
-    → IsReading old → MeetsTriple t old.cursor cursor
-    → TakesPayment old.election.now (fields_in t) old.prior prior q
+    → IsReading old → (m : MeetsTriple t old.cursor cursor)
+    → TakesPayment old.election.now m.row old.prior prior q
     → length prior.last_payers.items ≡ length old.prior.last_payers.items
     → Advances old (record old { cursor = cursor; prior = prior }) (Ok (Some q))
 triple-taken old cursor t prior q h m takes many =
-    let given = row-taken old (record cursor { row = fields_in t }) prior q h m.0 takes many in
+    let given = row-taken old (record cursor { row = m.row }) prior q h m.met takes many in
     let r = given.1 in (
       given.0,
       record {
@@ -189,14 +189,14 @@ row-answered old cursor prior (Err f) place r h m takes many at is =
 pub triple-answered : (old : RowReader) (cursor : Position) (t : Triple) (prior : PriorRows)
     (taken : Result PriceRow CertFault) (place : ℕ) (r : Result (Option PriceRow) CertRefusal) → IsReading old
     → MeetsTriple t old.cursor cursor
-    → TakesRecord old.election.now (fields_in t) old.prior prior taken
+    → ((r : Rec) → IsTriple t r → TakesRecord old.election.now r old.prior prior taken)
     → length prior.last_payers.items ≡ length old.prior.last_payers.items → place ≡ cursor.place
     → MatchResult taken (λ q. r ≡ Ok (Some q)) (λ f. r ≡ Err (record { fault = f; place = place }))
     → Advances old (record old { cursor = cursor; prior = prior }) r
 triple-answered old cursor t prior (Ok q) place r h m takes many at is =
-    rw is (triple-taken old cursor t prior q h m takes many)
+    rw is (triple-taken old cursor t prior q h m (takes m.row m.fields) many)
 triple-answered old cursor t prior (Err f) place r h m takes many at is =
-    rw (is, at) (inr (row-refused old (record cursor { row = fields_in t }) f h m.0 takes))
+    rw (is, at) (inr (row-refused old (record cursor { row = m.row }) f h m.met (takes m.row m.fields)))
 
 -- no record is met
 pub next-refused : (old : RowReader) (new : Position) (r : CertRefusal) → IsReading old

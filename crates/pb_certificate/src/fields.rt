@@ -1,6 +1,7 @@
 //! What the fields of a record state.
-ghost use Rattle.std.specs.Prelude.{◌≡◌, ◌≤◌, ◌∷◌, [], if◌then◌else◌, Ok, Err, IfOk, IfSome, is_some, length};
+ghost use Rattle.std.specs.Prelude.{◌≡◌, ◌≤◌, ◌∷◌, ◌&&◌, nat_le, [], if◌then◌else◌, Ok, Err, IfOk, IfSome, is_some, length};
 ghost use Rattle.csv.specs.Records.{fields_of};
+ghost use Rattle.pb_election.specs.Instance.{voters};
 ghost use Rattle.pb_certificate.specs.Fields as spec;
 ghost use Rattle.pb_certificate.specs.Prices.{most_numerator};
 
@@ -80,4 +81,14 @@ pub fn voter_in(field: &str, election: &Election) -> Result<Option<u32>, CertFau
         Err(fault) if fault != WholeFault::TooLarge => Err(CertFault::BadNumber),
         _ => Ok(None),
     }
+}
+
+/// The voter with a number, or none where no voter has it.
+pub fn voter_numbered(number: u64, election: &Election) -> Option<u32>
+    ensures { result ≡ spec.only_if (λ n. nat_le 1 n && nat_le n (voters election.now)) number }
+{
+    if number == 0 || number > u64::from(election.voters()) {
+        return None;
+    }
+    Some(number as u32)
 }

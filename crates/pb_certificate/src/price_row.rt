@@ -1,18 +1,17 @@
 //! The rows of a price certificate.
-ghost use Rattle.std.specs.Prelude.{◌≡◌, ◌≤◌, ◌==◌, true, None, Some, MatchResult, IfOk, length};
+ghost use Rattle.std.specs.Prelude.{◌≡◌, ◌≤◌, ◌==◌, None, Some, MatchResult, IfOk, length};
 ghost use Rattle.csv.specs.Records.{fields_of};
 ghost use Rattle.pb_election.specs.Instance.{IsProject, IsVoter};
 ghost use Rattle.pb_records.specs.Cells as spec;
-ghost use Rattle.pb_records.specs.Inside.Lines.{begins_full, fields_in};
-ghost use Rattle.pb_certificate.specs.Fields as states;
+ghost use Rattle.pb_records.specs.Inside.Lines.{IsTriple};
+ghost use Rattle.pb_records.specs.Records.{Rec};
 ghost use Rattle.pb_certificate.specs.Fields.{fields};
-ghost use Rattle.pb_certificate.specs.PriceText.{numerator_of, payment_from, payment_of};
+ghost use Rattle.pb_certificate.specs.PriceText.{payment_of};
 ghost use Rattle.pb_certificate.specs.PriceRows.{as_payment, row_fault};
-ghost use Rattle.pb_certificate.specs.Inside.PriorRows.{cells_fault};
 ghost use Rattle.pb_certificate.specs.Prices.{most_numerator};
 
 use crate::CertFault;
-use crate::fields::{MOST_NUMERATOR, voter_in, whole_within, width};
+use crate::fields::{MOST_NUMERATOR, voter_in, voter_numbered, whole_within, width};
 use csv::StringRecord;
 use pb_election::Election;
 use pb_records::{Triple, cell, clean};
@@ -39,32 +38,6 @@ fn has_three_fields(row: &StringRecord, third: &str) -> bool
     width(row) == 3
 }
 
-// The row that three cleaned fields state, or the fault with the lowest number that they have.
-#[inline(always)]
-fn cells_row(
-    voter: &str,
-    project: &str,
-    payment: &str,
-    election: &Election,
-) -> Result<PriceRow, CertFault>
-    ensures row { MatchResult result (λ q. payment_from (states.voter_in election.now voter.now) (states.project_in election.now project.now) (numerator_of payment.now) ≡ Some (as_payment q))
-        (λ f. cells_fault election.now voter.now project.now payment.now ≡ Some f) }
-    ensures none { IfOk result (λ q. cells_fault election.now voter.now project.now payment.now ≡ None) }
-    ensures voter { IfOk result (λ q. IsVoter election.now q.voter) }
-    ensures project { IfOk result (λ q. IsProject election.now q.project) }
-    ensures small { IfOk result (λ q. q.payment ≤ most_numerator) }
-{
-    let voter = voter_in(voter, election)?;
-    let payment = whole_within(0, MOST_NUMERATOR, payment).ok_or(CertFault::BadNumber)?;
-    let voter = voter.ok_or(CertFault::UnknownVoter)?;
-    let project = election.find(project).ok_or(CertFault::UnknownProject)?;
-    Ok(PriceRow {
-        voter,
-        project,
-        payment,
-    })
-}
-
 /// The row that a record states, or why it states none, whatever rows stand before it.
 pub fn price_row(row: &StringRecord, election: &Election) -> Result<PriceRow, CertFault>
     ensures row { MatchResult result (λ q. payment_of election.now (fields_of row.now) ≡ Some (as_payment q)) (λ f. row_fault election.now (fields_of row.now) ≡ Some f) }
@@ -77,18 +50,36 @@ pub fn price_row(row: &StringRecord, election: &Election) -> Result<PriceRow, Ce
     if !has_three_fields(row, payment) {
         return Err(CertFault::BadRow);
     }
-    cells_row(cell(row, 0), cell(row, 1), payment, election)
+    let voter = voter_in(cell(row, 0), election)?;
+    let payment = whole_within(0, MOST_NUMERATOR, payment).ok_or(CertFault::BadNumber)?;
+    let voter = voter.ok_or(CertFault::UnknownVoter)?;
+    let project = election
+        .find(cell(row, 1))
+        .ok_or(CertFault::UnknownProject)?;
+    Ok(PriceRow {
+        voter,
+        project,
+        payment,
+    })
 }
 
-/// The same of a record of three fields, the last of which begins with no space.
+/// The same of a record of three fields whose numbers were read.
 pub fn triple_row(triple: Triple, election: &Election) -> Result<PriceRow, CertFault>
-    requires { begins_full triple.third.now ≡ true }
-    ensures row { MatchResult result (λ q. payment_of election.now (fields_in triple.entry) ≡ Some (as_payment q)) (λ f. row_fault election.now (fields_in triple.entry) ≡ Some f) }
-    ensures none { IfOk result (λ q. row_fault election.now (fields_in triple.entry) ≡ None) }
+    ensures row { (r : Rec) → IsTriple triple.entry r → MatchResult result (λ q. payment_of election.now r ≡ Some (as_payment q)) (λ f. row_fault election.now r ≡ Some f) }
+    ensures none { (r : Rec) → IsTriple triple.entry r → IfOk result (λ q. row_fault election.now r ≡ None) }
     ensures voter { IfOk result (λ q. IsVoter election.now q.voter) }
     ensures project { IfOk result (λ q. IsProject election.now q.project) }
-    ensures small { IfOk result (λ q. q.payment ≤ most_numerator) }
+    ensures payment { IfOk result (λ q. q.payment ≡ triple.entry.third) }
 {
-    let payment = clean(triple.third);
-    cells_row(clean(triple.first), clean(triple.second), payment, election)
+    let Some(voter) = voter_numbered(triple.first, election) else {
+        return Err(CertFault::UnknownVoter);
+    };
+    let Some(project) = election.find(clean(triple.second)) else {
+        return Err(CertFault::UnknownProject);
+    };
+    Ok(PriceRow {
+        voter,
+        project,
+        payment: u128::from(triple.third),
+    })
 }

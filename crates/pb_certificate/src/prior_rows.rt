@@ -1,8 +1,9 @@
 //! What is remembered of the rows of a price certificate that were read.
-ghost use Rattle.std.specs.Prelude.{◌≡◌, ◌≤◌, true, List, [], length, IfOk};
+ghost use Rattle.std.specs.Prelude.{◌≡◌, ◌≤◌, List, [], length, IfOk};
 ghost use Rattle.csv.specs.Records.{fields_of};
 ghost use Rattle.pb_election.specs.Instance.{projects};
-ghost use Rattle.pb_records.specs.Inside.Lines.{begins_full, fields_in};
+ghost use Rattle.pb_records.specs.Inside.Lines.{IsTriple};
+ghost use Rattle.pb_records.specs.Records.{Rec};
 ghost use Rattle.pb_certificate.specs.PriceRows.{as_payment};
 ghost use Rattle.pb_certificate.specs.PriceText.{Payment};
 ghost use Rattle.pb_certificate.specs.Inside.PriorRows.{Admits, Remembers, TakesRecord};
@@ -77,15 +78,14 @@ impl PriorRows {
         Ok(payment)
     }
 
-    /// Takes the row that a record of three fields states, the last of which begins with no space, or tells its fault.
+    /// The same of a record of three fields whose numbers were read.
     pub fn take_triple(
         &mut self,
         triple: Triple,
         election: &Election,
     ) -> Result<PriceRow, CertFault>
-        requires each_project { length (self.old).last_payers.items ≡ projects election.now }
-        requires full { begins_full triple.third.now ≡ true }
-        ensures takes { TakesRecord election.now (fields_in triple.entry) self.old self.new result }
+        requires { length (self.old).last_payers.items ≡ projects election.now }
+        ensures takes { (r : Rec) → IsTriple triple.entry r → TakesRecord election.now r self.old self.new result }
         ensures projects { length (self.new).last_payers.items ≡ length (self.old).last_payers.items }
     {
         let payment = triple_row(triple, election)?;

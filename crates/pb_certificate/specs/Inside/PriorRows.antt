@@ -1,25 +1,14 @@
 -- What the reader's own memory of the rows of a price certificate stands for. No claim on a file rests on this.
-use Rattle.std.specs.Prelude.{◌≡◌, ◌≤◌, ◌⊎◌, ◌==◌, ◌||◌, if◌then◌else◌, ⊤, ℕ, List, [], ◌∷◌, ◌++◌, filter, length, map, Option, Some, None, is_none, Result, Ok, Err}
+use Rattle.std.specs.Prelude.{◌≡◌, ◌≤◌, ◌⊎◌, ◌==◌, ⊤, ℕ, List, [], ◌∷◌, ◌++◌, filter, length, map, Some, None, Result, Ok, Err}
 use Rattle.std.specs.List.{IsDistinct, range_with_len}
 use Rattle.pb_election.specs.Instance.{Instance, IsProject, IsVoter}
-use Rattle.pb_records.specs.Records.{Field, Rec}
-use Rattle.pb_certificate.specs.Fields.{project_in, voter_in, whole_in}
-use Rattle.pb_certificate.specs.PriceText.{Payment, numerator_of, payment_of, same_pair}
+use Rattle.pb_records.specs.Records.{Rec}
+use Rattle.pb_certificate.specs.PriceText.{Payment, payment_of, same_pair}
 use Rattle.pb_certificate.specs.PriceRows.{as_payment, last_number, last_voter, payment_fault, row_fault}
 use Rattle.pb_certificate.specs.declared.price_row.PriceRow.{PriceRow}
 use Rattle.pb_certificate.specs.declared.prior_rows.PriorRows.{PriorRows}
 use Rattle.pb_certificate.specs.declared.refusal.CertFault.{CertFault}
-use Rattle.pb_certificate.specs.declared.refusal.CertFault.TheVariants as fault
 use Rattle.pb_certificate.specs.Prices.{most_numerator, most_rows}
-
--- the fault with the lowest number that a voter's number, a project's id and a numerator have, of a row that has three
--- fields
-abbrev pub cells_fault : Instance → Field → Field → Field → Option CertFault
-cells_fault e v c x =
-    if is_none (whole_in v) || is_none (numerator_of x) then Some fault.BadNumber
-    else if is_none (voter_in e v) then Some fault.UnknownVoter
-    else if is_none (project_in e c) then Some fault.UnknownProject
-    else None
 
 -- the last voter with a payment for a project, 0 among them, and 0 where there is none
 abbrev pub last_payer : List Payment → ℕ → ℕ
