@@ -9,7 +9,7 @@ use Rattle.pb_reply.specs.Replies.{Answer, Reply, answer_of, refused, with_input
 use Rattle.pb_audit.specs.Answers.{AnswersAudit, AnswersTidy, AuditRules, tidy_answer}
 use Rattle.pb_reply.specs.Inputs.{InTurn, Stated, StatesElection, StatesPrices}
 use Rattle.pb_reply.specs.declared.input.InputName.TheVariants as name
-use Rattle.pb_reply.specs.declared.input.Refusal.{Refusal}
+use Rattle.pb_reply.specs.declared.input.InputRefusal.{InputRefusal}
 use Rattle.pb_audit.specs.Readers.{AuditReadings, ReadsAudit, ReadsTidy}
 use Rattle.pb_reply.specs.Readings.{Delivers, NothingRead, Reading}
 use Rattle.pb_audit.specs.Inside.Certificates.{AnswersCertificate, IfTold, Promised, Tells, TidiesPrices}
@@ -48,7 +48,7 @@ settled_told told is_reply (Err stop.Memory) own is h = cc
 
 -- An audit of an election, an outcome and a certificate. Where the election is refused, the others may state anything.
 abbrev pub election_refused : {A : Type 0} (rules : AuditRules A)
-    (election : Delivery) (outcome : Option Delivery) (certificate : Delivery) (r : Refusal)
+    (election : Delivery) (outcome : Option Delivery) (certificate : Delivery) (r : InputRefusal)
     → StatesElection election (Err r) → AnswersAudit rules election outcome certificate (refused r)
 election_refused rules election outcome certificate r given = record {
   e = Err r;
@@ -61,7 +61,7 @@ election_refused rules election outcome certificate r given = record {
 
 -- where the outcome is, the certificate may
 abbrev pub outcome_refused : {A : Type 0} (rules : AuditRules A)
-    (election : Delivery) (outcome : Option Delivery) (certificate : Delivery) (e : Instance) (r : Refusal)
+    (election : Delivery) (outcome : Option Delivery) (certificate : Delivery) (e : Instance) (r : InputRefusal)
     → StatesElection election (Ok e) → AuditsOutcome e outcome (Err r)
     → AnswersAudit rules election outcome certificate (refused r)
 outcome_refused {A} rules election outcome certificate e r given taken = record {

@@ -16,7 +16,7 @@ use Rattle.pb_reply.specs.Replies.{Reply, refused, with_input}
 use Rattle.pb_audit.specs.Answers.{price_reply, violation_reply}
 use Rattle.pb_audit.specs.Both.{BothPromise, GroupAndDemand, ReadsBoth, StatesBoth, beside, both_on, both_reply, both_rules, yes_where_both}
 use Rattle.pb_reply.specs.Inputs.{InTurn, Stated, StatesElection, StatesPrices, StatesViolation}
-use Rattle.pb_reply.specs.declared.input.Refusal.{Refusal}
+use Rattle.pb_reply.specs.declared.input.InputRefusal.{InputRefusal}
 use Rattle.pb_audit.specs.Readers.{AuditReadings}
 use Rattle.pb_reply.specs.Readings.{Delivers, NothingRead, Reading}
 use Rattle.pb_audit.specs.Inside.Certificates.{AnswersCertificate, IfTold, JudgesPrices, Promised}
@@ -70,7 +70,7 @@ both_promises m violation e w prices (p, Ok claim) states =
 both_promises m violation e w prices (p, Err why) states = tt
 
 -- the prices are refused
-abbrev prices_refused : (m : Mode) (e : Instance) (w : List Bool) (prices violation : Delivery) (r : Refusal)
+abbrev prices_refused : (m : Mode) (e : Instance) (w : List Bool) (prices violation : Delivery) (r : InputRefusal)
     → StatesPrices name.Prices e prices (Err r)
     → AnswersCertificate (StatesBoth violation) (both_reply m) e w prices (refused r)
 prices_refused m e w prices violation r states = record { c = Err r; given = states; out = refl }

@@ -28,29 +28,30 @@ use Rattle.pb_certificate.proofs.PriceClear.{price-clear}
 use Rattle.pb_certificate.proofs.Unique.{group-text-same, outcome-text-same, price-text-same}
 use Rattle.pb_audit.specs.Both.{GroupAndDemand}
 use Rattle.pb_reply.specs.Inputs.{IsRefusedElection, IsRefusedFile, Stated, States, StatesElection, StatesFile, StatesOutcome, StatesPrices, StatesViolation, refusal_of}
-use Rattle.pb_reply.specs.declared.input.Refusal.{Refusal}
+use Rattle.pb_reply.specs.declared.input.InputRefusal.{InputRefusal}
 use Rattle.pb_audit.specs.OneAnswer.{JustOne}
 use Rattle.pb_reply.specs.declared.input.InputFault.TheVariants as fault
 use Rattle.pb_reply.specs.declared.input.InputName.{InputName}
 use Rattle.pb_reply.specs.declared.input.InputName.TheVariants as name
 
 -- Bytes state one thing of a kind, or are refused for one reason, and never both.
-record Decides {A : Type 0} (is_text : List ℕ → A → Type 0) (is_refused : List ℕ → Refusal → Type 0) : Type 0 where
-  answered : (bytes : List ℕ) → ((a : A) × is_text bytes a) ⊎ ((r : Refusal) × is_refused bytes r)
-  apart : (bytes : List ℕ) (a : A) (r : Refusal) → is_text bytes a → is_refused bytes r → ⊥
+record Decides {A : Type 0} (is_text : List ℕ → A → Type 0) (is_refused : List ℕ → InputRefusal → Type 0) : Type 0 where
+  answered : (bytes : List ℕ) → ((a : A) × is_text bytes a) ⊎ ((r : InputRefusal) × is_refused bytes r)
+  apart : (bytes : List ℕ) (a : A) (r : InputRefusal) → is_text bytes a → is_refused bytes r → ⊥
   alone : (bytes : List ℕ) (a b : A) → is_text bytes a → is_text bytes b → a ≡ b
-  first : (bytes : List ℕ) (r s : Refusal) → is_refused bytes r → is_refused bytes s → r ≡ s
+  first : (bytes : List ℕ) (r s : InputRefusal) → is_refused bytes r → is_refused bytes s → r ≡ s
 
 -- So does what is delivered.
-states-some : {A : Type 0} (input : InputName) (is_text : List ℕ → A → Type 0) (is_refused : List ℕ → Refusal → Type 0)
+states-some : {A : Type 0} (input : InputName) (is_text : List ℕ → A → Type 0)
+    (is_refused : List ℕ → InputRefusal → Type 0)
     → Decides is_text is_refused → (d : Delivery) → (stated : Stated A) × States input is_text is_refused d stated
 states-some input is_text is_refused k (delivery.Bytes bytes) =
     elim (k.answered bytes) [ inl text ↦ (Ok text.0, text.1) | inr why ↦ (Err why.0, why.1) ]
 states-some input is_text is_refused k delivery.Read = (Err (refusal_of input fault.Unread), refl)
 states-some input is_text is_refused k delivery.TooLong = (Err (refusal_of input fault.TooLong), refl)
 
-states-same : {A : Type 0} (input : InputName) (is_text : List ℕ → A → Type 0) (is_refused : List ℕ → Refusal → Type 0)
-    → Decides is_text is_refused → (d : Delivery) (s t : Stated A)
+states-same : {A : Type 0} (input : InputName) (is_text : List ℕ → A → Type 0)
+    (is_refused : List ℕ → InputRefusal → Type 0) → Decides is_text is_refused → (d : Delivery) (s t : Stated A)
     → States input is_text is_refused d s → States input is_text is_refused d t → s ≡ t
 states-same input is_text is_refused k (delivery.Bytes bytes) (Ok a) (Ok b) h i = ap Ok (k.alone bytes a b h i)
 states-same input is_text is_refused k (delivery.Bytes bytes) (Ok a) (Err r) h i = absurd (k.apart bytes a r h i)
@@ -59,14 +60,15 @@ states-same input is_text is_refused k (delivery.Bytes bytes) (Err r) (Err s) h 
 states-same input is_text is_refused k delivery.Read s t h i = h ∙ sym i
 states-same input is_text is_refused k delivery.TooLong s t h i = h ∙ sym i
 
-states-one : {A : Type 0} (input : InputName) (is_text : List ℕ → A → Type 0) (is_refused : List ℕ → Refusal → Type 0)
+states-one : {A : Type 0} (input : InputName) (is_text : List ℕ → A → Type 0)
+    (is_refused : List ℕ → InputRefusal → Type 0)
     → Decides is_text is_refused → (d : Delivery) → JustOne (States input is_text is_refused d)
 states-one input is_text is_refused k d =
     record { one = states-some input is_text is_refused k d; no_other = states-same input is_text is_refused k d }
 
 -- Elections.
 
-election_refusal : ElectionFault → ℕ → Refusal
+election_refusal : ElectionFault → ℕ → InputRefusal
 election_refusal f place = refusal_of name.Election (fault.Election (record { fault = f; place = place }))
 
 election-decides : Decides IsTextOf IsRefusedElection
@@ -91,17 +93,17 @@ election-one = states-one name.Election IsTextOf IsRefusedElection election-deci
 
 -- Files beside an election.
 
-file_refusal : InputName → CertFault → ℕ → Refusal
+file_refusal : InputName → CertFault → ℕ → InputRefusal
 file_refusal input f place = refusal_of input (fault.Certificate (record { fault = f; place = place }))
 
 -- where a first fault stands, the file is refused for it
 file-refused : (input : InputName) (form : Form CertFault) (bytes : List ℕ) → HasFirst form (certificate_records bytes)
-    → (r : Refusal) × IsRefusedFile input form bytes r
+    → (r : InputRefusal) × IsRefusedFile input form bytes r
 unfolding file_refusal
 file-refused input form bytes why =
     (file_refusal input why.1 why.0, (record { fault = why.1; place = why.0 }, why.2, refl))
 
-refusals-same : (input : InputName) (form : Form CertFault) (bytes : List ℕ) (r s : Refusal)
+refusals-same : (input : InputName) (form : Form CertFault) (bytes : List ℕ) (r s : InputRefusal)
     → IsRefusedFile input form bytes r → IsRefusedFile input form bytes s → r ≡ s
 unfolding file_refusal
 refusals-same input form bytes r s h k =

@@ -24,7 +24,7 @@ pub use folder::{Entry, folder_text};
 pub use folder_report::FolderReport;
 pub use margins::{margins_answer, run_margins};
 pub use pb_command::{Inputs, Task, UsageFault, task_of};
-pub use pb_reply::{Answer, Fault, InputFault, InputName, Loaded, Refusal, Reply, Status};
+pub use pb_reply::{Answer, Fault, InputFault, InputName, InputRefusal, Loaded, Reply, Status};
 pub use prices::{prices_reply, run_prices};
 pub use read::{read_reply, run_read};
 pub use tidy::{run_tidy, tidy_answer};

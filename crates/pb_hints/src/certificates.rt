@@ -1,7 +1,7 @@
 //! Sentences on certificates and outcome files that are refused.
 use crate::FileKind;
 use crate::excerpt::push_quoted;
-use crate::lookup::{Found, find_project, find_voter};
+use crate::lookup::{Lookup, find_project, find_voter};
 use crate::oddity::Oddity;
 use crate::remark::Remark;
 use crate::scene::Scene;
@@ -152,7 +152,7 @@ impl Scene<'_> {
     }
 
     /// That projects are named by their ids, with the id of the one that may be meant.
-    pub fn project_cause(&self, found: Found) -> Result<Option<Remark>, AllocError> {
+    pub fn project_cause(&self, found: Lookup) -> Result<Option<Remark>, AllocError> {
         if found.row.is_none() {
             return Ok(None);
         }

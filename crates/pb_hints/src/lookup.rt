@@ -7,7 +7,7 @@ use std::alloc::{AllocError, Global};
 
 /// What was found of a name in a section.
 #[derive(Drop)]
-pub(crate) struct Found {
+pub(crate) struct Lookup {
     /// How many rows the section has, as far as it was gone over.
     pub rows: u64,
     /// The first row, from 1, that has the name.
@@ -22,19 +22,24 @@ pub(crate) fn find_project(
     alloc: Global,
     election: &[u8],
     name: &str,
-) -> Result<Found, AllocError> {
+) -> Result<Lookup, AllocError> {
     find(alloc, election, Section::Projects, name)
 }
 
 /// Looks up in VOTES which voter has this `voter_id`.
-pub(crate) fn find_voter(alloc: Global, election: &[u8], id: &str) -> Result<Found, AllocError> {
+pub(crate) fn find_voter(alloc: Global, election: &[u8], id: &str) -> Result<Lookup, AllocError> {
     find(alloc, election, Section::Votes, id)
 }
 
-fn find(alloc: Global, election: &[u8], section: Section, name: &str) -> Result<Found, AllocError> {
+fn find(
+    alloc: Global,
+    election: &[u8],
+    section: Section,
+    name: &str,
+) -> Result<Lookup, AllocError> {
     let mut walk = Walk::open(alloc, election, FileKind::Election.delimiter())?;
     let mut story = Story::new(alloc, FileKind::Election);
-    let mut found = Found {
+    let mut found = Lookup {
         rows: 0,
         row: None,
         id: String::new(alloc),

@@ -16,7 +16,7 @@ use Rattle.pb_page.specs.Sums.{files_of, sums_of}
 use Rattle.pb_page.specs.Taken.{RendersTold, TellsCertificate}
 use Rattle.pb_page.specs.Told.{status_of}
 use Rattle.pb_page.specs.declared.language.Language.{Language}
-use Rattle.pb_page.specs.declared.told.Found.{Found}
+use Rattle.pb_page.specs.declared.told.CertificateFigures.{CertificateFigures}
 use Rattle.pb_page.specs.declared.told.Told.{Told}
 
 -- where the election is refused, the others may state anything
@@ -76,9 +76,9 @@ stopped-at-certificate m l election outcome certificate e w stop.Memory given ta
 told-status : (m : Mode) (e : Instance) (w : List Bool) (c : Certificate) (t : Told) → Tells m e w c t
     → status_of t.mode t.found ≡ (explained_reply m e w c).status
 told-status m e w (OfPrices p) t tells =
-    ap (λ (f : Found). status_of t.mode f) tells.found ∙ ap price_status tells.verdict
+    ap (λ (f : CertificateFigures). status_of t.mode f) tells.found ∙ ap price_status tells.verdict
 told-status m e w (OfViolation v) t tells =
-    ap (λ (f : Found). status_of t.mode f) tells.1 ∙ ap violation_status tells.2.verdict
+    ap (λ (f : CertificateFigures). status_of t.mode f) tells.1 ∙ ap violation_status tells.2.verdict
 
 -- all are accepted
 pub page-answered : (m : Mode) (l : Language) (election : Delivery) (outcome : Option Delivery)

@@ -6,8 +6,8 @@ use Rattle.pb_page.specs.InOrder.{HasParts}
 use Rattle.pb_page.specs.Pieces.{Piece}
 use Rattle.pb_page.specs.Rows.{ListsProjects, amount_piece}
 use Rattle.pb_page.specs.declared.figure.Figure.{Figure}
-use Rattle.pb_page.specs.declared.told.Found.{Found}
-use Rattle.pb_page.specs.declared.told.Found.TheVariants as found
+use Rattle.pb_page.specs.declared.told.CertificateFigures.{CertificateFigures}
+use Rattle.pb_page.specs.declared.told.CertificateFigures.TheVariants as found
 use Rattle.pb_page.proofs.InOrder.{in-order-before, in-order-behind, in-order-next}
 
 -- with one more row: what stands in it before its amount, the amount, and what stands behind it
@@ -30,7 +30,7 @@ rows-next {X} shown xs k d page front back first second new below up_to amount b
     (in-order-next amount_piece before (shown (get_or xs k d)) page front back has))
 
 -- what a part of a page lists, with pieces before it and behind it
-pub lists-behind : (m : Mode) (f : Found) (before pieces : List Piece) → ListsProjects m f pieces
+pub lists-behind : (m : Mode) (f : CertificateFigures) (before pieces : List Piece) → ListsProjects m f pieces
     → ListsProjects m f (before ++ pieces)
 lists-behind m (found.Prices p) before pieces lists = (
   (lists.0.0, lists.0.1, in-order-behind amount_piece _ before pieces lists.0.2),
@@ -38,7 +38,7 @@ lists-behind m (found.Prices p) before pieces lists = (
 )
 lists-behind m (found.Violation v) before pieces lists = tt
 
-pub lists-before : (m : Mode) (f : Found) (pieces behind : List Piece) → ListsProjects m f pieces
+pub lists-before : (m : Mode) (f : CertificateFigures) (pieces behind : List Piece) → ListsProjects m f pieces
     → ListsProjects m f (pieces ++ behind)
 lists-before m (found.Prices p) pieces behind lists = (
   (lists.0.0, lists.0.1, in-order-before amount_piece _ pieces behind lists.0.2),

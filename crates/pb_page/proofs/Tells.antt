@@ -20,7 +20,7 @@ use Rattle.pb_reply.specs.declared.input.InputName.TheVariants as name
 use Rattle.pb_audit.specs.Explained.{OfPrices, is_violation}
 use Rattle.pb_audit.proofs.Explained.{denominator-low}
 use Rattle.pb_page.specs.Taken.{TellsCertificate}
-use Rattle.pb_page.specs.declared.told.Found.TheVariants as found
+use Rattle.pb_page.specs.declared.told.CertificateFigures.TheVariants as found
 use Rattle.pb_page.specs.declared.told.PriceFigures.{PriceFigures}
 use Rattle.pb_page.specs.declared.told.Told.{Told}
 

@@ -24,7 +24,7 @@ use Rattle.pb_page.specs.Sums.{HasInOrder, files_of, sums_of}
 use Rattle.pb_page.specs.Told.{shows_of}
 use Rattle.pb_page.specs.declared.language.Language.{Language}
 use Rattle.pb_page.specs.declared.tag.Tag.TheVariants as tag
-use Rattle.pb_page.specs.declared.told.Found.TheVariants as found
+use Rattle.pb_page.specs.declared.told.CertificateFigures.TheVariants as found
 use Rattle.pb_page.specs.declared.told.PriceFigures.{PriceFigures}
 use Rattle.pb_page.specs.declared.told.Told.{Told}
 use Rattle.pb_page.specs.declared.told.ViolationFigures.{ViolationFigures}

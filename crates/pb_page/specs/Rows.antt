@@ -8,8 +8,8 @@ use Rattle.pb_page.specs.Ranking as ranking
 use Rattle.pb_page.specs.Ranking.{AreRanked, by_missing, by_size}
 use Rattle.pb_page.specs.declared.figure.Figure.{Figure}
 use Rattle.pb_page.specs.declared.figure.Figure.TheVariants as figure
-use Rattle.pb_page.specs.declared.told.Found.{Found}
-use Rattle.pb_page.specs.declared.told.Found.TheVariants as found
+use Rattle.pb_page.specs.declared.told.CertificateFigures.{CertificateFigures}
+use Rattle.pb_page.specs.declared.told.CertificateFigures.TheVariants as found
 
 -- an amount as a piece
 abbrev pub amount_piece : Figure → List Piece
@@ -42,7 +42,7 @@ ListsFunded ms pieces =
     × HasParts amount_piece (map funded_amount (take most_rows ranked)) pieces
 
 -- the rows of both tables of a page stand in their orders; a page about a violation has neither
-abbrev pub ListsProjects : Mode → Found → List Piece → Type 0
+abbrev pub ListsProjects : Mode → CertificateFigures → List Piece → Type 0
 ListsProjects m (found.Prices p) pieces =
     ListsUnfunded m.stable p.margins.projects.items pieces × ListsFunded p.margins.projects.items pieces
 ListsProjects m (found.Violation v) pieces = ⊤

@@ -24,8 +24,8 @@ use Rattle.pb_page.specs.declared.figure.Compared.{Compared}
 use Rattle.pb_page.specs.declared.figure.Compared.TheVariants as compared
 use Rattle.pb_page.specs.declared.figure.Figure.{Figure}
 use Rattle.pb_page.specs.declared.figure.Figure.TheVariants as figure
-use Rattle.pb_page.specs.declared.told.Found.{Found}
-use Rattle.pb_page.specs.declared.told.Found.TheVariants as found
+use Rattle.pb_page.specs.declared.told.CertificateFigures.{CertificateFigures}
+use Rattle.pb_page.specs.declared.told.CertificateFigures.TheVariants as found
 use Rattle.pb_page.specs.declared.told.Headline.{Headline}
 use Rattle.pb_page.specs.declared.told.Headline.TheVariants as headline
 use Rattle.pb_page.specs.declared.told.PriceFigures.{PriceFigures}
@@ -41,12 +41,12 @@ abbrev pub violation_headline : ViolationVerdict → Headline
 violation_headline violation_verdict.Violation = headline.Violation
 violation_headline (violation_verdict.Failed f) = headline.NoViolation
 
-abbrev pub headline_of : Mode → Found → Headline
+abbrev pub headline_of : Mode → CertificateFigures → Headline
 headline_of m (found.Prices p) = price_headline m.stable (verdict_of (first_told m p.findings))
 headline_of m (found.Violation v) = violation_headline v.verdict
 
 -- how the answer ends
-abbrev pub status_of : Mode → Found → Status
+abbrev pub status_of : Mode → CertificateFigures → Status
 status_of m (found.Prices p) = price_status (verdict_of (first_told m p.findings))
 status_of m (found.Violation v) = violation_status v.verdict
 
@@ -138,12 +138,12 @@ violation_amount v figure.Gets = worth v v.findings.gets
 violation_amount v figure.Worth = worth v v.findings.demanded
 violation_amount v _ = nothing
 
-abbrev pub amount_of : Found → Figure → Balance
+abbrev pub amount_of : CertificateFigures → Figure → Balance
 amount_of (found.Prices p) f = price_amount p f
 amount_of (found.Violation v) f = violation_amount v f
 
 -- how many grains one unit of the currency has
-abbrev pub grains_per_unit : Found → ℕ
+abbrev pub grains_per_unit : CertificateFigures → ℕ
 grains_per_unit (found.Prices p) = p.findings.grains_per_unit
 grains_per_unit (found.Violation v) = 10 ^ 6
 

@@ -26,7 +26,7 @@ use crate::case::Case;
 use crate::markup::Page;
 use crate::style::STYLE;
 use crate::tag::{Name, Tag};
-use crate::told::{Found, PriceFigures, ViolationFigures};
+use crate::told::{CertificateFigures, PriceFigures, ViolationFigures};
 use std::alloc::{AllocError, Global};
 
 // Nothing may be fetched and nothing may run, whatever stands in the page.
@@ -103,8 +103,8 @@ fn figures_of(alloc: Global, case: &Case<'_>) -> Result<Page, AllocError>
     ensures { IfOk result (ListsProjects (case.now).told.mode (case.now).told.found) }
 {
     match &case.told.found {
-        Found::Prices(figures) => prices(alloc, case, figures),
-        Found::Violation(figures) => violation(alloc, case, figures),
+        CertificateFigures::Prices(figures) => prices(alloc, case, figures),
+        CertificateFigures::Violation(figures) => violation(alloc, case, figures),
     }
 }
 

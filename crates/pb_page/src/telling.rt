@@ -12,7 +12,7 @@ ghost use Rattle.pb_page.specs.Told as spec;
 
 use crate::amounts::Style;
 use crate::extremes::extremes_of;
-use crate::told::{Found, PriceFigures, Told, ViolationFigures};
+use crate::told::{CertificateFigures, PriceFigures, Told, ViolationFigures};
 use pb_certificate::{Violation, is_violation};
 use pb_cohesion::violation_findings;
 use pb_election::{Election, Outcome};
@@ -72,7 +72,7 @@ fn prices_told(
         style,
         mode,
         line: price_line(alloc, election, verdict, mode.stable)?,
-        found: Found::Prices(figures),
+        found: CertificateFigures::Prices(figures),
     })
 }
 
@@ -119,7 +119,7 @@ fn violation_told(
         style,
         mode,
         line,
-        found: Found::Violation(figures),
+        found: CertificateFigures::Violation(figures),
     })
 }
 
@@ -168,8 +168,10 @@ impl Told {
         ensures { result ≡ spec.status_of (self.now).mode (self.now).found }
     {
         match &self.found {
-            Found::Prices(figures) => price_status(figures.findings.verdict(self.mode)),
-            Found::Violation(figures) => violation_status(figures.verdict),
+            CertificateFigures::Prices(figures) => price_status(
+                figures.findings.verdict(self.mode),
+            ),
+            CertificateFigures::Violation(figures) => violation_status(figures.verdict),
         }
     }
 }

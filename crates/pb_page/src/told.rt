@@ -19,12 +19,12 @@ pub(crate) struct Told {
     pub(crate) mode: Mode,
     /// The line that the program prints.
     pub(crate) line: String,
-    pub(crate) found: Found,
+    pub(crate) found: CertificateFigures,
 }
 
 /// What was found of a certificate.
 #[derive(Drop)]
-pub(crate) enum Found {
+pub(crate) enum CertificateFigures {
     Prices(PriceFigures),
     Violation(ViolationFigures),
 }
@@ -72,11 +72,11 @@ impl Told {
         ensures { result ≡ spec.headline_of (self.now).mode (self.now).found }
     {
         match &self.found {
-            Found::Prices(figures) => price_headline(
+            CertificateFigures::Prices(figures) => price_headline(
                 figures.findings.verdict(self.mode),
                 self.mode,
             ),
-            Found::Violation(figures) => violation_headline(figures.verdict),
+            CertificateFigures::Violation(figures) => violation_headline(figures.verdict),
         }
     }
 
@@ -85,8 +85,8 @@ impl Told {
         ensures { result ≡ spec.grains_per_unit (self.now).found }
     {
         match &self.found {
-            Found::Prices(figures) => figures.findings.grains_per_unit,
-            Found::Violation(_) => 1_000_000,
+            CertificateFigures::Prices(figures) => figures.findings.grains_per_unit,
+            CertificateFigures::Violation(_) => 1_000_000,
         }
     }
 
@@ -95,8 +95,8 @@ impl Told {
         ensures { result ≡ spec.amount_of (self.now).found figure }
     {
         match &self.found {
-            Found::Prices(figures) => figures.amount_of(figure),
-            Found::Violation(figures) => figures.amount_of(figure),
+            CertificateFigures::Prices(figures) => figures.amount_of(figure),
+            CertificateFigures::Violation(figures) => figures.amount_of(figure),
         }
     }
 }

@@ -17,7 +17,7 @@ use Rattle.pb_certificate.specs.PriceText.{IsPriceText}
 use Rattle.pb_certificate.specs.declared.measure.Measure.{Measure}
 use Rattle.pb_certificate.specs.declared.refusal.CertFault.{CertFault}
 use Rattle.pb_certificate.specs.declared.refusal.CertRefusal.{CertRefusal}
-use Rattle.pb_reply.specs.declared.input.Refusal.{Refusal}
+use Rattle.pb_reply.specs.declared.input.InputRefusal.{InputRefusal}
 use Rattle.pb_reply.specs.declared.input.InputFault.{InputFault}
 use Rattle.pb_reply.specs.declared.input.InputFault.TheVariants as fault
 use Rattle.pb_reply.specs.declared.input.InputName.{InputName}
@@ -25,10 +25,10 @@ use Rattle.pb_reply.specs.declared.input.InputName.TheVariants as name
 
 -- an input is what it states, or why it is refused
 abbrev pub Stated : Type 0 → Type 0
-Stated A = Result A Refusal
+Stated A = Result A InputRefusal
 
 -- the refusal of an input for a fault
-abbrev pub refusal_of : InputName → InputFault → Refusal
+abbrev pub refusal_of : InputName → InputFault → InputRefusal
 refusal_of input why = record { input = input; fault = why }
 
 -- the most bytes of an input
@@ -42,15 +42,15 @@ in_memory bytes = if nat_lt most_bytes (length bytes) then delivery.TooLong else
 -- What an input states, by what was delivered of it, where a kind of input says which values are stated by bytes and
 -- why bytes are refused. The delivery `Read` says that the reader failed, and `TooLong` that it had more bytes than are
 -- allowed.
-abbrev pub States : {A : Type 0} → InputName → (List ℕ → A → Type 0) → (List ℕ → Refusal → Type 0) → Delivery → Stated A
-    → Type 0
+abbrev pub States : {A : Type 0} → InputName → (List ℕ → A → Type 0) → (List ℕ → InputRefusal → Type 0) → Delivery
+    → Stated A → Type 0
 States input is_text is_refused (delivery.Bytes bytes) (Ok a) = is_text bytes a
 States input is_text is_refused (delivery.Bytes bytes) (Err r) = is_refused bytes r
 States input is_text is_refused delivery.Read stated = stated ≡ Err (refusal_of input fault.Unread)
 States input is_text is_refused delivery.TooLong stated = stated ≡ Err (refusal_of input fault.TooLong)
 
 -- an election
-abbrev pub IsRefusedElection : List ℕ → Refusal → Type 0
+abbrev pub IsRefusedElection : List ℕ → InputRefusal → Type 0
 IsRefusedElection bytes r = (first : election.Refusal) × Refuses bytes first
     × (r ≡ refusal_of name.Election (fault.Election first))
 
@@ -58,7 +58,7 @@ abbrev pub StatesElection : Delivery → Stated Instance → Type 0
 StatesElection delivered stated = States name.Election IsTextOf IsRefusedElection delivered stated
 
 -- a file of this form beside an election
-abbrev pub IsRefusedFile : InputName → Form CertFault → List ℕ → Refusal → Type 0
+abbrev pub IsRefusedFile : InputName → Form CertFault → List ℕ → InputRefusal → Type 0
 IsRefusedFile input form bytes r = (first : CertRefusal) × certificates.Refuses form bytes first
     × (r ≡ refusal_of input (fault.Certificate first))
 

@@ -17,7 +17,7 @@ use Rattle.pb_reply.specs.declared.input.InputFault.{InputFault}
 use Rattle.pb_reply.specs.declared.input.InputFault.TheVariants as fault
 use Rattle.pb_reply.specs.declared.input.InputName.{InputName}
 use Rattle.pb_reply.specs.declared.input.InputName.TheVariants as name
-use Rattle.pb_reply.specs.declared.input.Refusal.{Refusal}
+use Rattle.pb_reply.specs.declared.input.InputRefusal.{InputRefusal}
 
 -- how many projects are funded, where the election says which
 abbrev pub number_of_funded : Instance → Option ℕ
@@ -127,6 +127,6 @@ fault_place (fault.Election r) = r.place
 fault_place (fault.Certificate r) = r.place
 
 -- the line of a refusal
-abbrev pub refusal_line : Refusal → Text
+abbrev pub refusal_line : InputRefusal → Text
 refusal_line r = codes "refused " ++ name_of r.input ++ codes " " ++ decimal (fault_number r.fault) ++ codes " "
     ++ fault_name r.fault ++ codes " record " ++ decimal (fault_place r.fault)

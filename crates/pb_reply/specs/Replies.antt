@@ -8,7 +8,7 @@ use Rattle.pb_price.specs.declared.Verdict.{Verdict}
 use Rattle.pb_price.specs.declared.Verdict.TheVariants as verdict
 use Rattle.pb_reply.specs.Inputs.{Stated}
 use Rattle.pb_reply.specs.Lines.{refusal_line}
-use Rattle.pb_reply.specs.declared.input.Refusal.{Refusal}
+use Rattle.pb_reply.specs.declared.input.InputRefusal.{InputRefusal}
 use Rattle.pb_reply.specs.declared.status.Status.{Status}
 use Rattle.pb_reply.specs.declared.status.Status.TheVariants.{Yes, No, Refused}
 
@@ -30,7 +30,7 @@ abbrev pub answer_of : Reply → Answer Status
 answer_of reply = record { text = text_of reply.lines; status = reply.status }
 
 -- the reply on an input that is refused: the line of the refusal, and the refusal
-abbrev pub refused : Refusal → Reply
+abbrev pub refused : InputRefusal → Reply
 refused r = record { lines = refusal_line r ∷ []; status = Refused r }
 
 -- the reply on an input: the first that is refused decides

@@ -5,7 +5,7 @@ ghost use Rattle.pb_reply.specs.Replies as replies;
 ghost use Rattle.pb_reply.specs.Inside.Taking as spec;
 ghost use Rattle.pb_reply.specs.Writing.{Writes};
 
-use crate::input::{Refusal, Stop};
+use crate::input::{InputRefusal, Stop};
 use crate::lines::{push_line, refusal_line};
 use crate::{Fault, Status};
 use pb_election::{Sink, put};
@@ -146,7 +146,7 @@ pub fn stopped(alloc: Global, stop: &Stop) -> Result<Reply, AllocError>
 }
 
 /// The reply on an input that is refused: its line, and the refusal itself as the status.
-pub fn refused(alloc: Global, refusal: Refusal) -> Result<Reply, AllocError>
+pub fn refused(alloc: Global, refusal: InputRefusal) -> Result<Reply, AllocError>
     ensures { IfOk result (λ reply. reply ≡ replies.refused refusal) }
 {
     let line = refusal_line(alloc, &refusal)?;

@@ -38,7 +38,7 @@ pub enum InputFault {
 
 /// An input that is refused, and why.
 #[derive(Clone, Copy, Debug, PartialEq, Eq)]
-pub struct Refusal {
+pub struct InputRefusal {
     /// Which input is refused.
     pub input: InputName,
     /// Why, and at which of its records.
@@ -49,7 +49,7 @@ pub struct Refusal {
 #[derive(Clone, Copy)]
 pub enum Stop {
     /// An input is refused.
-    Refused(Refusal),
+    Refused(InputRefusal),
     /// Out of memory.
     Memory,
 }
@@ -133,5 +133,5 @@ pub fn stop_at(input: InputName, fault: InputFault) -> Stop
     if fault.wants_memory() {
         return Stop::Memory;
     }
-    Stop::Refused(Refusal { input, fault })
+    Stop::Refused(InputRefusal { input, fault })
 }

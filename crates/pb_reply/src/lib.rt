@@ -10,7 +10,7 @@ mod taking;
 mod verdict_lines;
 
 pub use answer::{Answer, Reply, Telling, one_line, refused, settled, stopped, write_reply};
-pub use input::{InputFault, InputName, Refusal, Stop, stop_at};
+pub use input::{InputFault, InputName, InputRefusal, Stop, stop_at};
 pub use lines::{push_line, push_notes, push_number, read_line};
 pub use loaded::{File, Loaded, bytes_of, optional_file};
 pub use status::{Fault, Status};

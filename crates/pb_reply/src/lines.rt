@@ -3,7 +3,7 @@ ghost use Rattle.std.specs.Prelude.{◌≡◌, ◌∷◌, ◌++◌, [], IfOk, On
 ghost use Rattle.pb_reply.specs.Replies.{text_of};
 ghost use Rattle.pb_reply.specs.Lines as spec;
 
-use crate::input::Refusal;
+use crate::input::InputRefusal;
 use itoa::Buffer;
 use pb_election::Election;
 use std::alloc::{AllocError, Global};
@@ -131,10 +131,10 @@ fn selected_words(alloc: Global, count: u32) -> Result<String, AllocError>
 }
 
 /// The line of a refusal.
-pub(crate) fn refusal_line(alloc: Global, refusal: &Refusal) -> Result<String, AllocError>
+pub(crate) fn refusal_line(alloc: Global, refusal: &InputRefusal) -> Result<String, AllocError>
     ensures { IfOk result (λ line. string_bytes line ≡ spec.refusal_line refusal.now) }
 {
-    let Refusal { input, fault } = refusal;
+    let InputRefusal { input, fault } = refusal;
     let mut line = String::from_str(alloc, "refused ")?;
     line.push_str(input.name())?;
     line.push_str(" ")?;

@@ -6,7 +6,7 @@ ghost use Rattle.pb_reply.specs.Inputs.{in_memory, most_bytes};
 ghost use Rattle.pb_reply.specs.Inside.Loaded.{delivery_of, lent};
 ghost use Rattle.pb_reply.specs.Inside.Taking.{IsUnloaded};
 
-use crate::input::{InputFault, InputName, Refusal, Stop};
+use crate::input::{InputFault, InputName, InputRefusal, Stop};
 use pb_election::{LoadFault, Source, load};
 use std::alloc::{AllocError, Global};
 
@@ -87,11 +87,11 @@ pub fn bytes_of<'a>(input: InputName, file: File<'a>) -> Result<&'a [u8], Stop>
 {
     match file {
         File::Bytes(bytes) => Ok(bytes),
-        File::Unread => Err(Stop::Refused(Refusal {
+        File::Unread => Err(Stop::Refused(InputRefusal {
             input,
             fault: InputFault::Unread,
         })),
-        File::TooLong => Err(Stop::Refused(Refusal {
+        File::TooLong => Err(Stop::Refused(InputRefusal {
             input,
             fault: InputFault::TooLong,
         })),

@@ -2,7 +2,7 @@
 ghost use Rattle.std.specs.Prelude.{◌≡◌};
 ghost use Rattle.pb_reply.specs.declared.status.Fault.TheVariants.{Memory, Write};
 
-use crate::input::Refusal;
+use crate::input::InputRefusal;
 use pb_election::PutFault;
 use std::alloc::AllocError;
 use thiserror::Error;
@@ -15,7 +15,7 @@ pub enum Status {
     /// The inputs are what they should be, and something that was asked does not hold.
     No,
     /// This input is not what it should be.
-    Refused(Refusal),
+    Refused(InputRefusal),
 }
 
 /// Why an answer was not written whole.

@@ -6,7 +6,7 @@ use crate::progress::Progress;
 use crate::refusals::tell_unlisted;
 use pb_audit::endings::{ELECTION, PRICES, VIOLATION};
 use pb_audit::{
-    Answer, Entry, Fault, FolderReport, FolderStatus, InputFault, InputName, Loaded, Refusal,
+    Answer, Entry, Fault, FolderReport, FolderStatus, InputFault, InputName, InputRefusal, Loaded,
 };
 use pb_election::{Input, Sink};
 use pb_hints::push_shown;
@@ -32,7 +32,7 @@ pub fn run_folder<W: Sink, E: Write + IsTerminal>(
         Ok(listing) => listing,
         Err(ListFault::Memory) => return Err(Fault::Memory),
         Err(ListFault::Unlisted(failure)) => {
-            let unlisted = Refusal {
+            let unlisted = InputRefusal {
                 input: InputName::Folder,
                 fault: InputFault::Unread,
             };

@@ -1,6 +1,6 @@
 //! What people are told beside an answer: notes on the election, and why a file is refused.
 use crate::file::FileReader;
-use pb_audit::{InputFault, InputName, Loaded, Refusal, Task};
+use pb_audit::{InputFault, InputName, InputRefusal, Loaded, Task};
 use pb_certificate::CertFault;
 use pb_election::Input;
 use pb_hints::{FileKind, Remark, hint, push_shown};
@@ -13,7 +13,7 @@ use std::{fs, io};
 pub fn tell_hint<E: Write>(
     rt: &HostRuntime,
     task: &Task,
-    refusal: Refusal,
+    refusal: InputRefusal,
     failure: Option<i32>,
     err: &mut E,
 ) {
@@ -93,7 +93,7 @@ fn unread(
 fn remarks_on(
     rt: &HostRuntime,
     task: &Task,
-    refusal: Refusal,
+    refusal: InputRefusal,
     kind: FileKind,
     path: Option<&str>,
 ) -> Result<Vec<Remark>, AllocError> {

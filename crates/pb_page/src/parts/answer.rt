@@ -9,7 +9,7 @@ use crate::parts::tests_of_group::push_failed_test;
 use crate::saying::Fillings;
 use crate::sentence::Sentence;
 use crate::tag::Tag;
-use crate::told::{Found, Headline, PriceFigures};
+use crate::told::{CertificateFigures, Headline, PriceFigures};
 use pb_price::Verdict;
 use std::alloc::AllocError;
 
@@ -50,8 +50,8 @@ fn push_plain(page: &mut Page, case: &Case<'_>, sentence: Sentence) -> Result<()
 
 fn push_failure(page: &mut Page, case: &Case<'_>) -> Result<(), AllocError> {
     match &case.told.found {
-        Found::Prices(figures) => push_failed_condition(page, case, figures),
-        Found::Violation(figures) => push_failed_test(page, case, figures),
+        CertificateFigures::Prices(figures) => push_failed_condition(page, case, figures),
+        CertificateFigures::Violation(figures) => push_failed_test(page, case, figures),
     }
 }
 

@@ -4,7 +4,7 @@ use crate::markup::Page;
 use crate::saying::Fillings;
 use crate::sentence::Sentence;
 use crate::tag::Tag;
-use crate::told::{Found, PriceFigures};
+use crate::told::{CertificateFigures, PriceFigures};
 use pb_certificate::Measure;
 use pb_price::{Mode, Verdict};
 use std::alloc::AllocError;
@@ -13,8 +13,8 @@ use std::alloc::AllocError;
 pub(crate) fn push_asked(page: &mut Page, case: &Case<'_>) -> Result<(), AllocError> {
     page.open_class(Tag::Ul, "asked")?;
     match &case.told.found {
-        Found::Prices(figures) => push_asked_of_prices(page, case, figures)?,
-        Found::Violation(figures) => {
+        CertificateFigures::Prices(figures) => push_asked_of_prices(page, case, figures)?,
+        CertificateFigures::Violation(figures) => {
             let measure = figures.violation.satisfaction();
             page.element(Tag::Li, case.words.say(measure_asked(measure)))?;
         }

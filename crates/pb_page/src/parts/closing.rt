@@ -5,7 +5,7 @@ use crate::markup::Page;
 use crate::parts::asked::fails_as_stable_alone;
 use crate::sentence::Sentence;
 use crate::tag::Tag;
-use crate::told::{Found, Headline, PriceFigures};
+use crate::told::{CertificateFigures, Headline, PriceFigures};
 use pb_price::Verdict;
 use std::alloc::AllocError;
 
@@ -59,16 +59,16 @@ fn claim(case: &Case<'_>) -> Sentence {
 // Whether what fails is of the outcome alone, which no payments change.
 fn is_of_outcome(case: &Case<'_>) -> bool {
     match &case.told.found {
-        Found::Prices(figures) => fails_by_outcome(case, figures),
-        Found::Violation(_) => false,
+        CertificateFigures::Prices(figures) => fails_by_outcome(case, figures),
+        CertificateFigures::Violation(_) => false,
     }
 }
 
 // Whether the payments support the outcome in the plain form, and not in the stable one that was asked.
 fn is_plain_alone(case: &Case<'_>) -> bool {
     match &case.told.found {
-        Found::Prices(figures) => fails_as_stable_alone(case, figures),
-        Found::Violation(_) => false,
+        CertificateFigures::Prices(figures) => fails_as_stable_alone(case, figures),
+        CertificateFigures::Violation(_) => false,
     }
 }
 
@@ -93,8 +93,8 @@ fn push_words(page: &mut Page, case: &Case<'_>) -> Result<(), AllocError> {
         Sentence::MeansCertificate,
     )?;
     match &case.told.found {
-        Found::Prices(_) => push_words_of_prices(page, case)?,
-        Found::Violation(_) => push_words_of_violations(page, case)?,
+        CertificateFigures::Prices(_) => push_words_of_prices(page, case)?,
+        CertificateFigures::Violation(_) => push_words_of_violations(page, case)?,
     }
     page.close()?;
     page.close()

@@ -10,7 +10,7 @@ use crate::naming::push_label;
 use crate::saying::Fillings;
 use crate::sentence::Sentence;
 use crate::tag::Tag;
-use crate::told::Found;
+use crate::told::CertificateFigures;
 use pb_price::Mode;
 use std::alloc::AllocError;
 
@@ -120,8 +120,8 @@ fn push_command(page: &mut Page, case: &Case<'_>) -> Result<(), AllocError> {
         push_word(page, case, outcome)?;
     }
     match case.told.found {
-        Found::Prices(_) => push_options(page, case.told.mode),
-        Found::Violation(_) => Ok(()),
+        CertificateFigures::Prices(_) => push_options(page, case.told.mode),
+        CertificateFigures::Violation(_) => Ok(()),
     }
 }
 

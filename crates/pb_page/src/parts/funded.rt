@@ -9,7 +9,7 @@ use crate::figure::Figure;
 use crate::markup::Page;
 use crate::parts::bars::{Look, WIDTH, length_of, part_in_words, push_bar};
 use crate::parts::rows::{
-    Column, Kind, MOST_ROWS, begin_cell, begin_row, begin_table, behind_rows, narrow,
+    Column, ColumnKind, MOST_ROWS, begin_cell, begin_row, begin_table, behind_rows, narrow,
 };
 use crate::parts::unfunded::order_of;
 use crate::ranking::wrongly_paid_first;
@@ -23,7 +23,7 @@ use std::alloc::AllocError;
 const COLUMNS: [Column; 5] = [
     Column {
         head: Sentence::Project,
-        kind: Kind::Words,
+        kind: ColumnKind::Words,
     },
     COST,
     SUPPORTERS,
@@ -33,22 +33,22 @@ const COLUMNS: [Column; 5] = [
 
 const COST: Column = Column {
     head: Sentence::Cost,
-    kind: Kind::Money,
+    kind: ColumnKind::Money,
 };
 
 const SUPPORTERS: Column = Column {
     head: Sentence::Supporters,
-    kind: Kind::Number,
+    kind: ColumnKind::Number,
 };
 
 const PER_SUPPORTER: Column = Column {
     head: Sentence::CostPerSupporter,
-    kind: Kind::Money,
+    kind: ColumnKind::Money,
 };
 
 const PART: Column = Column {
     head: Sentence::PartOfLimit,
-    kind: Kind::Bar,
+    kind: ColumnKind::Bar,
 };
 
 /// The projects that were funded: first those that aren't paid for exactly, the largest difference first, and then the

@@ -6,12 +6,12 @@ use crate::parts::bars::{Look, WIDTH, length_of, push_bar};
 use crate::saying::{Fillings, grouped};
 use crate::sentence::Sentence;
 use crate::tag::Tag;
-use crate::told::Found;
+use crate::told::CertificateFigures;
 use std::alloc::AllocError;
 
 /// Adds the summary.
 pub(crate) fn push_glance(page: &mut Page, case: &Case<'_>) -> Result<(), AllocError> {
-    let is_of_prices = matches!(case.told.found, Found::Prices(_));
+    let is_of_prices = matches!(case.told.found, CertificateFigures::Prices(_));
     page.open(Tag::Section)?;
     page.element(Tag::H2, case.words.say(Sentence::Glance))?;
     page.open_class(Tag::Dl, "tiles")?;

@@ -5,7 +5,8 @@ use crate::markup::Page;
 use crate::parts::bars::{Look, MARK, WIDTH, length_of, part_in_words, push_bar};
 use crate::parts::glance::{begin_tile, end_tile, push_money_tile};
 use crate::parts::rows::{
-    Column, Kind, MOST_ROWS, Order, begin_cell, begin_row, begin_table, end_table, push_left_out,
+    Column, ColumnKind, MOST_ROWS, Order, begin_cell, begin_row, begin_table, end_table,
+    push_left_out,
 };
 use crate::saying::Fillings;
 use crate::sentence::Sentence;
@@ -17,7 +18,7 @@ use std::alloc::AllocError;
 const COLUMNS: [Column; 4] = [
     Column {
         head: Sentence::Project,
-        kind: Kind::Words,
+        kind: ColumnKind::Words,
     },
     COST,
     STATE,
@@ -26,17 +27,17 @@ const COLUMNS: [Column; 4] = [
 
 const COST: Column = Column {
     head: Sentence::Cost,
-    kind: Kind::Money,
+    kind: ColumnKind::Money,
 };
 
 const STATE: Column = Column {
     head: Sentence::State,
-    kind: Kind::Words,
+    kind: ColumnKind::Words,
 };
 
 const PART: Column = Column {
     head: Sentence::PartOfShare,
-    kind: Kind::Bar,
+    kind: ColumnKind::Bar,
 };
 
 /// Adds the group, its share beside what it demands, and what its members get beside what that is worth.

@@ -18,12 +18,12 @@ pub(crate) const MOST_ROWS: usize = 1000;
 #[derive(Clone, Copy)]
 pub(crate) struct Column {
     pub(crate) head: Sentence,
-    pub(crate) kind: Kind,
+    pub(crate) kind: ColumnKind,
 }
 
 /// What a column has.
 #[derive(Clone, Copy, Debug, PartialEq, Eq)]
-pub(crate) enum Kind {
+pub(crate) enum ColumnKind {
     /// Words.
     Words,
     /// A bar, which needs no head where rows are cards.
@@ -34,9 +34,9 @@ pub(crate) enum Kind {
     Money,
 }
 
-impl Kind {
+impl ColumnKind {
     fn is_figure(self) -> bool {
-        matches!(self, Kind::Number | Kind::Money)
+        matches!(self, ColumnKind::Number | ColumnKind::Money)
     }
 }
 
@@ -95,7 +95,7 @@ fn push_head(page: &mut Page, case: &Case<'_>, column: Column) -> Result<(), All
 
 fn push_head_words(page: &mut Page, case: &Case<'_>, column: Column) -> Result<(), AllocError> {
     page.text(case.words.say(column.head))?;
-    if column.kind == Kind::Money && !case.currency.is_empty() {
+    if column.kind == ColumnKind::Money && !case.currency.is_empty() {
         page.text(", ")?;
         page.element(Tag::Bdi, &case.currency)?;
     }
@@ -150,7 +150,7 @@ pub(crate) fn begin_cell(
         cell = cell.and(Name::Class, "number")?;
     }
     page.open_with(Tag::Td, cell)?;
-    if column.kind == Kind::Bar {
+    if column.kind == ColumnKind::Bar {
         return Ok(());
     }
     let head = Attributes::of(alloc, Name::Class, "head")?.and(Name::AriaHidden, "true")?;

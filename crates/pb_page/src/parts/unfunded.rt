@@ -10,7 +10,7 @@ use crate::figure::Figure;
 use crate::markup::Page;
 use crate::parts::bars::{Look, MARK, length_of, push_bar};
 use crate::parts::rows::{
-    Column, Kind, MOST_ROWS, Order, begin_cell, begin_row, begin_table, behind_rows, narrow,
+    Column, ColumnKind, MOST_ROWS, Order, begin_cell, begin_row, begin_table, behind_rows, narrow,
 };
 use crate::ranking::{closest_first, has};
 use crate::saying::{Fillings, grouped};
@@ -25,22 +25,22 @@ const MOST_FOR_ORDER: u128 = 2_000_000_000;
 
 const COST: Column = Column {
     head: Sentence::Cost,
-    kind: Kind::Money,
+    kind: ColumnKind::Money,
 };
 
 const SUPPORTERS: Column = Column {
     head: Sentence::Supporters,
-    kind: Kind::Number,
+    kind: ColumnKind::Number,
 };
 
 const AGAINST_COST: Column = Column {
     head: Sentence::AgainstCost,
-    kind: Kind::Bar,
+    kind: ColumnKind::Bar,
 };
 
 const PROJECT: Column = Column {
     head: Sentence::Project,
-    kind: Kind::Words,
+    kind: ColumnKind::Words,
 };
 
 /// The projects that weren't funded, those closest to breaking the condition first.
@@ -104,7 +104,7 @@ fn has_column(case: &Case<'_>) -> Column {
     };
     Column {
         head,
-        kind: Kind::Money,
+        kind: ColumnKind::Money,
     }
 }
 

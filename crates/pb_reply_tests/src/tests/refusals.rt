@@ -1,11 +1,11 @@
 //! Refusals, for what is wanted.
 use pb_certificate::{CertFault, CertRefusal};
 use pb_election::{ElectionFault, Refusal as ElectionRefusal};
-use pb_reply::{InputFault, InputName, Refusal, Status};
+use pb_reply::{InputFault, InputName, InputRefusal, Status};
 
 /// The status of a reply on an input that is refused for this fault.
 pub fn refused(input: InputName, fault: InputFault) -> Status {
-    Status::Refused(Refusal { input, fault })
+    Status::Refused(InputRefusal { input, fault })
 }
 
 /// An election's fault at a record.

@@ -1,12 +1,12 @@
 //! Exit statuses, and what is said on standard output and standard error at the end, where no words are at fault.
 use super::fakes::FakeWriter;
-use pb_audit::{Fault, FolderStatus, InputFault, InputName, Refusal, Status};
+use pb_audit::{Fault, FolderStatus, InputFault, InputName, InputRefusal, Status};
 use pb_run::End;
 use std::test::Fail;
 
 #[test]
 fn answers_leave_nothing_to_say(rt: HostRuntime) -> Result<(), Fail> {
-    let refused = Status::Refused(Refusal {
+    let refused = Status::Refused(InputRefusal {
         input: InputName::Certificate,
         fault: InputFault::TooLong,
     });

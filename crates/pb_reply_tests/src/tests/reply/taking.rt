@@ -1,7 +1,7 @@
 //! What is taken of files and of readers.
 use pb_election::{Election, Input, Outcome};
 use pb_reply::{
-    File, InputName, Loaded, Refusal, Stop, bytes_of, election_of, optional_file, outcome_of,
+    File, InputName, InputRefusal, Loaded, Stop, bytes_of, election_of, optional_file, outcome_of,
     take_election, take_outcome, violation_of,
 };
 use pb_samples::fakes::InterruptedReader;
@@ -19,7 +19,7 @@ type Why = (&'static str, u32, &'static str, u64);
 fn why<T>(taken: &Result<T, Stop>) -> Result<Option<Why>, AllocError> {
     match taken {
         Ok(_) => Ok(None),
-        Err(Stop::Refused(Refusal { input, fault })) => {
+        Err(Stop::Refused(InputRefusal { input, fault })) => {
             Ok(Some((input.name(), fault.number(), fault.name(), fault.place())))
         }
         Err(Stop::Memory) => Err(AllocError {}),
