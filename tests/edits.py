@@ -48,7 +48,7 @@ MONTH = 30 * 24 * 60 * 60
 
 
 def module_of(path):
-    """The module of a source, without a name at the root: 'row_reader' for src/row_reader.rt."""
+    """The module of a source, without a name at the root: 'prices::rows' for src/prices/rows.rt."""
     parts = pathlib.PurePath(path).with_suffix("").parts[1:]
     return "" if parts in (("lib",), ("main",)) else "::".join(parts)
 

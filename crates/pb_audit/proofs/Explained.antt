@@ -7,10 +7,10 @@ use Rattle.pb_records.specs.Loading.{Delivery}
 use Rattle.pb_records.specs.Loading as delivery
 use Rattle.pb_records.proofs.Each.{all-filter, all-first}
 use Rattle.pb_certificate.specs.Faults.{certificate_records}
-use Rattle.pb_certificate.proofs.Texts.{states-prices}
+use Rattle.pb_certificate.proofs.OnPrices.Texts.{states-prices}
 use Rattle.pb_election.specs.Instance.{Instance, IsProject, IsSet, all_projects, projects, supporters}
 use Rattle.pb_certificate.specs.Prices.{Prices}
-use Rattle.pb_certificate.specs.declared.measure.Measure.{Measure}
+use Rattle.pb_certificate.specs.declared.violations.measure.Measure.{Measure}
 use Rattle.pb_cohesion.specs.Amounts.{budget_limit, cost, left, paid}
 use Rattle.pb_cohesion.specs.Conditions.{culprits_of_C1, culprits_of_C3, culprits_of_C4, culprits_of_C5, culprits_of_Exhaustive, culprits_of_S5, most_of, sum_ℤ}
 use Rattle.pb_cohesion.specs.FirstV.{culprits_of_V2}

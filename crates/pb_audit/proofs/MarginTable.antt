@@ -1,7 +1,7 @@
 -- The table of margins, as far as it has been written, and the answers with it.
 use Rattle.std.proofs.lemmas.List.FromFn.{length-map-range_with_len}
 use Rattle.pb_records.proofs.Lists.{range-push}
-use Rattle.pb_certificate.proofs.Written.{lines-push}
+use Rattle.pb_certificate.proofs.OnPrices.Canon.Written.{lines-push}
 use mir.Syntax.{w128}
 use Rattle.std.proofs.Common.{◌≡◌, ◌∙◌, ◌<◌, ◌+◌, ◌*◌, ◌^◌, ℕ, zero, suc, List, [], ◌∷◌, ◌++◌, length, map, refl, sym, ap, arith, SFits, append_assoc, append-nil, get_or, Bool, true, false}
 use Rattle.std.specs.Prelude.{codes, decimal, ℤ, pos, negsuc}
@@ -12,9 +12,9 @@ use Rattle.csv.specs.Writing.{default_writer, row_text}
 use Rattle.pb_election.specs.Instance.{Instance, id_of, projects}
 use Rattle.pb_election.specs.Text.{IsId}
 use Rattle.pb_records.specs.Records.{Field, Rec, Text}
-use Rattle.pb_certificate.specs.Canon.{line, lines, line_end}
+use Rattle.pb_certificate.specs.Prices.Canon.{line, lines, line_end}
 use Rattle.pb_certificate.specs.Prices.{Prices}
-use Rattle.pb_certificate.proofs.Lines.{IsPlain, decimal-plain, id-plain, row-line}
+use Rattle.pb_certificate.proofs.OnPrices.Canon.Lines.{IsPlain, decimal-plain, id-plain, row-line}
 use Rattle.pb_price.specs.Margins.{AreMargins, margins_of_project}
 use Rattle.pb_price.specs.declared.Margins.{Margins}
 use Rattle.pb_price.specs.declared.ProjectMargins.{ProjectMargins}

@@ -15,16 +15,16 @@ use Rattle.pb_records.specs.Loading as delivery
 use Rattle.pb_records.specs.Records.{election_records}
 use Rattle.pb_records.proofs.First.{one-first}
 use Rattle.pb_certificate.specs.Faults.{certificate_records, outcome_form, price_form, violation_form}
-use Rattle.pb_certificate.specs.OutcomeText.{IsOutcomeText}
-use Rattle.pb_certificate.specs.PriceText.{IsPriceText}
-use Rattle.pb_certificate.specs.ViolationText.{IsViolationText}
+use Rattle.pb_certificate.specs.Outcomes.Text.{IsOutcomeText}
+use Rattle.pb_certificate.specs.Prices.Text.{IsPriceText}
+use Rattle.pb_certificate.specs.Violations.Text.{IsViolationText}
 use Rattle.pb_certificate.specs.declared.refusal.CertFault.{CertFault}
-use Rattle.pb_certificate.proofs.GroupAnswered.{group-answered}
-use Rattle.pb_certificate.proofs.GroupClear.{group-clear}
-use Rattle.pb_certificate.proofs.OutcomeAnswered.{outcome-answered}
-use Rattle.pb_certificate.proofs.OutcomeClear.{outcome-clear}
-use Rattle.pb_certificate.proofs.PriceAnswered.{price-answered}
-use Rattle.pb_certificate.proofs.PriceClear.{price-clear}
+use Rattle.pb_certificate.proofs.OnViolations.Answered.{group-answered}
+use Rattle.pb_certificate.proofs.OnViolations.Clear.{group-clear}
+use Rattle.pb_certificate.proofs.OnOutcomes.Answered.{outcome-answered}
+use Rattle.pb_certificate.proofs.OnOutcomes.Clear.{outcome-clear}
+use Rattle.pb_certificate.proofs.OnPrices.Answered.{price-answered}
+use Rattle.pb_certificate.proofs.OnPrices.Clear.{price-clear}
 use Rattle.pb_certificate.proofs.Unique.{group-text-same, outcome-text-same, price-text-same}
 use Rattle.pb_audit.specs.Both.{GroupAndDemand}
 use Rattle.pb_reply.specs.Inputs.{IsRefusedElection, IsRefusedFile, Stated, States, StatesElection, StatesFile, StatesOutcome, StatesPrices, StatesViolation, refusal_of}

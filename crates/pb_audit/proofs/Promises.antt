@@ -5,7 +5,7 @@ use Rattle.pb_election.specs.Instance.{Instance}
 use Rattle.pb_certificate.specs.Prices.{Prices}
 use Rattle.pb_cohesion.specs.FirstV.{FirstV, violation_verdict_of}
 use Rattle.pb_cohesion.specs.Satisfactions.{worth_by}
-use Rattle.pb_certificate.specs.declared.measure.Measure.{Measure}
+use Rattle.pb_certificate.specs.declared.violations.measure.Measure.{Measure}
 use Rattle.pb_cohesion.specs.declared.ViolationFailure.{ViolationFailure}
 use Rattle.pb_cohesion.proofs.Verdicts.{violates-iff}
 use Rattle.pb_price.specs.First.{First, verdict_of}

@@ -3,9 +3,9 @@ use Rattle.std.specs.Prelude.{◌≡◌, Bool, ℕ, List, [], ◌∷◌, IfOk, O
 use Rattle.std.specs.Option.{option_map}
 use Rattle.pb_election.specs.Instance.{Instance}
 use Rattle.pb_records.specs.Loading.{Delivery}
-use Rattle.pb_certificate.specs.Canon.{Canon}
+use Rattle.pb_certificate.specs.Prices.Canon.{Canon}
 use Rattle.pb_certificate.specs.Prices.{Prices}
-use Rattle.pb_certificate.specs.declared.measure.Measure.{Measure}
+use Rattle.pb_certificate.specs.declared.violations.measure.Measure.{Measure}
 use Rattle.pb_cohesion.specs.FirstV.{FirstV, violation_verdict_of}
 use Rattle.pb_cohesion.specs.Satisfactions.{worth_by}
 use Rattle.pb_cohesion.specs.declared.ViolationVerdict.{ViolationVerdict}

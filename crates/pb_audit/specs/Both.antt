@@ -4,8 +4,8 @@ use Rattle.std.specs.Option.{option_map}
 use Rattle.pb_election.specs.Instance.{Instance}
 use Rattle.pb_records.specs.Loading.{Delivery}
 use Rattle.pb_certificate.specs.Prices.{Prices}
-use Rattle.pb_certificate.specs.declared.measure.Measure.{Measure}
-use Rattle.pb_certificate.specs.declared.measure.Measure.TheVariants.{ByCount}
+use Rattle.pb_certificate.specs.declared.violations.measure.Measure.{Measure}
+use Rattle.pb_certificate.specs.declared.violations.measure.Measure.TheVariants.{ByCount}
 use Rattle.pb_cohesion.specs.Groups.{Violates}
 use Rattle.pb_cohesion.specs.Satisfactions.{worth_by}
 use Rattle.pb_price.specs.Supports.{Supports}

@@ -6,8 +6,8 @@ use Rattle.pb_records.specs.Loading as delivery
 use Rattle.pb_election.specs.Instance.{Instance}
 use Rattle.pb_certificate.specs.Faults.{certificate_records}
 use Rattle.pb_certificate.specs.Prices.{Prices}
-use Rattle.pb_certificate.specs.ViolationText.{begins_violation}
-use Rattle.pb_certificate.specs.declared.measure.Measure.{Measure}
+use Rattle.pb_certificate.specs.Violations.Text.{begins_violation}
+use Rattle.pb_certificate.specs.declared.violations.measure.Measure.{Measure}
 use Rattle.pb_cohesion.specs.Satisfactions.{worth_by}
 use Rattle.pb_cohesion.specs.ViolationFindings.{violation_findings}
 use Rattle.pb_price.specs.Findings.{findings}

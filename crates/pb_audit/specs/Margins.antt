@@ -6,7 +6,7 @@ use Rattle.std.specs.Option.{option_map}
 use Rattle.pb_records.specs.Loading.{Delivery}
 use Rattle.pb_records.specs.Records.{Field, Rec, Text}
 use Rattle.pb_election.specs.Instance.{Instance, all_projects, id_of}
-use Rattle.pb_certificate.specs.Canon.{comma, written}
+use Rattle.pb_certificate.specs.Prices.Canon.{comma, written}
 use Rattle.pb_certificate.specs.Prices.{Prices}
 use Rattle.pb_price.specs.Margins.{margins_of_project}
 use Rattle.pb_price.specs.declared.ProjectMargins.{ProjectMargins}

@@ -2,7 +2,7 @@
 use Rattle.std.specs.Prelude.{◌≡◌, ◌↔◌, ℕ, IsFalse, IsTrue, Bool, List, Some}
 use Rattle.pb_election.specs.Instance.{Instance}
 use Rattle.pb_certificate.specs.Prices.{Prices}
-use Rattle.pb_certificate.specs.declared.measure.Measure.{Measure}
+use Rattle.pb_certificate.specs.declared.violations.measure.Measure.{Measure}
 use Rattle.pb_cohesion.specs.EveryGroup.{BudgetsAreWithinReach, GroupsGetTheirShare, NoGroupHasMoreLeft, NoViolationByCounting, NothingBlocks, SupportersBlock, SupportersHaveMoreLeft}
 use Rattle.pb_cohesion.specs.Groups.{Violates}
 use Rattle.pb_cohesion.specs.Satisfactions.{worth_by}

@@ -9,7 +9,7 @@ ghost use Rattle.pb_audit.specs.Readers.{audit_readings};
 ghost use Rattle.pb_audit.specs.Inside.Certificates.{AnswersCertificate, FindsPrices};
 ghost use Rattle.pb_reply.specs.Inside.Taking.{IfTaken, settled};
 ghost use Rattle.pb_reply.specs.Writing.{WritesReply};
-ghost use Rattle.pb_certificate.specs.Claim.{ClaimFits};
+ghost use Rattle.pb_certificate.specs.Violations.{ClaimFits};
 ghost use Rattle.pb_election.specs.Instance.{IsSet, projects};
 ghost use Rattle.pb_election.specs.Outcome.{OutcomeFits};
 ghost use Rattle.pb_explain.specs.PriceTable.{NameProjects, price_table};

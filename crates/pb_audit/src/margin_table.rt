@@ -5,17 +5,17 @@ ghost use Rattle.std.specs.List.{list_any};
 ghost use Rattle.pb_election.specs.Instance.{projects};
 ghost use Rattle.pb_election.specs.Rows.{is_control};
 ghost use Rattle.pb_election.specs.Text.{IsId};
-ghost use Rattle.pb_certificate.specs.Canon.{line, lines};
+ghost use Rattle.pb_records.specs.Inside.RecordWriter.{IsOpen, held};
+ghost use Rattle.pb_certificate.specs.Prices.Canon.{line, lines};
 ghost use Rattle.pb_certificate.specs.Prices.{Prices};
-ghost use Rattle.pb_certificate.specs.Inside.RecordWriter.{IsOpen, held};
 ghost use Rattle.pb_price.specs.Margins.{AreMargins};
 ghost use Rattle.pb_audit.specs.Margins.{flag_of, margin_head, row_of, table_of};
 
 use csv::Writer;
 use itoa::Buffer;
-use pb_certificate::record_writer;
 use pb_election::Election;
 use pb_price::{Margins, ProjectMargins};
+use pb_records::record_writer;
 use std::alloc::{AllocError, Global};
 
 /// The text of the table: the head, and then a row for each project.

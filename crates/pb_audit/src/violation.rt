@@ -6,7 +6,7 @@ ghost use Rattle.pb_audit.specs.Both.{GroupAndDemand};
 ghost use Rattle.pb_audit.specs.Readers.{ReadsViolation, audit_readings};
 ghost use Rattle.pb_reply.specs.Named.{ViolationNamesProject};
 ghost use Rattle.pb_reply.specs.Writing.{WritesReply};
-ghost use Rattle.pb_certificate.specs.Claim.{ClaimFits};
+ghost use Rattle.pb_certificate.specs.Violations.{ClaimFits};
 ghost use Rattle.pb_election.specs.Instance.{IsSet, projects};
 ghost use Rattle.pb_election.specs.Outcome.{OutcomeFits};
 

@@ -14,7 +14,7 @@ use Rattle.pb_records.specs.Inside.Position.{MeetsEnd, MeetsNotText, MeetsRecord
 use Rattle.pb_records.proofs.BlankText.{not-text-is-full}
 use Rattle.pb_records.proofs.CellLemmas.{space-ascii}
 use Rattle.pb_certificate.specs.Fields.{fields, same_fields, without_empty_end}
-use Rattle.pb_certificate.specs.ViolationText.{begins_violation, is_version_1, is_version_2, starts_with_head, version_1, version_2}
+use Rattle.pb_certificate.specs.Violations.Text.{begins_violation, is_version_1, is_version_2, starts_with_head, version_1, version_2}
 use Rattle.pb_certificate.proofs.Heads.{same-is}
 
 -- What cleaning drops is ASCII, so a field is UTF-8 where it is after cleaning.

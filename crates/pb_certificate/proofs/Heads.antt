@@ -13,7 +13,7 @@ use Rattle.pb_certificate.specs.Faults.{is_value_of}
 use Rattle.pb_certificate.specs.declared.refusal.CertFault.{CertFault}
 use Rattle.pb_certificate.specs.declared.refusal.CertFault.TheVariants as fault
 use Rattle.pb_certificate.proofs.Cells.{field-cell}
-use Rattle.pb_certificate.proofs.RowFaults.{number_fault}
+use Rattle.pb_certificate.proofs.OnPrices.RowFaults.{number_fault}
 
 two-plain : (x y : Bool) → (x && (y && true)) ≡ ((true && x) && y)
 two-plain true true = refl

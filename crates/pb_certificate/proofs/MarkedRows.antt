@@ -22,7 +22,7 @@ use Rattle.pb_election.proofs.Elections.{found_is}
 use Rattle.pb_certificate.proofs.Heads.{pair-is}
 use Rattle.pb_certificate.proofs.MarkLemmas.{distinct-push, mark-is, one-more-mark, same-marks, was-marked}
 use Rattle.pb_certificate.proofs.NamedRows.{apart, row-of, stood-before}
-use Rattle.pb_certificate.proofs.Texts.{within-some}
+use Rattle.pb_certificate.proofs.OnPrices.Texts.{within-some}
 use Rattle.pb_records.proofs.Lists.{map-push}
 
 -- rows of these cells

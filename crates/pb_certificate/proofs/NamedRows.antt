@@ -17,9 +17,9 @@ use Rattle.pb_certificate.specs.Faults.{in_order, is_kind, same_name}
 use Rattle.pb_certificate.specs.declared.refusal.CertFault.{CertFault}
 use Rattle.pb_election.proofs.Elections.{found_is}
 use Rattle.pb_certificate.proofs.Cells.{cell-is}
-use Rattle.pb_certificate.proofs.PriceClear.{whole-is}
+use Rattle.pb_certificate.proofs.OnPrices.Clear.{whole-is}
 use Rattle.pb_certificate.proofs.NoFaults.{ClearFrom, apart-more, no-fault}
-use Rattle.pb_certificate.proofs.Texts.{map-some}
+use Rattle.pb_certificate.proofs.OnPrices.Texts.{map-some}
 use Rattle.pb_records.proofs.Lists.{map-push}
 use Rattle.pb_records.proofs.Each.{all-fail, all-weaker}
 

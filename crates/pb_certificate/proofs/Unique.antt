@@ -9,14 +9,14 @@ use Rattle.pb_records.specs.Records.{Field, Rec}
 use Rattle.pb_election.proofs.Sets.{set-lower}
 use Rattle.pb_certificate.specs.Prices.{Prices}
 use Rattle.pb_certificate.specs.Fields.{fields, same_fields, whole_within}
-use Rattle.pb_certificate.specs.PriceText.{IsPriceText, payment_of, payments_stated}
+use Rattle.pb_certificate.specs.Prices.Text.{IsPriceText, payment_of, payments_stated}
 use Rattle.pb_certificate.specs.NamedRows.{named_of, was_named}
 use Rattle.pb_certificate.specs.NamedRows.Named.{Voter, Project}
-use Rattle.pb_certificate.specs.ViolationText.{IsViolationText, StateMeasure, is_version_2, satisfaction_by}
-use Rattle.pb_certificate.specs.OutcomeText.{IsOutcomeText}
-use Rattle.pb_certificate.specs.declared.measure.Measure.{Measure}
-use Rattle.pb_certificate.specs.declared.measure.Measure.TheVariants.{ByCount, ByCost}
-use Rattle.pb_certificate.proofs.ViolationHeads.{is-version-2, not-version-2}
+use Rattle.pb_certificate.specs.Violations.Text.{IsViolationText, StateMeasure, is_version_2, satisfaction_by}
+use Rattle.pb_certificate.specs.Outcomes.Text.{IsOutcomeText}
+use Rattle.pb_certificate.specs.declared.violations.measure.Measure.{Measure}
+use Rattle.pb_certificate.specs.declared.violations.measure.Measure.TheVariants.{ByCount, ByCost}
+use Rattle.pb_certificate.proofs.OnViolations.Heads.{is-version-2, not-version-2}
 
 map-Some : {A : Type 0} (xs ys : List A) → map Some xs ≡ map Some ys → xs ≡ ys
 map-Some [] [] h = refl

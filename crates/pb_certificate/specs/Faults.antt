@@ -11,8 +11,8 @@ use Rattle.pb_records.specs.declared.drafts.FaultAt.{FaultAt}
 use Rattle.pb_records.specs.declared.drafts.Stop.{Stop}
 use Rattle.pb_records.specs.declared.drafts.Stop.TheVariants.{Fault, Memory}
 use Rattle.pb_certificate.specs.Fields.{fields, number, project_in, same_fields, voter_in, whole_in, whole_within}
-use Rattle.pb_certificate.specs.PriceText.{numerator_of}
-use Rattle.pb_certificate.specs.ViolationText.{all_measures, is_version_1, is_version_2, satisfaction_by}
+use Rattle.pb_certificate.specs.Prices.Text.{numerator_of}
+use Rattle.pb_certificate.specs.Violations.Text.{all_measures, is_version_1, is_version_2, satisfaction_by}
 use Rattle.pb_certificate.specs.declared.refusal.CertFault.{CertFault}
 use Rattle.pb_certificate.specs.declared.refusal.CertFault.TheVariants as fault
 use Rattle.pb_certificate.specs.declared.refusal.CertRefusal.{CertRefusal}

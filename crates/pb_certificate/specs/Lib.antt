@@ -1,13 +1,8 @@
 pub mod Prices
 pub mod Fields
-pub mod PriceText
-pub mod Claim
-pub mod PriceRows
+pub mod Violations
 pub mod NamedRows
-pub mod ViolationText
-pub mod OutcomeText
+pub mod Outcomes
 pub mod Faults
-pub mod Rows
-pub mod Canon
 pub mod Samples
 pub mod Inside

@@ -1,5 +1,9 @@
 -- Price systems, after Peters, Pierczyński and Skowron (2021): a budget that is the same for all voters, and what each
 -- voter pays for each project. The form of price certificates is this project's own.
+pub mod Text
+pub mod RowFaults
+pub mod Rows
+pub mod Canon
 use Rattle.std.specs.Prelude.{◌≡◌, ◌<◌, ◌≤◌, ◌-◌, ◌^◌, ◌==◌, if◌then◌else◌, ℕ, List, [], ◌∷◌, length, map, sum_by, slice_index_or, All}
 use Rattle.pb_election.specs.Instance.{Instance, IsSet, projects, voters}
 

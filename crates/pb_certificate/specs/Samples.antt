@@ -5,8 +5,8 @@ use Rattle.pb_election.specs.Instance.{Instance}
 use Rattle.pb_records.specs.Records.{Field, Rec}
 use Rattle.pb_records.specs.FirstFault.{Form, fault_at}
 use Rattle.pb_certificate.specs.declared.refusal.CertFault.{CertFault}
-use Rattle.pb_certificate.specs.Canon.{line_end}
-use Rattle.pb_certificate.specs.PriceText.{Payment}
+use Rattle.pb_certificate.specs.Prices.Canon.{line_end}
+use Rattle.pb_certificate.specs.Prices.Text.{Payment}
 use Rattle.pb_certificate.specs.Prices.{Prices}
 
 -- amounts in whole units, of which an election counts millionths

@@ -1,7 +1,7 @@
 //! Which kind of certificate some bytes are.
 ghost use Rattle.std.specs.Prelude.{◌≡◌, IfOk};
 ghost use Rattle.pb_certificate.specs.Faults.{certificate_records};
-ghost use Rattle.pb_certificate.specs.ViolationText.{begins_violation};
+ghost use Rattle.pb_certificate.specs.Violations.Text.{begins_violation};
 
 use crate::fields::is_pair;
 use pb_records::{Cursor, Next};

@@ -5,14 +5,14 @@ ghost use Rattle.pb_election.specs.Instance.{Instance, IsProject, IsSet, IsVoter
 ghost use Rattle.pb_records.specs.Records.{Rec};
 ghost use Rattle.pb_records.specs.FirstFault.{IsFirstFault};
 ghost use Rattle.pb_election.specs.Text.{IsElection};
-ghost use Rattle.pb_certificate.specs.Canon.{Canon};
+ghost use Rattle.pb_certificate.specs.Prices.Canon.{Canon};
 ghost use Rattle.pb_certificate.specs.Prices.{ArePrices, Prices, payment};
-ghost use Rattle.pb_certificate.specs.PriceText.{IsPriceText, stated};
+ghost use Rattle.pb_certificate.specs.Prices.Text.{IsPriceText, stated};
 ghost use Rattle.pb_certificate.specs.Faults.{certificate_records, outcome_form, price_form, violation_form};
-ghost use Rattle.pb_certificate.specs.declared.measure.Measure.{Measure};
+ghost use Rattle.pb_certificate.specs.declared.violations.measure.Measure.{Measure};
 ghost use Rattle.pb_certificate.specs.declared.refusal.CertFault.{CertFault};
-ghost use Rattle.pb_certificate.specs.ViolationText.{IsViolationText};
-ghost use Rattle.pb_certificate.specs.OutcomeText.{IsOutcomeText};
+ghost use Rattle.pb_certificate.specs.Violations.Text.{IsViolationText};
+ghost use Rattle.pb_certificate.specs.Outcomes.Text.{IsOutcomeText};
 
 /// The text of a price certificate states prices for the election, and they are what its rows state.
 pub fn texts_state_prices()

@@ -2,37 +2,18 @@
 //! out.
 #![tactic(auto)]
 
-mod canonical;
-mod canonical_draft;
-mod canonical_rows;
 mod fields;
-mod gathering;
 mod kind;
 pub mod laws;
-mod ledger;
 mod marks;
-mod measure;
-mod outcome_draft;
-mod outcome_reader;
-mod places;
-mod price_head;
-mod price_row;
+mod outcomes;
 mod prices;
-mod prior_rows;
-pub mod record_writer;
 mod refusal;
-mod row_reader;
-mod rows;
 mod samples;
-mod violation;
-mod violation_draft;
+mod violations;
 
-pub use canonical::{WriteFault, canonical_text_of};
 pub use kind::is_violation;
-pub use measure::Measure;
-pub use outcome_reader::read_outcome;
-pub use price_row::PriceRow;
-pub use prices::Prices;
+pub use outcomes::read_outcome;
+pub use prices::{PriceRow, Prices, Rows, WriteFault, canonical_text_of};
 pub use refusal::{CertFault, CertRefusal};
-pub use rows::Rows;
-pub use violation::Violation;
+pub use violations::{Measure, Violation};

@@ -1,16 +1,30 @@
-//! Price systems.
+//! Price certificates: the prices that one states, its rows, and the canonical text.
 ghost use Rattle.std.specs.Prelude.{◌≡◌, ◌≤◌, ◌↔◌, ◌⊎◌, IsTrue, IfOk, IfErr, MatchResult, length};
 ghost use Rattle.pb_certificate.specs.Faults.{Refuses, certificate_records, no_memory, price_form};
 ghost use Rattle.pb_certificate.specs.Prices as spec;
 ghost use Rattle.pb_certificate.specs.Prices.{ArePrices, IsPaymentMap, IsPriceSystem, PricesFit, most_denominator, most_numerator};
-ghost use Rattle.pb_certificate.specs.PriceText.{IsPriceText};
+ghost use Rattle.pb_certificate.specs.Prices.Text.{IsPriceText};
 
-use crate::gathering::gather;
-use crate::{CertRefusal, Rows};
+use crate::CertRefusal;
+use crate::prices::gathering::gather;
 use pb_election::Election;
 use pb_records::Runs;
 use std::alloc::Global;
 use std::marker::Model;
+
+mod canonical;
+mod gathering;
+mod head;
+mod ledger;
+mod places;
+mod prior_rows;
+mod row;
+mod row_reader;
+mod rows;
+
+pub use canonical::{WriteFault, canonical_text_of};
+pub use row::PriceRow;
+pub use rows::Rows;
 
 /// A price system, after Peters, Pierczyński and Skowron (2021): a budget that is the same for all voters, and what
 /// each voter pays for each project. An amount is a numerator, at most 10^21, over one denominator, from 1 to 10^9. At

@@ -2,14 +2,14 @@
 
 ghost use Rattle.std.specs.Prelude.{true, false, ◌≡◌, ◌∷◌, ◌++◌, [], Some, None, codes, map};
 ghost use Rattle.pb_election.specs.Instance.{all_voters};
-ghost use Rattle.pb_certificate.specs.Canon.{Canon, line, line_end};
+ghost use Rattle.pb_certificate.specs.Prices.Canon.{Canon, line, line_end};
 ghost use Rattle.pb_certificate.specs.Faults.{outcome_form, price_form, violation_form};
 ghost use Rattle.pb_records.specs.FirstFault.{IsFirstFault};
 ghost use Rattle.pb_certificate.specs.NamedRows.{named_of};
 ghost use Rattle.pb_certificate.specs.NamedRows.Named.{Voter};
-ghost use Rattle.pb_certificate.specs.ViolationText.{IsViolationText};
-ghost use Rattle.pb_certificate.specs.OutcomeText.{IsOutcomeText};
-ghost use Rattle.pb_certificate.specs.PriceText.{IsPriceText, payment_of, payments_stated};
+ghost use Rattle.pb_certificate.specs.Violations.Text.{IsViolationText};
+ghost use Rattle.pb_certificate.specs.Outcomes.Text.{IsOutcomeText};
+ghost use Rattle.pb_certificate.specs.Prices.Text.{IsPriceText, payment_of, payments_stated};
 ghost use Rattle.pb_certificate.specs.Samples.{demand_x1, demand_x2, first_refusal, lenient_records, measured_records, member_1, outcome_records, price_records, row_1a, row_1b, row_2a, row_3b, sample_election, sample_prices, sample_text, three, two, unfair_election, unordered_payments, violation_records};
 
 use crate::{CertFault, Measure};

@@ -1,8 +1,8 @@
 -- What each project is worth to the voters that approve it, by the measures that a violation certificate can state.
 use Rattle.std.specs.Prelude.{ℕ}
 use Rattle.pb_election.specs.Instance.{Instance, cost_of}
-use Rattle.pb_certificate.specs.declared.measure.Measure.{Measure}
-use Rattle.pb_certificate.specs.declared.measure.Measure.TheVariants.{ByCount, ByCost}
+use Rattle.pb_certificate.specs.declared.violations.measure.Measure.{Measure}
+use Rattle.pb_certificate.specs.declared.violations.measure.Measure.TheVariants.{ByCount, ByCost}
 
 -- each project is worth 1
 abbrev pub by_count : ℕ → ℕ

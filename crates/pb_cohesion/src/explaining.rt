@@ -5,7 +5,7 @@ ghost use Rattle.std.specs.Option.{option_or};
 ghost use Rattle.pb_election.specs.Instance.{IsVoter, approves, most_voters};
 ghost use Rattle.pb_election.specs.Outcome.{OutcomeFits, most_total};
 ghost use Rattle.pb_election.specs.Text.{IsElection};
-ghost use Rattle.pb_certificate.specs.Claim.{ClaimFits};
+ghost use Rattle.pb_certificate.specs.Violations.{ClaimFits};
 ghost use Rattle.pb_cohesion.specs.FirstV.{culprits_of_V2};
 ghost use Rattle.pb_cohesion.specs.Groups.{AreProjects, IsGroup};
 ghost use Rattle.pb_cohesion.specs.ViolationFindings as spec;

@@ -3,7 +3,7 @@
 ghost use Rattle.std.specs.Prelude.{◌≡◌, ◌≤◌, ◌↔◌, ◌*◌, ℕ, Bool, List, nat_lt};
 ghost use Rattle.pb_election.specs.Instance as spec;
 ghost use Rattle.pb_election.specs.Outcome.{OutcomeFits, most_total};
-ghost use Rattle.pb_certificate.specs.Claim.{ClaimFits};
+ghost use Rattle.pb_certificate.specs.Violations.{ClaimFits};
 ghost use Rattle.pb_cohesion.specs.FirstV.{FirstV, violation_verdict_of};
 ghost use Rattle.pb_cohesion.specs.Groups.{Violates};
 ghost use Rattle.pb_cohesion.specs.ViolationFindings as found;

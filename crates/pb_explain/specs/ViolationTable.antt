@@ -1,8 +1,8 @@
 -- The table of the tests of a violation, by what each of them comes to.
 use Rattle.std.specs.Prelude.{◌==◌, ◌*◌, ◌^◌, if◌then◌else◌, nat_le, nat_lt, ℕ, List, [], ◌∷◌, ◌++◌, Option, Some, None, codes, decimal}
 use Rattle.pb_election.specs.Instance.{Instance, id_of, voters}
-use Rattle.pb_certificate.specs.declared.measure.Measure.{Measure}
-use Rattle.pb_certificate.specs.declared.measure.Measure.TheVariants.{ByCount, ByCost}
+use Rattle.pb_certificate.specs.declared.violations.measure.Measure.{Measure}
+use Rattle.pb_certificate.specs.declared.violations.measure.Measure.TheVariants.{ByCount, ByCost}
 use Rattle.pb_cohesion.specs.declared.MissingApprovals.{MissingApprovals}
 use Rattle.pb_cohesion.specs.declared.ViolationFindings.{ViolationFindings}
 use Rattle.pb_records.specs.Records.{Text}

@@ -1,8 +1,8 @@
 -- What a page tells: the answer, and amounts by their names.
 use Rattle.std.specs.Prelude.{◌==◌, ◌-◌, ◌+◌, ◌*◌, ◌/◌, ◌^◌, min, max, if◌then◌else◌, ℕ, ℤ, pos, int_lt, List, Bool, Option, Some, None, fold, slice_get, string_bytes, unsigned_abs}
 use Rattle.std.specs.Int.{abs_diff}
-use Rattle.pb_certificate.specs.declared.measure.Measure.{Measure}
-use Rattle.pb_certificate.specs.declared.measure.Measure.TheVariants.{ByCost, ByCount}
+use Rattle.pb_certificate.specs.declared.violations.measure.Measure.{Measure}
+use Rattle.pb_certificate.specs.declared.violations.measure.Measure.TheVariants.{ByCost, ByCount}
 use Rattle.pb_cohesion.specs.declared.ViolationVerdict.{ViolationVerdict}
 use Rattle.pb_cohesion.specs.declared.ViolationVerdict.TheVariants as violation_verdict
 use Rattle.pb_price.specs.First.{verdict_of}

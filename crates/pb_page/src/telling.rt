@@ -2,7 +2,7 @@
 ghost use Rattle.std.specs.Prelude.{◌≡◌, IfOk, false, map, string_bytes, true};
 ghost use Rattle.pb_election.specs.Instance.{IsSet, all_projects, cost_of, projects};
 ghost use Rattle.pb_election.specs.Outcome.{OutcomeFits};
-ghost use Rattle.pb_certificate.specs.Claim.{ClaimFits};
+ghost use Rattle.pb_certificate.specs.Violations.{ClaimFits};
 ghost use Rattle.pb_reply.specs.Inside.Loaded.{lent};
 ghost use Rattle.pb_reply.specs.Inside.Taking.{IfTaken};
 ghost use Rattle.pb_audit.specs.Explained.{is_violation};

@@ -7,7 +7,7 @@ use Rattle.std.proofs.lemmas.List.{get_or_default, length-set}
 use Rattle.pb_money.specs.Grains.{payment_grains}
 use Rattle.pb_records.proofs.Lists.{filter-same}
 use Rattle.pb_election.specs.Instance.{Instance, IsProject, IsVoter, approves, projects}
-use Rattle.pb_certificate.specs.declared.price_row.PriceRow.{PriceRow}
+use Rattle.pb_certificate.specs.declared.prices.row.PriceRow.{PriceRow}
 use Rattle.pb_cohesion.specs.Conditions.{sum_ℤ}
 use Rattle.pb_price.specs.Inside.Tallies.{AreSteps, AreSumsOf, AreTaken, IsFirstPair, Taken, TakesRow, Tallied, first_pair, first_supporters, left_by, most_by, paid_by, pays_wrongly, spent_by, top_by}
 use Rattle.pb_price.specs.declared.tally.ProjectSums.{ProjectSums}

@@ -10,7 +10,7 @@ use Rattle.pb_cohesion.specs.Conditions.{sum_ℤ}
 use Rattle.pb_cohesion.proofs.Amounts.{max-is}
 use Rattle.pb_cohesion.proofs.Sums.{range-same, sum-zero}
 use Rattle.pb_price.specs.Inside.Tallies.{IsWithin, Taken, TakesRow, first_supporters, left_by, most_by, paid_by, spent_by, top_by}
-use Rattle.pb_certificate.specs.declared.price_row.PriceRow.{PriceRow}
+use Rattle.pb_certificate.specs.declared.prices.row.PriceRow.{PriceRow}
 use Rattle.pb_price.proofs.Sums.{largest-most, largest-one-more, largest-same, largest-zero, sum-most, sum-one-more}
 use Rattle.pb_price.proofs.Signed.{signed-same}
 

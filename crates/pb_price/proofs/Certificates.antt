@@ -9,11 +9,11 @@ use Rattle.pb_records.specs.Cells.{nonblank}
 use Rattle.pb_records.specs.FirstFault.{IsFirstFault}
 use Rattle.pb_certificate.specs.Faults.{certificate_records, no_memory, price_form}
 use Rattle.pb_certificate.specs.Prices.{Prices, payment}
-use Rattle.pb_certificate.specs.PriceText.{IsPriceText, Payment, stated}
-use Rattle.pb_certificate.specs.Rows.{Rows, given, prices_given}
+use Rattle.pb_certificate.specs.Prices.Text.{IsPriceText, Payment, stated}
+use Rattle.pb_certificate.specs.Prices.Rows.{Rows, given, prices_given}
 use Rattle.pb_certificate.specs.declared.refusal.CertRefusal.{CertRefusal}
-use Rattle.pb_certificate.proofs.PriceClear.{price-clear}
-use Rattle.pb_certificate.proofs.Texts.{stated-payment}
+use Rattle.pb_certificate.proofs.OnPrices.Clear.{price-clear}
+use Rattle.pb_certificate.proofs.OnPrices.Texts.{stated-payment}
 use Rattle.pb_certificate.proofs.Unique.{price-text-same}
 use Rattle.pb_price.specs.Inside.Tallying.{IsTallied, TakesCertificate, taken_from}
 use Rattle.pb_price.specs.Inside.Tallies.{IsTallyOf, Taken, Tallied}

@@ -7,7 +7,7 @@ use Rattle.std.proofs.lemmas.List.Sums.{length-filter}
 use Rattle.pb_records.proofs.Lists.{filter-same, filter-none}
 use Rattle.pb_election.specs.Instance.{Instance, IsProject, IsVoter, all_projects, all_voters, approves, projects, voters}
 use Rattle.pb_certificate.specs.Prices.{Prices, payment}
-use Rattle.pb_certificate.specs.declared.price_row.PriceRow.{PriceRow}
+use Rattle.pb_certificate.specs.declared.prices.row.PriceRow.{PriceRow}
 use Rattle.pb_cohesion.specs.Conditions.{culprits_of_C1}
 use Rattle.pb_cohesion.proofs.Sums.{range-same, sum-zero}
 use Rattle.pb_cohesion.proofs.Culprits.{wrong}

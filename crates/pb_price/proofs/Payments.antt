@@ -5,8 +5,8 @@ use Rattle.std.proofs.lemmas.Bool.{cases_eq, cases_lt, eq-eqb, le-ltb, lt-ltb, n
 use Rattle.std.proofs.lemmas.List.{length-map, take_all}
 use Rattle.pb_election.specs.Instance.{Instance, IsSet, IsVoter, voters}
 use Rattle.pb_certificate.specs.Prices.{IsPaymentMap, Prices, PricesFit, numerator_in, payment, payments_of}
-use Rattle.pb_certificate.specs.declared.price_row.PriceRow.{PriceRow}
-use Rattle.pb_certificate.proofs.Texts.{paid_projects}
+use Rattle.pb_certificate.specs.declared.prices.row.PriceRow.{PriceRow}
+use Rattle.pb_certificate.proofs.OnPrices.Texts.{paid_projects}
 use Rattle.pb_cohesion.proofs.Loops.{set-at, set-length}
 use Rattle.pb_cohesion.specs.Amounts.{beta}
 use Rattle.pb_price.specs.Inside.Tallies.{CanTakeRow, IsTallyOf, Taken, TakesRow, Tallied}

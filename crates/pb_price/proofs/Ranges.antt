@@ -15,8 +15,8 @@ use Rattle.pb_election.specs.Instance.{Instance, IsProject, IsVoter, all_project
 use Rattle.pb_election.specs.Outcome.{has}
 use Rattle.pb_election.specs.Text.{IsElection}
 use Rattle.pb_certificate.specs.Prices.{ArePrices, Prices, numerator_in, payments_of}
-use Rattle.pb_certificate.proofs.Payments.{each-of}
-use Rattle.pb_certificate.proofs.ReadBack.{voter-map}
+use Rattle.pb_certificate.proofs.OnPrices.Payments.{each-of}
+use Rattle.pb_certificate.proofs.OnPrices.Canon.ReadBack.{voter-map}
 use Rattle.pb_cohesion.specs.Amounts.{beta, budget_limit, cost, paid, pays, spent, top}
 use Rattle.pb_cohesion.specs.Conditions.{sum_ℤ}
 use Rattle.pb_cohesion.specs.Groups.{AreProjects, IsGroup}

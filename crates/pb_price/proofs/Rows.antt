@@ -10,13 +10,13 @@ use Rattle.pb_records.proofs.Lists.{filter_map-all}
 use Rattle.pb_election.specs.Instance.{Instance, IsProject, IsVoter}
 use Rattle.pb_records.specs.Records.{Rec}
 use Rattle.pb_records.specs.Cells.{is_blank, nonblank}
-use Rattle.pb_certificate.specs.PriceRows.{as_payment, last_number, last_voter}
-use Rattle.pb_certificate.specs.PriceText.{IsPriceText, Payment, payment_of, same_pair, stated}
+use Rattle.pb_certificate.specs.Prices.RowFaults.{as_payment, last_number, last_voter}
+use Rattle.pb_certificate.specs.Prices.Text.{IsPriceText, Payment, payment_of, same_pair, stated}
 use Rattle.pb_certificate.specs.Prices.{Prices}
-use Rattle.pb_certificate.specs.Rows.{ComesNext, GivesRow, Rows, given}
-use Rattle.pb_certificate.specs.declared.price_row.PriceRow.{PriceRow}
-use Rattle.pb_certificate.proofs.GatherSteps.{may-follow}
-use Rattle.pb_certificate.proofs.Texts.{stated-length}
+use Rattle.pb_certificate.specs.Prices.Rows.{ComesNext, GivesRow, Rows, given}
+use Rattle.pb_certificate.specs.declared.prices.row.PriceRow.{PriceRow}
+use Rattle.pb_certificate.proofs.OnPrices.GatherSteps.{may-follow}
+use Rattle.pb_certificate.proofs.OnPrices.Texts.{stated-length}
 use Rattle.pb_price.specs.Inside.Tallies.{CanTakeRow, TakesRow, Tallied}
 use Rattle.pb_price.specs.Inside.Tallying.{taken_from}
 use Rattle.pb_price.specs.declared.tally.Tally.{Tally}

@@ -6,7 +6,7 @@ ghost use Rattle.std.specs.Prelude.{◌≡◌, ◌≤◌, ◌⊎◌, IfErr, IfOk
 ghost use Rattle.pb_election.specs.Instance.{all_projects, projects};
 ghost use Rattle.pb_election.specs.Outcome.{OutcomeFits};
 ghost use Rattle.pb_certificate.specs.Faults.{Refuses, certificate_records, no_memory, price_form};
-ghost use Rattle.pb_certificate.specs.PriceText.{IsPriceText};
+ghost use Rattle.pb_certificate.specs.Prices.Text.{IsPriceText};
 ghost use Rattle.pb_certificate.specs.Prices as spec;
 ghost use Rattle.pb_certificate.specs.Prices.{most_denominator};
 ghost use Rattle.pb_price.specs.Findings.{findings};

@@ -5,7 +5,7 @@ ghost use Rattle.pb_election.specs.Instance.{IsVoter, voters};
 ghost use Rattle.pb_records.specs.FirstFault.{IsFirstFault};
 ghost use Rattle.pb_certificate.specs.Faults.{Refuses, no_memory, price_form};
 ghost use Rattle.pb_certificate.specs.Prices.{PricesFit};
-ghost use Rattle.pb_certificate.specs.Rows.{given};
+ghost use Rattle.pb_certificate.specs.Prices.Rows.{given};
 ghost use Rattle.pb_price.specs.Inside.Tallying.{IsTallied, TakesCertificate, TakesUntil, taken_from};
 ghost use Rattle.pb_price.specs.Inside.Tallies.{Tallied};
 

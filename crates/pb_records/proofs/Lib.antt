@@ -13,3 +13,4 @@ pub mod DraftProgress
 pub mod FirstOrNone
 pub mod First
 pub mod FlatRuns
+pub mod FlexibleWriter

@@ -4,3 +4,4 @@ pub mod Lines
 pub mod RecordReader
 pub mod Position
 pub mod Drafts
+pub mod RecordWriter

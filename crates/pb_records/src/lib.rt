@@ -7,6 +7,7 @@ mod cursor;
 mod drafts;
 mod lines;
 mod loading;
+pub mod record_writer;
 mod records;
 mod runs;
 

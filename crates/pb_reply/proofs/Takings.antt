@@ -5,8 +5,8 @@ use Rattle.pb_election.specs.Instance.{Instance, IsSet, projects}
 use Rattle.pb_records.specs.Loading.{Delivery}
 use Rattle.pb_records.specs.declared.loading.Source.{Ghosts as Source}
 use Rattle.pb_certificate.specs.Faults.{certificate_records}
-use Rattle.pb_certificate.specs.ViolationText.{IsViolationText}
-use Rattle.pb_certificate.specs.declared.measure.Measure.{Measure}
+use Rattle.pb_certificate.specs.Violations.Text.{IsViolationText}
+use Rattle.pb_certificate.specs.declared.violations.measure.Measure.{Measure}
 use Rattle.pb_certificate.proofs.Unique.{group-text-sets}
 use Rattle.pb_reply.specs.Inputs.{StatesOutcome}
 use Rattle.pb_reply.specs.Readings.{file_reading, reading}

@@ -10,11 +10,11 @@ use Rattle.pb_records.specs.Loading as delivery
 use Rattle.pb_election.specs.declared.refusal.Refusal as election
 use Rattle.pb_certificate.specs.Faults.{certificate_records, outcome_form, price_form, violation_form}
 use Rattle.pb_certificate.specs.Faults as certificates
-use Rattle.pb_certificate.specs.ViolationText.{IsViolationText}
-use Rattle.pb_certificate.specs.OutcomeText.{IsOutcomeText}
+use Rattle.pb_certificate.specs.Violations.Text.{IsViolationText}
+use Rattle.pb_certificate.specs.Outcomes.Text.{IsOutcomeText}
 use Rattle.pb_certificate.specs.Prices.{Prices}
-use Rattle.pb_certificate.specs.PriceText.{IsPriceText}
-use Rattle.pb_certificate.specs.declared.measure.Measure.{Measure}
+use Rattle.pb_certificate.specs.Prices.Text.{IsPriceText}
+use Rattle.pb_certificate.specs.declared.violations.measure.Measure.{Measure}
 use Rattle.pb_certificate.specs.declared.refusal.CertFault.{CertFault}
 use Rattle.pb_certificate.specs.declared.refusal.CertRefusal.{CertRefusal}
 use Rattle.pb_reply.specs.declared.input.InputRefusal.{InputRefusal}

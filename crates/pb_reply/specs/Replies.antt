@@ -1,7 +1,7 @@
 -- Replies and answers: what is found of some inputs, as lines or as a text, and how it ends.
 use Rattle.std.specs.Prelude.{◌≡◌, List, [], ◌∷◌, ◌++◌, flat_map, Ok, Err}
 use Rattle.pb_records.specs.Records.{Text}
-use Rattle.pb_certificate.specs.Canon.{line_end}
+use Rattle.pb_certificate.specs.Prices.Canon.{line_end}
 use Rattle.pb_cohesion.specs.declared.ViolationVerdict.{ViolationVerdict}
 use Rattle.pb_cohesion.specs.declared.ViolationVerdict.TheVariants as violation_verdict
 use Rattle.pb_price.specs.declared.Verdict.{Verdict}

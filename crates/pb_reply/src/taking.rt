@@ -2,7 +2,7 @@
 ghost use Rattle.std.specs.Prelude.{◌≡◌, IfOk, option_map};
 ghost use Rattle.pb_election.specs.Instance.{IsSet, projects};
 ghost use Rattle.pb_election.specs.Outcome.{OutcomeFits};
-ghost use Rattle.pb_certificate.specs.Claim.{ClaimFits};
+ghost use Rattle.pb_certificate.specs.Violations.{ClaimFits};
 ghost use Rattle.pb_reply.specs.Inputs.{StatesElection, StatesOutcome, StatesViolation, its_outcome};
 ghost use Rattle.pb_reply.specs.Inside.Loaded.{lent};
 ghost use Rattle.pb_reply.specs.Readings.{file_reading, reading};

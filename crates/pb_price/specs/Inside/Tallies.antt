@@ -8,7 +8,7 @@ use Rattle.pb_election.specs.Instance.{Instance, IsProject, IsVoter, all_project
 use Rattle.pb_election.specs.Outcome.{has}
 use Rattle.pb_election.specs.Text.{IsElection}
 use Rattle.pb_certificate.specs.Prices.{Prices, most_numerator}
-use Rattle.pb_certificate.specs.declared.price_row.PriceRow.{PriceRow}
+use Rattle.pb_certificate.specs.declared.prices.row.PriceRow.{PriceRow}
 use Rattle.pb_cohesion.specs.Amounts.{beta, largest_by, left, paid, spent}
 use Rattle.pb_cohesion.specs.Conditions.{culprits_of_C1, culprits_of_C2, most_of, sum_ℤ}
 use Rattle.pb_price.specs.Findings.{finding, payment_finding}

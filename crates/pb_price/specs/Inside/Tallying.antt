@@ -5,9 +5,9 @@ use Rattle.pb_election.specs.Instance.{Instance, IsProject, most_projects, proje
 use Rattle.pb_records.specs.Cells.{nonblank}
 use Rattle.pb_money.specs.Grains.{payment_grains}
 use Rattle.pb_certificate.specs.Faults.{certificate_records}
-use Rattle.pb_certificate.specs.PriceText.{IsPriceText, stated}
+use Rattle.pb_certificate.specs.Prices.Text.{IsPriceText, stated}
 use Rattle.pb_certificate.specs.Prices.{Prices, most_denominator, most_rows, numerator_in, payment, payments_of}
-use Rattle.pb_certificate.specs.Rows.{Rows, given, prices_given}
+use Rattle.pb_certificate.specs.Prices.Rows.{Rows, given, prices_given}
 use Rattle.pb_cohesion.specs.Amounts.{beta}
 use Rattle.pb_price.specs.Inside.Tallies.{AreInRange, IsTallyOf, Taken, Tallied, most_grains, sums_of}
 use Rattle.pb_price.specs.Answers.{AreStepsOf, row_count}

@@ -8,8 +8,8 @@ use Rattle.pb_records.specs.Loading as delivery
 use Rattle.pb_election.specs.Outcome.{Funding}
 use Rattle.pb_election.specs.declared.refusal.ElectionFault.{ElectionFault}
 use Rattle.pb_election.specs.declared.refusal.ElectionFault.TheVariants as election_fault
-use Rattle.pb_certificate.specs.Claim.{Claim}
-use Rattle.pb_certificate.specs.declared.measure.Measure.{Measure}
+use Rattle.pb_certificate.specs.Violations.{Claim}
+use Rattle.pb_certificate.specs.declared.violations.measure.Measure.{Measure}
 use Rattle.pb_certificate.specs.declared.refusal.CertFault.{CertFault}
 use Rattle.pb_certificate.specs.declared.refusal.CertFault.TheVariants as cert_fault
 use Rattle.pb_reply.specs.Replies.{Reply, refused}

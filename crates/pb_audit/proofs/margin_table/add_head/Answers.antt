@@ -1,5 +1,5 @@
 use Rattle.std.proofs.Common.{arith}
-use Rattle.pb_certificate.specs.Inside.RecordWriter.{held}
+use Rattle.pb_records.specs.Inside.RecordWriter.{held}
 use Rattle.pb_audit.proofs.MarginTable.{head_written}
 use Rattle.pb_audit.proofs.margin_table.add_head.Goals as goal
 

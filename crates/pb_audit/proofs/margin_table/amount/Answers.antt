@@ -1,5 +1,5 @@
 use Rattle.std.proofs.Common.{arith}
-use Rattle.pb_certificate.proofs.Lines.{decimal-plain}
+use Rattle.pb_certificate.proofs.OnPrices.Canon.Lines.{decimal-plain}
 use Rattle.pb_audit.proofs.margin_table.amount.Goals as goal
 
 pub returns : goal.returns

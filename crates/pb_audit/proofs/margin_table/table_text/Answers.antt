@@ -1,7 +1,7 @@
 use Rattle.std.proofs.Common.{◌<◌, ◌∙◌, arith}
 use Rattle.std.proofs.lemmas.Result.{IfOk-weaker}
 use Rattle.pb_election.specs.Instance.{projects}
-use Rattle.pb_certificate.specs.Inside.RecordWriter.{held}
+use Rattle.pb_records.specs.Inside.RecordWriter.{held}
 use Rattle.pb_audit.proofs.MarginTable.{row_pushed, table_written}
 use Rattle.pb_audit.proofs.margin_table.table_text.Goals as goal
 

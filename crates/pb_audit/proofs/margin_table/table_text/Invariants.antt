@@ -1,8 +1,8 @@
 use Rattle.std.proofs.Common.{◌≡◌, ◌++◌, Bool, List}
 use Rattle.std.specs.List.{range_with_len}
-use Rattle.pb_certificate.specs.Canon.{lines}
+use Rattle.pb_records.specs.Inside.RecordWriter.{IsOpen, held}
+use Rattle.pb_certificate.specs.Prices.Canon.{lines}
 use Rattle.pb_certificate.specs.Prices.{Prices}
-use Rattle.pb_certificate.specs.Inside.RecordWriter.{IsOpen, held}
 use Rattle.pb_price.specs.Margins.{AreMargins}
 use Rattle.pb_audit.specs.Margins.{margin_head, margin_rows}
 use Rattle.pb_audit.proofs.margin_table.table_text.Given as goal

@@ -1,5 +1,5 @@
 use Rattle.std.proofs.Common.{◌≡◌, ◌∙◌, ap, false, inl, inr, refl, sym}
-use Rattle.pb_certificate.specs.ViolationText.{begins_violation}
+use Rattle.pb_certificate.specs.Violations.Text.{begins_violation}
 use Rattle.pb_certificate.proofs.FirstHead.{begins-with, begins-with-bytes, begins-with-end}
 use Rattle.pb_certificate.proofs.kind.is_violation.Goals as goal
 use Rattle.pb_certificate.proofs.kind.is_violation.Goals.{then-is_pair, else-is_pair}

@@ -1,4 +1,4 @@
-use Rattle.pb_certificate.proofs.CanonLaw.{no-other, states}
+use Rattle.pb_certificate.proofs.OnPrices.Canon.Law.{no-other, states}
 use Rattle.pb_certificate.proofs.laws.canonical_texts_read_back.Goals as goal
 
 pub returns-clause-states : goal.returns-clause-states

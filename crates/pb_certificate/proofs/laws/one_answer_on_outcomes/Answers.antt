@@ -1,7 +1,7 @@
 use Rattle.pb_records.proofs.First.{one-first}
 use Rattle.pb_certificate.specs.Faults.{outcome_form}
-use Rattle.pb_certificate.proofs.OutcomeAnswered.{outcome-answered}
-use Rattle.pb_certificate.proofs.OutcomeClear.{outcome-clear}
+use Rattle.pb_certificate.proofs.OnOutcomes.Answered.{outcome-answered}
+use Rattle.pb_certificate.proofs.OnOutcomes.Clear.{outcome-clear}
 use Rattle.pb_certificate.proofs.Unique.{outcome-text-same}
 use Rattle.pb_certificate.proofs.laws.one_answer_on_outcomes.Goals as goal
 

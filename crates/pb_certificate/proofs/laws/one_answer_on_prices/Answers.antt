@@ -1,7 +1,7 @@
 use Rattle.pb_records.proofs.First.{one-first}
 use Rattle.pb_certificate.specs.Faults.{price_form}
-use Rattle.pb_certificate.proofs.PriceAnswered.{price-answered}
-use Rattle.pb_certificate.proofs.PriceClear.{price-clear}
+use Rattle.pb_certificate.proofs.OnPrices.Answered.{price-answered}
+use Rattle.pb_certificate.proofs.OnPrices.Clear.{price-clear}
 use Rattle.pb_certificate.proofs.Unique.{price-text-same}
 use Rattle.pb_certificate.proofs.laws.one_answer_on_prices.Goals as goal
 

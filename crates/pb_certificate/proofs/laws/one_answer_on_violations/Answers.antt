@@ -1,7 +1,7 @@
 use Rattle.pb_records.proofs.First.{one-first}
 use Rattle.pb_certificate.specs.Faults.{violation_form}
-use Rattle.pb_certificate.proofs.GroupAnswered.{group-answered}
-use Rattle.pb_certificate.proofs.GroupClear.{group-clear}
+use Rattle.pb_certificate.proofs.OnViolations.Answered.{group-answered}
+use Rattle.pb_certificate.proofs.OnViolations.Clear.{group-clear}
 use Rattle.pb_certificate.proofs.Unique.{group-text-same}
 use Rattle.pb_certificate.proofs.laws.one_answer_on_violations.Goals as goal
 

@@ -5,7 +5,7 @@ use Rattle.std.specs.Fmt.{digits}
 use Rattle.csv.specs.Records.{field_at}
 use Rattle.pb_money.specs.Digits.{drop_back, drop_front}
 use Rattle.pb_records.specs.Cells.{is_blank, is_text}
-use Rattle.pb_certificate.specs.Canon.{line}
+use Rattle.pb_certificate.specs.Prices.Canon.{line}
 use Rattle.pb_certificate.specs.Fields.{whole_in}
 use Rattle.pb_certificate.proofs.samples.sample_certificate.Goals as goal
 

@@ -9,7 +9,7 @@ use Rattle.pb_records.specs.Cells.{is_blank, is_text}
 use Rattle.pb_certificate.specs.Fields.{whole_in}
 use Rattle.pb_certificate.specs.NamedRows.Named.{Voter, Project}
 use Rattle.pb_certificate.specs.Samples.{demand_x1, demand_x2, member_1, price_columns, row_1a, row_1b, row_2a, row_3b, two}
-use Rattle.pb_certificate.proofs.PriceClear.{cons-rises, nil-rises}
+use Rattle.pb_certificate.proofs.OnPrices.Clear.{cons-rises, nil-rises}
 use Rattle.pb_certificate.proofs.samples.sample_texts.Goals as goal
 
 pub returns-clause-prices : goal.returns-clause-prices

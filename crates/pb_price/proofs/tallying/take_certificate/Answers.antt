@@ -1,6 +1,6 @@
 use Rattle.std.proofs.Common.{sym, ◌∙◌, arith}
 use Rattle.pb_certificate.specs.Faults.{certificate_records}
-use Rattle.pb_certificate.specs.Rows.{prices_given}
+use Rattle.pb_certificate.specs.Prices.Rows.{prices_given}
 use Rattle.pb_price.proofs.Bounds.{steps-bound, sums-of-bound}
 use Rattle.pb_price.proofs.Certificates.{before-rows, certified, tallied-by}
 use Rattle.pb_price.proofs.Whole.{whole-steps}

@@ -1,5 +1,5 @@
 use Rattle.std.proofs.Common.{length, refl, ◌∙◌, ap, arith}
-use Rattle.pb_certificate.specs.Rows.{Rows}
+use Rattle.pb_certificate.specs.Prices.Rows.{Rows}
 use Rattle.pb_price.proofs.Rows.{can-take, falls, few-then, last-then, takes-row}
 use Rattle.pb_price.proofs.tallying.take_rows.Goals as goal
 

@@ -1,6 +1,6 @@
 use Rattle.std.proofs.Common.{◌≡◌, ◌≤◌, ◌-◌, length}
-use Rattle.pb_certificate.specs.PriceRows.{last_voter}
-use Rattle.pb_certificate.specs.Rows.{given}
+use Rattle.pb_certificate.specs.Prices.RowFaults.{last_voter}
+use Rattle.pb_certificate.specs.Prices.Rows.{given}
 use Rattle.pb_price.specs.Inside.Tallying.{taken_from}
 use Rattle.pb_price.specs.Inside.Tallies.{Tallied}
 use Rattle.pb_price.proofs.tallying.take_rows.Given as goal

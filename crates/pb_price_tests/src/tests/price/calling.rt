@@ -5,7 +5,7 @@ ghost use Rattle.pb_election.specs.Instance.{Instance};
 ghost use Rattle.pb_election.specs.Text.{IsTextOf};
 ghost use Rattle.pb_certificate.specs.Faults.{certificate_records};
 ghost use Rattle.pb_certificate.specs.Prices as spec;
-ghost use Rattle.pb_certificate.specs.PriceText.{IsPriceText};
+ghost use Rattle.pb_certificate.specs.Prices.Text.{IsPriceText};
 ghost use Rattle.pb_cohesion.specs.EveryGroup.{NoGroupHasMoreLeft};
 ghost use Rattle.pb_price.specs.Supports.{Supports};
 

@@ -1,6 +1,6 @@
 use Rattle.std.proofs.Common.{◌≡◌, ℕ, List, IfOk, subst}
-use Rattle.pb_certificate.specs.Inside.RecordWriter.{held}
-use Rattle.pb_certificate.proofs.Written.{canon-written}
+use Rattle.pb_records.specs.Inside.RecordWriter.{held}
+use Rattle.pb_certificate.proofs.OnPrices.Canon.Written.{canon-written}
 use Rattle.pb_certificate.proofs.prices.Prices.canonical_text.Goals as goal
 
 pub returns : goal.returns

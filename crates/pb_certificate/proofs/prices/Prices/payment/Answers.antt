@@ -1,7 +1,7 @@
 use Rattle.std.proofs.Common.{◌∙◌, ap, rules, sym}
 use Rattle.std.proofs.lemmas.List.Sorted.{answers_always}
 use Rattle.pb_certificate.specs.Prices.{numerator_in}
-use Rattle.pb_certificate.proofs.Searches.{payment-searched}
+use Rattle.pb_certificate.proofs.OnPrices.Searches.{payment-searched}
 use Rattle.pb_certificate.proofs.prices.Prices.payment.Goals as goal
 
 pub returns-in-Ok-clause-value : goal.returns-in-Ok-clause-value

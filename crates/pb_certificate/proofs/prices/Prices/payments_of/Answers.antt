@@ -1,7 +1,7 @@
 use Rattle.std.proofs.Common.{◌≡◌, ◌∙◌, ap, subst, sym}
 use Rattle.pb_certificate.specs.Prices as spec
 use Rattle.pb_certificate.specs.Prices.{IsPaymentMap, IsPriceSystem, Prices}
-use Rattle.pb_certificate.proofs.Payments.{map-at}
+use Rattle.pb_certificate.proofs.OnPrices.Payments.{map-at}
 use Rattle.pb_certificate.proofs.prices.Prices.payments_of.Goals as goal
 
 pub returns-clause-map : goal.returns-clause-map

@@ -1,9 +1,9 @@
 use Rattle.std.proofs.Common.{subst, sym}
 use Rattle.std.proofs.lemmas.Result.{err_from_is_err_and}
 use Rattle.pb_certificate.specs.Faults.{certificate_records}
-use Rattle.pb_certificate.specs.PriceText.{IsPriceText}
-use Rattle.pb_certificate.proofs.GatherSteps.{gathering-refused, prices-by, runs-state, text-refused}
-use Rattle.pb_certificate.proofs.Texts.{states-prices}
+use Rattle.pb_certificate.specs.Prices.Text.{IsPriceText}
+use Rattle.pb_certificate.proofs.OnPrices.GatherSteps.{gathering-refused, prices-by, runs-state, text-refused}
+use Rattle.pb_certificate.proofs.OnPrices.Texts.{states-prices}
 use Rattle.pb_certificate.proofs.Unique.{price-text-same}
 use Rattle.pb_certificate.proofs.prices.Prices.read.Goals as goal
 

@@ -1,0 +1,301 @@
+-- One more row of a price certificate.
+use Rattle.std.proofs.Common.{◌≡◌, ◌∙◌, ◌≤◌, ℕ, Bool, true, false, List, [], ◌∷◌, ◌++◌, length, refl, sym, ap, subst, inl, inr, arith, Some, None, append_assoc, drop, take}
+use Rattle.std.specs.Prelude.{◌⊎◌, MatchResult, Option, Result, Ok, Err, filter_map, map}
+use Rattle.std.specs.List.{AllByRecursion}
+use Rattle.std.specs.List.Sorted.{IsNonDecreasing}
+use Rattle.std.proofs.lemmas.Bool.{false≢true}
+use Rattle.pb_election.specs.Instance.{Instance, all_voters}
+use Rattle.pb_records.specs.Records.{Rec}
+use Rattle.pb_records.specs.Cells.{is_text, nonblank}
+use Rattle.pb_records.specs.FirstFault.{fault_at}
+use Rattle.pb_records.specs.Inside.Position.{MeetsEnd, MeetsRecord, MeetsTriple, Position}
+use Rattle.pb_records.specs.Inside.Lines.{IsTriple}
+use Rattle.pb_records.specs.declared.lines.Triple.{Triple}
+use Rattle.pb_records.proofs.BlankText.{not-text-is-full}
+use Rattle.pb_certificate.specs.Faults.{certificate_records, no_memory, price_form}
+use Rattle.pb_certificate.specs.Inside.Prices.Places.{Comes, StandsBehind}
+use Rattle.pb_certificate.specs.Inside.Prices.Head.{ReadsHead}
+use Rattle.pb_certificate.specs.Prices.RowFaults.{as_payment, payment_fault, row_fault}
+use Rattle.pb_certificate.specs.Prices.Text.{Payment, payment_of, payments_stated}
+use Rattle.pb_certificate.specs.Inside.Prices.PriorRows.{RefusesPayment, RiseFrom, TakesPayment, TakesRecord}
+use Rattle.pb_certificate.specs.Inside.Prices.RowReader.{Advances, IsReading, place_of}
+use Rattle.pb_certificate.specs.Prices.Rows.{IsBetweenRows, IsInHead, RefusesNext, given}
+use Rattle.pb_certificate.specs.declared.prices.row.PriceRow.{PriceRow}
+use Rattle.pb_certificate.specs.declared.prices.prior_rows.PriorRows.{PriorRows}
+use Rattle.pb_certificate.specs.declared.prices.row_reader.RowReader.{RowReader}
+use Rattle.pb_certificate.specs.declared.refusal.CertFault.{CertFault}
+use Rattle.pb_certificate.specs.declared.refusal.CertRefusal.{CertRefusal}
+use Rattle.pb_certificate.proofs.OnPrices.HeadSteps.{bytes-refused}
+use Rattle.pb_certificate.proofs.OnPrices.PlaceSteps.{at-end, goes-behind, refused-at}
+use Rattle.pb_certificate.proofs.OnPrices.Clear.{cons-rises, nil-rises}
+use Rattle.pb_certificate.proofs.OnPrices.RowPlaces.{form-of-payment, form-of-row, given-behind}
+use Rattle.pb_certificate.proofs.OnPrices.RowSteps.{voters_of}
+use Rattle.pb_certificate.proofs.OnPrices.Texts.{stated-length}
+use Rattle.pb_records.proofs.Lists.{map-push}
+use Rattle.pb_records.proofs.Each.{all-weaker}
+
+-- whether a record comes, where that is known
+pub comes-record : (old from new : Position) (b : Bool) → Comes from new (Ok b) → from ≡ old → b ≡ true
+    → MeetsRecord old new
+comes-record old from new true c same is = subst (λ (x : Position). MeetsRecord x new) same c
+comes-record old from new false c same is = absurd (false≢true is)
+
+pub comes-end : (old from new : Position) (b : Bool) → Comes from new (Ok b) → from ≡ old → b ≡ false → MeetsEnd old new
+comes-end old from new false c same is = subst (λ (x : Position). MeetsEnd x new) same c
+comes-end old from new true c same is = absurd (false≢true (sym is))
+
+-- what a reader has given
+pub given-is : (r : RowReader) (h : IsReading r) → given (place_of r) ≡ h.payments
+given-is r h =
+    ap (λ (recs : List Rec). filter_map (payment_of r.election.now) (drop 4 recs)) h.stands.behind
+    ∙ given-behind r.election.now r.denominator r.budget h.heads h.rows h.payments h.is_head h.each_row
+
+-- a reader stands between rows
+pub between-rows : (r : RowReader) → IsReading r → IsBetweenRows (place_of r)
+between-rows r h =
+    record {
+      heads = h.heads;
+      rows = h.rows;
+      behind = h.stands.behind;
+      is_head = h.is_head;
+      each_row = h.each_row ∙ ap (map Some) (sym (given-is r h));
+      within = h.stands.within;
+      clear = h.stands.clear;
+    }
+
+-- a row is given
+row-taken : (old : RowReader) (cursor : Position) (prior : PriorRows) (q : PriceRow) → IsReading old
+    → MeetsRecord old.cursor cursor → TakesPayment old.election.now cursor.row old.prior prior q
+    → length prior.last_payers.items ≡ length old.prior.last_payers.items
+    → Advances old (record old { cursor = cursor; prior = prior }) (Ok (Some q))
+row-taken old cursor prior q h m t many =
+    let e = old.election.now in
+    let recs = certificate_records old.bytes.now in
+    let r = cursor.row in
+    let admitted = t.admits h.payments h.remembers in
+    let clear = form-of-payment e old.denominator old.budget h.heads h.rows h.payments r (as_payment q) h.is_head
+    h.each_row m.is_utf8 t.no_fault t.states ∙ admitted.0 in
+    let stands =
+    subst (StandsBehind (price_form e) recs cursor) (append_assoc h.heads h.rows (r ∷ []))
+    (goes-behind (price_form e) recs old.cursor cursor (h.heads ++ h.rows) h.stands m clear) in
+    let reading : IsReading (record old { cursor = cursor; prior = prior }) =
+    record {
+      heads = h.heads;
+      rows = h.rows ++ (r ∷ []);
+      payments = h.payments ++ (as_payment q ∷ []);
+      is_head = h.is_head;
+      each_row = map-push (payment_of e) h.rows r h.payments (as_payment q) h.each_row t.states;
+      stands = stands;
+      remembers = admitted.1;
+      each_project = many ∙ h.each_project;
+    } in (
+      record {
+        record_of = r;
+        next =
+            record {
+              blanks = m.blanks;
+              rest = cursor.left;
+              are_blank = m.are_blank;
+              is_full = m.is_full;
+              cut = sym h.stands.left ∙ m.cut;
+              at = m.at;
+            };
+        states = t.states;
+        same = refl;
+        between = between-rows (record old { cursor = cursor; prior = prior }) reading;
+        given_then = given-is (record old { cursor = cursor; prior = prior }) reading
+            ∙ ap (λ (qs : List Payment). qs ++ (as_payment q ∷ [])) (sym (given-is old h));
+        voter = t.voter;
+        project = t.project;
+        small = t.small;
+        follows =
+            subst (λ (qs : List Payment). payment_fault qs (as_payment q) ≡ None) (sym (given-is old h)) admitted.0;
+      },
+      reading,
+    )
+
+-- the same where the row was given by its numbers
+triple-taken : (old : RowReader) (cursor : Position) (t : Triple) (prior : PriorRows) (q : PriceRow)
+    → IsReading old → (m : MeetsTriple t old.cursor cursor)
+    → TakesPayment old.election.now m.row old.prior prior q
+    → length prior.last_payers.items ≡ length old.prior.last_payers.items
+    → Advances old (record old { cursor = cursor; prior = prior }) (Ok (Some q))
+triple-taken old cursor t prior q h m takes many =
+    let given = row-taken old (record cursor { row = m.row }) prior q h m.met takes many in
+    let r = given.1 in (
+      given.0,
+      record {
+        heads = r.heads;
+        rows = r.rows;
+        payments = r.payments;
+        is_head = r.is_head;
+        each_row = r.each_row;
+        stands =
+            record {
+              within = r.stands.within;
+              left = r.stands.left;
+              behind = r.stands.behind;
+              text = r.stands.text;
+              clear = r.stands.clear;
+            };
+        remembers = r.remembers;
+        each_project = r.each_project;
+      },
+    )
+
+-- a row is refused
+row-form : (old : RowReader) (r : Rec) (f : CertFault) (h : IsReading old) → is_text r ≡ true
+    → (row_fault old.election.now r ≡ Some f) ⊎ RefusesPayment old.election.now r old.prior f
+    → price_form old.election.now (h.heads ++ h.rows) (Some r) ≡ Some f
+row-form old r f h text why = elim why [
+  | inl by_itself ↦ form-of-row old.election.now old.denominator old.budget h.heads h.rows r f h.is_head text by_itself
+  | inr by_place ↦
+      form-of-payment old.election.now old.denominator old.budget h.heads h.rows h.payments r by_place.payment h.is_head
+      h.each_row text by_place.no_fault by_place.states ∙ by_place.stops h.payments h.remembers
+]
+
+row-refused : (old : RowReader) (new : Position) (f : CertFault) → IsReading old → MeetsRecord old.cursor new
+    → (row_fault old.election.now new.row ≡ Some f) ⊎ RefusesPayment old.election.now new.row old.prior f
+    → RefusesNext (place_of old) (record { fault = f; place = new.place })
+row-refused old new f h m why =
+    let e = old.election.now in
+    record {
+      record_of = new.row;
+      next =
+          record {
+            blanks = m.blanks;
+            rest = new.left;
+            are_blank = m.are_blank;
+            is_full = m.is_full;
+            cut = sym h.stands.left ∙ m.cut;
+            at = m.at;
+          };
+      first =
+          (refused-at (price_form e) (certificate_records old.bytes.now) old.cursor new (h.heads ++ h.rows) f
+          h.stands m (row-form old new.row f h m.is_utf8 why)).first;
+    }
+
+-- a row is given or refused
+pub row-answered : (old : RowReader) (cursor : Position) (prior : PriorRows) (taken : Result PriceRow CertFault)
+    (place : ℕ) (r : Result (Option PriceRow) CertRefusal) → IsReading old → MeetsRecord old.cursor cursor
+    → TakesRecord old.election.now cursor.row old.prior prior taken
+    → length prior.last_payers.items ≡ length old.prior.last_payers.items → place ≡ cursor.place
+    → MatchResult taken (λ q. r ≡ Ok (Some q)) (λ f. r ≡ Err (record { fault = f; place = place }))
+    → Advances old (record old { cursor = cursor; prior = prior }) r
+row-answered old cursor prior (Ok q) place r h m takes many at is = rw is (row-taken old cursor prior q h m takes many)
+row-answered old cursor prior (Err f) place r h m takes many at is =
+    rw (is, at) (inr (row-refused old cursor f h m takes))
+
+pub triple-answered : (old : RowReader) (cursor : Position) (t : Triple) (prior : PriorRows)
+    (taken : Result PriceRow CertFault) (place : ℕ) (r : Result (Option PriceRow) CertRefusal) → IsReading old
+    → MeetsTriple t old.cursor cursor
+    → ((r : Rec) → IsTriple t r → TakesRecord old.election.now r old.prior prior taken)
+    → length prior.last_payers.items ≡ length old.prior.last_payers.items → place ≡ cursor.place
+    → MatchResult taken (λ q. r ≡ Ok (Some q)) (λ f. r ≡ Err (record { fault = f; place = place }))
+    → Advances old (record old { cursor = cursor; prior = prior }) r
+triple-answered old cursor t prior (Ok q) place r h m takes many at is =
+    rw is (triple-taken old cursor t prior q h m (takes m.row m.fields) many)
+triple-answered old cursor t prior (Err f) place r h m takes many at is =
+    rw (is, at) (inr (row-refused old (record cursor { row = m.row }) f h m.met (takes m.row m.fields)))
+
+-- no record is met
+pub next-refused : (old : RowReader) (new : Position) (r : CertRefusal) → IsReading old
+    → Comes old.cursor new (Err r) → (r ≡ no_memory) ⊎ RefusesNext (place_of old) r
+next-refused old new r h comes = elim comes [
+  | inl memory ↦ inl memory
+  | inr bad ↦
+      elim (bytes-refused old.election.now (certificate_records old.bytes.now) (h.heads ++ h.rows) old.cursor new
+      r h.stands (inr bad)) [
+        | inl memory ↦ inl memory
+        | inr refused ↦ inr (record {
+          record_of = bad.2.bad;
+          next =
+              record {
+                blanks = bad.2.blanks;
+                rest = bad.2.rest;
+                are_blank = bad.2.are_blank;
+                is_full = not-text-is-full bad.2.bad bad.2.is_not_utf8;
+                cut = sym h.stands.left ∙ bad.2.cut;
+                at = bad.1 ∙ bad.2.at;
+              };
+          first = refused.first;
+        })
+      ]
+]
+
+-- numbers that rise from one on do not fall
+rise-low : (low : ℕ) (xs : List ℕ) → RiseFrom low xs → AllByRecursion (λ y. low ≤ y) xs
+rise-low low [] h = tt
+rise-low low (x ∷ xs) h =
+    let first : low ≤ x = h.0 in
+    (first, all-weaker (λ y. x ≤ y) (λ y. low ≤ y) xs (λ y above. omega arith) (rise-low x xs h.1))
+
+pub rises : (low : ℕ) (xs : List ℕ) → RiseFrom low xs → IsNonDecreasing xs
+rises low [] h = nil-rises
+rises low (x ∷ xs) h = cons-rises x xs (rise-low x xs h.1) (rises x xs h.1)
+
+-- the end
+pub none-left : (old : RowReader) (cursor : Position) → IsReading old → MeetsEnd old.cursor cursor
+    → Advances old (record old { cursor = cursor }) (Ok None)
+none-left old cursor h m =
+    let e = old.election.now in
+    let recs = certificate_records old.bytes.now in
+    let end = at-end (price_form e) recs old.cursor cursor (h.heads ++ h.rows) h.stands m in
+    let rows = stated-length (payment_of e) h.rows h.payments h.each_row in
+    let most : length h.payments ≤ 10000000 = h.remembers.few in
+    let reading : IsReading (record old { cursor = cursor }) =
+    record {
+      heads = h.heads;
+      rows = h.rows;
+      payments = h.payments;
+      is_head = h.is_head;
+      each_row = h.each_row;
+      stands = end.0;
+      remembers = h.remembers;
+      each_project = h.each_project;
+    } in (
+      record {
+        no_row_left = ap nonblank (sym h.stands.left) ∙ m.are_blank;
+        same = refl;
+        between = between-rows (record old { cursor = cursor }) reading;
+        given_then = given-is (record old { cursor = cursor }) reading ∙ sym (given-is old h);
+        states =
+            record {
+              head = h.is_head.name;
+              denominator = h.is_head.denominator_of;
+              budget = h.is_head.budget_of;
+              columns = h.is_head.columns;
+              rows = h.rows;
+              payments = h.payments;
+              cut = end.1 ∙ ap (λ (hs : List Rec). hs ++ h.rows) h.is_head.cut;
+              text = subst (AllByRecursion (λ r. is_text r ≡ true)) (sym end.1) h.stands.text;
+              is_head = h.is_head.is_name;
+              is_denominator = h.is_head.is_denominator;
+              is_budget = h.is_head.is_budget;
+              is_columns = h.is_head.are_columns;
+              each_row = h.each_row;
+              in_order = rises 0 (voters_of h.payments) h.remembers.in_order;
+              once = h.remembers.once;
+              few = omega arith;
+              each_project = refl;
+              same_payments = ap (λ (qs : List Payment). map (payments_stated e qs) (all_voters e)) (given-is old h);
+            };
+      },
+      reading,
+    )
+
+-- the start
+pub opened : (e : Instance) (recs : List Rec) (c : Position) → c.place ≡ 0 → c.left ≡ recs
+    → StandsBehind (price_form e) recs c []
+opened e recs c place left =
+    record {
+      within = omega arith;
+      left = left ∙ ap (λ (n : ℕ). drop n recs) (sym place);
+      behind = ap (λ (n : ℕ). nonblank (take n recs)) place;
+      text = tt;
+      clear = λ k le. (let zero' : k ≡ 0 = omega arith in ap (fault_at (price_form e) recs) zero');
+    }
+
+pub refused-in-head : (recs : List Rec) (e : Instance) (new : Position) (r : CertRefusal) → ReadsHead e recs new (Err r)
+    → IsInHead recs r
+refused-in-head recs e new r h = elim h [ inl memory ↦ inl memory | inr at ↦ inr at.1 ]

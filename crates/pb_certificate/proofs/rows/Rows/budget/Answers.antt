@@ -1,7 +1,0 @@
-use Rattle.std.proofs.Common.{subst}
-use Rattle.pb_certificate.specs.Rows.{IsBetweenRows}
-use Rattle.pb_certificate.proofs.ReaderSteps.{between-rows}
-use Rattle.pb_certificate.proofs.rows.Rows.budget.Goals as goal
-
-pub returns-clause-sound : goal.returns-clause-sound
-returns-clause-sound c = subst IsBetweenRows c.self.view_is (between-rows c.self.inside.reader.value c.self.invariant)

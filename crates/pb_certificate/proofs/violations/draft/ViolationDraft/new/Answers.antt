@@ -1,0 +1,20 @@
+use Rattle.std.proofs.Common.{◌∙◌, ap, false, refl}
+use Rattle.std.specs.Prelude.{replicate}
+use Rattle.pb_election.specs.Instance.{projects, voters}
+use Rattle.pb_certificate.proofs.MarkLemmas.{none-marked}
+use Rattle.pb_certificate.proofs.violations.draft.ViolationDraft.new.Goals as goal
+
+pub returns : goal.returns
+returns c = (
+  tt,
+  (
+    refl,
+    refl,
+    (
+      c.in_ok-group.ensures.items_if_clones_equal (λ y e. e) ∙ ap (λ n. replicate n false) c.voters.ensures.value
+          ∙ none-marked (voters c.args.election.now),
+      c.in_ok-demand.ensures.items_if_clones_equal (λ y e. e) ∙ ap (λ n. replicate n false) c.projects.ensures.value
+          ∙ none-marked (projects c.args.election.now),
+    ),
+  ),
+)

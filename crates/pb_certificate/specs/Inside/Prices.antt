@@ -1,0 +1,8 @@
+-- What the code's own parts on price certificates stand for.
+pub mod Places
+pub mod Head
+pub mod PriorRows
+pub mod RowReader
+pub mod Ledgers
+pub mod Gathering
+pub mod CanonicalDrafts

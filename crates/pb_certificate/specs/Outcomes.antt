@@ -1,0 +1,2 @@
+-- Outcome files. What an outcome is, is said in `Outcome` of `pb_election`.
+pub mod Text
