@@ -1,5 +1,5 @@
 #!/usr/bin/env bash
-# Runs each command that README.md, TOUR.md and the other documents show behind '$ ', at the repository's top, and
+# Runs each command that README.md and the other documents show behind '$ ', at the repository's top, and
 # compares what it writes with the lines that stand under it there, up to the end of the block. The last line counts
 # those of all pages together: 'N passed, M failed'.
 set -euo pipefail
