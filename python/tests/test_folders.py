@@ -75,6 +75,28 @@ class KillingExecutor(Executor):
         return future
 
 
+def killed_once_at_b(mark, work, entries, attempt):
+    """What a worker does whose process is killed at the election b, where no other was killed at it before."""
+    if "b" in [entry.name for entry in entries]:
+        try:
+            os.mkdir(mark)
+        except FileExistsError:
+            pass
+        else:
+            os.kill(os.getpid(), signal.SIGKILL)
+    return work(entries, attempt)
+
+
+class OnceKillingExecutor(Executor):
+    """Hands tasks to a Dask cluster, where the first worker that begins the election b is killed."""
+
+    def __init__(self, client, mark):
+        self.executor, self.mark = client.get_executor(), mark
+
+    def submit(self, work, entries, attempt):
+        return self.executor.submit(killed_once_at_b, self.mark, work, entries, attempt)
+
+
 class Folders(unittest.TestCase):
     def setUp(self):
         self.room = tempfile.mkdtemp()
@@ -193,6 +215,20 @@ class Folders(unittest.TestCase):
                 executor = KillingExecutor(client)
                 self.assertEqual(pbaudit.audit_folder(self.room, executor), self.wanted())
             self.assertTrue(executor.has_killed)
+
+    @HAS_DASK
+    def test_by_a_dask_cluster_whose_worker_is_killed_at_a_task(self):
+        """However fast it is, it has begun the task and not answered. Only where Dask gives it to no other is it lost."""
+        for failures, losses in ((0, 1), (3, 0)):
+            settings = {"distributed.scheduler.allowed-failures": failures}
+            with self.subTest(failures=failures), tempfile.TemporaryDirectory() as room:
+                mark = os.path.join(room, "killed")
+                with mock.patch.object(folders, "MOST_OF_A_TASK", 1), cluster(**settings) as client, \
+                        mock.patch.object(folders.LOG, "warning") as warning:
+                    report = pbaudit.audit_folder(self.room, OnceKillingExecutor(client, mark))
+                self.assertEqual(report, self.wanted())
+                self.assertTrue(os.path.isdir(mark))
+                self.assertEqual([call.args[1] for call in warning.call_args_list].count("b.pb"), losses)
 
     def test_small_elections_share_a_task(self):
         """In their order, and a large one has a task to itself."""
