@@ -136,13 +136,22 @@ class Pages(unittest.TestCase):
             self.assertFalse(any(name.startswith("on") for _, name, _ in tags.attributes))
 
     def test_tidy_finds_nothing(self):
-        checker = shutil.which("tidy")
-        if not checker:
+        if not shutil.which("tidy"):
             self.skipTest("tidy isn't installed")
+        if told_by_tidy(GROUPED):
+            self.skipTest("this tidy doesn't know what HTML allows since 5.2, as groups in a list of terms")
         for files in ((DISTRICT, PRICES), (DISTRICT, VIOLATION, OTHER)):
-            made = write_page(*files)
-            done = subprocess.run([checker, "-q", "-e", "-utf8"], input=made, capture_output=True, check=False)
-            self.assertEqual((done.returncode, done.stderr), (0, b""))
+            self.assertEqual(told_by_tidy(write_page(*files)), b"")
+
+
+# Valid HTML, of which tidy 5.6 says that it isn't.
+GROUPED = (b"<!DOCTYPE html><html lang=en><meta charset=utf-8><title>a</title><body>"
+           b"<dl><div><dt>b</dt><dd>c<span class=d></span></dd></div></dl></body></html>")
+
+
+def told_by_tidy(page):
+    done = subprocess.run(["tidy", "-q", "-e", "-utf8"], input=page, capture_output=True, check=False)
+    return done.stderr
 
 
 def shown(amount):
