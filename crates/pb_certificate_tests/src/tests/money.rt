@@ -1,5 +1,7 @@
 //! Amounts, whole numbers and grains, of texts.
-use pb_money::{Money, MoneyFault, WholeFault, cost_grains, payment_grains, read_whole};
+use pb_money::{
+    Money, MoneyFault, WholeFault, cost_grains, leading_number, payment_grains, read_whole,
+};
 
 #[test]
 fn reads_amounts(rt: HostRuntime) {
@@ -33,6 +35,21 @@ fn reads_whole_numbers(rt: HostRuntime) {
     ];
     for (text, most, want) in samples {
         assert_eq!(rt; read_whole(text.as_bytes(), most), want, "at {text}");
+    }
+}
+
+#[test]
+fn reads_a_number_in_front(rt: HostRuntime) {
+    let samples = [
+        ("12,a", Some((12, 2))),
+        ("007", Some((7, 3))),
+        ("999999999999999999", Some((999_999_999_999_999_999, 18))),
+        ("1234567890123456789", Some((123_456_789_012_345_678, 18))),
+        ("x1", None),
+        ("", None),
+    ];
+    for (text, want) in samples {
+        assert_eq!(rt; leading_number(text.as_bytes()), want, "at {text}");
     }
 }
 

@@ -56,6 +56,31 @@ fn gives_rows_of_0_and_skips_blank_records(rt: HostRuntime) -> Result<(), Fail> 
     Ok(())
 }
 
+/// Numbers of up to eighteen digits in a plain line are read another way than longer ones and those with blanks, quotes
+/// or more fields; and a plain line may follow any other.
+#[test]
+fn rows_are_the_same_however_their_lines_are_written(rt: HostRuntime) -> Result<(), Fail> {
+    let election = Election::read(rt.alloc(), ELECTION.as_bytes())?;
+    let text = "pb-prices,1\ndenominator,1\nvoter_budget,4\nvoter,project,payment\n\
+        1,a,999999999999999999\n1, b,1000000000000000000\n1,c,0000000000000000007\n\
+        2 ,a,4\n2,b,5,\n2,\"c\",6\n3,a,8\n3,b ,1000000000000000000000";
+    let mut rows = Rows::open(rt.alloc(), text.as_bytes(), &election)?;
+    for want in [
+        row(1, 1, 999_999_999_999_999_999),
+        row(1, 2, 1_000_000_000_000_000_000),
+        row(1, 3, 7),
+        row(2, 1, 4),
+        row(2, 2, 5),
+        row(2, 3, 6),
+        row(3, 1, 8),
+        row(3, 2, 1_000_000_000_000_000_000_000),
+        None,
+    ] {
+        rows = expect_next(&rt, rows, want)?;
+    }
+    Ok(())
+}
+
 /// How many rows are given, and then the refusal, if one comes.
 fn outcome_of(alloc: Global, text: &[u8], election: &Election) -> (u32, Option<CertRefusal>) {
     let mut rows = match Rows::open(alloc, text, election) {
