@@ -1,11 +1,11 @@
 -- Digits, one more at a time.
-use Rattle.std.proofs.Common.{◌≡◌, ◌≤◌, ◌<◌, ◌∙◌, ◌+◌, ◌*◌, ◌-◌, ◌^◌, ℕ, suc, zero, List, [], ◌∷◌, refl, sym, ap, arith, Bool, true, false, cond, length, take, drop, get_or, take-append-drop}
+use Rattle.std.proofs.Common.{◌≡◌, ◌≤◌, ◌<◌, ◌∙◌, ◌+◌, ◌*◌, ◌-◌, ◌^◌, ℕ, suc, zero, List, [], ◌∷◌, refl, sym, ap, arith, Bool, true, false, cond, inl, inr, length, take, drop, get_or, take-append-drop}
 use Rattle.std.proofs.Math.Nat.{pow-le-pow_right, pow-suc}
-use Rattle.std.proofs.lemmas.Bool.{and_parts}
+use Rattle.std.proofs.lemmas.Bool.{and_parts, cases_Bool}
 use Rattle.std.proofs.lemmas.Bool.Decides.{nat_tests}
 use Rattle.std.proofs.lemmas.List.Sums.{fold-append, fold_more}
 use Rattle.std.specs.Char.{is_ascii_digit}
-use Rattle.std.specs.List.{fold, list_all}
+use Rattle.std.specs.List.{fold, list_all, prefix_len}
 use Rattle.std.specs.Prelude.{◌==◌, nat_le, None, Some}
 use Rattle.std.specs.Str.{all_ascii_digits, byte}
 use Rattle.pb_money.specs.Digits.{is_empty, number_of, up_to}
@@ -83,6 +83,25 @@ all-more (b ∷ bs) zero h a d = rw d refl
 all-more (b ∷ bs) (suc i) h a d =
     let parts = and_parts (is_ascii_digit b) (all_ascii_digits (take i bs)) a in
     rw (parts.0, all-more bs i (omega arith) parts.1 d) refl
+
+-- as many digits as were met stand in front, and no more where another byte stands next
+pub digits-in-front : (text : List ℕ) (i : ℕ) → i ≤ length text → all_ascii_digits (take i text) ≡ true
+    → i ≤ prefix_len is_ascii_digit text
+digits-in-front [] i h a = h
+digits-in-front (b ∷ bs) zero h a = omega arith
+digits-in-front (b ∷ bs) (suc i) h a =
+    let parts = and_parts (is_ascii_digit b) (all_ascii_digits (take i bs)) a in
+    rw parts.0 (omega (arith, digits-in-front bs i (omega arith) parts.1))
+
+pub no-more-in-front : (text : List ℕ) (i : ℕ) → is_ascii_digit (get_or text i 0) ≡ false
+    → prefix_len is_ascii_digit text ≤ i
+no-more-in-front [] i e = omega arith
+no-more-in-front (b ∷ bs) zero e = rw e (omega arith)
+no-more-in-front (b ∷ bs) (suc i) e =
+    elim (cases_Bool (is_ascii_digit b)) [
+      | inl t ↦ rw t (omega (arith, no-more-in-front bs i e))
+      | inr f ↦ rw f (omega arith)
+    ]
 
 -- a number of some digits, and one more digit behind it
 pub one-longer : (n i d : ℕ) → n < 10 ^ i → d ≤ 9 → n * 10 + d < 10 ^ suc i

@@ -1,7 +1,8 @@
 //! Numbers that are written in digits.
-ghost use Rattle.std.specs.Prelude.{◌≡◌, ◌≤◌, ◌<◌, ◌^◌, IfSome, IsTrue, length, take};
+ghost use Rattle.std.specs.Prelude.{◌≡◌, ◌≤◌, ◌<◌, ◌^◌, IfSome, IsTrue, length, min, take};
 ghost use Rattle.std.specs.Char.{is_ascii_digit};
-ghost use Rattle.std.specs.List.{list_all};
+ghost use Rattle.std.specs.List.{list_all, prefix_len};
+ghost use Rattle.std.specs.Option.{option_map_or};
 ghost use Rattle.std.specs.Str.{all_ascii_digits};
 ghost use Rattle.pb_money.specs.Digits as spec;
 ghost use Rattle.pb_money.specs.Whole.{WholeText};
@@ -55,8 +56,10 @@ pub(crate) fn long_number_up_to(digits: &[u8], most: u128) -> Option<u128>
     (number <= most).then_some(number)
 }
 
-/// The whole number of one to eighteen digits that a text begins with, and how many digits state it.
+/// The whole number that the digits at the front of a text state, and how many these are, of which at most eighteen are
+/// taken. None where the text doesn't begin with a digit.
 pub fn leading_number(text: &[u8]) -> Option<(u64, usize)>
+    ensures all { option_map_or (λ found. found.1) result 0 ≡ min (prefix_len is_ascii_digit text.now) 18 }
     ensures states { IfSome result (λ found. WholeText (take found.1 text.now) found.0) }
     ensures within { IfSome result (λ found. found.1 ≤ length text.now) }
     ensures small { IfSome result (λ found. found.0 < 10 ^ 18) }

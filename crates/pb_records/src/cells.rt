@@ -6,7 +6,7 @@ ghost use Rattle.pb_records.specs.Cells as spec;
 
 use csv::StringRecord;
 
-pub(crate) fn is_space(byte: u8) -> bool
+fn is_space(byte: u8) -> bool
     ensures { result ≡ spec.is_space byte }
 {
     // Most bytes are above 32, which one comparison tells.

@@ -1,6 +1,9 @@
 use Rattle.std.proofs.Common.{◌<◌, ◌≤◌, ◌+◌, ◌*◌, ◌-◌, ◌∙◌, ℕ, suc, add-one, ap, sym, arith, get_or, length}
-use Rattle.pb_money.proofs.Numbers.{all-more, eighteen-at-most, number-more, one-longer}
+use Rattle.std.specs.Char.{is_ascii_digit}
+use Rattle.std.proofs.lemmas.List.Sums.{prefix_len-le-length}
+use Rattle.pb_money.proofs.Numbers.{all-more, digits-in-front, eighteen-at-most, no-more-in-front, number-more, one-longer}
 use Rattle.pb_money.proofs.digits.leading_number.Goals as goal
+use Rattle.pb_money.proofs.digits.leading_number.Goals.{then-loop-len-test+else-is_ascii_digit, else-loop-len-test}
 
 pub overflow_mul-number : goal.overflow_mul-number
 overflow_mul-number c =
@@ -45,3 +48,16 @@ pub returns-clause-small : goal.returns-clause-small
 returns-clause-small c =
     eighteen-at-most c.loop-len.number c.loop-len.len c.loop-len.invariant.small
     (omega (arith, c.min-most.ensures, c.loop-len.invariant.within))
+
+pub returns-clause-all : goal.returns-clause-all
+returns-clause-all c =
+    let text = c.args.text.now in
+    let i = c.loop-len.len in
+    let most : i ≤ length text = omega (arith, c.min-most.ensures, c.loop-len.invariant.within) in
+    let front = digits-in-front text i most c.loop-len.invariant.digits in
+    elim c.loop-len-test.branch [
+      | then-loop-len-test+else-is_ascii_digit w ↦
+          omega (arith, front, c.min-most.ensures, no-more-in-front text i (sym w.is_ascii_digit.ensures.value ∙ w.if-is_ascii_digit.false))
+      | else-loop-len-test w ↦
+          omega (arith, front, c.min-most.ensures, prefix_len-le-length is_ascii_digit text)
+    ]
