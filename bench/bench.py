@@ -3,7 +3,7 @@
 
     python3 bench/bench.py PROGRAM [VOTERS PROJECTS] [--peer] [--plain=PLAIN]
 
-PROGRAM is the built program, crates/pbaudit/out/pbaudit. Without VOTERS and PROJECTS it goes through a few sizes.
+PROGRAM is release/pbaudit, or crates/pbaudit/out/pbaudit. Without VOTERS and PROJECTS it goes through a few sizes.
 
 Every voter approves 8 projects and pays one amount for each of those that are funded, so that each funded project costs
 what is paid for it. An unfunded project costs as much as its supporters' budgets together. So the prices support the

@@ -3,7 +3,7 @@
 
     python3 bench/hostile.py PROGRAM
 
-PROGRAM is the built program, crates/pbaudit/out/pbaudit. The files have up to 2^28 bytes and are written one at a time
+PROGRAM is release/pbaudit, or crates/pbaudit/out/pbaudit. The files have up to 2^28 bytes and are written one at a time
 into the folder for temporary files (TMPDIR). The last column is how many times as long the hostile file takes as the
 plain one.
 """
