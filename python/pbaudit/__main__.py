@@ -115,12 +115,12 @@ def _page(given: argparse.Namespace) -> int:
     except Refusal as refusal:
         return _refused(refusal.printed, "\n".join(refusal.sentences()))
     except OSError as unread:
-        return _refused(f"refused {_role(given, unread.filename)} 18 Read record 0", str(unread))
+        return _refused(f"refused {_role(given, unread.filename)} 18 Read record 0", _reason(unread))
     try:
         with open(given.output, "wb") as file:
             file.write(page)
     except OSError as unwritten:
-        return _fault(f"fault write: {unwritten}")
+        return _fault(f"fault write: {_reason(unwritten)}")
     return 0
 
 
@@ -131,7 +131,7 @@ def _folder_pages(given: argparse.Namespace) -> int:
     try:
         os.listdir(given.folder)
     except OSError as unlisted:
-        return _refused("refused folder 18 Read record 0", str(unlisted))
+        return _refused("refused folder 18 Read record 0", _reason(unlisted))
     try:
         report = write_folder_pages(given.folder, given.output, stable=given.stable, exhaustive=not given.no_exhaustive,
                                     cover=given.cover, language=given.language)
@@ -140,7 +140,7 @@ def _folder_pages(given: argparse.Namespace) -> int:
     except OSError as why:
         if why.errno == errno.EILSEQ:
             return _refused("refused folder 18 Read record 0", str(why))
-        return _fault(f"fault write: {why}")
+        return _fault(f"fault write: {_reason(why)}")
     return _told(report.text.splitlines(), report.status)
 
 
@@ -154,7 +154,7 @@ def _equal_shares(given: argparse.Namespace) -> int:
     except Refusal as refusal:
         return _refused(refusal.printed, "\n".join(refusal.sentences()))
     except OSError as unread:
-        return _refused("refused election 18 Read record 0", str(unread))
+        return _refused("refused election 18 Read record 0", _reason(unread))
     except CannotKeep as why:
         return _told([f"no certificate was found near the payments of the rule: {why}"], DIFFERS)
     finally:
@@ -162,8 +162,11 @@ def _equal_shares(given: argparse.Namespace) -> int:
     try:
         paths = [] if given.output is None else write_files(made, given.output)
     except OSError as unwritten:
-        return _fault(f"fault write: {unwritten}")
-    return _told([*made.lines(), *(f"written: {path}" for path in paths)], DIFFERS if made.is_own is False else 0)
+        return _fault(f"fault write: {_reason(unwritten)}")
+    lines = [*made.lines(), *(f"written: {path}" for path in paths)]
+    if paths:
+        lines.append(f"check it by: {made.checked_by(given.election, *paths)}")
+    return _told(lines, DIFFERS if made.is_own is False else 0)
 
 
 def _told(lines: List[str], status: int) -> int:
@@ -172,13 +175,18 @@ def _told(lines: List[str], status: int) -> int:
         print(*lines, sep="\n", flush=True)
     except OSError as unwritten:
         _give_up(sys.stdout)
-        return _fault(f"fault write: {unwritten}")
+        return _fault(f"fault write: {_reason(unwritten)}")
     return status
 
 
 def _role(given: argparse.Namespace, path: Optional[str]) -> str:
     """Which of the files that the words name this is."""
     return next((role for role in ("election", "outcome") if getattr(given, role) == path), "certificate")
+
+
+def _reason(error: OSError) -> str:
+    """What went wrong with which file, as the program says it."""
+    return f"{error.filename}: {error.strerror}" if error.filename and error.strerror else str(error)
 
 
 def _refused(line: str, more: str) -> int:

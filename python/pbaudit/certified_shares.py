@@ -1,4 +1,5 @@
 """The command `equal-shares`: an outcome of the Method of Equal Shares with a certificate, and what of it holds."""
+import shlex
 import sys
 import time
 from dataclasses import dataclass
@@ -48,6 +49,13 @@ class Certified:
         yield f"certificate over the denominator {self.certificate.denominator}, as it was audited:"
         for name in ("plain", "stable", "Exhaustive", "Cover"):
             yield f"  {name:<12}{self._holds(name)}"
+
+    def checked_by(self, election: str, certificate: str, outcome: Optional[str] = None) -> str:
+        """The command by which anybody checks what was written."""
+        more = [] if outcome is None else ["--outcome", outcome]
+        if self._holds("Exhaustive") != "holds":
+            more.append("--no-exhaustive")
+        return shlex.join(["pbaudit", "prices", election, certificate, *more])
 
     def _compared(self, funded: Set[int]) -> str:
         own, ids = self.election.funded, self.election.projects.ids

@@ -65,11 +65,12 @@ class Library(unittest.TestCase):
         self.assertEqual("".join(line + "\n" for line in str(caught.exception).split("\n")[:2]), told)
 
     def test_equal_shares(self):
-        _, _, _, command, election, *words = block("python -m pbaudit equal-shares").split()
+        _, _, _, command, election, *words = block("~/pbaudit/bin/python -m pbaudit equal-shares").split()
         given = {**os.environ, "PYTHONPATH": os.pathsep.join(filter(None, sys.path))}
         done = subprocess.run([sys.executable, "-m", "pbaudit", command, REPOSITORY / election, *words], cwd=self.room,
                               capture_output=True, text=True, env=given, check=False)
-        self.assertEqual((done.stdout, done.stderr, done.returncode), (block("60 voters"), "", 0))
+        printed = done.stdout.replace(f"{REPOSITORY}/", "")
+        self.assertEqual((printed, done.stderr, done.returncode), (block("60 voters"), "", 0))
 
 
 class C(unittest.TestCase):

@@ -267,7 +267,7 @@ class Commands(unittest.TestCase):
     def test_a_file_that_is_not_there(self):
         missing = str(EXAMPLES / "missing.csv")
         done = self.run_page(DISTRICT, missing, "-o", "unwritten.html")
-        self.assertEqual(done.stderr.decode(), f"[Errno 2] No such file or directory: {missing!r}\n")
+        self.assertEqual(done.stderr.decode(), f"{missing}: No such file or directory\n")
 
     def test_a_file_whose_read_fails(self):
         path = "/proc/self/mem"

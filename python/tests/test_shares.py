@@ -1,6 +1,7 @@
 """The Method of Equal Shares, beside a plain one by fractions, and its command."""
 import io
 import pathlib
+import shlex
 import subprocess
 import sys
 import tempfile
@@ -191,6 +192,10 @@ class Commands(unittest.TestCase):
                 self.assertIn(f"fails: {finding.sentence}\n", done.stdout)
         self.assertIn("\n  plain       holds\n", done.stdout)
         self.assertIn("another outcome: the rule doesn't fund 101\n", done.stdout)
+        outcome, prices = (str(self.room / f"d.{name}.csv") for name in ("outcome", "prices"))
+        self.assertEqual(shlex.split(done.stdout.splitlines()[-1]), [
+            "check", "it", "by:", "pbaudit", "prices", str(EXAMPLES / "district.pb"), prices, "--outcome", outcome,
+            "--no-exhaustive"])
 
     def test_an_outcome_that_is_the_own(self):
         """Raised by add1 the budgets are stated by the certificate."""
@@ -202,6 +207,8 @@ class Commands(unittest.TestCase):
         self.assertEqual((done.returncode, done.stderr), (0, ""))
         self.assertIn("this is the outcome that the election states\n", done.stdout)
         self.assertFalse((self.room / "town.outcome.csv").exists())
+        self.assertEqual(shlex.split(done.stdout.splitlines()[-1])[3:],
+                         ["pbaudit", "prices", str(town), str(self.room / "town.prices.csv")])
         self.assertTrue(pbaudit.audit_prices(town, self.room / "town.prices.csv", stable=True, cover=True))
         self.assertIn(f"voter_budget,{int(made.voter_budget) * 16632}\n".encode(),
                       (self.room / "town.prices.csv").read_bytes())
