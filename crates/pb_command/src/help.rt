@@ -17,13 +17,13 @@ Exit statuses:
 Examples:
   pbaudit read town.pb
   pbaudit < town.pb
-  pbaudit prices town.pb prices.csv --stable
-  pbaudit violation town.pb violation.csv
-  pbaudit both town.pb prices.csv violation.csv --stable --cover
-  pbaudit explain town.pb prices.csv --stable
-  pbaudit page town.pb prices.csv --stable > page.html
-  pbaudit margins town.pb prices.csv > margins.csv
-  pbaudit tidy town.pb prices.csv > canonical.csv
+  pbaudit prices town.pb town.prices.csv --stable
+  pbaudit violation town.pb town.violation.csv
+  pbaudit both town.pb town.prices.csv town.violation.csv --stable --cover
+  pbaudit explain town.pb town.prices.csv --stable
+  pbaudit page town.pb town.prices.csv --stable > page.html
+  pbaudit margins town.pb town.prices.csv > margins.csv
+  pbaudit tidy town.pb town.prices.csv > canonical.csv
   pbaudit folder elections";
 
 /// What `read` prints.
@@ -84,8 +84,8 @@ each funded project.
 Exit statuses: 0 supported, 1 failed, 2 refused, 3 usage, 4 error.
 
 Examples:
-  pbaudit prices town.pb prices.csv
-  pbaudit prices town.pb prices.csv --stable --outcome outcome.csv";
+  pbaudit prices town.pb town.prices.csv
+  pbaudit prices town.pb town.prices.csv --stable --outcome town.outcome.csv";
 
 /// What `violation` tests.
 pub(crate) const VIOLATION_NOTES: &str = "\
@@ -120,8 +120,8 @@ each funded project.
 Exit statuses: 0 violation, 1 failed, 2 refused, 3 usage, 4 error.
 
 Examples:
-  pbaudit violation town.pb violation.csv
-  pbaudit violation town.pb violation.csv --outcome outcome.csv";
+  pbaudit violation town.pb town.violation.csv
+  pbaudit violation town.pb town.violation.csv --outcome town.outcome.csv";
 
 /// What `both` checks.
 pub(crate) const BOTH_NOTES: &str = "\
@@ -145,8 +145,8 @@ Exit statuses: 0 supported and a violation, 1 a condition or a test failed,
 2 refused, 3 usage, 4 error.
 
 Examples:
-  pbaudit both town.pb prices.csv violation.csv --stable --cover
-  pbaudit both town.pb prices.csv violation.csv --outcome outcome.csv";
+  pbaudit both town.pb town.prices.csv town.violation.csv --stable --cover
+  pbaudit both town.pb town.prices.csv town.violation.csv --outcome other.csv";
 
 /// What `explain` prints.
 pub(crate) const EXPLAIN_NOTES: &str = "\
@@ -175,9 +175,9 @@ Exit statuses: 0 supported or a violation, 1 a condition or a test failed,
 2 refused, 3 usage, 4 error.
 
 Examples:
-  pbaudit explain town.pb prices.csv
-  pbaudit explain town.pb prices.csv --stable --cover
-  pbaudit explain town.pb violation.csv --outcome outcome.csv";
+  pbaudit explain town.pb town.prices.csv
+  pbaudit explain town.pb town.prices.csv --stable --cover
+  pbaudit explain town.pb town.violation.csv --outcome town.outcome.csv";
 
 /// What `page` prints.
 pub(crate) const PAGE_NOTES: &str = "\
@@ -197,8 +197,8 @@ Exit statuses: 0 supported or a violation, 1 a condition or a test failed,
 2 refused, 3 usage, 4 error.
 
 Examples:
-  pbaudit page town.pb prices.csv > page.html
-  pbaudit page town.pb violation.csv --language pl > page.html";
+  pbaudit page town.pb town.prices.csv > page.html
+  pbaudit page town.pb town.violation.csv --language pl > page.html";
 
 /// What `margins` prints.
 pub(crate) const MARGINS_NOTES: &str = "\
@@ -228,8 +228,8 @@ The table is printed whether or not the certificate supports the outcome.
 Exit statuses: 0 printed, 2 refused, 3 usage, 4 error.
 
 Examples:
-  pbaudit margins town.pb prices.csv > margins.csv
-  pbaudit margins town.pb prices.csv --outcome outcome.csv";
+  pbaudit margins town.pb town.prices.csv > margins.csv
+  pbaudit margins town.pb town.prices.csv --outcome town.outcome.csv";
 
 /// What `tidy` prints.
 pub(crate) const TIDY_NOTES: &str = "\
@@ -256,7 +256,7 @@ lines:
 Exit statuses: 0 printed, 2 refused, 3 usage, 4 error.
 
 Example:
-  pbaudit tidy town.pb prices.csv > canonical.csv";
+  pbaudit tidy town.pb town.prices.csv > canonical.csv";
 
 /// What `folder` audits.
 pub(crate) const FOLDER_NOTES: &str = "\

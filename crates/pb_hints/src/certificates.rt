@@ -21,7 +21,9 @@ const MEASURE: &str = "only version 2 states a measure, in the record after pb-v
 pub(crate) fn general(fault: CertFault) -> &'static str {
     match fault {
         CertFault::NotUtf8 => "the text isn't UTF-8",
-        CertFault::BadHead => "the head isn't that of a file of this kind",
+        CertFault::BadHead => {
+            "its first records aren't those of a file of this kind, such as pb-prices,1"
+        }
         CertFault::BadRow => "the row isn't one of a file of this kind",
         CertFault::BadNumber => "a number isn't a whole number in its range",
         CertFault::UnknownVoter => "the election has no such voter",

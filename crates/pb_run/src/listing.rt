@@ -11,7 +11,8 @@ pub struct Listing {
     elections: Vec<String>,
     prices: Vec<String>,
     violations: Vec<String>,
-    /// The names, with their endings, of files whose endings are the same but for small and capital letters.
+    /// The names, with their endings, of files whose endings are the same but for small and capital letters, and of
+    /// certificates that have no name before it.
     misnamed: Vec<String>,
 }
 
@@ -74,7 +75,7 @@ impl Listing {
         Ok(listing)
     }
 
-    /// Takes what is listed, where it is an election or a certificate, or has such a name but for capital letters.
+    /// Takes what is listed, where it is an election or a certificate, or has nearly such a name.
     fn take(&mut self, alloc: Global, entry: &DirEntry) -> Result<(), ListFault> {
         let file_name = entry.file_name();
         let Some((role, name)) = split(file_name) else {
@@ -98,7 +99,8 @@ impl Listing {
     }
 
     /// The names, with their endings and in byte order, of the files that may be meant to be audited and aren't: those
-    /// whose endings are right but for small and capital letters, and certificates beside which there is no election.
+    /// whose endings are right but for small and capital letters, certificates without a name, as `prices.csv`, and
+    /// certificates beside which there is no election.
     /// One whose name begins with that of an election and a point, as `town.stable.prices.csv` beside `town.pb`, is
     /// taken for another one that was put there on purpose.
     pub fn overlooked(&self, alloc: Global) -> Result<Vec<String>, AllocError> {
@@ -161,13 +163,22 @@ fn split(file_name: &str) -> Option<(Role, &str)> {
     None
 }
 
-/// Whether a file's name has one of the endings but for small and capital letters.
+/// Whether a file's name has one of the endings but for small and capital letters, or is that of a certificate without
+/// the name of an election.
 fn is_misnamed(file_name: &str) -> bool {
     let name = file_name.as_bytes();
-    ROLES.into_iter().any(|(ending, _)| {
+    let has_ending = ROLES.into_iter().any(|(ending, _)| {
         let front = name.len().saturating_sub(ending.len());
         front > 0 && name[front..].eq_ignore_ascii_case(ending.as_bytes())
-    })
+    });
+    has_ending || is_bare(file_name, PRICES) || is_bare(file_name, VIOLATION)
+}
+
+/// Whether a file's name is an ending without its point.
+fn is_bare(file_name: &str, ending: &str) -> bool {
+    ending
+        .strip_prefix('.')
+        .is_some_and(|bare| bare == file_name)
 }
 
 /// Whether an entry may have this name: it isn't empty and holds no control byte.

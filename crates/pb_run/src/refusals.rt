@@ -86,6 +86,12 @@ fn unread(
         line: None,
         sentence,
     })?;
+    if path == Some("-") {
+        remarks.push(Remark {
+            line: None,
+            sentence: String::from_str(rt.alloc(), "standard input is /dev/stdin")?,
+        })?;
+    }
     Ok(remarks)
 }
 

@@ -176,6 +176,8 @@ fn only_regular_files_with_clean_names_are_entries(rt: HostRuntime) -> Result<()
         "line\n.pb",
         "del\u{7f}.pb",
         "c.prices.csv",
+        "prices.csv",
+        "violation.csv",
     ] {
         room.write(name, ELECTION.as_bytes())?;
     }
@@ -188,7 +190,8 @@ fn only_regular_files_with_clean_names_are_entries(rt: HostRuntime) -> Result<()
         "{}",
         told.printed
     );
-    let text = format!(in rt.alloc(); "pbaudit: not audited: b.PB, c.prices.csv{NAMES}\n")?;
+    let listed = "b.PB, c.prices.csv, prices.csv, violation.csv";
+    let text = format!(in rt.alloc(); "pbaudit: not audited: {listed}{NAMES}\n")?;
     assert!(rt; told.complaint == text, "{}", told.complaint);
     Ok(())
 }

@@ -156,6 +156,11 @@ fn hint_gives_the_reason_why_nothing_is_read(rt: HostRuntime) -> Result<(), Fail
     ] {
         expect_hint(&rt, &[command, path], line, path, &[hint])?;
     }
+    let hint = [
+        ": No such file or directory",
+        ": standard input is /dev/stdin",
+    ];
+    expect_hint(&rt, &["read", "-"], file, "-", &hint)?;
     let hint = [": the path is empty"];
     expect_hint(&rt, &["read", ""], file, "''", &hint)?;
     expect_hint(&rt, &["folder", ""], unlisted, "''", &hint)
