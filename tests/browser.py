@@ -60,7 +60,7 @@ HEADLINES = {
     "yes": "The prices support this outcome", "stable": NO,
     "sturdy": "The prices support this outcome in the stable form", "over": NO,
     "violation": "This group was treated worse than it deserves",
-    "small": "This certificate proves no unfair treatment",
+    "small": "This certificate doesn’t prove unfair treatment",
     "polish": "Ceny uzasadniaj\u0105 ten wynik", "german": "Die Preise st\u00fctzen dieses Ergebnis nicht",
     "french": "Ce certificat ne prouve aucun traitement injuste",
     "many": "The prices support this outcome", "hostile": NO,

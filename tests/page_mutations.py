@@ -36,7 +36,7 @@ SAID = [
     Mutation("a no as a yes", "stable", ANSWER, "<h2>The prices don\u2019t support", "<h2>The prices support"),
     Mutation("a yes as a no", "sturdy", ANSWER, "<h2>The prices support", "<h2>The prices don\u2019t support"),
     Mutation("a violation as none", "violation", ANSWER, "<h2>This group was treated worse than it deserves</h2>",
-             "<h2>This certificate proves no unfair treatment</h2>"),
+             "<h2>This certificate doesn’t prove unfair treatment</h2>"),
     Mutation("the stable answer as the plain one", "sturdy", ANSWER, " in the stable form</h2>", "</h2>"),
     Mutation("another title", "stable", ANSWER, " \u2013 The prices don\u2019t", " \u2013 The prices do"),
     Mutation("another line", "stable", ANSWER, "<code>failed S5 project 102", "<code>failed S5 project 108"),

@@ -83,7 +83,7 @@ class FolderPages(unittest.TestCase):
             wanted = pbaudit.write_page(self.folder / f"{name}.pb", self.folder / f"{name}.prices.csv", stable=True,
                                         language="de")
             self.assertEqual((self.out / f"{name}.prices.html").read_bytes(), wanted)
-        self.assertIn("Dieses Zertifikat beweist keine ungerechte Behandlung", places["district.violation.html"])
+        self.assertIn("Eine ungerechte Behandlung ist damit nicht bewiesen", places["district.violation.html"])
 
     def test_names_are_text(self):
         _, index = self.write()

@@ -10,7 +10,7 @@ english Supported = encode_utf8_all (codes "The prices support this outcome")
 english SupportedStable = encode_utf8_all (codes "The prices support this outcome in the stable form")
 english NotSupported = encode_utf8_all (codes "The prices don’t support this outcome")
 english Violation = encode_utf8_all (codes "This group was treated worse than it deserves")
-english NoViolation = encode_utf8_all (codes "This certificate proves no unfair treatment")
+english NoViolation = encode_utf8_all (codes "This certificate doesn’t prove unfair treatment")
 
 abbrev pub polish : Headline → List ℕ
 polish Supported = encode_utf8_all (codes "Ceny uzasadniają ten wynik")
@@ -24,7 +24,7 @@ german Supported = encode_utf8_all (codes "Die Preise stützen dieses Ergebnis")
 german SupportedStable = encode_utf8_all (codes "Die Preise stützen dieses Ergebnis in der stabilen Form")
 german NotSupported = encode_utf8_all (codes "Die Preise stützen dieses Ergebnis nicht")
 german Violation = encode_utf8_all (codes "Diese Gruppe wurde schlechter behandelt, als ihr zusteht")
-german NoViolation = encode_utf8_all (codes "Dieses Zertifikat beweist keine ungerechte Behandlung")
+german NoViolation = encode_utf8_all (codes "Eine ungerechte Behandlung ist damit nicht bewiesen")
 
 abbrev pub french : Headline → List ℕ
 french Supported = encode_utf8_all (codes "Les prix justifient ce résultat")

@@ -25,7 +25,7 @@ fn english(headline: Headline) -> &'static str
         Headline::SupportedStable => "The prices support this outcome in the stable form",
         Headline::NotSupported => "The prices don’t support this outcome",
         Headline::Violation => "This group was treated worse than it deserves",
-        Headline::NoViolation => "This certificate proves no unfair treatment",
+        Headline::NoViolation => "This certificate doesn’t prove unfair treatment",
     }
 }
 
@@ -49,7 +49,7 @@ fn german(headline: Headline) -> &'static str
         Headline::SupportedStable => "Die Preise stützen dieses Ergebnis in der stabilen Form",
         Headline::NotSupported => "Die Preise stützen dieses Ergebnis nicht",
         Headline::Violation => "Diese Gruppe wurde schlechter behandelt, als ihr zusteht",
-        Headline::NoViolation => "Dieses Zertifikat beweist keine ungerechte Behandlung",
+        Headline::NoViolation => "Eine ungerechte Behandlung ist damit nicht bewiesen",
     }
 }
 

@@ -332,8 +332,8 @@ pub(crate) fn wording(sentence: Sentence) -> &'static str {
         Sentence::CheckProgram => "Mit dem Programm pbaudit:",
         Sentence::CheckAnswer => "Es antwortet:",
         Sentence::CheckBrowser =>
-            "Im Browser: Geben Sie diese Dateien der Seite von pbaudit-web. Sie verlassen Ihren \
-             Rechner nicht.",
+            "Im Browser: Öffnen Sie pbaudit.html, und geben Sie der Seite diese Dateien. Sie verlassen \
+             Ihren Rechner nicht.",
         Sentence::Trust =>
             "Wer diese Seite ändert, kann sie alles sagen lassen. Trauen Sie den Dateien und dem \
              Programm, nicht der Seite.",

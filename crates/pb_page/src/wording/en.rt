@@ -315,8 +315,7 @@ pub(crate) fn wording(sentence: Sentence) -> &'static str {
         Sentence::CheckProgram => "By the program pbaudit:",
         Sentence::CheckAnswer => "It answers:",
         Sentence::CheckBrowser =>
-            "In a browser: give these files to the page of pbaudit-web. They don’t leave your \
-             computer.",
+            "In a browser: open pbaudit.html and give it these files. They don’t leave your computer.",
         Sentence::Trust =>
             "Whoever changes this page can make it say anything. Trust the files and the program, \
              not the page.",

@@ -335,7 +335,7 @@ pub(crate) fn wording(sentence: Sentence) -> &'static str {
         Sentence::CheckProgram => "Avec le programme pbaudit\u{a0}:",
         Sentence::CheckAnswer => "Il répond\u{a0}:",
         Sentence::CheckBrowser =>
-            "Dans un navigateur\u{a0}: donnez ces fichiers à la page de pbaudit-web. Ils ne \
+            "Dans un navigateur\u{a0}: ouvrez pbaudit.html et donnez-lui ces fichiers. Ils ne \
              quittent pas votre ordinateur.",
         Sentence::Trust =>
             "Qui modifie cette page peut lui faire dire n’importe quoi. Fiez-vous aux fichiers et \

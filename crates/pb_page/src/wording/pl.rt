@@ -319,7 +319,8 @@ pub(crate) fn wording(sentence: Sentence) -> &'static str {
         Sentence::CheckProgram => "Programem pbaudit:",
         Sentence::CheckAnswer => "Odpowiedź:",
         Sentence::CheckBrowser =>
-            "W przeglądarce: podaj te pliki stronie pbaudit-web. Nie opuszczą Twojego komputera.",
+            "W przeglądarce: otwórz pbaudit.html i podaj te pliki stronie. Nie opuszczą Twojego \
+             komputera.",
         Sentence::Trust =>
             "Kto zmieni tę stronę, może wpisać w nią wszystko. Ufaj plikom i programowi, nie \
              stronie.",
