@@ -60,8 +60,7 @@ claim_sets : (e : Instance) (d : Delivery) (claim : GroupAndDemand) → StatesVi
     → IsGroup e claim.1 × AreProjects e claim.2
 claim_sets e (delivery.Bytes bytes) claim states =
     group-text-sets (certificate_records bytes) e claim.0 claim.1 claim.2 states
-claim_sets e delivery.Read claim states = cc
-claim_sets e delivery.TooLong claim states = cc
+claim_sets e _ claim states = cc
 
 pub both_promises : (m : Mode) (violation : Delivery) → Promised (both_rules m violation)
 both_promises m violation e w prices (p, Ok claim) states =

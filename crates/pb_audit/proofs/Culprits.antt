@@ -1,12 +1,11 @@
 -- The projects that verdicts name are those of the election.
-use Rattle.std.proofs.Common.{◌≡◌, ℕ, Bool, List, [], ◌∷◌, ◌++◌, length, sym, subst, if◌then◌else◌, arith}
-use Rattle.std.specs.Prelude.{◌==◌, ◌&&◌, nat_le, nat_lt, ◌*◌, IfSome, Option, Some, None, filter, map}
+use Rattle.std.proofs.Common.{◌≡◌, ℕ, Bool, List, [], ◌∷◌, length, if◌then◌else◌, arith}
+use Rattle.std.specs.Prelude.{◌==◌, nat_lt, ◌*◌, IfSome, Option, Some, None, filter, map}
 use Rattle.std.specs.List.{AllByRecursion}
 use Rattle.pb_records.proofs.Each.{all-append, all-every, all-filter, all-first, all-flat_map, all-if, all-map, all-range}
-use Rattle.pb_election.specs.Instance.{Instance, IsProject, IsSet, all_projects, all_voters, cost_of_all, projects, voters}
+use Rattle.pb_election.specs.Instance.{Instance, IsProject, IsSet, all_projects, cost_of_all, projects, voters}
 use Rattle.pb_certificate.specs.Prices.{Prices}
-use Rattle.pb_cohesion.specs.Amounts.{beta, budget_limit}
-use Rattle.pb_cohesion.specs.Conditions.{culprits_of_C1, culprits_of_C2, culprits_of_C3, culprits_of_C4, culprits_of_C5, culprits_of_Exhaustive, culprits_of_S5}
+use Rattle.pb_cohesion.specs.Conditions.{culprits_of_C1, culprits_of_C2, culprits_of_C3, culprits_of_C4, culprits_of_Exhaustive}
 use Rattle.pb_cohesion.specs.FirstV.{FirstV, culprits_of_V2, culprits_of_V4, violation_failures_of, violation_verdict_of}
 use Rattle.pb_cohesion.specs.Outcome.{total}
 use Rattle.pb_cohesion.specs.declared.ViolationFailure.{ViolationFailure}
@@ -28,9 +27,7 @@ projects-are e = all-range (IsProject e) 1 (projects e) (λ j low high. (low, om
 -- the culprits among the projects that pass a test
 pub among-projects : (e : Instance) (q r : ℕ → Bool)
     → AllByRecursion (IsProject e) (filter q (filter r (all_projects e)))
-among-projects e q r =
-    all-filter (IsProject e) q (filter r (all_projects e))
-    (all-filter (IsProject e) r (all_projects e) (projects-are e))
+among-projects e q r = grind (arith, all-filter, projects-are)
 
 -- a failure of prices names a project of the election, if any
 abbrev pub Names : Instance → Failure → Type 0
@@ -45,15 +42,10 @@ outcome-names m e w =
     (all-map (Names e) failure.Exhaustive (culprits_of_Exhaustive e w) (among-projects e _ _)) tt)
 
 pub budget-names : (m : Mode) (e : Instance) (p : Prices) → AllByRecursion (Names e) (failures_of_budgets m e p)
-budget-names m e p =
-    all-if (Names e) (m.cover && nat_le (voters e * beta p) (budget_limit e p)) (failure.Cover ∷ []) [] (tt, tt) tt
+budget-names m e p = grind arith
 
 pub unapproved-name : (e : Instance) (p : Prices) → AllByRecursion (λ (q : ℕ × ℕ). IsProject e q.1) (culprits_of_C1 e p)
-unapproved-name e p =
-    all-flat_map (λ (q : ℕ × ℕ). IsProject e q.1) _ (all_voters e)
-    (all-every _ (all_voters e)
-    (λ i. all-map (λ (q : ℕ × ℕ). IsProject e q.1) (λ c. (i, c)) _
-    (all-filter (IsProject e) _ (all_projects e) (projects-are e))))
+unapproved-name e p = grind (arith, all-flat_map, all-every, all-map, all-filter, projects-are)
 
 pub payment-names : (e : Instance) (w : List Bool) (p : Prices) → AllByRecursion (Names e) (failures_of_payments e w p)
 payment-names e w p =
@@ -68,21 +60,11 @@ payment-names e w p =
 
 pub supporter-names : (m : Mode) (e : Instance) (w : List Bool) (p : Prices)
     → AllByRecursion (Names e) (failures_of_supporters m e w p)
-supporter-names m e w p =
-    all-if (Names e) m.stable (map failure.S5 (culprits_of_S5 e w p)) (map failure.C5 (culprits_of_C5 e w p))
-    (all-map (Names e) failure.S5 (culprits_of_S5 e w p) (among-projects e _ _))
-    (all-map (Names e) failure.C5 (culprits_of_C5 e w p) (among-projects e _ _))
+supporter-names m e w p = grind (arith, all-if, all-map, among-projects)
 
 pub failures-name : (m : Mode) (e : Instance) (w : List Bool) (p : Prices)
     → AllByRecursion (Names e) (failures_of m e w p)
-failures-name m e w p =
-    all-append (Names e) (failures_of_outcome m e w ++ failures_of_budgets m e p ++ failures_of_payments e w p)
-    (failures_of_supporters m e w p)
-    (all-append (Names e) (failures_of_outcome m e w ++ failures_of_budgets m e p) (failures_of_payments e w p)
-    (all-append (Names e) (failures_of_outcome m e w) (failures_of_budgets m e p) (outcome-names m e w)
-    (budget-names m e p))
-    (payment-names e w p))
-    (supporter-names m e w p)
+failures-name m e w p = grind (arith, all-append, outcome-names, budget-names, payment-names, supporter-names)
 
 first-names : (e : Instance) (o : Option Failure) → IfSome o (Names e) → PricesNameProject e (verdict_of o)
 first-names e None h = tt
@@ -90,9 +72,7 @@ first-names e (Some f) h = h
 
 pub prices_name_projects : (m : Mode) (e : Instance) (w : List Bool) (p : Prices) (v : Verdict)
     → v ≡ verdict_of (First m e w p) → PricesNameProject e v
-prices_name_projects m e w p v is =
-    subst (λ (u : Verdict). PricesNameProject e u) (sym is)
-    (first-names e (First m e w p) (all-first (Names e) (failures_of m e w p) (failures-name m e w p)))
+prices_name_projects m e w p v is = grind (arith, first-names, all-first, failures-name)
 
 -- the same of the failures of a violation certificate
 abbrev pub NamesDemanded : Instance → ViolationFailure → Type 0
@@ -129,7 +109,4 @@ first-demanded e (Some f) h = h
 
 pub violation_names_projects : (worth : ℕ → ℕ) (e : Instance) (w : List Bool) (s t : List ℕ) (v : ViolationVerdict)
     → v ≡ violation_verdict_of (FirstV worth e w s t) → IsSet 1 (projects e) t → ViolationNamesProject e v
-violation_names_projects worth e w s t v is set =
-    subst (λ (u : ViolationVerdict). ViolationNamesProject e u) (sym is)
-    (first-demanded e (FirstV worth e w s t)
-    (all-first (NamesDemanded e) (violation_failures_of worth e w s t) (violation-names worth e w s t set)))
+violation_names_projects worth e w s t v is set = grind (arith, first-demanded, all-first, violation-names)

@@ -116,8 +116,7 @@ pub denominator-low : (e : Instance) (d : Delivery) (p : Prices) → StatesPrice
     → 1 ≤ p.denominator
 denominator-low e (delivery.Bytes bytes) p given =
     (states-prices (certificate_records bytes) e p given).system.denominator.0
-denominator-low e delivery.Read p given = cc
-denominator-low e delivery.TooLong p given = cc
+denominator-low e _ p given = cc
 
 -- the reply on the findings on prices is that on the prices
 pub findings_explain : (m : Mode) (e : Instance) (w : List Bool) (p : Prices) (f : Findings) → 1 ≤ p.denominator

@@ -3,7 +3,7 @@ use Rattle.std.proofs.lemmas.List.FromFn.{length-map-range_with_len}
 use Rattle.pb_records.proofs.Lists.{range-push}
 use Rattle.pb_certificate.proofs.OnPrices.Canon.Written.{lines-push}
 use mir.Syntax.{w128}
-use Rattle.std.proofs.Common.{◌≡◌, ◌∙◌, ◌<◌, ◌+◌, ◌*◌, ◌^◌, ℕ, zero, suc, List, [], ◌∷◌, ◌++◌, length, map, refl, sym, ap, arith, SFits, append_assoc, append-nil, get_or, Bool, true, false}
+use Rattle.std.proofs.Common.{◌≡◌, ◌∙◌, ◌<◌, ◌+◌, ◌^◌, ℕ, zero, suc, List, [], ◌∷◌, ◌++◌, length, map, refl, sym, ap, arith, SFits, append_assoc, append-nil, get_or, Bool, true, false}
 use Rattle.std.specs.Prelude.{codes, decimal, ℤ, pos, negsuc}
 use Rattle.std.specs.Fmt.{signed_decimal}
 use Rattle.std.specs.List.{range_with_len}
@@ -48,8 +48,7 @@ pub row_written : (id : Field) (m : ProjectMargins) → IsId id → IsPlain (dec
     → IsPlain (decimal m.cost) → IsPlain (decimal m.paid) → IsPlain (signed_decimal m.left)
     → IsPlain (signed_decimal m.offer)
     → row_text default_writer (row_of id m) ≡ line (row_of id m)
-row_written id m is s c p l o =
-    row-line id (flag_of m.funded) _ (id-plain id is, (flag_plain m.funded, (s, (c, (p, (l, (o, tt)))))))
+row_written id m is s c p l o = grind (arith, row-line, id-plain, flag_plain)
 
 -- The head.
 
@@ -84,9 +83,7 @@ head_written g h0 h1 h2 h3 small e1 e2 e3 =
 at_place : {A : Type 0} (f : ℕ → A) (a n k : ℕ) (d : A) → k < n → get_or (map f (range_with_len a n)) k d ≡ f (a + k)
 at_place f a zero k d h = absurd (omega arith)
 at_place f a (suc n) zero d h = ap f (omega arith)
-at_place f a (suc n) (suc k) d h =
-    let here : a + 1 + k ≡ a + suc k = omega arith in
-    at_place f (a + 1) n k d (omega arith) ∙ ap f here
+at_place f a (suc n) (suc k) d h = grind (arith, at_place f (a + 1) n k d)
 
 pub as_many_rows : (e : Instance) (w : List Bool) (p : Prices) (m : Margins) → AreMargins e w p m
     → length m.projects.items ≡ projects e
@@ -115,15 +112,6 @@ row_pushed e w p m k d before after are low b a =
     ∙ (ap (λ (f : ProjectMargins). lines (head ++ others) ++ line (row_of (id_of e (k + 1)) f)) figures
     ∙ (sym (lines-push (head ++ others) (row (k + 1)))
     ∙ ap lines (append_assoc head others (row (k + 1) ∷ []) ∙ ap (λ (x : List Rec). head ++ x) (sym rows)))))
-
--- all rows
-pub table_written : (e : Instance) (w : List Bool) (p : Prices) (m : Margins) (c : ℕ) (text : Text) → AreMargins e w p m
-    → c ≡ projects e
-    → text ≡ lines (margin_head m.grains_per_unit ++ margin_rows e w p (range_with_len 1 c))
-    → text ≡ lines (table_of e w p)
-table_written e w p m c text are all is =
-    is ∙ (ap (λ (g : ℕ). lines (margin_head g ++ margin_rows e w p (range_with_len 1 c))) are.grains_per_unit
-    ∙ ap (λ (n : ℕ). lines (margin_head (10 ^ 6 * p.denominator) ++ margin_rows e w p (range_with_len 1 n))) all)
 
 -- The answers.
 

@@ -57,8 +57,7 @@ states-same input is_text is_refused k (delivery.Bytes bytes) (Ok a) (Ok b) h i 
 states-same input is_text is_refused k (delivery.Bytes bytes) (Ok a) (Err r) h i = absurd (k.apart bytes a r h i)
 states-same input is_text is_refused k (delivery.Bytes bytes) (Err r) (Ok a) h i = absurd (k.apart bytes a r i h)
 states-same input is_text is_refused k (delivery.Bytes bytes) (Err r) (Err s) h i = ap Err (k.first bytes r s h i)
-states-same input is_text is_refused k delivery.Read s t h i = h ∙ sym i
-states-same input is_text is_refused k delivery.TooLong s t h i = h ∙ sym i
+states-same input is_text is_refused k _ s t h i = h ∙ sym i
 
 states-one : {A : Type 0} (input : InputName) (is_text : List ℕ → A → Type 0)
     (is_refused : List ℕ → InputRefusal → Type 0)

@@ -1,6 +1,6 @@
 -- The marks of the numbers that some names have.
-use Rattle.std.proofs.Common.{◌≡◌, ◌≢◌, ◌≤◌, ◌<◌, ◌+◌, ◌-◌, ◌∙◌, ℕ, zero, suc, Bool, true, false, cond, List, [], ◌∷◌, ◌++◌, length, refl, sym, ap, subst, arith, Option, Some, None, get_or, add-one, append-nil}
-use Rattle.std.specs.Prelude.{Ok, Err, filter, map, replicate}
+use Rattle.std.proofs.Common.{◌≡◌, ◌≢◌, ◌≤◌, ◌<◌, ◌+◌, ◌-◌, ◌∙◌, ℕ, zero, suc, Bool, true, false, List, [], ◌∷◌, ◌++◌, length, refl, sym, ap, arith, Option, Some, get_or, add-one, append-nil}
+use Rattle.std.specs.Prelude.{Ok, filter, map, replicate}
 use Rattle.std.specs.List.{AllByRecursion, IsDistinct, range_with_len}
 use Rattle.std.proofs.Math.ListN.{set}
 use Rattle.std.proofs.lemmas.List.Elements.{filter-append}
@@ -9,7 +9,6 @@ use Rattle.pb_records.proofs.Lists.{range-push, filter-same}
 use Rattle.pb_election.specs.Instance.{IsSet}
 use Rattle.pb_certificate.specs.Inside.Marks.{is_marked, marked, marks_after, marks_of, with_mark}
 use Rattle.pb_certificate.specs.declared.refusal.CertFault.{CertFault}
-use Rattle.pb_certificate.specs.declared.refusal.CertFault.TheVariants as fault
 use Rattle.pb_certificate.proofs.Unique.{filter-set}
 
 -- no mark is set
@@ -35,36 +34,20 @@ set-range f g (suc n) a zero x within here other =
     rest : (m b : ℕ) → a < b → map g (range_with_len b m) ≡ map f (range_with_len b m)
     rest zero b l = refl
     rest (suc m) b l = rw (other b (λ e. omega arith), rest m (b + 1) (omega arith)) refl
-set-range f g (suc n) a (suc k) x within here other =
-    let e : a + suc k ≡ a + 1 + k = omega arith in
-    rw (other a (λ e. omega arith))
-    (ap (λ xs. f a ∷ xs)
-    (set-range f g n (a + 1) k x (omega arith) (rw e at here) (λ i ne. other i (λ q. ne (q ∙ e)))))
+set-range f g (suc n) a (suc k) x within here other = grind (arith, set-range f g n (a + 1) k x)
 
 -- one more mark, where one more number passes the test
 pub one-more-mark : (f g : ℕ → Bool) (n j : ℕ) → 1 ≤ j → j ≤ n → g j ≡ true → ((i : ℕ) → i ≢ j → g i ≡ f i)
     → with_mark (marks_of f n) j ≡ marks_of g n
-one-more-mark f g n j low high here other =
-    let e : 1 + (j - 1) ≡ j = omega arith in
-    set-range f g n 1 (j - 1) true (omega arith) (rw e here) (λ i ne. other i (λ q. ne (q ∙ sym e)))
+one-more-mark f g n j low high here other = grind (arith, set-range)
 
 pub same-marks : (f g : ℕ → Bool) (n : ℕ) → ((i : ℕ) → g i ≡ f i) → marks_of f n ≡ marks_of g n
-same-marks f g n h = go n 1
-  where
-    go : (m a : ℕ) → map f (range_with_len a m) ≡ map g (range_with_len a m)
-    go zero a = refl
-    go (suc m) a = rw (h a, go m (a + 1)) refl
+same-marks f g n h = grind arith
 
 -- what was marked
 pub was-marked : (unknown : CertFault) (place : Option ℕ) (old new : List Bool) → marks_after unknown place old ≡ Ok new
     → (j : ℕ) × (place ≡ Some j) × (is_marked old j ≡ false) × (new ≡ with_mark old j)
-was-marked unknown None old new h = cc h
-was-marked unknown (Some j) old new h = by (is_marked old j) refl h
-  where
-    by : (b : Bool) → is_marked old j ≡ b → cond b (Err fault.Repeated) (Ok (with_mark old j)) ≡ Ok new
-        → (k : ℕ) × (Some j ≡ Some k) × (is_marked old k ≡ false) × (new ≡ with_mark old k)
-    by true is e = cc e
-    by false is e = (j, refl, is, cc e)
+was-marked unknown place old new h = grind arith
 
 -- names that differ from one more
 pub distinct-push : {A : Type 0} (eq : A → A → Bool) (xs : List A) (x : A) → IsDistinct eq xs
@@ -81,9 +64,7 @@ distinct-push {A} eq (y ∷ ys) x h k = (apart ys h.0 k.0, distinct-push eq ys x
 -- the numbers that are marked are those that pass the test
 
 pub marked-are : (f : ℕ → Bool) (n : ℕ) → marked (marks_of f n) ≡ filter f (range_with_len 1 n)
-marked-are f n =
-    rw (length-map-range_with_len f 1 n)
-    (filter-same (is_marked (marks_of f n)) f n 1 (λ i low high. mark-is f n i low (omega arith)))
+marked-are f n = grind (arith, length-map-range_with_len, filter-same, mark-is)
 
 -- the numbers that are marked, step by step
 
@@ -101,21 +82,12 @@ mark-at marks i b is = let e : 1 + i - 1 ≡ i = omega arith in rw e is
 pub one-more-marked : (marks : List Bool) (i number : ℕ) → number ≡ i → get_or marks i true ≡ true
     → filter (is_marked marks) (range_with_len 1 i) ++ ((number + 1) ∷ [])
     ≡ filter (is_marked marks) (range_with_len 1 (i + 1))
-one-more-marked marks i number same is =
-    let e : number + 1 ≡ 1 + i = omega arith in
-    let one : filter (is_marked marks) ((1 + i) ∷ []) ≡ (1 + i) ∷ [] = rw (mark-at marks i true is) refl in
-    rw e (ap (λ (xs : List ℕ). filter (is_marked marks) (range_with_len 1 i) ++ xs) (sym one)
-    ∙ sym (more-marked marks i))
+one-more-marked marks i number same is = grind (arith, mark-at, more-marked)
 
 pub none-more-marked : (marks : List Bool) (i : ℕ) → get_or marks i true ≡ false
     → filter (is_marked marks) (range_with_len 1 i) ≡ filter (is_marked marks) (range_with_len 1 (i + 1))
-none-more-marked marks i is =
-    let none : filter (is_marked marks) ((1 + i) ∷ []) ≡ [] = rw (mark-at marks i false is) refl in
-    sym (more-marked marks i ∙ ap (λ (xs : List ℕ). filter (is_marked marks) (range_with_len 1 i) ++ xs) none
-    ∙ append-nil (filter (is_marked marks) (range_with_len 1 i)))
+none-more-marked marks i is = grind (arith, mark-at, more-marked, append-nil)
 
 -- they are a set
 pub marked-set : (marks : List Bool) (n : ℕ) → length marks ≡ n → IsSet 1 n (marked marks)
-marked-set marks n same =
-    let set_of = filter-set (is_marked marks) (length marks) 1 (length marks) (omega arith) in
-    subst (λ k. IsSet 1 k (marked marks)) same set_of
+marked-set marks n same = grind (arith, filter-set)

@@ -36,8 +36,6 @@ pub record Row (e : Instance) (r : Rec) (x : Named) : Type 0 where
   pub says : Says e kind f x
 
 row-by : (e : Instance) (r : Rec) (x : Named) (fs : List Field) → fields r ≡ fs → named_by e fs ≡ Some x → Row e r x
-row-by e r x [] s h = cc
-row-by e r x (k ∷ []) s h = cc
 row-by e r x (k ∷ f ∷ []) s h = go (bytes_eq k (codes "voter")) refl (bytes_eq k (codes "project")) refl h
   where
     go : (a : Bool) → bytes_eq k (codes "voter") ≡ a → (b : Bool) → bytes_eq k (codes "project") ≡ b
@@ -50,7 +48,7 @@ row-by e r x (k ∷ f ∷ []) s h = go (bytes_eq k (codes "voter")) refl (bytes_
         subst (Row e r) found.2
         (record { kind = k; f = f; shape = s; says = ((bytes_eq-Decides k (codes "project")).0 is, found.1) })
     go false no' false no'' l = cc
-row-by e r x (k ∷ f ∷ g ∷ gs) s h = cc
+row-by e r x _ s h = cc
 
 pub row-of : (e : Instance) (r : Rec) (x : Named) → named_of e r ≡ Some x → Row e r x
 row-of e r x h = row-by e r x (fields r) refl h

@@ -1,5 +1,5 @@
 -- Where no fault stands among the records that are not blank, none stands at any place.
-use Rattle.std.proofs.Common.{◌≡◌, ℕ, zero, suc, ◌+◌, ◌≤◌, Bool, true, false, cond, List, [], ◌∷◌, ◌++◌, length, refl, sym, ◌∙◌, subst, arith, Option, Some, None, append_assoc, append-nil}
+use Rattle.std.proofs.Common.{◌≡◌, ℕ, zero, suc, ◌≤◌, Bool, true, false, cond, List, [], ◌∷◌, ◌++◌, length, refl, sym, subst, arith, Option, Some, None, append_assoc, append-nil}
 use Rattle.std.specs.Prelude.{not, find, take, slice_get}
 use Rattle.std.specs.List.{AllByRecursion}
 use Rattle.std.proofs.lemmas.List.Elements.{filter-append}
@@ -20,12 +20,7 @@ pub none-anywhere : (form : Form CertFault) (pre recs : List Rec) → ClearFrom 
     → (k : ℕ) → k ≤ length recs → fault_after form (pre ++ take k recs) (slice_get recs k) ≡ None
 none-anywhere form pre [] h zero within = rw append-nil h
 none-anywhere form pre [] h (suc k) within = absurd (omega arith)
-none-anywhere form pre (r ∷ rs) h zero within = rw append-nil (go (is_blank r) refl h)
-  where
-    go : (b : Bool) → is_blank r ≡ b → ClearFrom form (nonblank pre) (cond (not b) (r ∷ nonblank rs) (nonblank rs))
-        → cond b None (form (nonblank pre) (Some r)) ≡ None
-    go true e k = refl
-    go false e k = k.0
+none-anywhere form pre (r ∷ rs) h zero within = grind (arith, append-nil)
 none-anywhere form pre (r ∷ rs) h (suc k) within =
     let rest = none-anywhere form (pre ++ (r ∷ [])) rs (go (is_blank r) refl h) k (omega arith) in
     subst (λ (xs : List Rec). fault_after form xs (slice_get rs k) ≡ None) (append_assoc pre (r ∷ []) (take k rs)) rest
@@ -43,43 +38,24 @@ pub none-refused : (form : Form CertFault) (recs : List Rec) → ClearFrom form 
     → (place : ℕ) (f : CertFault) → IsFirstFault form recs place f → ⊥
 none-refused form recs h zero f r = let some : Some f ≡ None = sym r.here in cc
 none-refused form recs h (suc k) f r =
-    let within : suc k ≤ length recs + 1 = r.within in
     let none : fault_at form recs (suc k) ≡ None = none-anywhere form [] recs h k (omega arith) in
-    let some : Some f ≡ None = sym r.here ∙ none in
     cc
 
 -- a record at which no fault stands is UTF-8
 pub clear-text : (form : Form CertFault) (before : List Rec) (r : Rec)
     → (is_text r ≡ false → form before (Some r) ≡ Some fault.NotUtf8) → form before (Some r) ≡ None → is_text r ≡ true
-clear-text form before r refused none = by (is_text r) refl
-  where
-    by : (b : Bool) → is_text r ≡ b → is_text r ≡ true
-    by true is = is
-    by false is = let stands = refused is in cc (none, stands)
+clear-text form before r refused none = grind arith
 
 -- nothing is found where each fault fails
 pub no-fault : (stands : List Rec → Option Rec → CertFault → Bool) (before : List Rec) (o : Option Rec)
     → ((f : CertFault) → stands before o f ≡ false) → find (stands before o) in_order ≡ None
-no-fault stands before o h =
-    rw (
-      h fault.NotUtf8,
-      h fault.BadHead,
-      h fault.BadRow,
-      h fault.BadNumber,
-      h fault.UnknownVoter,
-      h fault.UnknownProject,
-      h fault.OutOfOrder,
-      h fault.Repeated,
-      h fault.TooMany,
-    ) refl
+no-fault stands before o h = grind arith
 
 -- what comes is apart from one more that was taken
 pub apart-more : {A : Type 0} (eq : A → A → Bool) (ms : List A) (n : A) (ns : List A)
     → AllByRecursion (λ x. AllByRecursion (λ m. eq m x ≡ false) ms) ns → AllByRecursion (λ y. eq n y ≡ false) ns
     → AllByRecursion (λ x. AllByRecursion (λ m. eq m x ≡ false) (ms ++ (n ∷ []))) ns
-apart-more eq ms n ns h k =
-    all-both (λ x. AllByRecursion (λ m. eq m x ≡ false) ms) (λ y. eq n y ≡ false)
-    (λ x. AllByRecursion (λ m. eq m x ≡ false) (ms ++ (n ∷ []))) ns (λ x. all-push (λ m. eq m x ≡ false) ms n) h k
+apart-more eq ms n ns h k = grind (arith, all-both, all-push)
 
 pub each-nil : {A : Type 0} (eq : A → A → Bool) (ns : List A)
     → AllByRecursion (λ x. AllByRecursion (λ m. eq m x ≡ false) []) ns

@@ -1,7 +1,7 @@
 -- The whole numbers that fields state.
-use Rattle.std.proofs.Common.{◌≡◌, ◌≤◌, ◌<◌, ◌∙◌, ℕ, Bool, true, false, cond, [], ◌∷◌, refl, sym, ap, arith, Option, Some, None}
+use Rattle.std.proofs.Common.{◌≡◌, ◌≤◌, ◌<◌, ℕ, Bool, true, false, cond, refl, arith, Option, Some, None}
 use Rattle.std.specs.Prelude.{not, nat_le, nat_lt, Result, Ok, Err, is_some}
-use Rattle.std.proofs.lemmas.Bool.{le-leb, lt-leb, ltb-false, ltb-true}
+use Rattle.std.proofs.lemmas.Bool.{le-leb, lt-leb, ltb-true}
 use Rattle.std.proofs.Math.Bool.{and-false}
 use Rattle.pb_money.specs.Digits.{are_digits, is_empty, number_of}
 use Rattle.pb_money.specs.Whole.{whole_of}
@@ -19,15 +19,7 @@ answer empty digits large n =
 
 pub number-read : (most n : ℕ) (f : Field) → Ok n ≡ whole_of most f → (whole_in f ≡ Some n) × (n ≤ most)
 unfolding whole_of whole_in answer
-number-read most n f h = by (is_empty f) (are_digits f) (nat_lt most (number_of f)) refl refl h
-  where
-    by : (e d l : Bool) → are_digits f ≡ d → nat_lt most (number_of f) ≡ l → Ok n ≡ answer e d l (number_of f)
-        → (cond d (Some (number_of f)) None ≡ Some n) × (n ≤ most)
-    by true d l is_d is_l k = cc
-    by false false l is_d is_l k = cc
-    by false true true is_d is_l k = cc
-    by false true false is_d is_l k = let same : n ≡ number_of f = cc in
-        (ap Some (sym same), let high = ltb-false most (number_of f) is_l in omega arith)
+number-read most n f h = grind arith
 
 pub large-read : (most : ℕ) (f : Field) → Err whole.TooLarge ≡ whole_of most f
     → (n : ℕ) × (whole_in f ≡ Some n) × (most < n)
@@ -46,18 +38,7 @@ large-read most f h = by (is_empty f) (are_digits f) (nat_lt most (number_of f))
 pub no-number-read : (most : ℕ) (f : Field) (w : WholeFault) → Err w ≡ whole_of most f → (w ≡ whole.TooLarge → ⊥)
     → whole_in f ≡ None
 unfolding whole_of whole_in answer
-no-number-read most f w h other = by f (nat_lt most (number_of f)) h
-  where
-    by : (g : Field) (l : Bool) → Err w ≡ answer (is_empty g) (are_digits g) l (number_of g)
-        → cond (are_digits g) (Some (number_of g)) None ≡ None
-    by [] l k = refl
-    by (b ∷ bs) l k = digits (are_digits (b ∷ bs)) l k
-      where
-        digits : (d l : Bool) → Err w ≡ answer false d l (number_of (b ∷ bs))
-            → cond d (Some (number_of (b ∷ bs))) None ≡ None
-        digits false l k = refl
-        digits true true k = absurd (other cc)
-        digits true false k = cc
+no-number-read most f w h other = grind arith
 
 pub within-bounds : (least most n : ℕ) (f : Field) → whole_in f ≡ Some n → least ≤ n → n ≤ most
     → whole_within least most f ≡ Some n
@@ -75,23 +56,17 @@ no-number least most f is = rw is refl
 -- no number up to `most` was read
 pub none-read : (least most : ℕ) (f : Field) (w : WholeFault) → Err w ≡ whole_of most f
     → whole_within least most f ≡ None
-none-read least most f whole.Empty read = no-number least most f (no-number-read most f whole.Empty read (λ e. cc e))
-none-read least most f whole.NotDigits read =
-    no-number least most f (no-number-read most f whole.NotDigits read (λ e. cc e))
-none-read least most f whole.TooLarge read = let large = large-read most f read in
-    too-high least most large.0 f large.1 large.2
+none-read least most f w read = grind (arith, no-number, no-number-read, large-read, too-high)
 
 -- a call of `read_whole`, at the values that are known of its arguments
 pub read-of : (result known : Result ℕ WholeFault) (most most' : ℕ) (text text' : Field) → result ≡ known
     → result ≡ whole_of most text → most ≡ most' → text ≡ text' → known ≡ whole_of most' text'
-read-of result known most most' text text' is read same same_text =
-    sym is ∙ read ∙ ap (λ (n : ℕ). whole_of n text) same ∙ ap (whole_of most') same_text
+read-of result known most most' text text' is read same same_text = grind arith
 
 -- what a voter's field gives
 pub voter-read : (most n : ℕ) (f : Field) → Ok n ≡ whole_of most f → 0 < n
     → Ok (Some n) ≡ cond (is_some (whole_in f)) (Ok (whole_within 1 most f)) (Err fault.BadNumber)
-voter-read most n f read some = let number = number-read most n f read in
-    rw (number.0, le-leb 1 n some, le-leb n most number.1) refl
+voter-read most n f read some = grind (arith, number-read, le-leb)
 
 pub voter-0-read : (most n : ℕ) (f : Field) → Ok n ≡ whole_of most f → n ≤ 0
     → Ok None ≡ cond (is_some (whole_in f)) (Ok (whole_within 1 most f)) (Err fault.BadNumber)
@@ -99,8 +74,7 @@ voter-0-read most n f read none = let number = number-read most n f read in rw (
 
 pub voter-large-read : (most : ℕ) (f : Field) → Err whole.TooLarge ≡ whole_of most f
     → Ok None ≡ cond (is_some (whole_in f)) (Ok (whole_within 1 most f)) (Err fault.BadNumber)
-voter-large-read most f read = let large = large-read most f read in
-    rw (large.1, lt-leb large.0 most large.2, and-false (nat_le 1 large.0)) refl
+voter-large-read most f read = grind (arith, large-read, lt-leb, and-false)
 
 pub voter-not-read : (most : ℕ) (f : Field) (w : WholeFault) → Err w ≡ whole_of most f → (w ≡ whole.TooLarge → ⊥)
     → Err fault.BadNumber ≡ cond (is_some (whole_in f)) (Ok (whole_within 1 most f)) (Err fault.BadNumber)

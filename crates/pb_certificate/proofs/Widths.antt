@@ -1,10 +1,10 @@
 -- How many fields of a record count, looked at from the end.
-use Rattle.std.proofs.Common.{◌≡◌, ◌<◌, ℕ, suc, zero, [], ◌∷◌, refl, ap, arith, Bool, true, false, cond, length, take}
-use Rattle.std.specs.Prelude.{◌==◌, ◌&&◌}
+use Rattle.std.proofs.Common.{◌≡◌, ◌<◌, ℕ, suc, zero, [], ◌∷◌, refl, ap, arith, true, false, length, take}
+use Rattle.std.specs.Prelude.{◌==◌}
 use Rattle.std.proofs.lemmas.Bool.Decides.{nat_tests}
 use Rattle.pb_money.specs.Digits.{is_empty}
 use Rattle.pb_records.specs.Records.{Field, Rec}
-use Rattle.pb_records.specs.Cells.{cell, clean}
+use Rattle.pb_records.specs.Cells.{cell}
 use Rattle.csv.specs.Records.{field_at}
 use Rattle.pb_certificate.specs.Fields.{fields}
 
@@ -18,9 +18,7 @@ pub drops-last : (r : Rec) (k : ℕ) → k < length r → is_empty (cell k r) �
 unfolding field_at
 drops-last [] k h e = absurd (omega arith)
 drops-last (f ∷ fs) zero h e = rw e refl
-drops-last (f ∷ fs) (suc k) h e =
-    ap (λ (rest : Rec). cond (is_empty (clean f) && is_empty rest) [] (clean f ∷ rest))
-    (drops-last fs k (omega arith) e)
+drops-last (f ∷ fs) (suc k) h e = grind (arith, drops-last fs k)
 
 -- one that isn't empty does, with all before it
 pub keeps-last : (r : Rec) (k : ℕ) → k < length r → is_empty (cell k r) ≡ false
@@ -28,15 +26,7 @@ pub keeps-last : (r : Rec) (k : ℕ) → k < length r → is_empty (cell k r) �
 unfolding field_at
 keeps-last [] k h e = absurd (omega arith)
 keeps-last (f ∷ fs) zero h e = rw e refl
-keeps-last (f ∷ fs) (suc k) h e =
-    after (is_empty (clean f)) (clean f) (fields (take (suc k) fs)) (keeps-last fs k (omega arith) e)
-  where
-    after : (b : Bool) (c : Field) (rest : Rec) → length rest ≡ suc k
-        → length (cond (b && is_empty rest) [] (c ∷ rest)) ≡ suc (suc k)
-    after true c [] many = absurd (omega arith)
-    after false c [] many = absurd (omega arith)
-    after true c (g ∷ gs) many = ap suc many
-    after false c (g ∷ gs) many = ap suc many
+keeps-last (f ∷ fs) (suc k) h e = grind (arith, keeps-last fs k)
 
 -- the front of a record that is as long as it
 pub whole : (r : Rec) (k : ℕ) → length r ≡ k → take k r ≡ r

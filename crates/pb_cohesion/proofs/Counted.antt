@@ -55,11 +55,7 @@ common-more t s k n m b h within here is = record {
 pub missing-is : (e : Instance) (i : ℕ) (b t : List ℕ) (approved k : ℕ) → b ≡ ballot_of e i → IsSet 1 (projects e) b
     → IsSet 1 (projects e) t → AreCommon t b k approved → length b ≤ k
     → approved + length (filter (λ j. not (approves e i j)) t) ≡ length t
-missing-is e i b t approved k is hb ht h end =
-    ap (λ n. n + length (filter (λ j. not (approves e i j)) t))
-    (h.many ∙ ap (λ xs. length (filter (among t) xs)) (take_all k b end)
-    ∙ ap (λ xs. length xs) (common (projects e) b t hb ht) ∙ ap (λ xs. length (filter (among xs) t)) is)
-    ∙ length-filter_both (approves e i) (λ j. not (approves e i j)) (λ j. refl) t
+missing-is e i b t approved k is hb ht h end = grind (arith, take_all, common, length-filter_both)
 
 pub few-missing : (e : Instance) (i : ℕ) (t : List ℕ) (n : ℕ) → IsElection e → IsSet 1 (projects e) t
     → n ≡ length (filter (λ j. not (approves e i j)) t) → n ≤ 20000
@@ -74,25 +70,12 @@ with_voter e t i = map (λ j. (i, j)) (filter (λ j. not (approves e i j)) t)
 
 pub pairs-are : (e : Instance) (s t : List ℕ)
     → sum_by (λ i. length (filter (λ j. not (approves e i j)) t)) s ≡ length (culprits_of_V2 e s t)
-pairs-are e s t = sums s ∙ sym (length-flat_map (with_voter e t) s)
-  where
-    sums : (xs : List ℕ) → sum_by (λ i. length (filter (λ j. not (approves e i j)) t)) xs
-        ≡ sum_by (λ i. length (with_voter e t i)) xs
-    sums [] = refl
-    sums (x ∷ xs) =
-        omega (
-          arith,
-          sums xs,
-          length-map {B = ℕ × ℕ} (filter (λ j. not (approves e x j)) t) (λ j. (x, j)),
-          sum_by-cons (λ i. length (filter (λ j. not (approves e i j)) t)) x xs,
-          sum_by-cons (λ i. length (with_voter e t i)) x xs,
-        )
+pairs-are e s t = grind (arith, length-flat_map, length-map, sum_by-cons)
 
 -- one more member
 pub largest-push : (f : ℕ → ℕ) (xs : List ℕ) (x : ℕ) → largest_by f (xs ++ (x ∷ [])) ≡ max (largest_by f xs) (f x)
 largest-push f [] x = omega arith
-largest-push f (y ∷ xs) x = let rest : largest_by f (xs ++ (x ∷ [])) ≡ max (largest_by f xs) (f x) =
-    largest-push f xs x in omega arith
+largest-push f (y ∷ xs) x = grind (arith, largest-push f xs x)
 
 -- what is known of the members in a list, where q tells the satisfied ones and f what each gets
 pub record Seen (q : ℕ → Bool) (f : ℕ → ℕ) (xs : List ℕ) (satisfied : SatisfiedMembers) (gets : ℕ) : Type 0 where
@@ -116,23 +99,14 @@ count-push ys false x n is = omega (arith, length-append ys [])
 shown-push : (f : ℕ → ℕ) (xs : List ℕ) (o : Option ℕ) (b : Bool) (x g : ℕ) → g ≡ shown_worth o f xs
     → cond (is_some o) g (cond b (f x) (max g (f x)))
     ≡ shown_worth (option_or o (cond b (Some x) None)) f (xs ++ (x ∷ []))
-shown-push f xs (Some y) b x g is = is
-shown-push f xs None true x g is = refl
-shown-push f xs None false x g is = ap (λ n. max n (f x)) is ∙ sym (largest-push f xs x)
+shown-push f xs o b x g is = grind (arith, largest-push)
 
 -- one more member
 seen-push : (q : ℕ → Bool) (f : ℕ → ℕ) (xs : List ℕ) (x : ℕ) (s s' : SatisfiedMembers) (g g' : ℕ) (b : Bool)
     → Seen q f xs s g → q x ≡ b
     → s'.first ≡ option_or s.first (cond b (Some x) None) → s'.count ≡ s.count + cond b 1 0
     → g' ≡ cond (is_some s.first) g (cond b (f x) (max g (f x))) → Seen q f (xs ++ (x ∷ [])) s' g'
-seen-push q f xs x s s' g g' b h is first count shown = record {
-  first = first ∙ first-push (filter q xs) b x s.first h.first ∙ sym (ap (λ ys. slice_get ys 0) added);
-  count = count ∙ count-push (filter q xs) b x s.count h.count ∙ sym (ap (λ ys. length ys) added);
-  shown = shown ∙ shown-push f xs s.first b x g h.shown ∙ ap (λ o. shown_worth o f (xs ++ (x ∷ []))) (sym first);
-}
-  where
-    added : filter q (xs ++ (x ∷ [])) ≡ filter q xs ++ cond b (x ∷ []) []
-    added = filter-append q xs (x ∷ []) ∙ ap (λ c. filter q xs ++ cond c (x ∷ []) []) is
+seen-push q f xs x s s' g g' b h is first count shown = grind (arith, first-push, count-push, shown-push, filter-append)
 
 pub seen-more : (q : ℕ → Bool) (f : ℕ → ℕ) (xs : List ℕ) (k : ℕ) (s s' : SatisfiedMembers) (g g' n : ℕ) (b : Bool)
     → Seen q f (take k xs) s g → k < length xs → n ≡ f (get_or xs k 0) → q (get_or xs k 0) ≡ b
@@ -147,9 +121,7 @@ seen-more q f xs k s s' g g' n b h within gets_is is first count shown =
 pub all-seen : (q : ℕ → Bool) (f : ℕ → ℕ) (xs : List ℕ) (k : ℕ) (s : SatisfiedMembers) (g : ℕ)
     → Seen q f (take k xs) s g → length xs ≤ k → (s ≡ satisfied_members (filter q xs))
     × (g ≡ shown_worth (slice_get (filter q xs) 0) f xs)
-all-seen q f xs k s g h end =
-    let whole : Seen q f xs s g = subst (λ ys. Seen q f ys s g) (take_all k xs end) h in
-    (rw (sym whole.first, sym whole.count) refl, whole.shown ∙ ap (λ o. shown_worth o f xs) whole.first)
+all-seen q f xs k s g h end = grind (arith, take_all)
 
 -- findings of the same parts
 pub findings-are : (worth : ℕ → ℕ) (e : Instance) (w : List Bool) (s t : List ℕ) (cost : ℕ) (first : Option (ℕ × ℕ))

@@ -57,9 +57,7 @@ lists-suc g (x ∷ xs) (suc k) h within none =
 
 pub lists-more : {A : Type 0} (g : ℕ → List A) (xs : List ℕ) (k : ℕ) → flat_map g (take k xs) ≡ [] → k < length xs
     → g (get_or xs k 0) ≡ [] → flat_map g (take (k + 1) xs) ≡ []
-lists-more g xs k h within none =
-    let next : k + 1 ≡ suc k = omega arith in
-    ap (λ m. flat_map g (take m xs)) next ∙ lists-suc g xs k h within none
+lists-more g xs k h within none = grind (arith, lists-suc)
 
 -- a list with no first element is empty
 pub none-first : {A : Type 0} (xs : List A) → slice_get xs 0 ≡ None → xs ≡ []

@@ -32,10 +32,7 @@ rest_of w t = filter (λ j. not (has w j)) t
 pub sum-parts : (f : ℕ → ℕ) (w : List Bool) (t : List ℕ)
     → sum_by f t ≡ sum_by f (funded_part w t) + sum_by f (rest_of w t)
 sum-parts f w [] = refl
-sum-parts f w (j ∷ js) = elim (cases_Bool (has w j)) [
-  | inl e ↦ rw e (omega (arith, sum_by-cons f j js, sum_by-cons f j (funded_part w js), sum-parts f w js))
-  | inr e ↦ rw e (omega (arith, sum_by-cons f j js, sum_by-cons f j (rest_of w js), sum-parts f w js))
-]
+sum-parts f w (j ∷ js) = grind (arith, cases_Bool, sum_by-cons, sum-parts f w js)
 
 -- how many elements a list has, as a sum
 pub sum-ones : (xs : List ℕ) → sum_by (λ x. 1) xs ≡ length xs
@@ -108,11 +105,7 @@ spent-parts e w p t i approved none_wasted v projects_t =
 
 -- so many payments at most, and what is left, are at most as many offers and one more
 times-le : (t l m v r : ℕ) → t ≤ m → l ≤ m → v < r → t * v + l ≤ r * m
-times-le t l m v r a b c =
-    let first : t * v ≤ m * v = mul-le-mul_right v a in
-    let second : suc v * m ≤ r * m = mul-le-mul_right m c in
-    let shape : suc v * m ≡ m * v + m = mul_comm (suc v) m ∙ (omega arith) in
-    omega arith
+times-le t l m v r a b c = grind arith
 
 -- a member that gets less than the whole set has a budget of at most what it pays inside and its offers for the rest
 pub budget-le : (e : Instance) (w : List Bool) (p : Prices) (t : List ℕ) (i : ℕ) → C1 e p → C4 e w p → IsVoter e i
@@ -252,5 +245,4 @@ stable_has_no_violation e w p s t approved paid_for none_wasted stable cover gro
     let less : sat by_count (gets e w (get_or s some.0 some.1)) < sat by_count t = v.less some.0 some.1 some.2 in
     let less_here : sat by_count (gets e w some.1) < sat by_count t =
     subst (λ i. sat by_count (gets e w i) < sat by_count t) some.3 less in
-    let enough : length t ≤ length (gets e w some.1) = some.4 in
     absurd (omega (arith, sum-ones t, sum-ones (gets e w some.1)))

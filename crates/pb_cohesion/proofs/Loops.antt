@@ -40,19 +40,11 @@ range-lists-first g n j a none low high found =
 -- a sum over the numbers that pass a test
 pub sum-passing : (f : ℕ → ℕ) (q : ℕ → Bool) (k : ℕ) → q (k + 1) ≡ true
     → sum_by f (filter q (range_with_len 1 (k + 1))) ≡ sum_by f (filter q (range_with_len 1 k)) + f (k + 1)
-sum-passing f q k pass =
-    let last : 1 + k ≡ k + 1 = omega arith in
-    ap (λ xs. sum_by f (filter q xs)) (range-next k 1)
-    ∙ ap (sum_by f) (filter-append q (range_with_len 1 k) ((1 + k) ∷ []))
-    ∙ rw (last, pass) (sum_by_push f (filter q (range_with_len 1 k)) (k + 1))
+sum-passing f q k pass = grind (arith, range-next, filter-append, sum_by_push)
 
 pub sum-failing : (f : ℕ → ℕ) (q : ℕ → Bool) (k : ℕ) → q (k + 1) ≡ false
     → sum_by f (filter q (range_with_len 1 (k + 1))) ≡ sum_by f (filter q (range_with_len 1 k))
-sum-failing f q k fail =
-    let last : 1 + k ≡ k + 1 = omega arith in
-    ap (λ xs. sum_by f (filter q xs)) (range-next k 1)
-    ∙ ap (sum_by f) (filter-append q (range_with_len 1 k) ((1 + k) ∷ []))
-    ∙ rw (last, fail) (sum_by-append f (filter q (range_with_len 1 k)) [] ∙ (omega arith))
+sum-failing f q k fail = grind (arith, range-next, filter-append, sum_by-append)
 
 -- an element of a set is between its bounds
 pub set-at : (low high : ℕ) (t : List ℕ) (k : ℕ) → IsSet low high t → k < length t
@@ -60,7 +52,6 @@ pub set-at : (low high : ℕ) (t : List ℕ) (k : ℕ) → IsSet low high t → 
 set-at low high [] k h b = absurd (omega arith)
 set-at low high (x ∷ xs) zero h b = (h.0, h.1)
 set-at low high (x ∷ xs) (suc k) h b =
-    let above : low ≤ x = h.0 in
     let rest : (x + 1 ≤ get_or xs k 0) × (get_or xs k 0 ≤ high) = set-at (x + 1) high xs k h.2 (omega arith) in
     (omega (arith, rest.0), rest.1)
 
@@ -68,7 +59,5 @@ set-at low high (x ∷ xs) (suc k) h b =
 pub set-length : (low high : ℕ) (t : List ℕ) → IsSet low high t → length t ≤ high + 1 - low
 set-length low high [] h = omega arith
 set-length low high (x ∷ xs) h =
-    let above : low ≤ x = h.0 in
-    let below : x ≤ high = h.1 in
     let rest : length xs ≤ high + 1 - (x + 1) = set-length (x + 1) high xs h.2 in
     omega arith

@@ -1,14 +1,12 @@
 -- What groups can offer.
-use Rattle.std.proofs.Common.{◌≡◌, ℕ, ◌+◌, ◌-◌, ◌<◌, ◌≤◌, max, Bool, true, List, inl, inr, arith}
-use Rattle.std.specs.Prelude.{pos, ◌-ℤ◌, ◌≤ℤ◌, Contains, sum_by, int_lt}
-use Rattle.std.proofs.lemmas.Int.{ints}
+use Rattle.std.proofs.Common.{◌≡◌, ℕ, ◌+◌, ◌<◌, ◌≤◌, max, Bool, true, List, inl, inr, arith}
+use Rattle.std.specs.Prelude.{pos, ◌≤ℤ◌, Contains, sum_by, int_lt}
 use Rattle.std.proofs.lemmas.List.Elements.{All-contains, All-filter, All-from_recursion, filter_passes, recursion_from_All}
 use Rattle.std.proofs.lemmas.Bool.{cases_Bool, cases_lt}
 use Rattle.pb_records.proofs.Each.{all-every, all-weaker}
-use Rattle.pb_election.specs.Instance.{Instance, IsProject, IsVoter, all_projects, projects, supporters, voters}
+use Rattle.pb_election.specs.Instance.{Instance, IsVoter, all_projects, projects, supporters, voters}
 use Rattle.pb_certificate.specs.Prices.{Prices}
 use Rattle.pb_cohesion.specs.Amounts.{beta, cost, paid, pays, spent, top}
-use Rattle.pb_election.specs.Outcome.{has}
 use Rattle.pb_cohesion.specs.Outcome.{IsUnfunded, unfunded}
 use Rattle.pb_cohesion.specs.Conditions.{C4, S5, culprits_of_S5, most_of, sum_ℤ}
 use Rattle.pb_cohesion.specs.Groups.{Blocks, IsGroupWithin, Offer}
@@ -22,19 +20,13 @@ abbrev pub most_ℕ : Instance → Prices → ℕ → ℕ
 most_ℕ e p i = max (top e p i) (left_ℕ e p i)
 
 pub most-is : (e : Instance) (p : Prices) (s : List ℕ) → sum_ℤ (most_of e p) s ≡ pos (sum_by (most_ℕ e p) s)
-most-is e p s =
-    sum_ℤ-is (most_of e p) (most_ℕ e p) s
-    (all-every (λ i. most_of e p i ≡ pos (most_ℕ e p i)) s (λ i. max-is (top e p i) (beta p) (spent e p i)))
+most-is e p s = grind (arith, sum_ℤ-is, all-every, max-is)
 
 -- an offer is at most that
 pub offer-le : (e : Instance) (w : List Bool) (p : Prices) (i x : ℕ) → Offer e w p i x → x ≤ most_ℕ e p i
-offer-le e w p i x (inl h) = left-le (beta p) (spent e p i) x (top e p i) h
-  where
-    left-le : (b s x t : ℕ) → pos x ≤ℤ (pos b -ℤ pos s) → x ≤ max t (b - s)
-    left-le b s x t h = omega (arith, ints)
+offer-le e w p i x (inl h) = grind arith
 offer-le e w p i x (inr h) =
     let most : pays p i h.0 ≤ top e p i = largest-at (λ c. pays p i c) (projects e) 1 h.0 h.1.0.0 (omega arith) in
-    let paid_so : x ≤ pays p i h.0 = h.2 in
     omega arith
 
 pub offer-limited : (e : Instance) (w : List Bool) (p : Prices) (i x : ℕ) → Offer e w p i x → pos x ≤ℤ most_of e p i
@@ -44,11 +36,7 @@ offer-limited e w p i x offer =
 -- what a group can offer is at most the cost
 pub group-offers : (e : Instance) (w : List Bool) (p : Prices) (s : List ℕ) (c : ℕ) → S5 e w p → IsUnfunded e w c
     → IsGroupWithin e s c → sum_by (most_ℕ e p) s ≤ cost e p c
-group-offers e w p s c stable unfunded group =
-    let whole : sum_by (most_ℕ e p) (supporters e c) ≤ cost e p c =
-    pos-le _ _ (rw (most-is e p (supporters e c)) at (stable c unfunded)) in
-    let part : sum_by (most_ℕ e p) s ≤ sum_by (most_ℕ e p) (supporters e c) = group-le e (most_ℕ e p) s c group in
-    omega arith
+group-offers e w p s c stable unfunded group = grind (arith, pos-le, most-is, group-le)
 
 pub none_blocks : (e : Instance) (w : List Bool) (p : Prices) (s : List ℕ) (c : ℕ) (x : ℕ → ℕ) → S5 e w p
     → Blocks e w p s c x → ⊥
@@ -58,7 +46,6 @@ none_blocks e w p s c x stable b =
     sum-le x (most_ℕ e p) s
     (all-weaker (λ i. Offer e w p i (x i)) (λ i. x i ≤ most_ℕ e p i) s (λ i o. offer-le e w p i (x i) o)
     (recursion_from_All (λ i. Offer e w p i (x i)) s b.offers)) in
-    let more : cost e p c < sum_by x s = b.more in
     omega arith
 
 -- what a voter pays for a project is among what is paid for it
@@ -79,38 +66,7 @@ spends-none e p i none =
 -- the most that a voter can offer is an offer, also of a voter that is over the budget
 pub most-offer : (e : Instance) (w : List Bool) (p : Prices) (i : ℕ) → C4 e w p → IsVoter e i
     → Offer e w p i (most_ℕ e p i)
-most-offer e w p i none_wasted v = elim (cases_lt (left_ℕ e p i) (top e p i)) [
-  | inl less ↦
-      elim (largest-reached (λ c. pays p i c) (projects e) 1) [
-        | inl none ↦ absurd (let none_is : top e p i ≡ 0 = none in omega arith)
-        | inr some ↦ by_payment less some
-      ]
-  | inr more ↦ inl (from_left (top e p i) (beta p) (spent e p i) more (within_budget more))
-]
-  where
-    from_left : (t b s : ℕ) → t ≤ b - s → s ≤ b → pos (max t (b - s)) ≤ℤ (pos b -ℤ pos s)
-    from_left t b s h k = omega (arith, ints)
-
-    within_budget : top e p i ≤ left_ℕ e p i → spent e p i ≤ beta p
-    within_budget more = elim (cases_lt (beta p) (spent e p i)) [
-      | inl over ↦ (let none : spent e p i ≡ 0 = spends-none e p i (omega arith) in absurd (omega arith))
-      | inr within ↦ within
-    ]
-
-    by_payment : left_ℕ e p i < top e p i → (j : ℕ) × (1 ≤ j) × (j < 1 + projects e) × (pays p i j ≡ top e p i)
-        → Offer e w p i (most_ℕ e p i)
-    by_payment less some =
-        let j : ℕ = some.0 in
-        let is : pays p i some.0 ≡ top e p i = some.3 in
-        let high : some.0 < 1 + projects e = some.2 in
-        let project : IsProject e some.0 = (some.1, omega arith) in
-        elim (cases_Bool (has w some.0)) [
-          | inl yes' ↦ inr (some.0, (project, yes'), omega arith)
-          | inr no' ↦
-              let wasted : paid e p some.0 ≡ 0 = none_wasted some.0 (project, no') in
-              let part : pays p i some.0 ≤ paid e p some.0 = pays-le e p i some.0 v in
-              absurd (omega arith)
-        ]
+most-offer e w p i none_wasted v = grind (arith, cases_lt, left_ℕ, largest-reached, spends-none, cases_Bool, pays-le)
 
 -- where the supporters can offer more than the cost, they block
 pub supporters_block : (e : Instance) (w : List Bool) (p : Prices) (c : ℕ) → C4 e w p → IsUnfunded e w c
@@ -126,20 +82,13 @@ supporters_block e w p c none_wasted unfunded more = record {
 
 pub stable_from_none : (e : Instance) (w : List Bool) (p : Prices) → C4 e w p
     → ((s : List ℕ) (c : ℕ) (x : ℕ → ℕ) → Blocks e w p s c x → ⊥) → S5 e w p
-stable_from_none e w p none_wasted none c unfunded =
-    rw (most-is e p (supporters e c)) (elim (cases_lt (cost e p c) (sum_by (most_ℕ e p) (supporters e c))) [
-      | inl more ↦ absurd (none (supporters e c) c (most_ℕ e p) (supporters_block e w p c none_wasted unfunded more))
-      | inr most ↦ le-pos _ _ most
-    ])
+stable_from_none e w p none_wasted none c unfunded = grind (arith, most-is, cases_lt, supporters_block, le-pos)
 
 -- supporters who can offer more than an unfunded project costs block, and those of a culprit of the stable form do
 pub block-there : (e : Instance) (w : List Bool) (p : Prices) (c : ℕ) → C4 e w p → IsUnfunded e w c
     → int_lt (pos (cost e p c)) (sum_ℤ (most_of e p) (supporters e c)) ≡ true
     → (x : ℕ → ℕ) × Blocks e w p (supporters e c) c x
-block-there e w p c none_wasted unfunded_is more = (
-  most_ℕ e p,
-  supporters_block e w p c none_wasted unfunded_is (lt-pos _ _ (rw (most-is e p (supporters e c)) at more)),
-)
+block-there e w p c none_wasted unfunded_is more = grind (arith, supporters_block, lt-pos, most-is)
 
 pub after_S5 : (e : Instance) (w : List Bool) (p : Prices) (c : ℕ) → C4 e w p → Contains (culprits_of_S5 e w p) c
     → (x : ℕ → ℕ) × Blocks e w p (supporters e c) c x

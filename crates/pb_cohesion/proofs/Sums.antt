@@ -74,29 +74,18 @@ sum-filter f q (x ∷ xs) =
 -- a sum over a part of a list
 pub part-le : (f : ℕ → ℕ) (q : ℕ → Bool) (xs : List ℕ) → sum_by f (filter q xs) ≤ sum_by f xs
 part-le f q [] = omega arith
-part-le f q (x ∷ xs) = elim (cases_Bool (q x)) [
-  | inl e ↦ rw e (omega (arith, part-le f q xs, sum_by-cons f x xs, sum_by-cons f x (filter q xs)))
-  | inr e ↦ rw e (omega (arith, part-le f q xs, sum_by-cons f x xs))
-]
+part-le f q (x ∷ xs) = grind (arith, cases_Bool, sum_by-cons, part-le f q xs)
 
 -- a range, term by term
 pub range-le : (f g : ℕ → ℕ) (a n : ℕ) → ((j : ℕ) → a ≤ j → j < a + n → f j ≤ g j)
     → sum_by f (range_with_len a n) ≤ sum_by g (range_with_len a n)
 range-le f g a zero h = omega arith
-range-le f g a (suc n) h =
-    let here : f a ≤ g a = h a (omega arith) (omega arith) in
-    let rest : sum_by f (range_with_len (a + 1) n) ≤ sum_by g (range_with_len (a + 1) n) =
-    range-le f g (a + 1) n (λ j low high. h j (omega arith) (omega arith)) in
-    omega (arith, sum_by-cons f a (range_with_len (a + 1) n), sum_by-cons g a (range_with_len (a + 1) n))
+range-le f g a (suc n) h = grind (arith, sum_by-cons, range-le f g (a + 1) n)
 
 pub range-same : (f g : ℕ → ℕ) (a n : ℕ) → ((j : ℕ) → a ≤ j → j < a + n → f j ≡ g j)
     → sum_by f (range_with_len a n) ≡ sum_by g (range_with_len a n)
 range-same f g a zero h = refl
-range-same f g a (suc n) h =
-    let here : f a ≡ g a = h a (omega arith) (omega arith) in
-    let rest : sum_by f (range_with_len (a + 1) n) ≡ sum_by g (range_with_len (a + 1) n) =
-    range-same f g (a + 1) n (λ j low high. h j (omega arith) (omega arith)) in
-    omega (arith, sum_by-cons f a (range_with_len (a + 1) n), sum_by-cons g a (range_with_len (a + 1) n))
+range-same f g a (suc n) h = grind (arith, sum_by-cons, range-same f g (a + 1) n)
 
 -- whether a list has a number
 abbrev pub among : List ℕ → ℕ → Bool
@@ -115,7 +104,6 @@ all-among P (x ∷ xs) j h m =
 pub among-below : (t : List ℕ) (low high j : ℕ) → IsSet low high t → j < low → among t j ≡ false
 among-below [] low high j h b = refl
 among-below (x ∷ xs) low high j h b =
-    let low_is : low ≤ x = h.0 in
     rw (ne_eqb x j (λ e. omega arith), among-below xs (x + 1) high j h.2 (omega arith)) refl
 
 -- the term at a number where a set has it, and else 0
@@ -141,7 +129,6 @@ sum-set f (suc n) a high (x ∷ xs) b h = elim (cases_eq x a) [
       let here : at f (x ∷ xs) a ≡ f x = rw (eq-eqb x a e) (ap f (sym e)) in
       omega (arith, sum_by-cons f x xs, sum_by-cons (at f (x ∷ xs)) a (range_with_len (a + 1) n))
   | inr e ↦
-      let low_is : a ≤ x = h.0 in
       let above : a + 1 ≤ x = omega arith in
       let rises : IsSet (a + 1) high (x ∷ xs) = (above, h.1, h.2) in
       let rest : sum_by f (x ∷ xs) ≡ sum_by (at f (x ∷ xs)) (range_with_len (a + 1) n) =

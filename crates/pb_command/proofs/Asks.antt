@@ -10,7 +10,7 @@ use Rattle.clap.specs.Kinds.{Kinds, check_kinds, or_else}
 use Rattle.clap.specs.Simple.{Shape, argument_words, built, entered, help_shape, label_of, names_of, rows_at}
 use Rattle.clap.specs.Takes.{is_given}
 use Rattle.clap.specs.Faults.{check_fault, defaults_fault, entered_fault, fault_of, level_fault, other_fault, settle_fault, step_fault, turn_fault, walk_fault, word_fault}
-use Rattle.clap.specs.Walk.{Held, Names, Outcome, Row, Rule, Step, Text, Waiting, Walk, after_flag, after_step, answers_to, arg_by_index, arg_by_long, bundle, done, first_of, long_met, long_or_other, next, nothing_held, option, plain_word, rows_after, settled, short_or_plain, subcommand, subcommand_met, subcommand_or_other, to_positional, trailing, value, waits, walk, walk_from, walked, walked_from, word_met}
+use Rattle.clap.specs.Walk.{Held, Names, Outcome, Row, Rule, Step, Text, Waiting, Walk, after_flag, after_step, answers_to, arg_by_index, arg_by_long, bundle, done, first_of, long_met, long_or_other, nothing_held, option, plain_word, rows_after, settled, short_or_plain, subcommand, subcommand_met, subcommand_or_other, to_positional, trailing, value, waits, walk, walk_from, walked, walked_from, word_met}
 use Rattle.pb_command.specs.Commands.{pbaudit}
 use Rattle.pb_command.proofs.Written.{commands_written}
 use Rattle.pb_command.specs.Tasks.{Asked, Paths, TaskOf, asked_by, asked_in, from_both, paths_in}
@@ -80,10 +80,9 @@ to_positional_stop c (Some a) word w h n = tt
 
 after_step_stop : (c : List Rule) (word : Text) (w : Walk) (h : Held) (s : Step) → HasNoHelp s → IsNotHelp w.stopped
     → IsNotHelp (after_step c word w h s).stopped
-after_step_stop c word w h (next waiting) ok n = n
-after_step_stop c word w h (trailing position) ok n = n
 after_step_stop c word w h (subcommand name) ok n = ok
 after_step_stop c word w h value ok n = to_positional_stop c (arg_by_index c w.position) word w h n
+after_step_stop c word w h _ ok n = n
 
 turn_stop : (s : Shape) (names : Names) (o : Option (Text × List Text)) (w : Walk) (word : Text)
     → s.disable_help_subcommand ≡ false → w.stopped ≡ o

@@ -289,17 +289,7 @@ clear-at a b c w before r left h t =
     ]
 
 whole-of : (recs : List Rec) (e : Instance) (p : PbText recs e) → Whole p.meta p.projects p.votes
-whole-of recs e p =
-    record {
-      meta = p.is_meta;
-      projects = p.is_projects;
-      votes = p.is_votes;
-      project_header = p.project_header;
-      vote_header = p.vote_header;
-      meta_rows = p.meta_rows;
-      project_rows = p.project_rows;
-      vote_rows = p.vote_rows;
-    }
+whole-of recs e p = grind arith
 
 -- no fault stands at any place of the text of an election
 pub text-faultless : (recs : List Rec) (e : Instance) → PbText recs e → NoFault election_form recs

@@ -1,19 +1,16 @@
 -- What the words on the records before a place find in each beginning of a text is what has been read of it.
-use Rattle.std.proofs.Common.{◌≡◌, ◌∙◌, ◌++◌, List, [], ◌∷◌, refl, sym, ap, arith, Bool, true, false, Some, append_assoc, append-nil}
-use Rattle.std.specs.Prelude.{count_by, if◌then◌else◌}
-use Rattle.std.specs.List.{list_any}
+use Rattle.std.proofs.Common.{◌≡◌, ◌∙◌, ◌++◌, List, [], ◌∷◌, refl, sym, ap, arith, true, false, Some, append_assoc, append-nil}
+use Rattle.std.specs.Prelude.{count_by}
 use Rattle.std.proofs.lemmas.List.{length-map}
 use Rattle.std.proofs.Math.Path.{fun_ext}
 use Rattle.pb_records.specs.Records.{Rec}
-use Rattle.pb_election.specs.declared.keys.Key.{Key}
 use Rattle.pb_election.specs.declared.sections.Role.{Role}
 use Rattle.pb_election.specs.declared.sections.Role.TheVariants.{First, Header, Inside}
 use Rattle.pb_election.specs.declared.sections.Section.{Section}
 use Rattle.pb_election.specs.declared.sections.Section.TheVariants.{Meta, Projects, Votes}
 use Rattle.pb_election.specs.Markers.{is_marker, marker_of, marks, same_section}
-use Rattle.pb_election.specs.Faults.{Before, before_of, behind_marker, first_of, rest_of, role_of, up_to_marker}
+use Rattle.pb_election.specs.Faults.{before_of, behind_marker, first_of, rest_of, role_of, up_to_marker}
 use Rattle.pb_election.specs.Text.{IsPart, Part, part_records}
-use Rattle.pb_election.specs.Rows.{has_key}
 use Rattle.pb_election.specs.Inside.SoFar.{before_next}
 use Rattle.pb_election.specs.Inside.Beginnings.{Beginning, AtStart, AfterMeta, InMeta, AfterProjects, InProjects, AfterVotes, InVotes, Good, no_part, so_far_in, so_far_of, beginning_records}
 use Rattle.pb_election.proofs.KeyLemmas.{has_stood-is}
@@ -21,9 +18,7 @@ use Rattle.pb_election.proofs.FoundParts.{behind, behind-here, found, past, up-a
 use Rattle.pb_election.proofs.Spots.{count-append, count-behind, role-header, role-rows}
 
 marks-its : (s : Section) (r : Rec) → marker_of r ≡ Some s → marks s r ≡ true
-marks-its Meta r e = rw e refl
-marks-its Projects r e = rw e refl
-marks-its Votes r e = rw e refl
+marks-its s r e = grind arith
 
 found-nil : (s : Section) → found s [] ≡ []
 unfolding behind_marker up_to_marker
@@ -31,8 +26,7 @@ found-nil s = refl
 
 -- the section that a list of records begins with, up to its end or up to the next marker
 found-all : (s : Section) (a : Part) → IsPart s a → found s (part_records a) ≡ behind a
-found-all s a h = ap up_to_marker (behind-here s a.marker (behind a) (marks-its s a.marker h.marker))
-    ∙ up-all (behind a) h.others
+found-all s a h = grind (arith, behind-here, marks-its, up-all)
 
 found-part : (s : Section) (a : Part) (m : Rec) (rest : List Rec) → IsPart s a → is_marker m ≡ true
     → found s (part_records a ++ m ∷ rest) ≡ behind a
@@ -43,11 +37,7 @@ found-part s a m rest h e =
 -- a marker with nothing behind it
 found-mark : (s : Section) (m : Rec) → found s (m ∷ []) ≡ []
 unfolding behind_marker up_to_marker
-found-mark s m = by (marks s m)
-  where
-    by : (b : Bool) → up_to_marker (if b then [] else []) ≡ []
-    by true = refl
-    by false = refl
+found-mark s m = grind arith
 
 -- a section that is not there
 found-none : (s t : Section) (a : Part) → IsPart t a → same_section s t ≡ false → found s (part_records a) ≡ []
@@ -81,12 +71,7 @@ seen-found : (recs : List Rec) (role : Role) (a b c : Part) (A B C : List Rec) �
     → rest_of A ≡ a.rows → first_of B ≡ b.header → rest_of B ≡ b.rows → first_of C ≡ c.header → rest_of C ≡ c.rows
     → before_of recs ≡ before_next (so_far_in role a b c)
 unfolding before_of
-seen-found recs role a b c A B C r fa fb fc am bh bm ch cm =
-    let with_keys : (Key → Bool) → Before =
-    λ stood. record (before_next (so_far_in role a b c)) { has_stood = stood } in
-    let found : before_of recs ≡ with_keys (λ key. list_any (has_key key) a.rows) =
-    rw (r, fa, fb, fc, am, bh, bm, ch, cm, length-map) refl in
-    found ∙ ap with_keys (fun_ext (λ key. sym (has_stood-is a.rows key)))
+seen-found recs role a b c A B C r fa fb fc am bh bm ch cm = grind (arith, length-map, fun_ext, has_stood-is)
 
 pub before-text : (x : Beginning) → Good x → before_of (beginning_records x) ≡ before_next (so_far_of x)
 before-text AtStart h =

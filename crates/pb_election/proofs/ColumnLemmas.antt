@@ -1,6 +1,6 @@
 -- Where columns of a name stand, and how many there are.
 use Rattle.std.proofs.Common.{◌≡◌, ◌≤◌, ◌∙◌, ◌+◌, ◌-◌, ℕ, zero, suc, [], ◌∷◌, refl, sym, ap, arith, add-one, inl, inr, Bool, true, false, Some, None, drop}
-use Rattle.std.specs.Prelude.{◌==◌, Option, count_by, if◌then◌else◌, is_none, is_some, nat_lt, not}
+use Rattle.std.specs.Prelude.{◌==◌, count_by, if◌then◌else◌, is_none, is_some, nat_lt}
 use Rattle.std.specs.List.{position_from}
 use Rattle.std.proofs.lemmas.Bool.{cases_Bool}
 use Rattle.std.proofs.lemmas.Bool.Decides.{nat_tests}
@@ -33,34 +33,10 @@ column-none p fs i e = rw (field-none fs i e) refl
 -- a column is found exactly where there is one
 some-is : (p : Field → Bool) (n : ℕ) (xs : Rec) → is_some (position_from p n xs) ≡ nat_lt 0 (count_by p xs)
 some-is p n [] = refl
-some-is p n (x ∷ xs) =
-    elim (cases_Bool (p x)) [
-      | inl e ↦
-          let one : count_by p (x ∷ []) ≡ 1 = rw e refl in
-          let some : nat_lt 0 (count_by p (x ∷ xs)) ≡ true =
-          positive (count_by p (x ∷ xs)) (count_by p xs) (omega (arith, count-cons p x xs, one)) in
-          let found : is_some (position_from p n (x ∷ xs)) ≡ true = rw e refl in
-          found ∙ sym some
-      | inr e ↦
-          let none : count_by p (x ∷ []) ≡ 0 = rw e refl in
-          let same : count_by p (x ∷ xs) ≡ count_by p xs = omega (arith, count-cons p x xs, none) in
-          let on : is_some (position_from p n (x ∷ xs)) ≡ is_some (position_from p (n + 1) xs) = rw e refl in
-          on ∙ some-is p (n + 1) xs ∙ ap (λ m. nat_lt 0 m) (sym same)
-    ]
-  where
-    positive : (m n : ℕ) → m ≡ 1 + n → nat_lt 0 m ≡ true
-    positive m n e = grind (arith, nat_tests)
+some-is p n (x ∷ xs) = grind (arith, cases_Bool, count-cons, nat_tests, some-is p (n + 1) xs)
 
 pub missing-is : (p : Field → Bool) (n : ℕ) (xs : Rec) → is_none (position_from p n xs) ≡ (count_by p xs == 0)
-missing-is p n xs = none-is (position_from p n xs) ∙ ap not (some-is p n xs) ∙ zero-is (count_by p xs)
-  where
-    none-is : (o : Option ℕ) → is_none o ≡ not (is_some o)
-    none-is None = refl
-    none-is (Some k) = refl
-
-    zero-is : (m : ℕ) → not (nat_lt 0 m) ≡ (m == 0)
-    zero-is zero = refl
-    zero-is (suc m) = grind (arith, nat_tests)
+missing-is p n xs = grind (arith, some-is, nat_tests)
 
 -- a column is repeated exactly where one is found behind the first
 pub repeated-is : (p : Field → Bool) (n k : ℕ) (xs : Rec) → position_from p n xs ≡ Some k

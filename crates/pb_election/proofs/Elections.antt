@@ -1,5 +1,5 @@
 -- What holds of an election's projects and voters, one by one.
-use Rattle.std.proofs.Common.{◌≡◌, ◌<◌, ◌≤◌, ◌+◌, ◌-◌, ℕ, zero, suc, List, [], ◌∷◌, Bool, true, false, cond, Some, refl, sym, arith, length, slice_index_or}
+use Rattle.std.proofs.Common.{◌≡◌, ◌<◌, ◌≤◌, ◌+◌, ◌-◌, ℕ, zero, suc, List, [], ◌∷◌, Bool, true, Some, sym, arith, length, slice_index_or}
 use Rattle.std.specs.List.{AllByRecursion, position_from}
 use Rattle.std.specs.Str.{bytes_eq}
 use Rattle.std.proofs.lemmas.Slice.Eq.{bytes_eq-Decides}
@@ -15,28 +15,14 @@ AllByRecursion-at P (x ∷ xs) (suc i) d h all = AllByRecursion-at P xs i d (ome
 
 -- each ballot is a set of projects
 pub ballot_is : (e : Instance) → IsElection e → (i : ℕ) → IsVoter e i → IsBallot e (ballot_of e i)
-ballot_is e sound i voter =
-    AllByRecursion-at (IsBallot e) e.ballots (i - 1) [] (omega (arith, voter.0, voter.1)) sound.ballots
+ballot_is e sound i voter = grind (arith, AllByRecursion-at)
 
 -- what stands at the first place, from n, that passes
 pub position_from-at : {X : Type 0} (test : X → Bool) (n : ℕ) (xs : List X) (d : X) (k : ℕ)
     → position_from test n xs ≡ Some k
     → (n ≤ k) × (k < n + length xs) × (test (slice_index_or xs (k - n) d) ≡ true)
 position_from-at test n [] d k e = cc e
-position_from-at {X} test n (x ∷ xs) d k e = by (test x) refl e (position_from-at test (n + 1) xs d k)
-  where
-    by : (b : Bool) → test x ≡ b → cond b (Some n) (position_from test (n + 1) xs) ≡ Some k
-        → (position_from test (n + 1) xs ≡ Some k → (n + 1 ≤ k) × (k < n + 1 + length xs)
-        × (test (slice_index_or xs (k - (n + 1)) d) ≡ true))
-        → (n ≤ k) × (k < n + length (x ∷ xs)) × (test (slice_index_or (x ∷ xs) (k - n) d) ≡ true)
-    by true t s behind =
-        let same : n ≡ k = cc s in
-        let first : k - n ≡ 0 = omega (arith, same) in
-        (omega (arith, same), omega (arith, same), rw first t)
-    by false t s behind =
-        let rest = behind s in
-        let later : k - n ≡ suc (k - (n + 1)) = omega (arith, rest.0) in
-        (omega (arith, rest.0), omega (arith, rest.1), rw later rest.2)
+position_from-at {X} test n (x ∷ xs) d k e = grind (arith, position_from-at test (n + 1) xs d k)
 
 -- a position that is found is that of a project with the id
 pub found_is : (e : Instance) (id : List ℕ) (j : ℕ) → position_of e id ≡ Some j → IsProject e j × (id_of e j ≡ id)

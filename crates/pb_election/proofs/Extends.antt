@@ -1,8 +1,8 @@
 -- A beginning and one more record, at which no fault stands.
-use Rattle.std.proofs.Common.{◌≡◌, ◌≤◌, ◌∙◌, ◌+◌, ◌++◌, ℕ, List, [], ◌∷◌, refl, sym, arith, inl, inr, Bool, true, false, Option, Some, None, append_assoc, length, length-append, zero-add}
-use Rattle.std.specs.Prelude.{IfSome, IsSomeAnd, IsTrue, ◌||◌, count_by, find, if◌then◌else◌, is_some, Result, Ok, Err}
+use Rattle.std.proofs.Common.{◌≡◌, ◌≤◌, ◌∙◌, ◌+◌, ◌++◌, ℕ, List, [], ◌∷◌, refl, arith, inl, inr, Bool, true, false, Option, Some, None, append_assoc, length, length-append, zero-add}
+use Rattle.std.specs.Prelude.{IfSome, IsSomeAnd, IsTrue, count_by, find, if◌then◌else◌, is_some, Result, Ok, Err}
 use Rattle.std.specs.List.{IsDistinct, list_any}
-use Rattle.std.specs.Option.{option_map, option_map_or, option_or}
+use Rattle.std.specs.Option.{option_map_or}
 use Rattle.std.specs.Str.{bytes_eq}
 use Rattle.std.proofs.lemmas.Bool.{cases_Bool, or_parts}
 use Rattle.std.proofs.lemmas.Cmp.{nat_list_eq_equiv}
@@ -17,7 +17,7 @@ use Rattle.pb_records.specs.Records.{Field, Rec}
 use Rattle.pb_records.proofs.Each.{all-push}
 use Rattle.pb_election.specs.Instance.{approvals}
 use Rattle.pb_election.specs.declared.keys.Key.{Key}
-use Rattle.pb_election.specs.declared.keys.Key.TheVariants.{Budget, NumProjects, NumVotes, VoteType}
+use Rattle.pb_election.specs.declared.keys.Key.TheVariants.{Budget, VoteType}
 use Rattle.pb_election.specs.declared.sections.Section.{Section}
 use Rattle.pb_election.specs.declared.sections.Section.TheVariants.{Meta, Projects, Votes}
 use Rattle.pb_election.specs.Names.{is_among}
@@ -25,10 +25,10 @@ use Rattle.pb_election.specs.Markers.{is_marker, marker_of, marks}
 use Rattle.pb_records.specs.Cells.{is_text}
 use Rattle.pb_election.specs.Rows.{ballot_in, ballots_in, columns_of, cost_in, has_key, id_in, ids_in, is_approval, is_id, is_known, key_in, stated_value, value_in, vote_column}
 use Rattle.pb_election.specs.Faults.{is_no_money, lowest_fault}
-use Rattle.pb_election.specs.Text.{EachKeyOnce, IsPart, Part, part_records}
+use Rattle.pb_election.specs.Text.{EachKeyOnce, IsPart, Part}
 use Rattle.pb_election.specs.Inside.SoFar.{before_next, has_stood, keys_in, next}
 use Rattle.pb_election.specs.Inside.Beginnings.{Beginning, AtStart, AfterMeta, InMeta, AfterProjects, InProjects, AfterVotes, InVotes, AllMeta, Good, GoodMeta, GoodProjects, GoodVotes, so_far_of, beginning_records}
-use Rattle.pb_election.proofs.KeyLemmas.{count-append, has_stood-is, none-found, once-at, once-by}
+use Rattle.pb_election.proofs.KeyLemmas.{count-append, none-found, once-at, once-by}
 use Rattle.pb_election.proofs.Taken.{taken-first, taken-header, taken-meta-row, taken-project-row, taken-projects-marker, taken-vote-row, taken-votes-marker}
 
 abbrev pub part_of : Rec → Rec → Part
@@ -47,39 +47,13 @@ extend (AfterVotes a b m) r = InVotes a b (part_of m r)
 extend (InVotes a b c) r = InVotes a b (more c r)
 
 pub text-extend : (x : Beginning) (r : Rec) → beginning_records (extend x r) ≡ beginning_records x ++ (r ∷ [])
-text-extend AtStart r = refl
-text-extend (AfterMeta m) r = refl
-text-extend (InMeta a) r = by (is_marker r)
-  where
-    by : (t : Bool) → beginning_records (if t then AfterProjects a r else InMeta (more a r))
-        ≡ part_records a ++ (r ∷ [])
-    by true = refl
-    by false = refl
-text-extend (AfterProjects a m) r = simp append_assoc
-text-extend (InProjects a b) r = by (is_marker r)
-  where
-    by : (t : Bool) → beginning_records (if t then AfterVotes a b r else InProjects a (more b r))
-        ≡ (part_records a ++ part_records b) ++ (r ∷ [])
-    by true = simp append_assoc
-    by false = simp append_assoc
-text-extend (AfterVotes a b m) r = simp append_assoc
-text-extend (InVotes a b c) r = simp append_assoc
+text-extend x r = grind (arith, append_assoc)
 
 marks-section : (s : Section) (r : Rec) → marks s r ≡ true → marker_of r ≡ Some s
-marks-section s r h = by (marker_of r) s refl h
-  where
-    by : (o : Option Section) (s : Section) → marker_of r ≡ o → marks s r ≡ true → marker_of r ≡ Some s
-    by (Some Meta) Meta e h = e
-    by (Some Projects) Projects e h = e
-    by (Some Votes) Votes e h = e
-    by _ _ e h = cc (rw e at h)
+marks-section s r h = grind arith
 
 no-marker : (r : Rec) → is_marker r ≡ false → marker_of r ≡ None
-no-marker r h = by (marker_of r) refl h
-  where
-    by : (o : Option Section) → marker_of r ≡ o → is_some (marker_of r) ≡ false → marker_of r ≡ None
-    by None e h = e
-    by (Some s) e h = cc (rw e at h)
+no-marker r h = grind arith
 
 part-more : (s : Section) (a : Part) (r : Rec) → IsPart s a → marker_of r ≡ None → IsPart s (more a r)
 part-more s a r h e = record { marker = h.marker; others = (h.others.0, all-push _ a.rows r h.others.1 e) }
@@ -90,26 +64,14 @@ part-new s m h e k = record { marker = e; others = (no-marker h k, tt) }
 -- One more row of META.
 
 any-other : (p : Rec → Bool) (xs : List Rec) (r : Rec) → p r ≡ false → list_any p (xs ++ (r ∷ [])) ≡ list_any p xs
-any-other p xs r e = list_any-append p xs (r ∷ []) ∙ rw e (or-no (list_any p xs))
-  where
-    or-no : (b : Bool) → (b || (false || false)) ≡ b
-    or-no true = refl
-    or-no false = refl
+any-other p xs r e = grind (arith, list_any-append)
 
 any-new : (p : Rec → Bool) (xs : List Rec) (r : Rec) → p r ≡ true → list_any p (xs ++ (r ∷ [])) ≡ true
-any-new p xs r e = list_any-append p xs (r ∷ []) ∙ rw e (or-yes (list_any p xs))
-  where
-    or-yes : (b : Bool) → (b || (true || false)) ≡ true
-    or-yes true = refl
-    or-yes false = refl
+any-new p xs r e = grind (arith, list_any-append)
 
 stated_value-other : (key : Key) (xs : List Rec) (r : Rec) → has_key key r ≡ false
     → stated_value key (xs ++ (r ∷ [])) ≡ stated_value key xs
-stated_value-other key xs r e = simp (find-append, e, or-none)
-  where
-    or-none : (o : Option Rec) → option_or o None ≡ o
-    or-none None = refl
-    or-none (Some x) = refl
+stated_value-other key xs r e = grind (arith, find-append)
 
 stated_value-new : (key : Key) (xs : List Rec) (r : Rec) → list_any (has_key key) xs ≡ false → has_key key r ≡ true
     → stated_value key (xs ++ (r ∷ [])) ≡ Some (value_in r)
@@ -133,34 +95,20 @@ count-push p xs r h new =
         let o = or_parts (p y) (list_any p ys) k in
         rw o.0 (none-count ys o.1)
 
-has-it : (r : Rec) (key : Key) (o : Option Key) → key_in r ≡ o → has_key key r ≡ true → o ≡ Some key
-has-it r Budget (Some Budget) e h = refl
-has-it r VoteType (Some VoteType) e h = refl
-has-it r NumProjects (Some NumProjects) e h = refl
-has-it r NumVotes (Some NumVotes) e h = refl
-has-it r _ _ e h = cc (rw e at h)
-
 -- a key that did not stand before
 new-key : (xs : List Rec) (r : Rec) (key : Key) → option_map_or (has_stood (keys_in xs)) (key_in r) false ≡ false
     → has_key key r ≡ true → list_any (has_key key) xs ≡ false
-new-key xs r key h e =
-    let k = has-it r key (key_in r) refl e in
-    sym (has_stood-is xs key) ∙ rw k at h
+new-key xs r key h e = grind arith
 
 once-push : (xs : List Rec) (r : Rec) → EachKeyOnce xs → option_map_or (has_stood (keys_in xs)) (key_in r) false ≡ false
     → EachKeyOnce (xs ++ (r ∷ []))
-once-push xs r h new =
-    once-by (xs ++ (r ∷ [])) (λ key. count-push (has_key key) xs r (once-at xs key h) (new-key xs r key new))
+once-push xs r h new = grind (arith, once-by, count-push, once-at, new-key)
 
 -- what is stated keeps its rule with one more row, whose value keeps it where it has the key
 stated_value-push : (key : Key) (P : Field → Type 0) (xs : List Rec) (r : Rec) → IfSome (stated_value key xs) P
     → option_map_or (has_stood (keys_in xs)) (key_in r) false ≡ false → (has_key key r ≡ true → P (value_in r))
     → IfSome (stated_value key (xs ++ (r ∷ []))) P
-stated_value-push key P xs r h new here =
-    elim (cases_Bool (has_key key r)) [
-      | inl e ↦ rw (stated_value-new key xs r (new-key xs r key new e) e) (here e)
-      | inr e ↦ rw (stated_value-other key xs r e) h
-    ]
+stated_value-push key P xs r h new here = grind (arith, cases_Bool, stated_value-new, new-key, stated_value-other)
 
 money-is : (text : Field) → is_no_money text ≡ false → IsMoney text
 money-is text h = by (money_of text) refl
@@ -187,11 +135,7 @@ good-meta a r h m new type money =
 next-meta : (a : Part) (r : Rec) (o : Option Key) → key_in r ≡ o → is_marker r ≡ false
     → option_map_or (has_stood (keys_in a.rows)) o false ≡ false
     → next (so_far_of (InMeta a)) r ≡ so_far_of (InMeta (more a r))
-next-meta a r None e m new = simp (m, e, any-other, stated_value-other)
-next-meta a r (Some Budget) e m new = simp (m, e, any-other, any-new, stated_value-other, stated_value-new)
-next-meta a r (Some VoteType) e m new = simp (m, e, any-other, any-new, stated_value-other)
-next-meta a r (Some NumProjects) e m new = simp (m, e, any-other, any-new, stated_value-other, stated_value-new)
-next-meta a r (Some NumVotes) e m new = simp (m, e, any-other, any-new, stated_value-other, stated_value-new)
+next-meta a r o e m new = grind (arith, any-other, stated_value-other, any-new, stated_value-new)
 
 -- META with a budget and the vote type is whole
 some-stated : (key : Key) (P : Field → Type 0) (xs : List Rec) → IfSome (stated_value key xs) P
@@ -246,12 +190,7 @@ good-projects b r h m id money new few =
 
 next-project : (a b : Part) (r : Rec) → is_marker r ≡ false
     → next (so_far_of (InProjects a b)) r ≡ so_far_of (InProjects a (more b r))
-next-project a b r m = simp (m, map-append, fund, count-append, zero-add)
-  where
-    fund : (b : Bool) (xs : List Bool) (y : Bool)
-        → (if b then Some (xs ++ (y ∷ [])) else None) ≡ option_map (λ ms. ms ++ (y ∷ [])) (if b then Some xs else None)
-    fund true xs y = refl
-    fund false xs y = refl
+next-project a b r m = grind (arith, map-append, count-append, zero-add)
 
 -- One more row of VOTES.
 
@@ -262,17 +201,7 @@ good-votes : (b c : Part) (r : Rec) → GoodVotes b c → marker_of r ≡ None
     + length (ballot_in (vote_column c.header) (ids_in (columns_of b.header) b.rows) r) ≤ 20000000
     → GoodVotes b (more c r)
 good-votes b c r h m known few sizes =
-    let ids = ids_in (columns_of b.header) b.rows in
-    let vote = vote_column c.header in
-    record {
-      part = part-more Votes c r h.part m;
-      header = h.header;
-      rows = record {
-        known = all-push (λ row. IsTrue (is_known vote ids row)) c.rows r h.rows.known known;
-        few = omega (arith, length-append c.rows (r ∷ []), length-map c.rows (ballot_in vote ids), few);
-        few_approvals = simp (map-append, sum_by-append) (omega (arith, sizes));
-      };
-    }
+    grind (arith, part-more, all-push, length-append, length-map, map-append, sum_by-append)
 
 next-vote : (a b c : Part) (r : Rec) → next (so_far_of (InVotes a b c)) r ≡ so_far_of (InVotes a b (more c r))
 next-vote a b c r = simp map-append
@@ -323,9 +252,7 @@ extends-projects a b r h k l =
     ]
 
 pub extends : (x : Beginning) (r : Rec) → Good x → lowest_fault (before_next (so_far_of x)) r ≡ None → Extends x r
-extends AtStart r h l =
-    let t = taken-first (before_next (so_far_of AtStart)) r refl l in
-    record { good = marks-section Meta r t.1; next = refl; text = t.0 }
+extends AtStart r h l = grind (arith, taken-first, marks-section)
 extends (AfterMeta m) r h l =
     let t = taken-header Meta (before_next (so_far_of (AfterMeta m))) r refl l in
     record {

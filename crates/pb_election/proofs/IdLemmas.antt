@@ -1,6 +1,6 @@
 -- The ids that a set of strings keeps.
 use Rattle.std.proofs.Common.{◌≡◌, ◌∙◌, ◌+◌, ◌++◌, length, ℕ, List, [], ◌∷◌, refl, ap, arith, suc, zero, Bool, true, false, Option, Some}
-use Rattle.std.specs.Prelude.{◌==◌, cond, map, not, position, slice_get, string_bytes}
+use Rattle.std.specs.Prelude.{◌==◌, map, not, position, slice_get, string_bytes}
 use Rattle.std.specs.Global.{Global}
 use Rattle.std.specs.List.{AllByRecursion, IsDistinct, list_any, position_from}
 use Rattle.std.specs.Option.{option_map}
@@ -45,13 +45,7 @@ position-map p f n (x ∷ xs) = rw (position-map p f (n + 1) xs) refl
 position-next : {A : Type 0} (p : A → Bool) (n : ℕ) (xs : List A)
     → option_map (λ i. i + 1) (position_from p n xs) ≡ position_from p (n + 1) xs
 position-next p n [] = refl
-position-next p n (x ∷ xs) = by (p x) (position-next p (n + 1) xs)
-  where
-    by : (b : Bool) → option_map (λ i. i + 1) (position_from p (n + 1) xs) ≡ position_from p (n + 1 + 1) xs
-        → option_map (λ i. i + 1) (cond b (Some n) (position_from p (n + 1) xs))
-        ≡ cond b (Some (n + 1)) (position_from p (n + 1 + 1) xs)
-    by true e = refl
-    by false e = e
+position-next p n (x ∷ xs) = grind (arith, position-next p (n + 1) xs)
 
 pub place-kept : (keys : List (String Global)) (id : Field) (o : Option ℕ)
     → o ≡ position (λ k. bytes_eq id (string_bytes k)) keys
@@ -88,10 +82,7 @@ pub place-at : (keys : List (String Global)) (i : ℕ) (k : String Global) (id :
     → (n : ℕ) → position_from (bytes_eq id) n (ids_kept keys) ≡ Some (i + n)
 unfolding IsDistinct
 place-at [] i k id h g e n = cc g
-place-at (x ∷ xs) zero k id h g e n =
-    let same : x ≡ k = cc g in
-    let here : bytes_eq id (string_bytes x) ≡ true = rw same (nat_list_eq_equiv.symm id (string_bytes k) ∙ e) in
-    rw here (ap Some (omega arith))
+place-at (x ∷ xs) zero k id h g e n = grind (arith, nat_list_eq_equiv)
 place-at (x ∷ xs) (suc i) k id h g e n =
     let other : bytes_eq (string_bytes x) (string_bytes k) ≡ false = at xs i h.0 g in
     let same : string_bytes k ≡ id = (bytes_eq-Decides (string_bytes k) id).0 e in

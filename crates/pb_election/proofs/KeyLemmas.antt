@@ -18,25 +18,16 @@ count-append p xs ys = sum_by-append (λ x. if p x then 1 else 0) xs ys
 
 -- by the reader's own marks a key stood before exactly where some row has it
 pub has_stood-is : (rows : List Rec) (key : Key) → has_stood (keys_in rows) key ≡ list_any (has_key key) rows
-has_stood-is rows Budget = refl
-has_stood-is rows VoteType = refl
-has_stood-is rows NumProjects = refl
-has_stood-is rows NumVotes = refl
+has_stood-is rows key = grind arith
 
 pub once-at : (rows : List Rec) (key : Key) → EachKeyOnce rows → count_by (has_key key) rows ≤ 1
-once-at rows Budget h = h.0
-once-at rows VoteType h = h.1.0
-once-at rows NumProjects h = h.1.1.0
-once-at rows NumVotes h = h.1.1.1.0
+once-at rows key h = grind arith
 
 pub once-by : (rows : List Rec) → ((key : Key) → count_by (has_key key) rows ≤ 1) → EachKeyOnce rows
 once-by rows h = (h Budget, (h VoteType, (h NumProjects, (h NumVotes, tt))))
 
 same-self : (key : Key) → same_key key key ≡ true
-same-self Budget = refl
-same-self VoteType = refl
-same-self NumProjects = refl
-same-self NumVotes = refl
+same-self key = grind arith
 
 pub has-its-key : (r : Rec) (key : Key) → key_in r ≡ Some key → has_key key r ≡ true
 has-its-key r key e = rw e (same-self key)

@@ -7,7 +7,7 @@ use Rattle.pb_records.proofs.Each.{all-push}
 use Rattle.pb_records.proofs.FirstOrNone.{HasFirst, Kept, fault-last, first-or-none, kept-to-end}
 use Rattle.pb_election.specs.Instance.{Instance}
 use Rattle.pb_records.specs.declared.drafts.Stop.{Stop}
-use Rattle.pb_records.specs.declared.drafts.Stop.TheVariants.{Fault, Memory}
+use Rattle.pb_records.specs.declared.drafts.Stop.TheVariants.{Fault}
 use Rattle.pb_election.specs.declared.refusal.ElectionFault.{ElectionFault}
 use Rattle.pb_election.specs.declared.refusal.ElectionFault.TheVariants.{NotUtf8}
 use Rattle.pb_records.specs.Inside.Drafts.{StopsAt, Takes}
@@ -16,7 +16,7 @@ use Rattle.pb_records.specs.FirstFault.{NoFault}
 use Rattle.pb_election.specs.Faults.{before_of, election_form, lowest_fault, lowest_fault_at_end}
 use Rattle.pb_election.specs.Text.{PbText}
 use Rattle.pb_election.specs.Inside.SoFar.{SoFar, Steps, before_next, next}
-use Rattle.pb_election.specs.Inside.Beginnings.{Beginning, AtStart, AfterMeta, InMeta, AfterProjects, InProjects, AfterVotes, InVotes, Good, HasRead, so_far_of, beginning_records}
+use Rattle.pb_election.specs.Inside.Beginnings.{Beginning, AtStart, InVotes, Good, HasRead, so_far_of, beginning_records}
 use Rattle.pb_election.proofs.BeginningLemmas.{before-text}
 use Rattle.pb_election.proofs.Extends.{extend, extends, text-extend}
 
@@ -57,12 +57,6 @@ whole : (recs : List Rec) (x : Beginning) → Good x → nonblank recs ≡ begin
     → AllByRecursion (λ r. IsTrue (is_text r)) (nonblank recs)
     → lowest_fault_at_end (before_next (so_far_of x)) ≡ None → PbText recs (so_far_of x).election
 unfolding lowest_fault_at_end
-whole recs AtStart h t x n = cc n
-whole recs (AfterMeta r) h t x n = cc n
-whole recs (InMeta a) h t x n = cc n
-whole recs (AfterProjects a r) h t x n = cc n
-whole recs (InProjects a b) h t x n = cc n
-whole recs (AfterVotes a b r) h t x n = cc n
 whole recs (InVotes a b c) h t x n =
     record {
       meta = a;
@@ -80,6 +74,7 @@ whole recs (InVotes a b c) h t x n =
       vote_rows = h.2.rows;
       states = refl;
     }
+whole recs _ h t x n = cc n
 
 pub text-of-all : (s : SoFar) (recs : List Rec) → HasRead s (nonblank recs) → lowest_fault_at_end (before_next s) ≡ None
     → PbText recs s.election
@@ -96,9 +91,8 @@ taken (Err f) s t r e = tt
 
 pub stopped : {T : Type 0} (answer : Result T (Stop ElectionFault)) (s t : SoFar) (r : Rec) → Steps answer s t r
     → IfErr answer (λ stop. StopsAt election_form (HasRead s) r stop)
-stopped (Ok x) s t r e = tt
 stopped (Err (Fault f)) s t r e = λ before h. fault-next s before r h ∙ e
-stopped (Err Memory) s t r e = tt
+stopped _ s t r e = tt
 
 pub not-text : (before : List Rec) (r : Rec) → is_text r ≡ false → election_form before (Some r) ≡ Some NotUtf8
 unfolding election_form lowest_fault

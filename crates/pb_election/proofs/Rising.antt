@@ -156,16 +156,11 @@ chosen-other n [] names name h = refl
 chosen-other n (id ∷ ids) names name h = rw (is-same id name, h.0, chosen-other (n + 1) ids names name h.1) refl
 
 swap : (a b c : Bool) → (a || (b || c)) ≡ (b || (a || c))
-swap true true c = refl
-swap true false c = refl
-swap false true c = refl
-swap false false c = refl
+swap a b c = grind arith
 
 all-same : (id name : Field) (ids : List Field) → bytes_eq name id ≡ true
     → AllByRecursion (λ k. bytes_eq id k ≡ false) ids → AllByRecursion (λ k. bytes_eq name k ≡ false) ids
-all-same id name ids e =
-    all-weaker (λ k. bytes_eq id k ≡ false) (λ k. bytes_eq name k ≡ false) ids
-    (λ k other. nat_list_eq_equiv.congr name id k e ∙ other)
+all-same id name ids e = grind (arith, all-weaker, nat_list_eq_equiv)
 
 -- one more name adds its position
 chosen-more : (n : ℕ) (ids names : List Field) (name : Field) (p j : ℕ) → IsDistinct bytes_eq ids

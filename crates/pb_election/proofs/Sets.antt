@@ -22,9 +22,7 @@ pub set-rises : (low high : ℕ) (xs : List ℕ) → IsSet low high xs → (i j 
     → get_or xs i 0 ≤ get_or xs j 0
 set-rises low high [] set i j le h = omega (arith, h)
 set-rises low high (x ∷ xs) set zero zero le h = omega arith
-set-rises low high (x ∷ xs) set zero (suc j) le h =
-    let behind = set-above (x + 1) high xs set.2 j (omega (arith, h)) in
-    omega (arith, behind)
+set-rises low high (x ∷ xs) set zero (suc j) le h = grind (arith, set-above)
 set-rises low high (x ∷ xs) set (suc i) zero le h = omega (arith, le)
 set-rises low high (x ∷ xs) set (suc i) (suc j) le h =
     set-rises (x + 1) high xs set.2 i j (omega (arith, le)) (omega (arith, h))

@@ -1,6 +1,6 @@
 -- An election that has a text is within the limits, and its ids and ballots keep their rules.
-use Rattle.std.proofs.Common.{◌≡◌, ◌≤◌, ◌∙◌, ◌+◌, ◌++◌, ℕ, zero, suc, List, [], ◌∷◌, refl, sym, arith, Bool, true, false, Option, Some, None, length}
-use Rattle.std.specs.Prelude.{IfSome, IsSomeAnd, IsTrue, filter, if◌then◌else◌, is_some, map, unwrap_or}
+use Rattle.std.proofs.Common.{◌≡◌, ◌≤◌, ◌∙◌, ◌+◌, ◌++◌, ℕ, zero, suc, List, [], ◌∷◌, refl, sym, arith, Bool, true, Option, Some, None, length}
+use Rattle.std.specs.Prelude.{IfSome, IsSomeAnd, IsTrue, filter, map, unwrap_or}
 use Rattle.std.specs.List.{AllByRecursion, enumerate_from, list_all}
 use Rattle.std.specs.Option.{option_map_or}
 use Rattle.std.specs.Str.{chars, is_utf8}
@@ -16,7 +16,7 @@ use Rattle.pb_election.specs.declared.columns.Columns.{Columns}
 use Rattle.pb_election.specs.declared.keys.Key.TheVariants.{Budget}
 use Rattle.pb_records.specs.Cells.{is_text}
 use Rattle.pb_election.specs.Names.{is_among}
-use Rattle.pb_election.specs.Rows.{ballot_in, ballots_in, columns_of, cost_in, costs_in, funded_in, id_in, ids_in, is_id, names_in, positions_of, says_funded, says_neither, selected_in, stated_value, field_in, vote_column}
+use Rattle.pb_election.specs.Rows.{ballot_in, ballots_in, columns_of, cost_in, costs_in, funded_in, id_in, ids_in, is_id, positions_of, says_neither, stated_value, field_in, vote_column}
 use Rattle.pb_election.specs.Text.{IsElection, IsId, PbText, part_records}
 use Rattle.pb_records.proofs.Cleaning.{clean-clean, is_utf8-clean, clean-nil}
 use Rattle.pb_election.proofs.Sets.{set-lower}
@@ -27,17 +27,7 @@ use Rattle.pb_election.proofs.Sets.{set-lower}
 positions-set : (test : ℕ × Field → Bool) (n m : ℕ) (ids : List Field) → n + length ids ≤ m + 1
     → IsSet n m (map (λ (p : ℕ × Field). p.0) (filter test (enumerate_from n ids)))
 positions-set test n m [] l = tt
-positions-set test n m (id ∷ ids) l = by (test (n, id)) (positions-set test (n + 1) m ids (omega arith))
-  where
-    rest : List ℕ
-    rest = map (λ (p : ℕ × Field). p.0) (filter test (enumerate_from (n + 1) ids))
-
-    by : (b : Bool) → IsSet (n + 1) m rest
-        → IsSet n m
-        (map (λ (p : ℕ × Field). p.0)
-        (if b then (n, id) ∷ filter test (enumerate_from (n + 1) ids) else filter test (enumerate_from (n + 1) ids)))
-    by true h = (omega arith, omega arith, h)
-    by false h = set-lower (n + 1) n m rest (omega arith) h
+positions-set test n m (id ∷ ids) l = grind (arith, set-lower, positions-set test (n + 1) m ids)
 
 ballot-set : (names ids : List Field) → IsSet 1 (length ids) (positions_of names ids)
 unfolding positions_of
@@ -45,10 +35,7 @@ ballot-set names ids = positions-set (λ p. is_among names p.1) 1 (length ids) i
 
 ballots-sets : (column : Option ℕ) (ids : List Field) (rows : List Rec)
     → AllByRecursion (IsSet 1 (length ids)) (ballots_in column ids rows)
-ballots-sets column ids rows =
-    all-map (IsSet 1 (length ids)) (ballot_in column ids) rows
-    (all-every (λ r. IsSet 1 (length ids) (ballot_in column ids r)) rows
-    (λ r. ballot-set (names_in (field_in column r)) ids))
+ballots-sets column ids rows = grind (arith, all-map, all-every, ballot-set)
 
 -- Ids.
 
@@ -63,13 +50,7 @@ field-text (f ∷ fs) zero h = (and_parts (is_utf8 f) (list_all is_utf8 fs) h).0
 field-text (f ∷ fs) (suc i) h = field-text fs i (and_parts (is_utf8 f) (list_all is_utf8 fs) h).1
 
 field_in-id : (o : Option ℕ) (r : Rec) → is_text r ≡ true → IsTrue (is_id (field_in o r)) → IsId (field_in o r)
-field_in-id None r t h = record { text = utf8-nil; clean = clean-nil; bytes = h }
-field_in-id (Some i) r t h =
-    record {
-      text = is_utf8-clean (unwrap_or (field_at r i) []) (field-text r i t);
-      clean = clean-clean (unwrap_or (field_at r i) []);
-      bytes = h;
-    }
+field_in-id o r t h = grind (arith, utf8-nil, clean-nil, is_utf8-clean, field-text, clean-clean)
 
 ids-are : (columns : Columns) (rows : List Rec) → AllByRecursion (λ r. IsTrue (is_text r)) rows
     → AllByRecursion (λ row. IsTrue (is_id (id_in columns row))) rows → AllByRecursion IsId (ids_in columns rows)
@@ -82,20 +63,11 @@ ids-are columns rows text is =
 
 costs-small : (columns : Columns) (rows : List Rec) → AllByRecursion (λ row. IsMoney (cost_in columns row)) rows
     → AllByRecursion (λ c. c ≤ most_money) (costs_in columns rows)
-costs-small columns rows h =
-    all-map (λ c. c ≤ most_money) (λ r. millionths (cost_in columns r)) rows
-    (all-weaker (λ r. IsMoney (cost_in columns r)) (λ r. millionths (cost_in columns r) ≤ most_money) rows
-    (λ r money. money.small) h)
+costs-small columns rows h = grind (arith, all-map, all-weaker)
 
 marks-many : (columns : Columns) (rows : List Rec)
     → IfSome (funded_in columns rows) (λ marks. length marks ≡ length (ids_in columns rows))
-marks-many columns rows = by (is_some columns.selected)
-  where
-    by : (b : Bool)
-        → IfSome (if b then Some (map (λ row. says_funded (selected_in columns row)) rows) else None)
-        (λ marks. length marks ≡ length (ids_in columns rows))
-    by true = length-map rows (λ row. says_funded (selected_in columns row)) ∙ sym (length-map rows (id_in columns))
-    by false = tt
+marks-many columns rows = grind (arith, length-map)
 
 limit-small : (o : Option Field) → IsSomeAnd o IsMoney → option_map_or millionths o 0 ≤ most_money
 limit-small None h = absurd h

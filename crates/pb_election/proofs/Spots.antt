@@ -73,8 +73,7 @@ role-inside o h (r ∷ rs) n k = role-inside (Some h) r rs n k.1
 pub role-header : (xs : List Rec) (s : Section) (m : Rec) → marker_of m ≡ Some s
     → role_of (xs ++ m ∷ []) ≡ Header (section_of (count_by is_marker xs + 1))
 unfolding role_of
-role-header xs s m e =
-    rw (last-append None xs (m ∷ []), count-append xs (m ∷ []), count-behind s m [] e tt, e) refl
+role-header xs s m e = grind (arith, last-append, count-append, count-behind)
 
 pub role-rows : (xs : List Rec) (s : Section) (m h : Rec) (rows : List Rec) → marker_of m ≡ Some s
     → NoMarkers (h ∷ rows) → role_of (xs ++ m ∷ h ∷ rows) ≡ Inside (section_of (count_by is_marker xs + 1))

@@ -72,17 +72,11 @@ comma-from n j (b ∷ bs) e =
     ]
 
 pub first-comma : (text : Field) (i : ℕ) → Some i ≡ position is_comma text → IsFirstComma text i
-first-comma text i e =
-    let r = comma-from 0 i text (sym (position_from-zero is_comma text) ∙ sym e) in
-    let s : r.0 ≡ i = omega (arith, r.1) in
-    rw s at r.2
+first-comma text i e = grind (arith, comma-from, position_from-zero)
 
 -- the text round its first comma
 pub comma-parts : (text : Field) (i : ℕ) → IsFirstComma text i → text ≡ take i text ++ byte "," ∷ drop (i + 1) text
-comma-parts text i h =
-    let d : drop i text ≡ byte "," ∷ drop (i + 1) text =
-    rw (add-one i) (drop-cons text i 0 h.within ∙ ap (λ b. b ∷ drop (suc i) text) h.comma) in
-    sym (take-append-drop i text) ∙ ap (λ l. take i text ++ l) d
+comma-parts text i h = grind (arith, add-one, drop-cons, take-append-drop)
 
 pub comma-boundary : (text : Field) (i : ℕ) → IsUtf8 text → IsFirstComma text i
     → IsCharBoundary text i × IsCharBoundary text (i + 1)
@@ -115,15 +109,7 @@ with_name name names = if is_empty name then names else name ∷ names
 name-first : (piece : Field) (pieces : List Field)
     → filter (λ name. not (is_empty name)) (map clean (piece ∷ pieces))
     ≡ with_name (clean piece) (filter (λ name. not (is_empty name)) (map clean pieces))
-name-first piece pieces = by (is_empty (clean piece))
-  where
-    by : (b : Bool)
-        → cond (not b) (clean piece ∷ filter (λ name. not (is_empty name)) (map clean pieces))
-        (filter (λ name. not (is_empty name)) (map clean pieces))
-        ≡ (if b then filter (λ name. not (is_empty name)) (map clean pieces)
-        else clean piece ∷ filter (λ name. not (is_empty name)) (map clean pieces))
-    by true = refl
-    by false = refl
+name-first piece pieces = grind arith
 
 pub names-first : (text piece : Field) (rest : Option Field) → list_any is_comma piece ≡ false
     → MatchOption rest (text ≡ piece) (λ r. text ≡ piece ++ byte "," ∷ r)
@@ -143,12 +129,7 @@ unplaced n (k ∷ ks) id e =
 pub placed : (n p : ℕ) (kept : List Field) (id : Field) → position_from (bytes_eq id) n kept ≡ Some p
     → is_among kept id ≡ true
 placed n p [] id e = cc e
-placed n p (k ∷ ks) id e = by (bytes_eq id k) (placed (n + 1) p ks id) e
-  where
-    by : (b : Bool) → (position_from (bytes_eq id) (n + 1) ks ≡ Some p → is_among ks id ≡ true)
-        → cond b (Some n) (position_from (bytes_eq id) (n + 1) ks) ≡ Some p → (b || is_among ks id) ≡ true
-    by true h e = refl
-    by false h e = h e
+placed n p (k ∷ ks) id e = grind (arith, placed (n + 1) p ks id)
 
 -- how far the names of a vote have been looked up
 pub record AreLookedUp (kept : List Field) (vote : Field) (found : List ℕ) (left : Option Field) : Type 0 where

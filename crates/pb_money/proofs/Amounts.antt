@@ -1,6 +1,6 @@
 -- What `money_of` gives, fault by fault.
 use Rattle.std.proofs.Common.{◌≡◌, ◌≤◌, ◌<◌, ◌∙◌, ◌+◌, ◌*◌, ◌-◌, ◌^◌, ℕ, List, [], ◌∷◌, refl, arith, true, false, length}
-use Rattle.std.proofs.lemmas.Bool.{le-ltb, lt-ltb}
+use Rattle.std.proofs.lemmas.Bool.{lt-ltb}
 use Rattle.std.specs.List.{before_first}
 use Rattle.std.specs.Prelude.{◌==◌, Err}
 use Rattle.pb_money.specs.Digits.{number_of}
@@ -28,9 +28,7 @@ money-fine (b ∷ bs) k h = rw (k, lt-ltb 6 (length (fraction (b ∷ bs))) h) re
 pub money-large : (text : List ℕ) → is_number text ≡ true → length (fraction text) ≤ 6 → most_money < millionths text
     → Err fault.TooLarge ≡ money_of text
 unfolding money_of
-money-large [] k h l = cc k
-money-large (b ∷ bs) k h l =
-    rw (k, le-ltb 6 (length (fraction (b ∷ bs))) h, lt-ltb most_money (millionths (b ∷ bs)) l) refl
+money-large text k h l = grind arith
 
 pub ruleset amount_faults = (money-empty, money-other, money-fine)
 

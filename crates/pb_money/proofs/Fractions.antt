@@ -1,5 +1,5 @@
 -- Fractions: the zeros at their end, and their value in millionths.
-use Rattle.std.proofs.Common.{◌≡◌, ◌≤◌, ◌<◌, ◌∙◌, ◌+◌, ◌*◌, ◌-◌, ◌/◌, ◌^◌, ◌++◌, ℕ, suc, List, [], ◌∷◌, refl, sym, ap, arith, Bool, true, false, length, take, get_or}
+use Rattle.std.proofs.Common.{◌≡◌, ◌≤◌, ◌<◌, ◌∙◌, ◌+◌, ◌*◌, ◌-◌, ◌/◌, ◌^◌, ◌++◌, ℕ, suc, List, [], ◌∷◌, refl, ap, arith, Bool, true, false, length, take, get_or}
 use Rattle.std.proofs.Math.Nat.{pow-suc, mul-le-mul_right}
 use Rattle.std.proofs.lemmas.Bool.{and_from, and_parts, and_right}
 use Rattle.std.specs.Char.{is_ascii_digit}
@@ -51,10 +51,7 @@ unit-step i u h e =
 
 digit-value : (digits : List ℕ) (i v : ℕ) → all_ascii_digits digits ≡ true → i < length digits
     → (get_or digits i 0 - byte "0") * v ≤ 9 * v
-digit-value digits i v a h =
-    let d = digit-at digits i a h in
-    let l : get_or digits i 0 - byte "0" ≤ 9 = omega (arith, d.1) in
-    mul-le-mul_right v l
+digit-value digits i v a h = grind (arith, digit-at, get_or, mul-le-mul_right)
 
 -- m millionths in the first i digits, the last of which counts u, and then one more digit of value k
 pub fraction-step : (digits : List ℕ) (i m u k : ℕ) → all_ascii_digits digits ≡ true → i < length digits
@@ -62,12 +59,4 @@ pub fraction-step : (digits : List ℕ) (i m u k : ℕ) → all_ascii_digits dig
     → k ≡ get_or digits i 0 - byte "0"
     → (u / 10 ≡ 10 ^ (6 - (i + 1))) × (m + k * (u / 10) ≡ number_of (take (i + 1) digits) * (u / 10))
     × (m + k * (u / 10) + u / 10 ≤ 10 ^ 6)
-fraction-step digits i m u k a h six unit value small e =
-    let s = unit-step i u (omega arith) unit in
-    let n : ℕ = number_of (take i digits) in
-    let v : ℕ = u / 10 in
-    let most : k * v ≤ 9 * v = rw e (digit-value digits i v a h) in
-    let before : m ≡ n * (10 * v) = value ∙ ap (λ x. n * x) s.1 in
-    let after : number_of (take (i + 1) digits) * v ≡ (n * 10 + k) * v =
-    ap (λ x. x * v) (number-more digits i h ∙ ap (λ x. n * 10 + x) (sym e)) in
-    (s.0, (omega arith), omega (arith, s.1))
+fraction-step digits i m u k a h six unit value small e = grind (arith, unit-step, digit-value, number-more)

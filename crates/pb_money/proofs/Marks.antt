@@ -1,11 +1,11 @@
 -- The mark between the whole part and the fraction.
-use Rattle.std.proofs.Common.{◌≡◌, ◌≤◌, ◌<◌, ◌∙◌, ◌+◌, ◌-◌, ℕ, suc, List, [], ◌∷◌, refl, sym, ap, arith, Bool, true, false, cond, length, take, drop, Some, None}
+use Rattle.std.proofs.Common.{◌≡◌, ◌≤◌, ◌∙◌, ◌+◌, ◌-◌, ℕ, suc, List, [], ◌∷◌, refl, sym, arith, Bool, true, false, cond, length, take, drop, Some, None}
 use Rattle.std.proofs.lemmas.Bool.{le-ltb, lt-ltb, ltb-false}
 use Rattle.std.proofs.lemmas.Bool.Decides.{nat_tests}
 use Rattle.std.proofs.lemmas.List.{take_rest}
 use Rattle.std.proofs.lemmas.List.Sums.{prefix_len-le-length}
 use Rattle.std.specs.Bool.{then_some}
-use Rattle.std.specs.List.{after_first, before_first, list_any, position_or_len}
+use Rattle.std.specs.List.{list_any, position_or_len}
 use Rattle.std.specs.Prelude.{◌&&◌, ◌||◌, is_some, nat_lt, not, unwrap_or}
 use Rattle.pb_money.specs.Digits.{are_digits}
 use Rattle.pb_money.specs.Money.{is_mark, is_number}
@@ -30,38 +30,23 @@ place-by false p n e h = omega (arith, ltb-false p n e)
 pub place : (p : ℕ → Bool) (xs : List ℕ)
     → unwrap_or (cond (nat_lt (position_or_len p xs) (length xs)) (Some (position_or_len p xs)) None) (length xs)
     ≡ position_or_len p xs
-place p xs =
-    place-by (nat_lt (position_or_len p xs) (length xs)) (position_or_len p xs) (length xs) refl
-    (prefix_len-le-length (λ x. not (p x)) xs)
+place p xs = grind (arith, place-by, prefix_len-le-length)
 
 alone : (a b c : Bool) → a ≡ true → b ≡ false → true ≡ (a && (not b || c))
-alone true false c h k = refl
-alone true true c h k = cc k
-alone false b c h k = cc h
+alone a b c h k = grind arith
 
 followed : (a b c : Bool) → a ≡ true → b ≡ true → c ≡ (a && (not b || c))
-followed true true c h k = refl
-followed true false c h k = cc k
-followed false b c h k = cc h
+followed a b c h k = grind arith
 
 -- digits with no mark
 pub number-alone : (text : List ℕ) (n : ℕ) → n ≡ position_or_len is_mark text → n ≡ length text
     → are_digits (take n text) ≡ true → true ≡ is_number text
-number-alone text n e all h =
-    alone (are_digits (before_first is_mark text)) (list_any is_mark text) (are_digits (after_first is_mark text))
-    (sym (ap (λ k. are_digits (take k text)) e) ∙ h)
-    (marked is_mark text ∙ le-ltb (position_or_len is_mark text) (length text) (omega arith))
+number-alone text n e all h = grind (arith, alone, marked, le-ltb)
 
 -- digits, a mark and what follows it
 pub number-followed : (text : List ℕ) (n : ℕ) → n ≡ position_or_len is_mark text → (n ≡ length text → ⊥)
     → are_digits (take n text) ≡ true → are_digits (take (length text - (n + 1)) (drop (n + 1) text)) ≡ is_number text
-number-followed text n e apart h =
-    let within : position_or_len is_mark text ≤ length text = prefix_len-le-length (λ x. not (is_mark x)) text in
-    let before : position_or_len is_mark text < length text = omega arith in
-    ap are_digits (take_rest text (n + 1)) ∙ ap (λ k. are_digits (drop (k + 1) text)) e
-    ∙ followed (are_digits (before_first is_mark text)) (list_any is_mark text) (are_digits (after_first is_mark text))
-    (sym (ap (λ k. are_digits (take k text)) e) ∙ h)
-    (marked is_mark text ∙ lt-ltb (position_or_len is_mark text) (length text) before)
+number-followed text n e apart h = grind (arith, prefix_len-le-length, take_rest, followed, marked, lt-ltb)
 
 pub is-some-then : {A : Type 0} (b : Bool) (x : A) → is_some (then_some b x) ≡ b
 is-some-then true x = refl

@@ -1,12 +1,12 @@
 -- Digits, one more at a time.
-use Rattle.std.proofs.Common.{◌≡◌, ◌≤◌, ◌<◌, ◌∙◌, ◌+◌, ◌*◌, ◌-◌, ◌^◌, ℕ, suc, zero, List, [], ◌∷◌, refl, sym, ap, arith, Bool, true, false, cond, inl, inr, length, take, drop, get_or, take-append-drop}
+use Rattle.std.proofs.Common.{◌≡◌, ◌≤◌, ◌<◌, ◌∙◌, ◌+◌, ◌*◌, ◌-◌, ◌^◌, ℕ, suc, zero, List, [], ◌∷◌, refl, sym, ap, arith, true, false, length, take, drop, get_or, take-append-drop}
 use Rattle.std.proofs.Math.Nat.{pow-le-pow_right, pow-suc}
-use Rattle.std.proofs.lemmas.Bool.{and_parts, cases_Bool}
+use Rattle.std.proofs.lemmas.Bool.{and_parts}
 use Rattle.std.proofs.lemmas.Bool.Decides.{nat_tests}
 use Rattle.std.proofs.lemmas.List.Sums.{fold-append, fold_more}
 use Rattle.std.specs.Char.{is_ascii_digit}
 use Rattle.std.specs.List.{fold, list_all, prefix_len}
-use Rattle.std.specs.Prelude.{◌==◌, nat_le, None, Some}
+use Rattle.std.specs.Prelude.{◌==◌, None}
 use Rattle.std.specs.Str.{all_ascii_digits, byte}
 use Rattle.pb_money.specs.Digits.{is_empty, number_of, up_to}
 
@@ -32,24 +32,7 @@ number-take digits i =
 -- a part of the digits that is already too large, and then the whole number
 pub too-large : (digits : List ℕ) (i n most : ℕ) → n ≡ number_of (take i digits) → most < n
     → None ≡ up_to most (number_of digits)
-too-large digits i n most e h =
-    let l : n ≤ number_of digits = rw e (number-take digits i) in
-    grind (arith, nat_tests)
-
--- what an answer of `up_to` tells
-beyond-by : (b : Bool) (most n : ℕ) → nat_le n most ≡ b → None ≡ cond b (Some n) None → most < n
-beyond-by true most n e h = cc h
-beyond-by false most n e h = grind (arith, nat_tests)
-
-pub beyond : (most n : ℕ) → None ≡ up_to most n → most < n
-beyond most n h = beyond-by (nat_le n most) most n refl h
-
-same-by : (b : Bool) (n v : ℕ) → Some v ≡ cond b (Some n) None → v ≡ n
-same-by true n v h = cc h
-same-by false n v h = cc h
-
-pub same : (most n v : ℕ) → Some v ≡ up_to most n → v ≡ n
-same most n v h = same-by (nat_le n most) n v h
+too-large digits i n most e h = grind (arith, number-take, nat_tests)
 
 not-zero : (n : ℕ) → (suc n == 0) ≡ false
 not-zero n = grind (arith, nat_tests)
@@ -80,28 +63,20 @@ pub all-more : (text : List ℕ) (i : ℕ) → i < length text → all_ascii_dig
     → is_ascii_digit (get_or text i 0) ≡ true → all_ascii_digits (take (suc i) text) ≡ true
 all-more [] i h a d = absurd (omega arith)
 all-more (b ∷ bs) zero h a d = rw d refl
-all-more (b ∷ bs) (suc i) h a d =
-    let parts = and_parts (is_ascii_digit b) (all_ascii_digits (take i bs)) a in
-    rw (parts.0, all-more bs i (omega arith) parts.1 d) refl
+all-more (b ∷ bs) (suc i) h a d = grind (arith, all-more bs i)
 
 -- as many digits as were met stand in front, and no more where another byte stands next
 pub digits-in-front : (text : List ℕ) (i : ℕ) → i ≤ length text → all_ascii_digits (take i text) ≡ true
     → i ≤ prefix_len is_ascii_digit text
 digits-in-front [] i h a = h
 digits-in-front (b ∷ bs) zero h a = omega arith
-digits-in-front (b ∷ bs) (suc i) h a =
-    let parts = and_parts (is_ascii_digit b) (all_ascii_digits (take i bs)) a in
-    rw parts.0 (omega (arith, digits-in-front bs i (omega arith) parts.1))
+digits-in-front (b ∷ bs) (suc i) h a = grind (arith, digits-in-front bs i)
 
 pub no-more-in-front : (text : List ℕ) (i : ℕ) → is_ascii_digit (get_or text i 0) ≡ false
     → prefix_len is_ascii_digit text ≤ i
 no-more-in-front [] i e = omega arith
 no-more-in-front (b ∷ bs) zero e = rw e (omega arith)
-no-more-in-front (b ∷ bs) (suc i) e =
-    elim (cases_Bool (is_ascii_digit b)) [
-      | inl t ↦ rw t (omega (arith, no-more-in-front bs i e))
-      | inr f ↦ rw f (omega arith)
-    ]
+no-more-in-front (b ∷ bs) (suc i) e = grind (arith, no-more-in-front bs i e)
 
 -- a number of some digits, and one more digit behind it
 pub one-longer : (n i d : ℕ) → n < 10 ^ i → d ≤ 9 → n * 10 + d < 10 ^ suc i

@@ -1,5 +1,5 @@
 -- A number by its parts, and by the tests.
-use Rattle.std.proofs.Common.{◌≡◌, ◌∙◌, ◌+◌, ◌++◌, ℕ, List, [], ◌∷◌, refl, sym, ap, subst, arith, true, false, length, get_or, inl, inr}
+use Rattle.std.proofs.Common.{◌≡◌, ◌∙◌, ◌+◌, ◌++◌, ℕ, List, [], ◌∷◌, refl, sym, subst, arith, true, false, length, get_or, inl, inr}
 use Rattle.std.proofs.Math.Seq.{take-append_seam, take-length, drop-append-add}
 use Rattle.std.proofs.lemmas.Bool.{and_parts, cases_lt, lt-ltb, or_right}
 use Rattle.std.proofs.lemmas.Bool.Decides.{nat_tests}
@@ -10,7 +10,7 @@ use Rattle.std.specs.Char.{is_ascii_digit}
 use Rattle.std.specs.List.{after_first, before_first, list_any, position_or_len}
 use Rattle.std.specs.Prelude.{◌||◌, not}
 use Rattle.std.specs.Str.{all_ascii_digits}
-use Rattle.pb_money.specs.Digits.{are_digits, is_empty}
+use Rattle.pb_money.specs.Digits.{are_digits}
 use Rattle.pb_money.specs.Money.{Marked, NumberText, Plain, is_mark, is_number}
 use Rattle.pb_money.proofs.Marks.{marked, number-alone}
 
@@ -38,29 +38,12 @@ pub record Tested (text whole behind : List ℕ) : Type 0 where
   pub after : after_first is_mark text ≡ behind
 
 tested-plain : (whole : List ℕ) → are_digits whole ≡ true → Tested whole whole []
-tested-plain whole h =
-    let digits = and_parts (not (is_empty whole)) (all_ascii_digits whole) h in
-    let place = place-plain whole digits.1 in
-    record {
-      number = sym (number-alone whole (length whole) (sym place) refl (ap are_digits (take-length whole) ∙ h));
-      before = rw place (take-length whole);
-      after = rw place (drop_all (length whole + 1) whole (omega arith));
-    }
+tested-plain whole h = grind (arith, and_parts, place-plain, number-alone, take-length, drop_all)
 
 tested-marked : (whole : List ℕ) (mark : ℕ) (behind : List ℕ) → are_digits whole ≡ true → is_mark mark ≡ true
     → are_digits behind ≡ true → Tested (whole ++ mark ∷ behind) whole behind
 tested-marked whole mark behind h m k =
-    let text = whole ++ mark ∷ behind in
-    let digits = and_parts (not (is_empty whole)) (all_ascii_digits whole) h in
-    let place = place-marked whole mark behind digits.1 m in
-    let before : before_first is_mark text ≡ whole = rw place (take-append_seam whole (mark ∷ behind)) in
-    let after : after_first is_mark text ≡ behind = rw place (drop-append-add whole (mark ∷ behind) 1) in
-    let some = list_any-append is_mark whole (mark ∷ behind) in
-    record {
-      number = rw (some, m) (rw (before, after, h, k) (or_right (not (list_any is_mark whole || true)) true refl));
-      before = before;
-      after = after;
-    }
+    grind (arith, and_parts, place-marked, take-append_seam, drop-append-add, list_any-append, or_right)
 
 pub tested : (text whole behind : List ℕ) → NumberText text whole behind → Tested text whole behind
 tested text whole behind (Plain ds h) = tested-plain ds h

@@ -1,8 +1,7 @@
 -- A tally with one more row.
-use Rattle.std.proofs.Common.{◌≡◌, ℕ, ◌+◌, ◌-◌, ◌^◌, ◌<◌, ◌≤◌, max, Bool, true, false, cond, List, length, get_or, set, sym, ◌∙◌, ap, subst, inl, inr, arith}
+use Rattle.std.proofs.Common.{◌≡◌, ℕ, ◌+◌, ◌-◌, ◌^◌, ◌<◌, ◌≤◌, max, Bool, true, cond, List, length, get_or, set, sym, ◌∙◌, ap, subst, arith}
 use Rattle.std.specs.Prelude.{pos, Option, ◌&&◌, ◌==◌, filter, nat_lt, not}
 use Rattle.std.specs.List.{range_with_len}
-use Rattle.std.proofs.lemmas.Bool.{cases_eq}
 use Rattle.std.proofs.lemmas.List.{get_or_default, length-set}
 use Rattle.pb_money.specs.Grains.{payment_grains}
 use Rattle.pb_records.proofs.Lists.{filter-same}
@@ -16,24 +15,19 @@ use Rattle.pb_price.proofs.Amounts.{lefts-same, offers-same, paid-here, paid-oth
 use Rattle.pb_price.proofs.Ballots.{written}
 use Rattle.pb_price.specs.Inside.Noted.{IsFindingTo}
 use Rattle.pb_price.specs.declared.Finding.{Finding}
-use Rattle.pb_price.proofs.Counting.{count-added, count-few, same-wrong, wrong-here}
-use Rattle.pb_price.proofs.Firsts.{pair-next, pair-same}
+use Rattle.pb_price.proofs.Counting.{count-added, count-few}
 use Rattle.pb_price.proofs.SameSums.{finding-as}
 
 -- what the closed voters have left and can offer is the same
 lefts-then : (e : Instance) (a b : Taken) (q : PriceRow) (closed c : ℕ) → TakesRow a b q → closed < q.voter
     → sum_ℤ (left_by a.budget e a.pays) (first_supporters e closed c)
     ≡ sum_ℤ (left_by b.budget e b.pays) (first_supporters e closed c)
-lefts-then e a b q closed c r low =
-    sym (ap (λ x. sum_ℤ (left_by x e b.pays) (first_supporters e closed c)) r.budget
-    ∙ lefts-same a.budget e a.pays b.pays closed c (λ i k h. r.voters i k (λ is. omega arith)))
+lefts-then e a b q closed c r low = grind (arith, lefts-same)
 
 offers-then : (e : Instance) (a b : Taken) (q : PriceRow) (closed c : ℕ) → TakesRow a b q → closed < q.voter
     → sum_ℤ (most_by a.budget e a.pays) (first_supporters e closed c)
     ≡ sum_ℤ (most_by b.budget e b.pays) (first_supporters e closed c)
-offers-then e a b q closed c r low =
-    sym (ap (λ x. sum_ℤ (most_by x e b.pays) (first_supporters e closed c)) r.budget
-    ∙ offers-same a.budget e a.pays b.pays closed c (λ i k h. r.voters i k (λ is. omega arith)))
+offers-then e a b q closed c r low = grind (arith, offers-same)
 
 -- the sums with one more payment
 abbrev pub with_payment : ℕ → ProjectSums → ProjectSums
@@ -49,10 +43,7 @@ pub sums-added : (e : Instance) (a b : Taken) (closed opened : ℕ) (xs : List P
     → closed < q.voter → v ≡ get_or xs (q.project - 1) v
     → AreSumsOf e b closed opened (set xs (q.project - 1) (with_payment (payment_grains q.payment) v))
 sums-added e a b closed opened xs q v h r iv ip low is =
-    let i : ℕ = q.project - 1 in
     let u : ProjectSums = with_payment (payment_grains q.payment) v in
-    let from : 1 ≤ q.project = ip.0 in
-    let to : q.project ≤ projects e = ip.1 in
     record {
       as_many = length-set xs (q.project - 1) u ∙ h.as_many;
       paid = λ k d w. written xs (q.project - 1) k u d (λ x. x.paid ≡ paid_by e b.pays (k + 1)) (rw h.as_many w)
@@ -92,87 +83,32 @@ sums-added e a b closed opened xs q v h r iv ip low is =
 
 pub taken-added : (e : Instance) (a b : Taken) (closed opened : ℕ) (q : PriceRow) → AreTaken e a closed opened
     → TakesRow a b q → q.payment ≤ 10 ^ 21 → closed + 1 ≡ q.voter → opened ≡ q.voter → AreTaken e b closed opened
-taken-added e a b closed opened q h r small at_hand open_is = record {
-  within = h.within;
-  small_budget = omega (arith, r.budget, h.small_budget);
-  small = λ i c. elim (cases_eq i q.voter) [
-    | inl i_is ↦ elim (cases_eq c q.project) [
-      | inl c_is ↦ omega (arith, ap (λ x. b.pays x c) i_is ∙ ap (b.pays q.voter) c_is ∙ r.here)
-      | inr c_not ↦ omega (arith, r.projects i c c_not, h.small i c)
-    ]
-    | inr i_not ↦ omega (arith, r.voters i c i_not, h.small i c)
-  ];
-  not_later = λ i c late. (r.voters i c (λ i_is. omega arith) ∙ h.not_later i c late);
-  seen = h.seen;
-  not_unseen = λ c early. absurd (omega arith);
-}
+taken-added e a b closed opened q h r small at_hand open_is = grind arith
 
 pub over-added : (e : Instance) (a b : Taken) (q : PriceRow) (closed : ℕ) → TakesRow a b q → closed < q.voter
     → filter (λ i. nat_lt a.budget (spent_by e a.pays i)) (range_with_len 1 closed)
     ≡ filter (λ i. nat_lt b.budget (spent_by e b.pays i)) (range_with_len 1 closed)
-over-added e a b q closed r low =
-    filter-same (λ i. nat_lt a.budget (spent_by e a.pays i)) (λ i. nat_lt b.budget (spent_by e b.pays i)) closed 1
-    (λ i from to.
-    (ap (λ n. nat_lt n (spent_by e a.pays i)) (sym r.budget)
-    ∙ ap (nat_lt b.budget) (sym (spent-same e a.pays b.pays i (λ c. r.voters i c (λ is. omega arith))))))
+over-added e a b q closed r low = grind (arith, filter-same, spent-same)
 
 over-kept : (e : Instance) (a b : Taken) (q : PriceRow) (closed : ℕ) (f : Finding) → TakesRow a b q → closed < q.voter
     → IsFindingTo closed (λ i. nat_lt a.budget (spent_by e a.pays i)) (λ i. true) (λ i. a.budget)
     (λ i. pos (spent_by e a.pays i)) f
     → IsFindingTo closed (λ i. nat_lt b.budget (spent_by e b.pays i)) (λ i. true) (λ i. b.budget)
     (λ i. pos (spent_by e b.pays i)) f
-over-kept e a b q closed f r low h =
-    finding-as closed (λ i. nat_lt a.budget (spent_by e a.pays i)) (λ i. true) _ (λ i. a.budget) (λ i. b.budget)
-    (λ i. pos (spent_by e a.pays i)) (λ i. pos (spent_by e b.pays i)) f h (over-added e a b q closed r low)
-    (record {
-      bounds = λ i from to. sym r.budget;
-      amounts = λ i from to. ap pos (sym (spent-same e a.pays b.pays i (λ c. r.voters i c (λ is. omega arith))));
-    })
+over-kept e a b q closed f r low h = grind (arith, finding-as, over-added, spent-same)
 
 -- the first payment for a project that is not approved
-
-wrong-none : (e : Instance) (f : ℕ → ℕ → ℕ) (i c : ℕ) → f i c ≡ 0 → pays_wrongly e f i c ≡ false
-wrong-none e f i c h = ap (λ n. nat_lt 0 n && not (approves e i c)) h
 
 pub wrong-added : (e : Instance) (a b : Taken) (q : PriceRow) (approved : Bool) (o : Option (ℕ × ℕ)) → TakesRow a b q
     → IsVoter e q.voter → IsProject e q.project → ((i c : ℕ) → q.voter < i → a.pays i c ≡ 0)
     → approved ≡ approves e q.voter q.project → IsFirstPair e (pays_wrongly e a.pays) o
     → IsFirstPair e (pays_wrongly e b.pays)
     (cond (nat_lt 0 q.payment && not approved) (first_pair o q.voter q.project) o)
-wrong-added e a b q approved o r iv ip later is h =
-    go (nat_lt 0 q.payment && not approved) (wrong-here e a b q approved r is)
-  where
-    go : (w : Bool) → pays_wrongly e b.pays q.voter q.project ≡ w
-        → IsFirstPair e (pays_wrongly e b.pays) (cond w (first_pair o q.voter q.project) o)
-    go true passes =
-        pair-next e (pays_wrongly e a.pays) (pays_wrongly e b.pays) q.voter q.project o iv ip
-        (record {
-          here = passes;
-          not_yet = wrong-none e a.pays q.voter q.project r.none_yet;
-          later = λ i k late. wrong-none e a.pays i k (later i k late);
-          voters = λ i k ne. same-wrong e a.pays b.pays i k (r.voters i k ne);
-          projects = λ i k ne. same-wrong e a.pays b.pays i k (r.projects i k ne);
-        }) h
-    go false fails =
-        pair-same e (pays_wrongly e a.pays) (pays_wrongly e b.pays) o
-        (λ i c. elim (cases_eq i q.voter) [
-          | inl i_is ↦ elim (cases_eq c q.project) [
-            | inl c_is ↦
-                ap (λ x. pays_wrongly e b.pays x c) i_is ∙ ap (pays_wrongly e b.pays q.voter) c_is ∙ fails
-                ∙ sym (ap (λ x. pays_wrongly e a.pays x c) i_is ∙ ap (pays_wrongly e a.pays q.voter) c_is
-                ∙ wrong-none e a.pays q.voter q.project r.none_yet)
-            | inr c_not ↦ same-wrong e a.pays b.pays i c (r.projects i c c_not)
-          ]
-          | inr i_not ↦ same-wrong e a.pays b.pays i c (r.voters i c i_not)
-        ]) h
+wrong-added e a b q approved o r iv ip later is h = grind arith
 
 pub steps-added : (e : Instance) (rows more closed opened steps : ℕ) → more ≡ rows + 1
     → AreSteps e rows closed opened steps → AreSteps e more closed opened (steps + 1)
-steps-added e rows more closed opened steps is h = record {
-  low = omega (arith, h.low);
-  high = omega (arith, h.high);
-  unopened = λ early. omega (arith, h.unopened early);
-}
+steps-added e rows more closed opened steps is h = grind arith
 
 -- all of it
 pub added : (e : Instance) (a b : Taken) (t u : Tally) (q : PriceRow) (v : ProjectSums) → Tallied e a t → TakesRow a b q
@@ -190,8 +126,6 @@ pub added : (e : Instance) (a b : Taken) (t u : Tally) (q : PriceRow) (v : Proje
 added e a b t u q v h r iv ip small at_hand open_is is budget closed opened sums unapproved count over steps spent
     largest =
     let low : t.closed < q.voter = omega arith in
-    let from : 1 ≤ q.project = ip.0 in
-    let to : q.project ≤ projects e = ip.1 in
     let place : q.project - 1 < projects e = omega arith in
     let back : q.project - 1 + 1 ≡ q.project = omega arith in
     let marked : (v.last_approver == q.voter) ≡ approves e q.voter q.project =

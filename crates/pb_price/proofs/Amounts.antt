@@ -1,11 +1,9 @@
 -- What voters pay and have left, as one payment is added.
-use Rattle.std.proofs.Common.{◌≡◌, ℕ, ◌+◌, ◌-◌, ◌*◌, ◌^◌, ◌≤◌, max, ◌∙◌, ap, arith}
+use Rattle.std.proofs.Common.{◌≡◌, ℕ, ◌+◌, ◌*◌, ◌^◌, ◌≤◌, max, ◌∙◌, ap, arith}
 use Rattle.std.specs.Prelude.{pos, ◌-ℤ◌}
-use Rattle.std.specs.Int.{int_max}
 use Rattle.std.specs.List.{range_with_len}
-use Rattle.std.proofs.lemmas.Int.{ints}
 use Rattle.pb_money.specs.Grains.{payment_grains}
-use Rattle.pb_election.specs.Instance.{Instance, IsProject, IsVoter, approves, projects, voters}
+use Rattle.pb_election.specs.Instance.{Instance, IsProject, IsVoter, projects, voters}
 use Rattle.pb_cohesion.specs.Conditions.{sum_ℤ}
 use Rattle.pb_cohesion.proofs.Amounts.{max-is}
 use Rattle.pb_cohesion.proofs.Sums.{range-same, sum-zero}
@@ -16,14 +14,10 @@ use Rattle.pb_price.proofs.Signed.{signed-same}
 
 -- a voter whose payments are the same has spent the same, and has the same left
 pub spent-same : (e : Instance) (f g : ℕ → ℕ → ℕ) (i : ℕ) → ((c : ℕ) → g i c ≡ f i c) → spent_by e g i ≡ spent_by e f i
-spent-same e f g i h =
-    range-same (λ c. payment_grains (g i c)) (λ c. payment_grains (f i c)) 1 (projects e)
-    (λ c low high. ap payment_grains (h c))
+spent-same e f g i h = grind (arith, range-same)
 
 pub top-same : (e : Instance) (f g : ℕ → ℕ → ℕ) (i : ℕ) → ((c : ℕ) → g i c ≡ f i c) → top_by e g i ≡ top_by e f i
-top-same e f g i h =
-    largest-same (λ c. payment_grains (g i c)) (λ c. payment_grains (f i c)) 1 (projects e)
-    (λ c low high. ap payment_grains (h c))
+top-same e f g i h = grind (arith, largest-same)
 
 pub left-same : (b : ℕ) (e : Instance) (f g : ℕ → ℕ → ℕ) (i : ℕ) → ((c : ℕ) → g i c ≡ f i c)
     → left_by b e g i ≡ left_by b e f i
@@ -31,8 +25,7 @@ left-same b e f g i h = ap (λ s. pos b -ℤ pos s) (spent-same e f g i h)
 
 pub most-same : (b : ℕ) (e : Instance) (f g : ℕ → ℕ → ℕ) (i : ℕ) → ((c : ℕ) → g i c ≡ f i c)
     → most_by b e g i ≡ most_by b e f i
-most-same b e f g i h = ap (λ t. int_max (pos t) (left_by b e g i)) (top-same e f g i h)
-    ∙ ap (int_max (pos (top_by e f i))) (left-same b e f g i h)
+most-same b e f g i h = grind (arith, top-same, left-same)
 
 -- one that pays nothing
 pub spent-none : (e : Instance) (f : ℕ → ℕ → ℕ) (i : ℕ) → ((c : ℕ) → f i c ≡ 0) → spent_by e f i ≡ 0
@@ -54,8 +47,7 @@ pub spent-most : (e : Instance) (f : ℕ → ℕ → ℕ) (i : ℕ) → ((i c : 
 spent-most e f i h = sum-most (λ c. payment_grains (f i c)) (10 ^ 27) 1 (projects e) (λ c. grains-most (f i c) (h i c))
 
 pub top-most : (e : Instance) (f : ℕ → ℕ → ℕ) (i : ℕ) → ((i c : ℕ) → f i c ≤ 10 ^ 21) → top_by e f i ≤ 10 ^ 27
-top-most e f i h =
-    largest-most (λ c. payment_grains (f i c)) (10 ^ 27) 1 (projects e) (λ c. grains-most (f i c) (h i c))
+top-most e f i h = grind (arith, largest-most, grains-most)
 
 pub paid-most : (e : Instance) (f : ℕ → ℕ → ℕ) (c : ℕ) → ((i c : ℕ) → f i c ≤ 10 ^ 21)
     → paid_by e f c ≤ voters e * 10 ^ 27
@@ -63,19 +55,11 @@ paid-most e f c h = sum-most (λ i. payment_grains (f i c)) (10 ^ 27) 1 (voters 
 
 pub left-small : (b : ℕ) (e : Instance) (f : ℕ → ℕ → ℕ) (i : ℕ) → projects e ≤ 20000 → b ≤ 10 ^ 27
     → ((i c : ℕ) → f i c ≤ 10 ^ 21) → IsWithin (10 ^ 32) (left_by b e f i)
-left-small b e f i few small h = between b (spent_by e f i) (omega arith) (omega (arith, spent-most e f i h))
-  where
-    between : (x y : ℕ) → x ≤ 10 ^ 32 → y ≤ 10 ^ 32 → IsWithin (10 ^ 32) (pos x -ℤ pos y)
-    between x y l m = (omega (arith, ints), omega (arith, ints))
+left-small b e f i few small h = grind (arith, spent-most)
 
 pub most-small : (b : ℕ) (e : Instance) (f : ℕ → ℕ → ℕ) (i : ℕ) → b ≤ 10 ^ 27 → ((i c : ℕ) → f i c ≤ 10 ^ 21)
     → IsWithin (10 ^ 32) (most_by b e f i)
-most-small b e f i small h =
-    rw (max-is (top_by e f i) b (spent_by e f i))
-    (number (max (top_by e f i) (b - spent_by e f i)) (omega (arith, top-most e f i h)))
-  where
-    number : (x : ℕ) → x ≤ 10 ^ 32 → IsWithin (10 ^ 32) (pos x)
-    number x l = (omega (arith, ints), omega (arith, ints))
+most-small b e f i small h = grind (arith, max-is, top-most)
 
 -- one more row
 pub paid-here : (e : Instance) (a b : Taken) (q : PriceRow) → TakesRow a b q → IsVoter e q.voter
@@ -87,9 +71,7 @@ paid-here e a b q r v =
 
 pub paid-other : (e : Instance) (a b : Taken) (q : PriceRow) (c : ℕ) → TakesRow a b q → (c ≡ q.project → ⊥)
     → paid_by e b.pays c ≡ paid_by e a.pays c
-paid-other e a b q c r ne =
-    range-same (λ i. payment_grains (b.pays i c)) (λ i. payment_grains (a.pays i c)) 1 (voters e)
-    (λ i low high. ap payment_grains (r.projects i c ne))
+paid-other e a b q c r ne = grind (arith, range-same)
 
 pub spent-here : (e : Instance) (a b : Taken) (q : PriceRow) → TakesRow a b q → IsProject e q.project
     → spent_by e b.pays q.voter ≡ spent_by e a.pays q.voter + payment_grains q.payment
@@ -108,12 +90,8 @@ top-here e a b q r p =
 -- what the supporters among the first so many voters have left and can offer, where those pay the same
 pub lefts-same : (x : ℕ) (e : Instance) (f g : ℕ → ℕ → ℕ) (n c : ℕ) → ((i k : ℕ) → i ≤ n → g i k ≡ f i k)
     → sum_ℤ (left_by x e g) (first_supporters e n c) ≡ sum_ℤ (left_by x e f) (first_supporters e n c)
-lefts-same x e f g n c h =
-    signed-same (left_by x e g) (left_by x e f) (λ i. approves e i c) 1 n
-    (λ i low high. left-same x e f g i (λ k. h i k (omega arith)))
+lefts-same x e f g n c h = grind (arith, signed-same, left-same)
 
 pub offers-same : (x : ℕ) (e : Instance) (f g : ℕ → ℕ → ℕ) (n c : ℕ) → ((i k : ℕ) → i ≤ n → g i k ≡ f i k)
     → sum_ℤ (most_by x e g) (first_supporters e n c) ≡ sum_ℤ (most_by x e f) (first_supporters e n c)
-offers-same x e f g n c h =
-    signed-same (most_by x e g) (most_by x e f) (λ i. approves e i c) 1 n
-    (λ i low high. most-same x e f g i (λ k. h i k (omega arith)))
+offers-same x e f g n c h = grind (arith, signed-same, most-same)

@@ -1,5 +1,5 @@
 -- The projects of a ballot, one after another: marks and money for each.
-use Rattle.std.proofs.Common.{◌≡◌, ℕ, zero, suc, ◌+◌, ◌-◌, ◌<◌, ◌≤◌, true, false, cond, List, [], ◌∷◌, length, get_or, set, take, refl, sym, ◌∙◌, ap, subst, inl, inr, arith, get_or-set_other, get_or-set_same}
+use Rattle.std.proofs.Common.{◌≡◌, ℕ, zero, suc, ◌+◌, ◌-◌, ◌<◌, ◌≤◌, true, false, cond, List, [], ◌∷◌, length, get_or, set, take, refl, sym, ◌∙◌, ap, subst, arith, get_or-set_other, get_or-set_same}
 use Rattle.std.specs.Prelude.{◌==◌, pos}
 use Rattle.std.proofs.lemmas.Bool.{cases_eq, eq-eqb, ne_eqb}
 use Rattle.std.proofs.lemmas.List.{get_or_default, length-set}
@@ -16,12 +16,7 @@ nothing = record { paid = 0; left = pos 0; offer = pos 0; supporters = 0; last_a
 -- what holds of the sums of a project after a write, by whether they were written
 pub written : (xs : List ProjectSums) (i p : ℕ) (v d : ProjectSums) (P : ProjectSums → Type 0) → p < length xs
     → (p ≡ i → P v) → ((p ≡ i → ⊥) → P (get_or xs p d)) → P (get_or (set xs i v) p d)
-written xs i p v d P within here other = elim (cases_eq p i) [
-  | inl e ↦
-      let in_list : i < length xs = omega arith in
-      subst P (sym (ap (λ k. get_or (set xs i v) k d) e ∙ get_or-set_same xs i v d in_list)) (here e)
-  | inr ne ↦ subst P (sym (get_or-set_other xs i p v d ne)) (other ne)
-]
+written xs i p v d P within here other = grind (arith, cases_eq, get_or, get_or-set_same, get_or-set_other)
 
 -- the sums that were read there
 pub read : (xs : List ProjectSums) (i p : ℕ) (d : ProjectSums) → p < length xs → p ≡ i

@@ -1,17 +1,13 @@
 -- How large the sums of a tally can be.
-use Rattle.std.proofs.Common.{◌≡◌, ℕ, ◌+◌, ◌-◌, ◌*◌, ◌^◌, ◌<◌, ◌≤◌, List, [], length, get_or, sym, ◌∙◌, ap, subst, inl, inr, arith}
-use Rattle.std.specs.Prelude.{IfSome, Option, Some, None, nat_lt, true, ℤ, pos, neg_ℤ, ◌≤ℤ◌}
+use Rattle.std.proofs.Common.{◌≡◌, ℕ, ◌+◌, ◌-◌, ◌*◌, ◌^◌, ◌<◌, ◌≤◌, List, [], length, get_or, arith}
+use Rattle.std.specs.Prelude.{IfSome, ℤ, pos, neg_ℤ, ◌≤ℤ◌}
 use Rattle.std.proofs.lemmas.Bool.{cases_lt}
-use Rattle.std.proofs.lemmas.Int.{ints}
 use Rattle.std.proofs.lemmas.List.{get_or_past}
 use Rattle.std.proofs.lemmas.List.Sums.{get_or-le-sum_by, sum_by-take-le}
 use Rattle.pb_election.specs.Instance.{Instance, IsProject, approvals, approves, ballot_of, projects, voters}
 use Rattle.pb_cohesion.specs.Conditions.{sum_ℤ}
-use Rattle.pb_price.specs.Findings.{comparison}
-use Rattle.pb_price.specs.Inside.Noted.{IsShown, among}
 use Rattle.pb_price.specs.Inside.Looked.{IsSmallComparison}
-use Rattle.pb_price.specs.declared.Comparison.{Comparison}
-use Rattle.pb_price.specs.Inside.Tallies.{AreChanged, AreInRange, AreSmall, IsWithin, Taken, Tallied, first_supporters, left_by, most_by, paid_by, spent_by, sums_of}
+use Rattle.pb_price.specs.Inside.Tallies.{AreChanged, AreInRange, AreSmall, IsWithin, Taken, Tallied, first_supporters, left_by, most_by, sums_of}
 use Rattle.pb_price.specs.declared.tally.ProjectSums.{ProjectSums}
 use Rattle.pb_price.specs.declared.tally.Tally.{Tally}
 use Rattle.pb_price.proofs.Amounts.{left-small, most-small, paid-most, spent-most, top-most}
@@ -26,16 +22,11 @@ largest-bound e a t h = omega (arith, h.largest, top-most e a.pays (t.closed + 1
 
 pub paid-bound : (e : Instance) (a : Taken) (t : Tally) (k : ℕ) (v : ProjectSums) → Tallied e a t → k < projects e
     → v ≡ get_or t.projects.items k v → v.paid ≤ 10 ^ 6 * 10 ^ 27
-paid-bound e a t k v h within is =
-    let paid_is : v.paid ≡ paid_by e a.pays (k + 1) = ap (λ x. x.paid) is ∙ h.sums.paid k v within in
-    omega (arith, paid_is, paid-most e a.pays (k + 1) h.taken.small, h.sound.few_voters)
+paid-bound e a t k v h within is = grind (arith, paid-most)
 
 few-times : (n k : ℕ) (x : ℤ) → k ≤ n → n ≤ 1000000 → (neg_ℤ (pos (k * 10 ^ 32)) ≤ℤ x) × (x ≤ℤ pos (k * 10 ^ 32))
     → IsWithin (10 ^ 38) x
-few-times n k x h few b =
-    let low = b.0 in
-    let high = b.1 in
-    (omega (arith, ints), omega (arith, ints))
+few-times n k x h few b = grind arith
 
 -- what is known of the voter at hand, and of the sums before it is closed
 pub left-bound : (e : Instance) (a : Taken) (t : Tally) (i : ℕ) → Tallied e a t
@@ -73,7 +64,6 @@ sums-bound e a t k d h more within = record {
 pub sums-of-bound : (e : Instance) (a : Taken) (t : Tally) (c : ℕ) → Tallied e a t → IsProject e c
     → AreInRange (sums_of t.projects.items c)
 sums-of-bound e a t c h ip =
-    let low : 1 ≤ c = ip.0 in
     let within : c - 1 < projects e = omega (arith, ip.1) in
     record {
       paid =
@@ -86,57 +76,22 @@ sums-of-bound e a t c h ip =
     }
 
 long : (bs : List (List ℕ)) (k : ℕ) → length (get_or bs k []) ≤ approvals bs
-long bs k = elim (cases_lt k (length bs)) [
-  | inl within ↦ get_or-le-sum_by (λ (xs : List ℕ). length xs) bs k [] within
-  | inr past ↦ let none : length (get_or bs k []) ≡ 0 = ap (λ xs. length xs) (get_or_past bs k [] past) in omega arith
-]
+long bs k = grind (arith, cases_lt, get_or-le-sum_by, get_or, get_or_past)
 
 pub ballot-bound : (e : Instance) (i : ℕ) → length (ballot_of e i) ≤ approvals e.ballots
 ballot-bound e i = long e.ballots (i - 1)
 
 pub steps-bound : (e : Instance) (a : Taken) (t : Tally) → Tallied e a t → a.rows ≤ 10 ^ 12 → t.steps ≤ 2 ^ 61
-steps-bound e a t h few =
-    omega (
-      arith,
-      h.steps.high,
-      few,
-      h.sound.few_approvals,
-      h.sound.few_voters,
-      h.taken.within,
-      ballot-bound e (t.closed + 1),
-      sum_by-take-le (λ (xs : List ℕ). length xs) e.ballots t.closed,
-    )
+steps-bound e a t h few = grind (arith, ballot-bound, sum_by-take-le)
 
 -- the same lists
 pub changed-as : (change : ProjectSums → ProjectSums) (xs xs' ys ys' : List ProjectSums) (b b' : List ℕ) → xs' ≡ xs
     → ys' ≡ ys → b' ≡ b → AreChanged change xs' ys' b' → AreChanged change xs ys b
-changed-as change xs xs' ys ys' b b' p q r h =
-    subst (λ z. AreChanged change xs ys z) r
-    (subst (λ z. AreChanged change xs z b') q (subst (λ z. AreChanged change z ys' b') p h))
+changed-as change xs xs' ys ys' b b' p q r h = grind arith
 
 -- what is kept of C2
 pub over-few : (e : Instance) (a : Taken) (t : Tally) → Tallied e a t → t.over_budget.count ≤ 10 ^ 6
-over-few e a t h =
-    omega (
-      arith,
-      h.over_budget.count,
-      count-most (λ i. nat_lt a.budget (spent_by e a.pays i)) 1 t.closed,
-      h.taken.within,
-      h.sound.few_voters,
-    )
+over-few e a t h = grind (arith, count-most)
 
 pub over-small : (e : Instance) (a : Taken) (t : Tally) → Tallied e a t → IfSome t.over_budget.shown IsSmallComparison
-over-small e a t h = go t.over_budget.first t.over_budget.shown h.over_budget.shown
-  where
-    small : (i : ℕ) → IsSmallComparison (comparison (λ j. a.budget) (λ j. pos (spent_by e a.pays j)) i)
-    small i =
-        let most : spent_by e a.pays i ≤ 20000 * 10 ^ 27 =
-        omega (arith, spent-most e a.pays i h.taken.small, h.sound.few_projects) in
-        record { bound = omega (arith, h.taken.small_budget); amount = (omega (arith, ints), omega (arith, ints)) }
-
-    go : (o : Option ℕ) (s : Option Comparison)
-        → IsShown o (among t.closed (λ i. true)) (λ j. a.budget) (λ j. pos (spent_by e a.pays j)) s
-        → IfSome s IsSmallComparison
-    go (Some x) s k = subst (λ y. IfSome y IsSmallComparison) (sym k) (small x)
-    go None None k = tt
-    go None (Some m) k = subst IsSmallComparison (sym k.0) (small m.at)
+over-small e a t h = grind (arith, spent-most)

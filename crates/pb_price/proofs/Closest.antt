@@ -1,10 +1,10 @@
 -- The finding by a loop is that of the definition: the closest of the candidates is the first at which the excess is
 -- greatest.
-use Rattle.std.proofs.Common.{◌≡◌, ℕ, zero, suc, ◌+◌, ◌-◌, ◌<◌, ◌≤◌, Bool, true, false, cond, List, ◌∷◌, refl, sym, ◌∙◌, ap, inl, inr, arith}
+use Rattle.std.proofs.Common.{◌≡◌, ℕ, zero, suc, ◌+◌, ◌-◌, ◌<◌, ◌≤◌, Bool, true, false, List, ◌∷◌, refl, sym, ◌∙◌, ap, inl, inr, arith}
 use Rattle.std.specs.Prelude.{ℤ, ◌≤ℤ◌, ◌&&◌, Option, Some, None, filter, int_le, option_map, slice_get}
 use Rattle.std.specs.List.{list_all, range_with_len}
 use Rattle.std.specs.Option.{option_or}
-use Rattle.std.proofs.lemmas.Bool.{and_parts, cases_Bool, cases_eq, false≢true}
+use Rattle.std.proofs.lemmas.Bool.{cases_Bool}
 use Rattle.std.proofs.lemmas.Int.{ints}
 use Rattle.pb_records.proofs.Lists.{filter-none}
 use Rattle.pb_cohesion.proofs.Culprits.{filter-filter}
@@ -19,32 +19,12 @@ use Rattle.pb_price.proofs.SameSums.{Same, finding-as}
 all-pass : (p r : ℕ → Bool) (n a : ℕ) → ((j : ℕ) → a ≤ j → j < a + n → r j ≡ true → p j ≡ true)
     → list_all p (filter r (range_with_len a n)) ≡ true
 all-pass p r zero a h = refl
-all-pass p r (suc n) a h = go (r a) refl (all-pass p r n (a + 1) (λ j low high. h j (omega arith) (omega arith)))
-  where
-    go : (b : Bool) → r a ≡ b → list_all p (filter r (range_with_len (a + 1) n)) ≡ true
-        → list_all p (cond b (a ∷ filter r (range_with_len (a + 1) n)) (filter r (range_with_len (a + 1) n))) ≡ true
-    go true is rest = rw (h a (omega arith) (omega arith) is) rest
-    go false is rest = rest
+all-pass p r (suc n) a h = grind (arith, all-pass p r n (a + 1))
 
 each-pass : (p r : ℕ → Bool) (n a : ℕ) → list_all p (filter r (range_with_len a n)) ≡ true → (j : ℕ) → a ≤ j → j < a + n
     → r j ≡ true → p j ≡ true
 each-pass p r zero a h j low high is = absurd (omega arith)
-each-pass p r (suc n) a h j low high is = elim (cases_eq j a) [
-  | inl e ↦ ap p e ∙ first (r a) (ap r (sym e) ∙ is) refl h
-  | inr e ↦ each-pass p r n (a + 1) (later (r a) h) j (omega arith) (omega arith) is
-]
-  where
-    first : (b : Bool) → r a ≡ true → r a ≡ b
-        → list_all p (cond b (a ∷ filter r (range_with_len (a + 1) n)) (filter r (range_with_len (a + 1) n))) ≡ true
-        → p a ≡ true
-    first true here k h' = (and_parts (p a) (list_all p (filter r (range_with_len (a + 1) n))) h').0
-    first false here k h' = absurd (false≢true (sym k ∙ here))
-
-    later : (b : Bool)
-        → list_all p (cond b (a ∷ filter r (range_with_len (a + 1) n)) (filter r (range_with_len (a + 1) n))) ≡ true
-        → list_all p (filter r (range_with_len (a + 1) n)) ≡ true
-    later true h' = (and_parts (p a) (list_all p (filter r (range_with_len (a + 1) n))) h').1
-    later false h' = h'
+each-pass p r (suc n) a h j low high is = grind (arith, each-pass p r n (a + 1))
 
 -- a range of which each number passes
 pub each-passes : (n a : ℕ) → filter (λ i. true) (range_with_len a n) ≡ range_with_len a n
@@ -83,7 +63,6 @@ closest-is r f n x h =
     less : (j : ℕ) → 1 ≤ j → j < x → r j ≡ true → (b : Bool) → at_least_each f (filter r (range_with_len 1 n)) j ≡ b
         → b ≡ false
     less j from to is true k =
-        let high : x ≤ n = h.one.1 in
         let one : among n r j = (from, omega arith, is) in
         let above : f x ≤ℤ f j =
         test-le (f x) (f j) (each-pass (λ y. int_le (f y) (f j)) r n 1 k x h.one.0 (omega arith) h.one.2) in
@@ -99,19 +78,14 @@ closest-is r f n x h =
 
 none-closest : (r : ℕ → Bool) (f : ℕ → ℤ) (n : ℕ) → ((x : ℕ) → among n r x → ⊥)
     → closest (filter r (range_with_len 1 n)) f ≡ None
-none-closest r f n none = ap (λ xs. closest xs f) (filter-none r n 1 (λ j low high. fails j low high (r j) refl))
-  where
-    fails : (j : ℕ) → 1 ≤ j → j < 1 + n → (b : Bool) → r j ≡ b → r j ≡ false
-    fails j low high true is = absurd (none j (low, omega arith, is))
-    fails j low high false is = is
+none-closest r f n none = grind (arith, filter-none)
 
 shown-is : (n : ℕ) (r : ℕ → Bool) (bound : ℕ → ℕ) (amount : ℕ → ℤ) (o : Option ℕ) (s : Option Comparison)
     → IsShown o (among n r) bound amount s
     → s ≡ option_map (comparison bound amount)
     (option_or o (closest (filter r (range_with_len 1 n)) (λ x. excess (comparison bound amount x))))
 shown-is n r bound amount (Some x) s h = h
-shown-is n r bound amount None None h =
-    ap (option_map (comparison bound amount)) (sym (none-closest r (λ x. excess (comparison bound amount x)) n h))
+shown-is n r bound amount None None h = grind (arith, none-closest)
 shown-is n r bound amount None (Some m) h = ap Some h.0
     ∙ ap (option_map (comparison bound amount))
     (sym (closest-is r (λ x. excess (comparison bound amount x)) n m.at h.1))
@@ -119,8 +93,7 @@ shown-is n r bound amount None (Some m) h = ap Some h.0
 finding-is : (n : ℕ) (r : ℕ → Bool) (culprits candidates : List ℕ) (bound : ℕ → ℕ) (amount : ℕ → ℤ) (f : Finding)
     → IsFindingBy culprits n r bound amount f → filter r (range_with_len 1 n) ≡ candidates
     → f ≡ finding culprits candidates bound amount
-finding-is n r culprits candidates bound amount f h is =
-    rw (sym is, sym h.first, sym h.count, sym (shown-is n r bound amount f.first f.shown h.shown)) refl
+finding-is n r culprits candidates bound amount f h is = grind (arith, shown-is)
 
 -- the same by another account of the sums
 pub found-as : (n : ℕ) (q r : ℕ → Bool) (culprits candidates : List ℕ) (bound bound' : ℕ → ℕ) (amount amount' : ℕ → ℤ)

@@ -1,13 +1,11 @@
 -- A tally whose voter at hand is opened, or closed.
 use mir.Syntax.{w128}
 use mir.Val.{of_z, to_z}
-use Rattle.std.proofs.Common.{◌≡◌, ℕ, ◌+◌, ◌-◌, ◌^◌, ◌<◌, ◌≤◌, Bool, true, false, cond, List, [], length, get_or, take, refl, sym, ◌∙◌, ap, subst, arith}
-use Rattle.std.specs.Prelude.{ℤ, pos, ◌+ℤ◌, ◌-ℤ◌, ◌==◌, nat_lt}
+use Rattle.std.proofs.Common.{◌≡◌, ℕ, ◌+◌, ◌^◌, ◌<◌, ◌≤◌, Bool, true, false, cond, List, length, get_or, take, refl, sym, ◌∙◌, ap, subst, arith}
+use Rattle.std.specs.Prelude.{ℤ, pos, ◌+ℤ◌, ◌-ℤ◌, nat_lt}
 use Rattle.std.specs.Int.{int_max}
-use Rattle.std.proofs.lemmas.Bool.{eq-eqb, ne_eqb}
 use Rattle.std.proofs.lemmas.List.Sums.{sum_by_more}
 use Rattle.pb_election.specs.Instance.{Instance, approvals, approves, ballot_of, voters}
-use Rattle.pb_cohesion.proofs.Sums.{among}
 use Rattle.pb_price.specs.Inside.Tallies.{AreChanged, AreSumsOf, IsWithin, Taken, Tallied, left_by, marked_with, most_by, spent_by, top_by, with_supporter}
 use Rattle.pb_price.specs.declared.tally.ProjectSums.{ProjectSums}
 use Rattle.pb_price.specs.declared.tally.Tally.{Tally}
@@ -27,39 +25,13 @@ part get false s t = refl
 part-kept : {A : Type 0} {change : ProjectSums → ProjectSums} {xs ys : List ProjectSums} {b : List ℕ}
     (get : ProjectSums → A) (k : ℕ) (d : ProjectSums) → AreChanged change xs ys b → k < length xs
     → ((s : ProjectSums) → get (change s) ≡ get s) → get (get_or ys k d) ≡ get (get_or xs k d)
-part-kept {change} {xs} {b} get k d m w same = ap get (m.each k d w) ∙ go (among b (k + 1))
-  where
-    go : (c : Bool) → get (cond c (change (get_or xs k d)) (get_or xs k d)) ≡ get (get_or xs k d)
-    go true = same (get_or xs k d)
-    go false = refl
+part-kept {change} {xs} {b} get k d m w same = grind arith
 
 -- opened: the projects of its ballot are marked
 sums-opened : (e : Instance) (a : Taken) (closed opened : ℕ) (xs ys : List ProjectSums) → AreSumsOf e a closed opened xs
     → opened ≤ closed → AreChanged (marked_with (closed + 1)) xs ys (ballot_of e (closed + 1))
     → AreSumsOf e a closed (closed + 1) ys
-sums-opened e a closed opened xs ys h early m = record {
-  as_many = m.as_many ∙ h.as_many;
-  paid = λ k d w. (part-kept (λ s. s.paid) k d m (rw h.as_many w) (λ s. refl) ∙ h.paid k d w);
-  left = λ k d w. (part-kept (λ s. s.left) k d m (rw h.as_many w) (λ s. refl) ∙ h.left k d w);
-  offer = λ k d w. (part-kept (λ s. s.offer) k d m (rw h.as_many w) (λ s. refl) ∙ h.offer k d w);
-  count = λ k d w. (part-kept (λ s. s.supporters) k d m (rw h.as_many w) (λ s. refl) ∙ h.count k d w);
-  seen =
-      λ k d w. rw (m.each k d (rw h.as_many w))
-      (seen_by (approves e (closed + 1) (k + 1)) (get_or xs k d) (h.seen k d w));
-  marked =
-      λ k d w o. rw (m.each k d (rw h.as_many w))
-      (marked_by (approves e (closed + 1) (k + 1)) (get_or xs k d) (h.seen k d w));
-}
-  where
-    seen_by : (b : Bool) (s : ProjectSums) → s.last_approver ≤ opened
-        → (cond b (marked_with (closed + 1) s) s).last_approver ≤ closed + 1
-    seen_by true s l = omega arith
-    seen_by false s l = omega arith
-
-    marked_by : (b : Bool) (s : ProjectSums) → s.last_approver ≤ opened
-        → ((cond b (marked_with (closed + 1) s) s).last_approver == closed + 1) ≡ b
-    marked_by true s l = eq-eqb (closed + 1) (closed + 1) refl
-    marked_by false s l = ne_eqb s.last_approver (closed + 1) (λ is. omega arith)
+sums-opened e a closed opened xs ys h early m = grind arith
 
 pub opened : (e : Instance) (a : Taken) (t u : Tally) → Tallied e a t → t.opened ≤ t.closed
     → AreChanged (marked_with (t.closed + 1)) t.projects.items u.projects.items (ballot_of e (t.closed + 1))
@@ -129,10 +101,7 @@ sums-closed e a closed opened l o xs ys h seen_is l_is o_is m = record {
 -- the approvals of one more voter
 pub approvals-next : (e : Instance) (n : ℕ) → n < voters e
     → approvals (take (n + 1) e.ballots) ≡ approvals (take n e.ballots) + length (ballot_of e (n + 1))
-approvals-next e n h =
-    let same : n ≡ n + 1 - 1 = omega arith in
-    sum_by_more (λ (xs : List ℕ). length xs) e.ballots n [] h
-    ∙ ap (λ k. approvals (take n e.ballots) + length (get_or e.ballots k [])) same
+approvals-next e n h = grind (arith, sum_by_more, get_or)
 
 -- what the voter at hand has left and can offer
 left-is : (e : Instance) (a : Taken) (t : Tally) → Tallied e a t
@@ -141,8 +110,7 @@ left-is e a t h = ap (λ x. pos x -ℤ pos t.spent) h.budget ∙ ap (λ x. pos a
 
 most-is : (e : Instance) (a : Taken) (t : Tally) → Tallied e a t
     → int_max (pos t.largest) (pos t.budget -ℤ pos t.spent) ≡ most_by a.budget e a.pays (t.closed + 1)
-most-is e a t h = ap (λ x. int_max (pos x) (pos t.budget -ℤ pos t.spent)) h.largest
-    ∙ ap (int_max (pos (top_by e a.pays (t.closed + 1)))) (left-is e a t h)
+most-is e a t h = grind arith
 
 -- the same, as they are kept in 128 bits
 pub left-kept : (e : Instance) (a : Taken) (t : Tally) (l : ℤ) → Tallied e a t → l ≡ pos t.budget -ℤ pos t.spent

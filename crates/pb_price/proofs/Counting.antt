@@ -32,8 +32,7 @@ same-wrong e f g i c h = ap (λ n. nat_lt 0 n && not (approves e i c)) h
 pub wrong-here : (e : Instance) (a b : Taken) (q : PriceRow) (approved : Bool) → TakesRow a b q
     → approved ≡ approves e q.voter q.project
     → pays_wrongly e b.pays q.voter q.project ≡ (nat_lt 0 q.payment && not approved)
-wrong-here e a b q approved r is = ap (λ k. nat_lt 0 k && not (approves e q.voter q.project)) r.here
-    ∙ ap (λ y. nat_lt 0 q.payment && not y) (sym is)
+wrong-here e a b q approved r is = grind arith
 
 of-voter : (e : Instance) (a b : Taken) (q : PriceRow) (w : Bool) → TakesRow a b q → IsProject e q.project
     → pays_wrongly e b.pays q.voter q.project ≡ w → wrong_of e b.pays q.voter ≡ wrong_of e a.pays q.voter + cond w 1 0
@@ -47,10 +46,7 @@ of-voter e a b q w r ip is =
 
 of-other : (e : Instance) (a b : Taken) (q : PriceRow) (i : ℕ) → TakesRow a b q → (i ≡ q.voter → ⊥)
     → wrong_of e b.pays i ≡ wrong_of e a.pays i
-of-other e a b q i r ne =
-    ap (λ (xs : List ℕ). length xs)
-    (filter-same (pays_wrongly e b.pays i) (pays_wrongly e a.pays i) (projects e) 1
-    (λ c low high. same-wrong e a.pays b.pays i c (r.voters i c ne)))
+of-other e a b q i r ne = grind (arith, filter-same, same-wrong)
 
 pub count-added : (e : Instance) (a b : Taken) (q : PriceRow) (approved : Bool) (n m : ℕ) → TakesRow a b q
     → IsVoter e q.voter → IsProject e q.project → approved ≡ approves e q.voter q.project
@@ -78,11 +74,4 @@ wrong_pairs e p i = map (λ c. (i, c)) (filter (wrong e p i) (all_projects e))
 
 pub count-culprits : (e : Instance) (f : ℕ → ℕ → ℕ) (p : Prices)
     → ((i c : ℕ) → IsVoter e i → IsProject e c → f i c ≡ payment p i c) → wrong_count e f ≡ length (culprits_of_C1 e p)
-count-culprits e f p agree =
-    range-same (wrong_of e f) (λ i. length (wrong_pairs e p i)) 1 (voters e) (λ i low high. (
-    ap (λ (xs : List ℕ). length xs)
-    (filter-same (pays_wrongly e f i) (wrong e p i) (projects e) 1
-    (λ c low' high'. ap (λ n. nat_lt 0 n && not (approves e i c))
-    (agree i c (low, omega arith) (low', omega arith))))
-    ∙ sym (length-map {B = ℕ × ℕ} (filter (wrong e p i) (all_projects e)) (λ c. (i, c)))))
-    ∙ sym (length-flat_map (wrong_pairs e p) (all_voters e))
+count-culprits e f p agree = grind (arith, range-same, filter-same, length-map, length-flat_map)

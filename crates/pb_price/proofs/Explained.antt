@@ -1,14 +1,13 @@
 -- The findings as the sums tell them are the findings on the prices.
 use Rattle.std.proofs.Common.{◌≡◌, ℕ, ◌+◌, ◌*◌, ◌^◌, ◌<◌, ◌≤◌, Bool, true, false, List, [], refl, sym, ◌∙◌, ap, inl, inr, arith}
-use Rattle.std.specs.Prelude.{ℤ, pos, ◌-ℤ◌, ◌&&◌, filter, int_le, nat_le, not}
+use Rattle.std.specs.Prelude.{ℤ, pos, ◌-ℤ◌, filter, int_le, nat_le}
 use Rattle.std.specs.List.{range_with_len}
 use Rattle.std.proofs.lemmas.Bool.{cases_lt, le-leb, lt-leb}
 use Rattle.std.proofs.lemmas.Int.{ints}
 use Rattle.std.proofs.lemmas.Nat.{mul-le}
 use Rattle.pb_money.specs.Grains.{cost_grains}
 use Rattle.pb_records.proofs.Lists.{filter-none}
-use Rattle.pb_election.specs.Instance.{Instance, all_projects, all_voters, cost_of, projects, supporters, voters}
-use Rattle.pb_election.specs.Outcome.{has}
+use Rattle.pb_election.specs.Instance.{Instance, all_projects, all_voters, projects, supporters, voters}
 use Rattle.pb_certificate.specs.Prices.{Prices}
 use Rattle.pb_cohesion.specs.Amounts.{beta, budget_limit, cost, left, paid, spent}
 use Rattle.pb_cohesion.specs.Conditions.{culprits_of_C1, culprits_of_C2, culprits_of_C3, culprits_of_C4, culprits_of_C5, culprits_of_Exhaustive, culprits_of_S5, most_of, sum_ℤ}
@@ -16,9 +15,7 @@ use Rattle.pb_cohesion.specs.Outcome.{total, unfunded}
 use Rattle.pb_price.specs.Findings.{finding, findings, payment_finding, total_grains}
 use Rattle.pb_price.specs.Inside.Looked.{AreFoundTo, has_room}
 use Rattle.pb_price.specs.Inside.Tallies.{AreSums}
-use Rattle.pb_price.specs.declared.Finding.{Finding}
 use Rattle.pb_price.specs.declared.Findings.{Findings}
-use Rattle.pb_price.specs.declared.PaymentFinding.{PaymentFinding}
 use Rattle.pb_price.specs.declared.explaining.ProjectFindings.{ProjectFindings}
 use Rattle.pb_price.specs.declared.tally.ProjectSums.{ProjectSums}
 use Rattle.pb_price.proofs.Closest.{found-as}
@@ -47,10 +44,7 @@ room-is t k l d low = elim (cases_lt l (t + k)) [
 room-culprits : (e : Instance) (w : List Bool) (d : ℕ) → 1 ≤ d
     → filter (has_room e w d (pos (cost_grains e.limit d) -ℤ pos (cost_grains (total e w) d))) (all_projects e)
     ≡ culprits_of_Exhaustive e w
-room-culprits e w d low =
-    culprits-as (has_room e w d (pos (cost_grains e.limit d) -ℤ pos (cost_grains (total e w) d)))
-    (λ c. nat_le (total e w + cost_of e c) e.limit) (λ c. not (has w c)) (projects e)
-    (λ c a b. ap (λ x. not (has w c) && x) (room-is (total e w) (cost_of e c) e.limit d low))
+room-culprits e w d low = grind (arith, culprits-as, room-is)
 
 -- the findings on projects
 pub record AreOn (e : Instance) (w : List Bool) (p : Prices) (f : ProjectFindings) : Type 0 where
@@ -89,30 +83,6 @@ are-on e w p d sums remaining f is low h same k = record {
       (record { bounds = λ c a b. cost-at e p d c is; amounts = λ c a b. offer-at e p sums c h a b }) refl;
 }
 
--- findings of the same parts
-abbrev of : ℕ → ℕ → ℕ → ℕ → ℕ → Finding → PaymentFinding → Finding → Finding → Finding → Finding → Finding → Findings
-of a b c d e x y z u v s t =
-    record {
-      grains_per_unit = a;
-      total = b;
-      limit = c;
-      voter_budget = d;
-      budgets = e;
-      exhaustive = x;
-      c1 = y;
-      c2 = z;
-      c3 = u;
-      c4 = v;
-      c5 = s;
-      s5 = t;
-    }
-
-of-parts : (a a' b b' c c' d d' e e' : ℕ) (x x' : Finding) (y y' : PaymentFinding) (z z' u u' v v' s s' t t' : Finding)
-    → a ≡ a' → b ≡ b' → c ≡ c' → d ≡ d' → e ≡ e' → x ≡ x' → y ≡ y' → z ≡ z' → u ≡ u' → v ≡ v' → s ≡ s' → t ≡ t'
-    → of a b c d e x y z u v s t ≡ of a' b' c' d' e' x' y' z' u' v' s' t'
-of-parts a a' b b' c c' d d' e e' x x' y y' z z' u u' v v' s s' t t' p1 p2 p3 p4 p5 p6 p7 p8 p9 p10 p11 p12 =
-    rw (p1, p2, p3, p4, p5, p6, p7, p8, p9, p10, p11, p12) refl
-
 pub record HasFound (e : Instance) (w : List Bool) (p : Prices) (f : Findings) : Type 0 where
   pub grains_per_unit : f.grains_per_unit ≡ 10 ^ 6 * p.denominator
   pub total : f.total ≡ total_grains e w p
@@ -124,7 +94,4 @@ pub record HasFound (e : Instance) (w : List Bool) (p : Prices) (f : Findings) :
   pub on : AreOn e w p (found f.exhaustive f.c3 f.c4 f.c5 f.s5)
 
 pub are-findings : (e : Instance) (w : List Bool) (p : Prices) (f : Findings) → HasFound e w p f → f ≡ findings e w p
-are-findings e w p f h =
-    of-parts f.grains_per_unit _ f.total _ f.limit _ f.voter_budget _ f.budgets _ f.exhaustive _ f.c1 _ f.c2 _ f.c3 _
-    f.c4 _ f.c5 _ f.s5 _ h.grains_per_unit h.total h.limit h.voter_budget h.budgets h.on.exhaustive h.c1 h.c2
-    h.on.c3 h.on.c4 h.on.c5 h.on.s5
+are-findings e w p f h = grind arith

@@ -1,10 +1,9 @@
 -- What a verdict says of every group of supporters.
-use Rattle.std.proofs.Common.{◌≡◌, ◌⊎◌, ℕ, Bool, true, false, List, refl, sym, ◌∙◌, ap, inl, inr, arith}
+use Rattle.std.proofs.Common.{◌≡◌, ℕ, Bool, true, false, List, refl, sym, ◌∙◌, ap, arith}
 use Rattle.std.specs.Prelude.{Ok, Option, Result, Some, None}
 use Rattle.std.proofs.lemmas.Bool.{cases_Bool}
 use Rattle.pb_election.specs.Instance.{Instance}
 use Rattle.pb_certificate.specs.Prices.{Prices}
-use Rattle.pb_cohesion.specs.Conditions.{C2, C5, S5}
 use Rattle.pb_cohesion.specs.EveryGroup.{BudgetsAreWithinReach, GroupsGetTheirShare, NoGroupHasMoreLeft, NoViolationByCounting, NothingBlocks, SupportersBlock, SupportersHaveMoreLeft}
 use Rattle.pb_cohesion.proofs.Justified.{stable_has_no_violation, stable_is_fair}
 use Rattle.pb_cohesion.proofs.Plain as plain
@@ -47,12 +46,7 @@ stable-no m e w p c h =
 
 pub budgets : (m : Mode) (e : Instance) (w : List Bool) (p : Prices) → First m e w p ≡ None
     → BudgetsAreWithinReach e w p
-budgets m e w p none s c unfunded group =
-    let yes' : Supports m e w p = (supports-iff m e w p).0 none in
-    let form : (C2 e p × C5 e w p) ⊎ S5 e w p =
-    elim (cases_Bool m.stable)
-    [ inl k ↦ inr (yes'.stable_form k) | inr k ↦ inl (yes'.within_budget, yes'.plain k) ] in
-    within_reach e w p s c yes'.approved yes'.paid_for yes'.none_wasted form unfunded group
+budgets m e w p none s c unfunded group = grind (arith, supports-iff, cases_Bool, within_reach)
 
 pub fair : (m : Mode) (e : Instance) (w : List Bool) (p : Prices) → First m e w p ≡ None → m.stable ≡ true
     → GroupsGetTheirShare e w p

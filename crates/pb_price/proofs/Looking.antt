@@ -9,12 +9,11 @@ use Rattle.pb_election.specs.Text.{IsElection}
 use Rattle.pb_price.specs.Inside.Noted.{IsFindingTo, noted}
 use Rattle.pb_price.specs.Inside.Looked.{AreFoundTo, AreSmallFindings, IsSmallComparison, IsSmallFinding, compared, has_room, with_funded, with_unfunded}
 use Rattle.pb_price.specs.Inside.Tallies.{AreInRange, IsWithin, has_more, in_vain, not_exactly, sums_of}
-use Rattle.pb_price.specs.declared.Comparison.{Comparison}
 use Rattle.pb_price.specs.declared.Finding.{Finding}
 use Rattle.pb_price.specs.declared.explaining.ProjectFindings.{ProjectFindings}
 use Rattle.pb_price.specs.declared.tally.ProjectSums.{ProjectSums}
 use Rattle.pb_price.proofs.Ballots.{nothing}
-use Rattle.pb_price.proofs.OneMore.{finding-next, none-found, nothing_found, small-more, small-noted, tried}
+use Rattle.pb_price.proofs.OneMore.{finding-next, nothing_found, tried}
 use Rattle.pb_price.proofs.Ranges.{cost_of-most, grains-most}
 
 abbrev pub found : Finding → Finding → Finding → Finding → Finding → ProjectFindings
@@ -27,17 +26,7 @@ found-same a a' b b' c c' d d' e e' p q r s t = rw (p, q, r, s, t) refl
 -- nothing was looked at
 pub found-none : (e : Instance) (w : List Bool) (d : ℕ) (remaining : ℤ) (sums : List ProjectSums)
     → AreFoundTo 0 e w d remaining sums (found nothing_found nothing_found nothing_found nothing_found nothing_found)
-found-none e w d remaining sums = record {
-  exhaustive = none-found (has_room e w d remaining) (λ c. not (has w c)) (λ c. cost_grains (cost_of e c) d)
-      (λ c. remaining);
-  c3 = none-found (not_exactly e w d sums) (λ c. false) (λ c. cost_grains (cost_of e c) d)
-      (λ c. pos (sums_of sums c).paid);
-  c4 = none-found (in_vain w sums) (λ c. false) (λ c. 0) (λ c. pos (sums_of sums c).paid);
-  c5 = none-found (has_more e w d false sums) (λ c. not (has w c)) (λ c. cost_grains (cost_of e c) d)
-      (λ c. (sums_of sums c).left);
-  s5 = none-found (has_more e w d true sums) (λ c. not (has w c)) (λ c. cost_grains (cost_of e c) d)
-      (λ c. (sums_of sums c).offer);
-}
+found-none e w d remaining sums = grind arith
 
 none-small : IsSmallFinding 0 nothing_found
 none-small = record { count = omega arith; shown = tt }
@@ -139,32 +128,14 @@ unfunded-then n e w d remaining sums f new cost s h is cost_is sums_are new_is =
     (sums_are ∙ ap (λ k. get_or sums k nothing) place)))
     (unfunded-next n e w d remaining sums f h is)
 
--- the sums stay small
-some-noted : (n : ℕ) (b : Bool) (m : Comparison) (f : Finding) → IsSmallComparison m → IsSmallFinding n f
-    → IsSmallFinding (n + 1) (cond b f (noted true m f))
-some-noted n true m f small h = small-more n f h
-some-noted n false m f small h = small-noted n true m f small h
-
 pub small-funded : (n cost paid : ℕ) (c : ℕ) (f : ProjectFindings) → IsSmallComparison (compared c cost (pos paid))
     → AreSmallFindings n f → AreSmallFindings (n + 1) (with_funded c cost paid f)
-small-funded n cost paid c f m h = record {
-  exhaustive = small-more n f.exhaustive h.exhaustive;
-  c3 = some-noted n (paid == cost) (compared c cost (pos paid)) f.c3 m h.c3;
-  c4 = small-more n f.c4 h.c4;
-  c5 = small-more n f.c5 h.c5;
-  s5 = small-more n f.s5 h.s5;
-}
+small-funded n cost paid c f m h = grind arith
 
 pub small-unfunded : (n c cost : ℕ) (remaining : ℤ) (s : ProjectSums) (f : ProjectFindings) → cost ≤ 10 ^ 34
     → IsWithin (10 ^ 38) remaining → IsWithin (10 ^ 38) (pos s.paid) → AreInRange s → AreSmallFindings n f
     → AreSmallFindings (n + 1) (with_unfunded c cost remaining s f)
-small-unfunded n c cost remaining s f k r p m h = record {
-  exhaustive = small-noted n _ (compared c cost remaining) f.exhaustive (record { bound = k; amount = r }) h.exhaustive;
-  c3 = small-more n f.c3 h.c3;
-  c4 = some-noted n (s.paid == 0) (compared c 0 (pos s.paid)) f.c4 (record { bound = omega arith; amount = p }) h.c4;
-  c5 = small-noted n _ (compared c cost s.left) f.c5 (record { bound = k; amount = m.left }) h.c5;
-  s5 = small-noted n _ (compared c cost s.offer) f.s5 (record { bound = k; amount = m.offer }) h.s5;
-}
+small-unfunded n c cost remaining s f k r p m h = grind arith
 
 -- what is known of the next project
 pub paid-in-range : (s : ProjectSums) → AreInRange s → IsWithin (10 ^ 38) (pos s.paid)

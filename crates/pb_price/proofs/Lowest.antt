@@ -1,8 +1,8 @@
 -- The first of the numbers that pass a test is the lowest of which something is so.
-use Rattle.std.proofs.Common.{◌≡◌, ℕ, zero, suc, ◌+◌, ◌<◌, ◌≤◌, Bool, true, false, cond, List, [], ◌∷◌, ◌++◌, refl, sym, ◌∙◌, ap, subst, inl, inr, arith}
+use Rattle.std.proofs.Common.{◌≡◌, ℕ, zero, suc, ◌+◌, ◌<◌, ◌≤◌, Bool, true, false, List, [], ◌∷◌, ◌++◌, refl, sym, ◌∙◌, ap, inl, inr, arith}
 use Rattle.std.specs.Prelude.{◌↔◌, ◌⊎◌, ◌&&◌, Some, filter, flat_map, map, not, slice_get}
 use Rattle.std.specs.List.{range_with_len}
-use Rattle.std.proofs.lemmas.Bool.{and_from, and_parts, cases_eq, cases_lt, false≢true, not-true}
+use Rattle.std.proofs.lemmas.Bool.{and_from, and_parts, cases_eq, not-true}
 use Rattle.pb_election.specs.Instance.{Instance, IsVoter, projects, voters}
 use Rattle.pb_election.specs.Outcome.{has}
 use Rattle.pb_cohesion.specs.Outcome.{IsFunded, IsUnfunded, funded, unfunded}
@@ -24,26 +24,7 @@ first-of-mapped g (x ∷ xs) b h = (x, refl, cc)
 first-passing : (q : ℕ → Bool) (n a j : ℕ) → slice_get (filter q (range_with_len a n)) 0 ≡ Some j
     → (a ≤ j) × (j < a + n) × (q j ≡ true) × ((k : ℕ) → a ≤ k → k < j → q k ≡ false)
 first-passing q zero a j h = cc
-first-passing q (suc n) a j h = go (q a) refl h (first-passing q n (a + 1) j)
-  where
-    go : (r : Bool) → q a ≡ r
-        → slice_get (cond r (a ∷ filter q (range_with_len (a + 1) n)) (filter q (range_with_len (a + 1) n))) 0 ≡ Some j
-        → (slice_get (filter q (range_with_len (a + 1) n)) 0 ≡ Some j
-        → (a + 1 ≤ j) × (j < a + 1 + n) × (q j ≡ true) × ((k : ℕ) → a + 1 ≤ k → k < j → q k ≡ false))
-        → (a ≤ j) × (j < a + suc n) × (q j ≡ true) × ((k : ℕ) → a ≤ k → k < j → q k ≡ false)
-    go true pass is rest =
-        let same : a ≡ j = cc in
-        (omega arith, omega arith, ap q (sym same) ∙ pass, λ k low high. absurd (omega (arith, same)))
-    go false fail is rest =
-        let found = rest is in
-        let low : a + 1 ≤ j = found.0 in
-        let high : j < a + 1 + n = found.1 in (
-          omega arith,
-          omega arith,
-          found.2,
-          λ k from below. elim (cases_eq k a)
-              [ inl here ↦ ap q here ∙ fail | inr later ↦ found.3 k (omega arith) below ],
-        )
+first-passing q (suc n) a j h = grind (arith, first-passing q n (a + 1) j)
 
 -- where each number of a range gives a list, the first element of all is that of the first list that isn't empty
 pub first-of-lists : {A : Type 0} (g : ℕ → List A) (n a : ℕ) (x : A)
@@ -54,7 +35,6 @@ first-of-lists g (suc n) a x h = elim (first-of-two (g a) (flat_map g (range_wit
   | inl here ↦ (a, omega arith, omega arith, here, λ k low high. absurd (omega arith))
   | inr later ↦
       let found = first-of-lists g n (a + 1) x later.1 in
-      let low : a + 1 ≤ found.0 = found.1 in
       let high : found.0 < a + 1 + n = found.2 in (
         found.0,
         omega arith,
@@ -69,12 +49,7 @@ first-of-lists g (suc n) a x h = elim (first-of-two (g a) (flat_map g (range_wit
 pub lowest-of : (q : ℕ → Bool) (n : ℕ) (P : ℕ → Type 0)
     → ((k : ℕ) → ((1 ≤ k) × (k ≤ n) × (q k ≡ true)) ↔ P k) → (j : ℕ)
     → slice_get (filter q (range_with_len 1 n)) 0 ≡ Some j → IsLowest P j
-lowest-of q n P says j h =
-    let found = first-passing q n 1 j h in
-    let high : j < 1 + n = found.1 in (
-      (says j).0 (found.0, omega arith, found.2),
-      λ k below so. let pass = (says k).1 so in absurd (false≢true (sym (found.3 k pass.0 below) ∙ pass.2)),
-    )
+lowest-of q n P says j h = grind (arith, first-passing)
 
 -- the same of the voters, and of the unfunded and the funded projects
 pub lowest-voter : (e : Instance) (q : ℕ → Bool) (P : ℕ → Type 0) → ((i : ℕ) → (q i ≡ true) ↔ P i) → (i : ℕ)
@@ -105,19 +80,8 @@ lowest-funded e w q P says c h =
 
 -- there is at most one lowest number, and one lowest pair
 pub lowest-same : (P : ℕ → Type 0) (a b : ℕ) → IsLowest P a → IsLowest P b → a ≡ b
-lowest-same P a b h k = elim (cases_lt a b) [
-  | inl less ↦ absurd (k.1 a less h.0)
-  | inr more ↦ elim (cases_lt b a) [ inl less ↦ absurd (h.1 b less k.0) | inr same ↦ omega arith ]
-]
+lowest-same P a b h k = grind arith
 
 pub lowest-pair-same : (P : ℕ → ℕ → Type 0) (i j c d : ℕ) → IsLowestPair P i c → IsLowestPair P j d
     → (i ≡ j) × (c ≡ d)
-lowest-pair-same P i j c d h k = elim (cases_lt i j) [
-  | inl less ↦ absurd (k.1 i c less h.0.0)
-  | inr more ↦ elim (cases_lt j i) [
-    | inl less ↦ absurd (h.1 j d less k.0.0)
-    | inr same ↦
-        let is : i ≡ j = omega arith in
-        (is, lowest-same (P j) c d (subst (λ x. IsLowest (P x) c) is h.0) k.0)
-  ]
-]
+lowest-pair-same P i j c d h k = grind arith

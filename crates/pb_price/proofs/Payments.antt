@@ -1,5 +1,5 @@
 -- The payments of a voter, one after another.
-use Rattle.std.proofs.Common.{◌≡◌, ℕ, zero, suc, ◌+◌, ◌-◌, ◌^◌, ◌<◌, ◌≤◌, List, [], ◌∷◌, length, get_or, take, refl, sym, ◌∙◌, ap, inl, inr, arith}
+use Rattle.std.proofs.Common.{◌≡◌, ℕ, zero, suc, ◌+◌, ◌^◌, ◌<◌, ◌≤◌, List, [], ◌∷◌, length, get_or, take, refl, sym, ◌∙◌, ap, inl, inr, arith}
 use Rattle.std.specs.Prelude.{nat_lt}
 use Rattle.std.proofs.lemmas.Bool.{cases_eq, cases_lt, eq-eqb, le-ltb, lt-ltb, ne_eqb}
 use Rattle.std.proofs.lemmas.List.{length-map, take_all}
@@ -8,9 +8,7 @@ use Rattle.pb_certificate.specs.Prices.{IsPaymentMap, Prices, PricesFit, numerat
 use Rattle.pb_certificate.specs.declared.prices.row.PriceRow.{PriceRow}
 use Rattle.pb_certificate.proofs.OnPrices.Texts.{paid_projects}
 use Rattle.pb_cohesion.proofs.Loops.{set-at, set-length}
-use Rattle.pb_cohesion.specs.Amounts.{beta}
 use Rattle.pb_price.specs.Inside.Tallies.{CanTakeRow, IsTallyOf, Taken, TakesRow, Tallied}
-use Rattle.pb_price.proofs.Starting.{no_payment}
 use Rattle.pb_price.proofs.Whole.{Agree, whole}
 use Rattle.pb_price.specs.Inside.Tallying.{TakesUntil, pays_until}
 use Rattle.pb_price.specs.declared.tally.Tally.{Tally}
@@ -24,17 +22,10 @@ project-at (q ∷ qs) (suc k) d h = project-at qs k d (omega arith)
 
 in-set : (low high : ℕ) (qs : List (ℕ × ℕ)) (k : ℕ) (d : ℕ × ℕ) → IsSet low high (paid_projects qs) → k < length qs
     → (low ≤ (get_or qs k d).0) × ((get_or qs k d).0 ≤ high)
-in-set low high qs k d s h =
-    let within : k < length (paid_projects qs) = rw (length-map qs (λ (q : ℕ × ℕ). q.0)) h in
-    let at : (low ≤ get_or (paid_projects qs) k 0) × (get_or (paid_projects qs) k 0 ≤ high) =
-    set-at low high (paid_projects qs) k s within in
-    let is : get_or (paid_projects qs) k 0 ≡ (get_or qs k d).0 = project-at qs k d h in
-    (omega (arith, at.0), omega (arith, at.1))
+in-set low high qs k d s h = grind (arith, paid_projects, length-map, get_or, set-at, project-at)
 
 few-payments : (n : ℕ) (qs : List (ℕ × ℕ)) → IsPaymentMap n qs → length qs ≤ n
-few-payments n qs m =
-    let few : length (paid_projects qs) ≤ n + 1 - 1 = set-length 1 n (paid_projects qs) m.projects_rise in
-    omega (arith, length-map qs (λ (q : ℕ × ℕ). q.0))
+few-payments n qs m = grind (arith, paid_projects, set-length, length-map)
 
 -- what the front of the list has for a project, with one payment more
 fresh : (low high : ℕ) (qs : List (ℕ × ℕ)) (k : ℕ) (d : ℕ × ℕ) → IsSet low high (paid_projects qs) → k < length qs
@@ -78,7 +69,6 @@ pub takes-next : (e : Instance) (p : Prices) (i k : ℕ) (d : ℕ × ℕ) (t : T
     → IsPaymentMap p.projects (payments_of p i) → k < length (payments_of p i)
     → TakesRow u.taken (with_next p i k u.taken) (row_of i (get_or (payments_of p i) k d))
 takes-next e p i k d t u m w =
-    let x : ℕ × ℕ = get_or (payments_of p i) k d in
     let next : k + 1 ≡ suc k = omega arith in
     record {
       budget = refl;
@@ -126,14 +116,7 @@ can-take e p i k d t u fits m w v =
 
 pub took-next : (e : Instance) (p : Prices) (i k : ℕ) (d : ℕ × ℕ) (t new : Tally) (u : TakesUntil e p i k t)
     → Tallied e (with_next p i k u.taken) new → new.closed + 1 ≡ i → TakesUntil e p i (k + 1) new
-took-next e p i k d t new u h at_hand = record {
-  taken = with_next p i k u.taken;
-  tallied = h;
-  budget_is = u.budget_is;
-  pays_is = λ a b. refl;
-  few = omega (arith, u.few);
-  follows = omega arith;
-}
+took-next e p i k d t new u h at_hand = grind arith
 
 -- all payments of a voter, and none of the next
 all-of-voter : (p : Prices) (i k a b : ℕ) → 1 ≤ i → length (payments_of p i) ≤ k
@@ -166,47 +149,12 @@ all-of-voter p i k a b low end = elim (cases_eq a i) [
 
 pub took-voter : (e : Instance) (p : Prices) (i k : ℕ) (t : Tally) → TakesUntil e p i k t → IsVoter e i → PricesFit p e
     → IsPaymentMap p.projects (payments_of p i) → k ≡ length (payments_of p i) → TakesUntil e p (i + 1) 0 t
-took-voter e p i k t u v fits m end = record {
-  taken = u.taken;
-  tallied = u.tallied;
-  budget_is = u.budget_is;
-  pays_is = λ a b. (u.pays_is a b ∙ all-of-voter p i k a b v.0 (omega arith));
-  few = omega
-      (arith, u.few, v.0, few-payments p.projects (payments_of p i) m, fits.each_project, u.tallied.sound.few_projects);
-  follows = omega (arith, u.follows);
-}
-
--- no payment was taken
-none-until : (p : Prices) (a b : ℕ) → 0 ≡ pays_until p 1 0 a b
-none-until p a b = elim (cases_eq a 1) [
-  | inl is ↦ sym (rw (eq-eqb a 1 is) refl)
-  | inr other ↦ elim (cases_lt 0 a) [
-    | inl above ↦ sym (rw (ne_eqb a 1 other, lt-ltb 0 a above, le-ltb a 1 (omega arith)) refl)
-    | inr below ↦ sym (rw (ne_eqb a 1 other, le-ltb 0 a below) refl)
-  ]
-]
-
-pub takes-none : (e : Instance) (p : Prices) (b : ℕ) (t : Tally) → Tallied e (no_payment b) t → t.closed ≡ 0
-    → b ≡ beta p → TakesUntil e p 1 0 t
-takes-none e p b t h none is = record {
-  taken = no_payment b;
-  tallied = h;
-  budget_is = is;
-  pays_is = λ i j. none-until p i j;
-  few = omega arith;
-  follows = omega arith;
-}
+took-voter e p i k t u v fits m end = grind (arith, all-of-voter, few-payments)
 
 -- all payments were taken
 pub takes-all : (e : Instance) (p : Prices) (t : Tally) (u : TakesUntil e p (voters e + 1) 0 t)
     → Agree e u.taken.pays (payment p)
-takes-all e p t u = record {
-  pays =
-      λ i c iv ip.
-      (u.pays_is i c
-      ∙ (let high : i ≤ voters e = iv.1 in
-      rw (ne_eqb i (voters e + 1) (λ is. omega arith), lt-ltb 0 i iv.0, lt-ltb i (voters e + 1) (omega arith)) refl));
-}
+takes-all e p t u = grind arith
 
 pub few-rows : (e : Instance) (p : Prices) (t : Tally) (u : TakesUntil e p (voters e + 1) 0 t) → u.taken.rows ≤ 10 ^ 12
 few-rows e p t u = omega (arith, u.few, u.tallied.sound.few_voters)

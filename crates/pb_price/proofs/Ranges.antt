@@ -68,7 +68,6 @@ numerators-most (q ∷ qs) a n h =
     + sum_by (numerator_in qs) (range_with_len a n) =
     sum-add (λ j. where_passes (q.0 == j) q.1) (numerator_in qs) (range_with_len a n) in
     let first : sum_by (λ j. where_passes (q.0 == j) q.1) (range_with_len a n) ≤ q.1 = one-passes q.0 q.1 a n in
-    let small : q.1 ≤ 10 ^ 21 = h.0 in
     let rest : sum_by (numerator_in qs) (range_with_len a n) ≤ 10 ^ 21 * length qs = numerators-most qs a n h.1 in
     omega arith
 
@@ -117,7 +116,6 @@ all-payments e p a =
     sum-mul (10 ^ 27) (λ i. length (payments_of p i)) (all_voters e) in
     let rows : sum_by (λ i. length (payments_of p i)) (all_voters e) ≡ sum_by length p.payments =
     ap (λ n. sum_by (λ i. length (payments_of p i)) (range_with_len 1 n)) (sym many) ∙ lengths p.payments 1 in
-    let few : sum_by length p.payments ≤ 10000000 = a.system.few in
     omega arith
 
 -- those of a group for a set of projects
@@ -152,13 +150,7 @@ payment-small [] j h = omega arith
 payment-small (q ∷ qs) j h = elim (cases_Bool (q.0 == j)) [ inl e ↦ rw e h.0 | inr e ↦ rw e (payment-small qs j h.1) ]
 
 top-small : (e : Instance) (p : Prices) (i : ℕ) → ArePrices e p → IsVoter e i → top e p i ≤ 10 ^ 27
-top-small e p i a v =
-    largest-most (λ c. pays p i c) (10 ^ 27) 1 (projects e)
-    (λ c. omega (
-      arith,
-      payment-small (payments_of p i) c
-          (each-of (λ q. q.1 ≤ 10 ^ 21) (payments_of p i) (voter-map e p i a v.0 v.1).none_large),
-    ))
+top-small e p i a v = grind (arith, largest-most, payment-small, each-of, voter-map)
 
 -- costs
 pub grains-most : (m d : ℕ) → m ≤ 10 ^ 18 → d ≤ 10 ^ 9 → cost_grains m d ≤ 10 ^ 27
@@ -170,10 +162,7 @@ cost-at (c ∷ cs) zero h w = h.0
 cost-at (c ∷ cs) (suc k) h w = cost-at cs k h.1 (omega arith)
 
 pub cost_of-most : (e : Instance) (c : ℕ) → IsElection e → IsProject e c → cost_of e c ≤ 10 ^ 18
-cost_of-most e c h ip =
-    let high : c ≤ projects e = ip.1 in
-    let low : 1 ≤ c = ip.0 in
-    cost-at e.costs (c - 1) h.costs (omega (arith, h.as_many_costs))
+cost_of-most e c h ip = grind (arith, cost-at)
 
 cost-most : (e : Instance) (p : Prices) (c : ℕ) → IsElection e → ArePrices e p → IsProject e c → cost e p c ≤ 10 ^ 27
 cost-most e p c h a ip = grains-most (cost_of e c) p.denominator (cost_of-most e c h ip) a.system.denominator.1

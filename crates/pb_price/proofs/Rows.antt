@@ -1,8 +1,8 @@
 -- The rows of a certificate, one after another.
-use Rattle.std.proofs.Common.{◌≡◌, ℕ, ◌+◌, ◌-◌, ◌<◌, ◌≤◌, true, false, List, [], ◌∷◌, ◌++◌, length, drop, take, refl, sym, ◌∙◌, ap, subst, inl, inr, arith, length-append, length-drop}
+use Rattle.std.proofs.Common.{◌≡◌, ℕ, ◌+◌, ◌-◌, ◌<◌, ◌≤◌, false, List, [], ◌∷◌, ◌++◌, length, drop, take, refl, sym, ◌∙◌, ap, subst, arith, length-append, length-drop}
 use Rattle.std.specs.Prelude.{◌&&◌, ◌==◌, filter_map, map, not}
 use Rattle.std.specs.List.{list_any}
-use Rattle.std.proofs.lemmas.Bool.{and_left, and_right, cases_Bool, cases_eq, eq-eqb, ne_eqb}
+use Rattle.std.proofs.lemmas.Bool.{and_left, and_right, eq-eqb, ne_eqb}
 use Rattle.std.proofs.lemmas.List.{length_push, take-append-drop, append-nil}
 use Rattle.std.proofs.lemmas.List.Elements.{filter-append}
 use Rattle.pb_money.specs.Grains.{payment_grains}
@@ -21,34 +21,9 @@ use Rattle.pb_price.specs.Inside.Tallies.{CanTakeRow, TakesRow, Tallied}
 use Rattle.pb_price.specs.Inside.Tallying.{taken_from}
 use Rattle.pb_price.specs.declared.tally.Tally.{Tally}
 
--- what is stated with one more payment
-swap : (q x : Payment) → same_pair q x ≡ ((x.voter == q.voter) && (x.project == q.project))
-swap q x = elim (cases_eq q.voter x.voter) [
-  | inl v ↦ elim (cases_eq q.project x.project) [
-    | inl c ↦
-        rw (
-          eq-eqb q.voter x.voter v,
-          eq-eqb q.project x.project c,
-          eq-eqb x.voter q.voter (sym v),
-          eq-eqb x.project q.project (sym c),
-        ) refl
-    | inr c ↦
-        rw (
-          eq-eqb q.voter x.voter v,
-          ne_eqb q.project x.project c,
-          eq-eqb x.voter q.voter (sym v),
-          ne_eqb x.project q.project (λ e. c (sym e)),
-        ) refl
-  ]
-  | inr v ↦ rw (ne_eqb q.voter x.voter v, ne_eqb x.voter q.voter (λ e. v (sym e))) refl
-]
-
 none-before : (q x : Payment) (qs : List Payment) → list_any (same_pair q) (x ∷ qs) ≡ false
     → (((x.voter == q.voter) && (x.project == q.project)) ≡ false) × (list_any (same_pair q) qs ≡ false)
-none-before q x qs h = elim (cases_Bool (same_pair q x)) [
-  | inl yes' ↦ absurd (let k : true ≡ false = rw yes' at h in cc)
-  | inr no' ↦ (sym (swap q x) ∙ no', rw no' at h)
-]
+none-before q x qs h = grind arith
 
 pub stated-none : (qs : List Payment) (q : Payment) → list_any (same_pair q) qs ≡ false
     → stated qs q.voter q.project ≡ 0
@@ -104,9 +79,7 @@ can-take e old new q t g is h closed =
     }
 
 pub few-then : (old new : Rows) (q : PriceRow) → GivesRow old new q → length (given new) ≤ 10000000
-few-then old new q g =
-    let f = may-follow (given old) (as_payment q) g.follows in
-    omega (arith, ap length g.given_then, length_push (given old) (as_payment q), f.few)
+few-then old new q g = grind (arith, may-follow, length_push)
 
 last-of : (n : ℕ) (qs : List Payment) (q : Payment)
     → last_number n (map (λ (p : Payment). p.voter) (qs ++ (q ∷ []))) ≡ q.voter

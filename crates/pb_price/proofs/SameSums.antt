@@ -1,8 +1,8 @@
 -- A finding by two accounts of the same sums.
-use Rattle.std.proofs.Common.{◌≡◌, ℕ, zero, suc, ◌+◌, ◌<◌, ◌≤◌, Bool, true, false, cond, List, ◌∷◌, length, refl, sym, ◌∙◌, ap, subst, arith}
-use Rattle.std.specs.Prelude.{ℤ, ◌≤ℤ◌, Option, Some, None, filter, slice_get}
+use Rattle.std.proofs.Common.{◌≡◌, ℕ, zero, suc, ◌+◌, ◌<◌, ◌≤◌, Bool, true, false, cond, List, ◌∷◌, refl, arith}
+use Rattle.std.specs.Prelude.{ℤ, Option, Some, filter, slice_get}
 use Rattle.std.specs.List.{range_with_len}
-use Rattle.pb_price.specs.Findings.{comparison, excess}
+use Rattle.pb_price.specs.Findings.{comparison}
 use Rattle.pb_price.specs.Inside.Noted.{IsFindingBy, IsFindingTo, IsShown, among}
 use Rattle.pb_price.specs.declared.Comparison.{Comparison}
 use Rattle.pb_price.specs.declared.Finding.{Finding}
@@ -32,28 +32,10 @@ shown-as : (n : ℕ) (q r : ℕ → Bool) (bound bound' : ℕ → ℕ) (amount a
     (s : Option Comparison) → Same n bound bound' amount amount'
     → o ≡ slice_get (filter q (range_with_len 1 n)) 0 → IsShown o (among n r) bound amount s
     → IsShown o (among n r) bound' amount' s
-shown-as n q r bound bound' amount amount' (Some x) s same first h = let in_range = first-within q n 1 x first in
-    h ∙ ap Some (same-at n bound bound' amount amount' x same in_range.0 (omega (arith, in_range.1)))
-shown-as n q r bound bound' amount amount' None None same first h = h
-shown-as n q r bound bound' amount amount' None (Some m) same first h = (
-  h.0 ∙ same-at n bound bound' amount amount' m.at same h.1.one.0 h.1.one.1,
-  record {
-    one = h.1.one;
-    greatest = λ y a. subst (λ z. z ≤ℤ excess (comparison bound' amount' m.at)) (known y a)
-        (subst (λ z. excess (comparison bound amount y) ≤ℤ z) (known m.at h.1.one) (h.1.greatest y a));
-    lowest = λ y a e. h.1.lowest y a (known y a ∙ e ∙ sym (known m.at h.1.one));
-  },
-)
-  where
-    known : (y : ℕ) → among n r y → excess (comparison bound amount y) ≡ excess (comparison bound' amount' y)
-    known y a = ap excess (same-at n bound bound' amount amount' y same a.0 a.1)
+shown-as n q r bound bound' amount amount' o s same first h = grind (arith, first-within, same-at)
 
 pub finding-as : (n : ℕ) (q r : ℕ → Bool) (culprits : List ℕ) (bound bound' : ℕ → ℕ) (amount amount' : ℕ → ℤ)
     (f : Finding) → IsFindingTo n q r bound amount f
     → filter q (range_with_len 1 n) ≡ culprits → Same n bound bound' amount amount'
     → IsFindingBy culprits n r bound' amount' f
-finding-as n q r culprits bound bound' amount amount' f h is same = record {
-  first = h.first ∙ ap (λ xs. slice_get xs 0) is;
-  count = h.count ∙ ap (λ xs. length xs) is;
-  shown = shown-as n q r bound bound' amount amount' f.first f.shown same h.first h.shown;
-}
+finding-as n q r culprits bound bound' amount amount' f h is same = grind (arith, shown-as)

@@ -1,5 +1,5 @@
 -- Sums and largest values of which one term changes.
-use Rattle.std.proofs.Common.{◌≡◌, ℕ, zero, suc, ◌+◌, ◌*◌, ◌<◌, ◌≤◌, max, refl, sym, ◌∙◌, ap, inl, inr, arith}
+use Rattle.std.proofs.Common.{◌≡◌, ℕ, zero, suc, ◌+◌, ◌*◌, ◌<◌, ◌≤◌, max, refl, ◌∙◌, ap, arith}
 use Rattle.std.specs.Prelude.{sum_by}
 use Rattle.std.specs.List.{range_with_len}
 use Rattle.std.proofs.lemmas.Bool.{cases_eq}
@@ -12,18 +12,8 @@ use Rattle.pb_cohesion.proofs.Sums.{range-le, range-same, sum-const}
 pub sum-one-changed : (f g : ℕ → ℕ) (n a j x : ℕ) → a ≤ j → j < a + n → g j ≡ f j + x
     → ((i : ℕ) → (i ≡ j → ⊥) → g i ≡ f i) → sum_by g (range_with_len a n) ≡ sum_by f (range_with_len a n) + x
 sum-one-changed f g zero a j x low high here other = absurd (omega arith)
-sum-one-changed f g (suc n) a j x low high here other = elim (cases_eq j a) [
-  | inl e ↦
-      let rest : sum_by g (range_with_len (a + 1) n) ≡ sum_by f (range_with_len (a + 1) n) =
-      range-same g f (a + 1) n (λ i low' high'. other i (λ k. omega arith)) in
-      let at_both : g a ≡ f a + x = ap g (sym e) ∙ here ∙ ap (λ k. f k + x) e in
-      omega (arith, sum_by-cons f a (range_with_len (a + 1) n), sum_by-cons g a (range_with_len (a + 1) n))
-  | inr ne ↦
-      let rest : sum_by g (range_with_len (a + 1) n) ≡ sum_by f (range_with_len (a + 1) n) + x =
-      sum-one-changed f g n (a + 1) j x (omega arith) (omega arith) here other in
-      let same : g a ≡ f a = other a (λ k. ne (sym k)) in
-      omega (arith, sum_by-cons f a (range_with_len (a + 1) n), sum_by-cons g a (range_with_len (a + 1) n))
-]
+sum-one-changed f g (suc n) a j x low high here other =
+    grind (arith, cases_eq, range-same, sum_by-cons, sum-one-changed f g n (a + 1) j x)
 
 -- a term that was 0 becomes x
 pub sum-one-more : (f g : ℕ → ℕ) (n a j x : ℕ) → a ≤ j → j < a + n → f j ≡ 0 → g j ≡ x
@@ -35,36 +25,14 @@ sum-one-more f g n a j x low high none here other =
 pub largest-same : (f g : ℕ → ℕ) (a n : ℕ) → ((j : ℕ) → a ≤ j → j < a + n → f j ≡ g j)
     → largest_by f (range_with_len a n) ≡ largest_by g (range_with_len a n)
 largest-same f g a zero h = refl
-largest-same f g a (suc n) h =
-    let here : f a ≡ g a = h a (omega arith) (omega arith) in
-    let rest : largest_by f (range_with_len (a + 1) n) ≡ largest_by g (range_with_len (a + 1) n) =
-    largest-same f g (a + 1) n (λ j low high. h j (omega arith) (omega arith)) in
-    rw (here, rest) refl
+largest-same f g a (suc n) h = grind (arith, largest-same f g (a + 1) n)
 
 pub largest-one-more : (f g : ℕ → ℕ) (n a j x : ℕ) → a ≤ j → j < a + n → f j ≡ 0 → g j ≡ x
     → ((i : ℕ) → (i ≡ j → ⊥) → g i ≡ f i)
     → largest_by g (range_with_len a n) ≡ max (largest_by f (range_with_len a n)) x
 largest-one-more f g zero a j x low high none here other = absurd (omega arith)
-largest-one-more f g (suc n) a j x low high none here other = elim (cases_eq j a) [
-  | inl e ↦
-      let rest : largest_by g (range_with_len (a + 1) n) ≡ largest_by f (range_with_len (a + 1) n) =
-      largest-same g f (a + 1) n (λ i low' high'. other i (λ k. omega arith)) in
-      let at_f : f a ≡ 0 = ap f (sym e) ∙ none in
-      let at_g : g a ≡ x = ap g (sym e) ∙ here in
-      turn (f a) (g a) (largest_by f (range_with_len (a + 1) n)) (largest_by g (range_with_len (a + 1) n)) x at_f at_g
-      rest
-  | inr ne ↦
-      let rest : largest_by g (range_with_len (a + 1) n) ≡ max (largest_by f (range_with_len (a + 1) n)) x =
-      largest-one-more f g n (a + 1) j x (omega arith) (omega arith) none here other in
-      let same : g a ≡ f a = other a (λ k. ne (sym k)) in
-      move (f a) (g a) (largest_by f (range_with_len (a + 1) n)) (largest_by g (range_with_len (a + 1) n)) x same rest
-]
-  where
-    turn : (fa ga lf lg y : ℕ) → fa ≡ 0 → ga ≡ y → lg ≡ lf → max ga lg ≡ max (max fa lf) y
-    turn fa ga lf lg y p q r = omega arith
-
-    move : (fa ga lf lg y : ℕ) → ga ≡ fa → lg ≡ max lf y → max ga lg ≡ max (max fa lf) y
-    move fa ga lf lg y p q = omega arith
+largest-one-more f g (suc n) a j x low high none here other =
+    grind (arith, cases_eq, largest-same, largest-one-more f g n (a + 1) j x)
 
 -- bounds
 pub sum-most : (f : ℕ → ℕ) (m a n : ℕ) → ((j : ℕ) → f j ≤ m) → sum_by f (range_with_len a n) ≤ n * m
@@ -77,12 +45,8 @@ sum-most f m a n h =
 
 pub largest-most : (f : ℕ → ℕ) (m a n : ℕ) → ((j : ℕ) → f j ≤ m) → largest_by f (range_with_len a n) ≤ m
 largest-most f m a zero h = omega arith
-largest-most f m a (suc n) h =
-    let here : f a ≤ m = h a in
-    let rest : largest_by f (range_with_len (a + 1) n) ≤ m = largest-most f m (a + 1) n h in
-    omega arith
+largest-most f m a (suc n) h = grind (arith, largest-most f m (a + 1) n h)
 
 pub largest-zero : (a n : ℕ) → largest_by (λ c. 0) (range_with_len a n) ≡ 0
 largest-zero a zero = refl
-largest-zero a (suc n) = let rest : largest_by (λ c. 0) (range_with_len (a + 1) n) ≡ 0 = largest-zero (a + 1) n in
-    rw rest refl
+largest-zero a (suc n) = grind (arith, largest-zero (a + 1) n)

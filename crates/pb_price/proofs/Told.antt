@@ -23,10 +23,7 @@ none-iff (x ∷ xs) n is = (λ h. absurd (omega (arith, is, h)), λ h. cc)
 
 -- in grains and in millionths
 within : (t l d : ℕ) → 1 ≤ d → t * d ≤ l * d → t ≤ l
-within t l d low h = elim (cases_lt l t) [
-  | inl more ↦ let most : (l + 1) * d ≤ t * d = mul-le (l + 1) d t d (omega arith) (omega arith) in absurd (omega arith)
-  | inr less ↦ less
-]
+within t l d low h = grind arith
 
 over-is : (t l d : ℕ) → 1 ≤ d → nat_lt (l * d) (t * d) ≡ nat_lt l t
 over-is t l d low = elim (cases_lt l t) [
@@ -64,5 +61,4 @@ first-choice false xs ys = refl
 
 pub tell-first : (m : Mode) (e : Instance) (w : List Bool) (p : Prices) → 1 ≤ p.denominator
     → first_told m (findings e w p) ≡ First m e w p
-tell-first m e w p low =
-    simp (first-append, first-choice, slice_get-map, over-is (total e w) e.limit p.denominator low) refl
+tell-first m e w p low = grind (arith, first-append, first-choice, slice_get-map, over-is)

@@ -1,12 +1,10 @@
 -- A tally of all payments of a price system.
-use Rattle.std.proofs.Common.{◌≡◌, ℕ, ◌+◌, ◌-◌, ◌*◌, ◌≤◌, true, false, [], length, take, sym, ◌∙◌, ap, subst, arith}
+use Rattle.std.proofs.Common.{◌≡◌, ℕ, ◌+◌, ◌-◌, ◌*◌, ◌≤◌, true, false, [], length, sym, ◌∙◌, ap, subst, arith}
 use Rattle.std.specs.Prelude.{Option, Some, None, pos, ◌-ℤ◌, ◌&&◌, filter, flat_map, nat_lt, not, slice_get}
-use Rattle.std.specs.Int.{int_max}
 use Rattle.std.specs.List.{range_with_len}
 use Rattle.std.proofs.lemmas.List.{get_or_past, take_all}
-use Rattle.pb_money.specs.Grains.{payment_grains}
 use Rattle.pb_records.proofs.Lists.{filter-same, filter-none}
-use Rattle.pb_election.specs.Instance.{Instance, IsProject, IsVoter, all_projects, all_voters, approvals, approves, ballot_of, projects, supporters, voters}
+use Rattle.pb_election.specs.Instance.{Instance, IsProject, IsVoter, all_projects, all_voters, approves, projects, supporters, voters}
 use Rattle.pb_certificate.specs.Prices.{Prices, payment}
 use Rattle.pb_cohesion.specs.Amounts.{beta, left, spent}
 use Rattle.pb_cohesion.specs.Conditions.{culprits_of_C1, culprits_of_C2, most_of, sum_ℤ}
@@ -29,19 +27,13 @@ pub record Agree (e : Instance) (f g : ℕ → ℕ → ℕ) : Type 0 where
   pub pays : (i c : ℕ) → IsVoter e i → IsProject e c → f i c ≡ g i c
 
 paid-agree : (e : Instance) (f g : ℕ → ℕ → ℕ) (c : ℕ) → Agree e f g → IsProject e c → paid_by e f c ≡ paid_by e g c
-paid-agree e f g c h ip =
-    range-same (λ i. payment_grains (f i c)) (λ i. payment_grains (g i c)) 1 (voters e)
-    (λ i low high. ap payment_grains (h.pays i c (low, omega arith) ip))
+paid-agree e f g c h ip = grind (arith, range-same)
 
 spent-agree : (e : Instance) (f g : ℕ → ℕ → ℕ) (i : ℕ) → Agree e f g → IsVoter e i → spent_by e f i ≡ spent_by e g i
-spent-agree e f g i h iv =
-    range-same (λ c. payment_grains (f i c)) (λ c. payment_grains (g i c)) 1 (projects e)
-    (λ c low high. ap payment_grains (h.pays i c iv (low, omega arith)))
+spent-agree e f g i h iv = grind (arith, range-same)
 
 top-agree : (e : Instance) (f g : ℕ → ℕ → ℕ) (i : ℕ) → Agree e f g → IsVoter e i → top_by e f i ≡ top_by e g i
-top-agree e f g i h iv =
-    largest-same (λ c. payment_grains (f i c)) (λ c. payment_grains (g i c)) 1 (projects e)
-    (λ c low high. ap payment_grains (h.pays i c iv (low, omega arith)))
+top-agree e f g i h iv = grind (arith, largest-same)
 
 left-agree : (b : ℕ) (e : Instance) (f g : ℕ → ℕ → ℕ) (i : ℕ) → Agree e f g → IsVoter e i
     → left_by b e f i ≡ left_by b e g i
@@ -49,8 +41,7 @@ left-agree b e f g i h iv = ap (λ s. pos b -ℤ pos s) (spent-agree e f g i h i
 
 most-agree : (b : ℕ) (e : Instance) (f g : ℕ → ℕ → ℕ) (i : ℕ) → Agree e f g → IsVoter e i
     → most_by b e f i ≡ most_by b e g i
-most-agree b e f g i h iv = ap (λ t. int_max (pos t) (left_by b e f i)) (top-agree e f g i h iv)
-    ∙ ap (int_max (pos (top_by e g i))) (left-agree b e f g i h iv)
+most-agree b e f g i h iv = grind (arith, top-agree, left-agree)
 
 -- the first payment for a project that is not approved
 wrong-agree : (e : Instance) (f : ℕ → ℕ → ℕ) (p : Prices) (i c : ℕ) → Agree e f (payment p) → IsVoter e i
@@ -59,16 +50,11 @@ wrong-agree e f p i c h iv ip = ap (λ n. nat_lt 0 n && not (approves e i c)) (s
 
 none-wrong : (e : Instance) (f : ℕ → ℕ → ℕ) (p : Prices) (i : ℕ) → Agree e f (payment p) → IsVoter e i
     → ((c : ℕ) → pays_wrongly e f i c ≡ false) → wrong_pairs e p i ≡ []
-none-wrong e f p i h iv none =
-    nil-map (λ c. (i, c)) (filter (wrong e p i) (all_projects e))
-    (filter-none (wrong e p i) (projects e) 1 (λ c low high. (wrong-agree e f p i c h iv (low, omega arith) ∙ none c)))
+none-wrong e f p i h iv none = grind (arith, nil-map, filter-none, wrong-agree)
 
 first-wrong : (e : Instance) (f : ℕ → ℕ → ℕ) (p : Prices) (o : Option (ℕ × ℕ)) → Agree e f (payment p)
     → IsFirstPair e (pays_wrongly e f) o → o ≡ slice_get (culprits_of_C1 e p) 0
-first-wrong e f p None h first =
-    sym
-    (ap (λ xs. slice_get xs 0)
-    (nil-flat_map (wrong_pairs e p) (voters e) 1 (λ i low high. none-wrong e f p i h (low, omega arith) (first i))))
+first-wrong e f p None h first = grind (arith, nil-flat_map, wrong_pairs, none-wrong)
 first-wrong e f p (Some q) h first =
     let low : 1 ≤ q.0 = first.0.0 in
     let high : q.0 ≤ voters e = first.0.1 in
@@ -129,14 +115,4 @@ whole e a t p h all budget agree = record {
 -- the steps of a whole tally, and those of the passes over the projects
 pub whole-steps : (e : Instance) (a : Taken) (t : Tally) (rows : ℕ) → Tallied e a t → t.closed ≡ voters e
     → a.rows ≡ rows → AreStepsOf e rows (t.steps + 2 * projects e)
-whole-steps e a t rows h all count =
-    let every : approvals (take t.closed e.ballots) ≡ approvals e.ballots =
-    ap approvals (take_all t.closed e.ballots (omega arith)) in
-    let none : length (ballot_of e (t.closed + 1)) ≡ 0 = ap length (past e t.closed (omega arith)) in
-    record {
-      fewest = omega (arith, h.steps.low);
-      most = omega (arith, h.steps.high, every, none);
-    }
-  where
-    past : (e' : Instance) (n : ℕ) → voters e' ≤ n → ballot_of e' (n + 1) ≡ []
-    past e' n late = get_or_past e'.ballots (n + 1 - 1) [] (omega arith)
+whole-steps e a t rows h all count = grind (arith, take_all, get_or_past)

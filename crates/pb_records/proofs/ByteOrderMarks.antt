@@ -8,15 +8,13 @@ use Rattle.pb_records.specs.Records.{drop_marks}
 -- the reader finds no mark any more
 pub strip_bom-drop_marks : (xs : List ℕ) → strip_bom (drop_marks xs) ≡ drop_marks xs
 unfolding strip_bom drop_marks
-strip_bom-drop_marks [] = refl
-strip_bom-drop_marks (a ∷ []) = refl
-strip_bom-drop_marks (a ∷ b ∷ []) = refl
 strip_bom-drop_marks (a ∷ b ∷ c ∷ rest) = by (is_bom a b c) refl (strip_bom-drop_marks rest)
   where
     by : (t : Bool) → is_bom a b c ≡ t → strip_bom (drop_marks rest) ≡ drop_marks rest
         → strip_bom (drop_marks (a ∷ b ∷ c ∷ rest)) ≡ drop_marks (a ∷ b ∷ c ∷ rest)
     by true e h = rw e h
     by false e h = rw e (rw e refl)
+strip_bom-drop_marks _ = refl
 
 -- the bytes of the mark
 abbrev pub mark : List ℕ
@@ -49,7 +47,5 @@ marks_more (a ∷ b ∷ c ∷ rest) h = rw (rw (bom_test a b c rest) at h) refl
 
 pub marks_none : (xs : List ℕ) → pointwise nat_eq (take 3 xs) mark ≡ false → drop_marks xs ≡ xs
 unfolding drop_marks
-marks_none [] h = refl
-marks_none (a ∷ []) h = refl
-marks_none (a ∷ b ∷ []) h = refl
 marks_none (a ∷ b ∷ c ∷ rest) h = rw (rw (bom_test a b c rest) at h) refl
+marks_none _ h = refl

@@ -43,16 +43,11 @@ front-goes bytes text i same utf8 h e =
 
 pub front-stays : (bytes text : Field) (i : ℕ) → bytes ≡ text → i < length bytes → is_space (get_or bytes i 0) ≡ false
     → drop_front is_space (drop i text) ≡ drop i text
-front-stays bytes text i same h e =
-    let h' : i < length text = rw same at h in
-    let e' : is_space (get_or text i 0) ≡ false = rw same at e in
-    front-kept is_space text i h' e'
+front-stays bytes text i same h e = grind (arith, get_or, front-kept)
 
 pub front-ends : (bytes text : Field) (i : ℕ) → bytes ≡ text → length bytes ≤ i
     → drop_front is_space (drop i text) ≡ drop i text
-front-ends bytes text i same h =
-    let h' : length text ≤ i = rw same at h in
-    front-nil is_space text i h'
+front-ends bytes text i same h = grind (arith, front-nil)
 
 -- what is dropped at the end
 
@@ -68,19 +63,12 @@ back-kept test [] b e = rw e refl
 back-kept test (x ∷ xs) b e = rw (back-kept test xs b e, some-left xs b, and-false (test x)) refl
 
 pub range-start : (text : Field) (end : ℕ) → slice_range text 0 end ≡ take end text
-range-start text end =
-    let z : end - 0 ≡ end = omega arith in
-    rw z refl
+range-start text end = grind arith
 
 -- the text up to a place has the byte before that place last
 last-byte : (bytes text : Field) (end : ℕ) → bytes ≡ text → 0 < end → end ≤ length text
     → take end text ≡ take (end - 1) text ++ (get_or bytes (end - 1) 0 ∷ [])
-last-byte bytes text end same low high =
-    let n : suc (end - 1) ≡ end = omega arith in
-    let h : end - 1 < length text = omega arith in
-    let t : take end text ≡ take (end - 1) text ++ (get_or text (end - 1) 0 ∷ []) =
-    rw n at (take-suc text (end - 1) 0 h) in
-    rw same t
+last-byte bytes text end same low high = grind (arith, get_or, take-suc)
 
 pub back-goes : (bytes text : Field) (end : ℕ) → bytes ≡ text → 0 < end → end ≤ length text
     → is_space (get_or bytes (end - 1) 0) ≡ true
@@ -100,21 +88,15 @@ back-stays bytes text end same low high e =
 
 pub back-ends : (text : Field) (end : ℕ) → end ≤ 0 → drop_back is_space (take end text) ≡ take end text
 unfolding drop_back
-back-ends text end h =
-    let z : end ≡ 0 = omega arith in
-    rw z refl
+back-ends text end h = grind arith
 
 -- the fields from a place on
 all-drop : (p : Field → Bool) (fs : Rec) (i : ℕ) (f : Field) → field_at fs i ≡ Some f
     → list_all p (drop i fs) ≡ (p f && list_all p (drop (i + 1) fs))
 unfolding field_at
 all-drop p [] i f e = cc e
-all-drop p (x ∷ xs) zero f e =
-    let s : x ≡ f = cc e in
-    rw s refl
-all-drop p (x ∷ xs) (suc i) f e =
-    let h : list_all p (drop i xs) ≡ (p f && list_all p (drop (suc i) xs)) = rw (add-one i) at (all-drop p xs i f e) in
-    rw (add-one (suc i)) h
+all-drop p (x ∷ xs) zero f e = grind arith
+all-drop p (x ∷ xs) (suc i) f e = grind (arith, all-drop p xs i f e)
 
 pub field-none : (fs : Rec) (i : ℕ) → field_at fs i ≡ None → drop i fs ≡ []
 unfolding field_at

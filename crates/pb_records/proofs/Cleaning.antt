@@ -1,7 +1,7 @@
 -- A field that was cleaned stays as it is, and stays UTF-8.
 use Rattle.std.specs.Cmp.{first_so}
-use Rattle.std.proofs.Common.{◌≡◌, ◌≤◌, ◌<◌, ◌∙◌, ℕ, suc, [], ◌∷◌, refl, ap, arith, inl, inr, Bool, true, false, length, take, get_or}
-use Rattle.std.specs.Prelude.{◌&&◌, if◌then◌else◌, nat_lt}
+use Rattle.std.proofs.Common.{◌≡◌, ◌≤◌, ◌<◌, ℕ, suc, [], ◌∷◌, refl, arith, inl, inr, Bool, true, false, length, take, get_or}
+use Rattle.std.specs.Prelude.{◌&&◌, nat_lt}
 use Rattle.std.proofs.lemmas.Bool.Decides.{nat_tests}
 use Rattle.std.specs.Str.{IsUtf8, is_utf8}
 use Rattle.std.proofs.lemmas.Bool.{cases_Bool}
@@ -23,12 +23,7 @@ StartsPlain (b ∷ bs) = is_space b ≡ false
 front-starts : (f : Field) → StartsPlain (drop_front is_space f)
 unfolding StartsPlain drop_front
 front-starts [] = tt
-front-starts (b ∷ bs) = by (is_space b) refl (front-starts bs)
-  where
-    by : (t : Bool) → is_space b ≡ t → StartsPlain (drop_front is_space bs)
-        → StartsPlain (if t then drop_front is_space bs else b ∷ bs)
-    by true e h = h
-    by false e h = e
+front-starts (b ∷ bs) = grind (arith, front-starts bs)
 
 front-same : (f : Field) → StartsPlain f → drop_front is_space f ≡ f
 unfolding StartsPlain drop_front
@@ -43,18 +38,10 @@ back-starts (b ∷ bs) h = rw h h
 back-twice : (f : Field) → drop_back is_space (drop_back is_space f) ≡ drop_back is_space f
 unfolding drop_back
 back-twice [] = refl
-back-twice (b ∷ bs) = by (is_space b && is_empty (drop_back is_space bs)) refl (back-twice bs)
-  where
-    by : (t : Bool) → (is_space b && is_empty (drop_back is_space bs)) ≡ t
-        → drop_back is_space (drop_back is_space bs) ≡ drop_back is_space bs
-        → drop_back is_space (if t then [] else b ∷ drop_back is_space bs)
-        ≡ (if t then [] else b ∷ drop_back is_space bs)
-    by true e h = refl
-    by false e h = rw (h, e) refl
+back-twice (b ∷ bs) = grind (arith, back-twice bs)
 
 pub clean-clean : (f : Field) → clean (clean f) ≡ clean f
-clean-clean f = ap (drop_back is_space) (front-same (clean f) (back-starts (drop_front is_space f) (front-starts f)))
-    ∙ back-twice (drop_front is_space f)
+clean-clean f = grind (arith, front-same, back-starts, front-starts, back-twice)
 
 -- a field is blank where nothing is left of it at the front
 back-empty : (f : Field) → StartsPlain f → is_empty (drop_back is_space f) ≡ is_empty f

@@ -1,5 +1,5 @@
 -- How far the records of a file have been taken into a draft that a cursor feeds.
-use Rattle.std.proofs.Common.{◌≡◌, ◌≤◌, ◌<◌, ◌∙◌, ◌+◌, ◌++◌, ℕ, suc, zero, List, [], ◌∷◌, refl, sym, ap, arith, Bool, true, false, Some, None, append_assoc, append-nil, length, length-append, below_more, add-one}
+use Rattle.std.proofs.Common.{◌≡◌, ◌≤◌, ◌<◌, ◌∙◌, ◌+◌, ◌++◌, ℕ, suc, zero, List, [], ◌∷◌, refl, sym, arith, Bool, true, false, Some, None, append_assoc, append-nil, length, length-append, below_more, add-one}
 use Rattle.std.specs.Prelude.{nat_lt, not}
 use Rattle.std.proofs.lemmas.List.{take_all}
 use Rattle.std.proofs.lemmas.Bool.Decides.{nat_tests}
@@ -64,11 +64,7 @@ more form has recs taken rest r place split count none here h =
 
 pub progress-start : {F : Type 0} (form : Form F) (has : List Rec → Type 0) (recs : List Rec) → has []
     → Progress form has recs recs 0
-progress-start form has recs h = record { taken = []; split = refl; count = refl; none = first; done = h }
-  where
-    first : (k : ℕ) → k < 0 + 1 → fault_at form recs k ≡ None
-    first zero k = refl
-    first (suc n) k = absurd (omega arith)
+progress-start form has recs h = grind arith
 
 progress-blank : {F : Type 0} {form : Form F} {has : List Rec → Type 0} {recs rest : List Rec} {r : Rec} {place : ℕ}
     → Progress form has recs (r ∷ rest) place → is_blank r ≡ true
@@ -134,9 +130,7 @@ fault-past form recs k h = rw (slice_get_past recs k h, take_all k recs h) refl
 
 all-taken : {F : Type 0} {form : Form F} {has : List Rec → Type 0} {recs : List Rec} {place : ℕ}
     → Progress form has recs [] place → has (nonblank recs) × (place ≡ length recs)
-all-taken {recs = recs} p =
-    let all : recs ≡ p.taken = p.split ∙ append-nil p.taken in
-    (rw all p.done, p.count ∙ ap length (sym all))
+all-taken {recs = recs} p = grind (arith, append-nil)
 
 at-end : {F : Type 0} {form : Form F} {has : List Rec → Type 0} {recs : List Rec} {old new : Position}
     → Progress form has recs old.left old.place → MeetsEnd old new

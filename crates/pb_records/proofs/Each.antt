@@ -69,5 +69,4 @@ all-fail test (x ∷ xs) h = let parts = or_parts (test x) (list_any test xs) h 
 -- what holds of each number of a range
 pub all-range : (P : ℕ → Type 0) (a n : ℕ) → ((j : ℕ) → a ≤ j → j < a + n → P j) → AllByRecursion P (range_with_len a n)
 all-range P a zero each = tt
-all-range P a (suc n) each =
-    (each a (omega arith) (omega arith), all-range P (a + 1) n (λ j low high. each j (omega arith) (omega arith)))
+all-range P a (suc n) each = grind (arith, all-range P (a + 1) n)

@@ -1,5 +1,5 @@
 -- Records have a first fault or none; and where they have none, what each record keeps holds of all.
-use Rattle.std.proofs.Common.{◌≡◌, ◌∙◌, ◌<◌, ◌+◌, ℕ, zero, suc, Bool, true, false, List, [], ◌∷◌, ◌++◌, length, refl, sym, ap, subst, inl, inr, arith, Option, Some, None, append_assoc, append-nil, take}
+use Rattle.std.proofs.Common.{◌≡◌, ◌∙◌, ◌<◌, ◌+◌, ℕ, zero, suc, Bool, true, false, List, [], ◌∷◌, ◌++◌, length, refl, sym, ap, inl, inr, arith, Option, Some, None, append_assoc, append-nil}
 use Rattle.std.specs.Prelude.{◌⊎◌}
 use Rattle.std.proofs.lemmas.Bool.{cases_lt}
 use Rattle.std.proofs.lemmas.List.{take_all}
@@ -17,9 +17,7 @@ form-here form recs taken rest before r cut behind full =
 
 pub fault-last : {F : Type 0} (form : Form F) (recs : List Rec)
     → fault_at form recs (suc (length recs)) ≡ form (nonblank recs) None
-fault-last form recs =
-    let same : take (length recs) recs ≡ recs = take_all (length recs) recs (omega arith) in
-    rw (slice_get_past recs (length recs) (omega arith), same) refl
+fault-last form recs = grind (arith, take_all, slice_get_past)
 
 abbrev pub HasFirst : {F : Type 0} → Form F → List Rec → Type 0
 HasFirst {F} form recs = (place : ℕ) × (f : F) × IsFirstFault form recs place f
@@ -30,21 +28,11 @@ Clear form recs n = (k : ℕ) → k < n → fault_at form recs k ≡ None
 
 clear-more : {F : Type 0} (form : Form F) (recs : List Rec) (n : ℕ) → Clear form recs n → fault_at form recs n ≡ None
     → Clear form recs (suc n)
-clear-more form recs n h here k l = elim (cases_lt k n) [
-  | inl less ↦ h k less
-  | inr more ↦ let same : n ≡ k = omega arith in subst (λ (i : ℕ). fault_at form recs i ≡ None) same here
-]
+clear-more form recs n h here k l = grind arith
 
 -- behind the end nothing stands that doesn't stand there
 none-behind : {F : Type 0} (form : Form F) (recs : List Rec) → Clear form recs (length recs + 2) → NoFault form recs
-none-behind form recs h zero = refl
-none-behind form recs h (suc k) = elim (cases_lt k (length recs + 1)) [
-  | inl within ↦ h (suc k) (omega arith)
-  | inr past ↦
-      let end : fault_at form recs (suc (length recs)) ≡ None = h (suc (length recs)) (omega arith) in
-      let all = take_all k recs (omega arith) in
-      rw (slice_get_past recs k (omega arith), all) (sym (fault-last form recs) ∙ end)
-]
+none-behind form recs h k = grind (arith, cases_lt, take_all, slice_get_past, fault-last)
 
 search-from : {F : Type 0} (form : Form F) (recs : List Rec) (left n : ℕ) → n + left ≡ length recs + 2
     → Clear form recs n → NoFault form recs ⊎ HasFirst form recs

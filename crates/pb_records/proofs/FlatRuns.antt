@@ -32,22 +32,13 @@ climb-more low high more (x ∷ xs) h l = (h.0, climb-more x high more xs h.1 l)
 
 starts-step : (starts : List ℕ) (n i : ℕ) → AreStarts starts n → i + 1 < length starts
     → get_or starts i 0 ≤ get_or starts (i + 1) 0
-starts-step starts n i h l =
-    let within : i < length h.others = omega (arith, ap length h.first) in
-    rw (h.first, add-one i) (climb-step 0 n h.others h.climb i within)
+starts-step starts n i h l = grind (arith, add-one, climb-step)
 
 starts-within : (starts : List ℕ) (n i : ℕ) → AreStarts starts n → i < length starts → get_or starts i 0 ≤ n
-starts-within starts n i h l =
-    let within : i < length (0 ∷ h.others) = omega (arith, ap length h.first) in
-    rw h.first (climb-below 0 n (0 ∷ h.others) (omega arith, h.climb) i within)
+starts-within starts n i h l = grind (arith, climb-below)
 
 starts-push : (starts : List ℕ) (n m : ℕ) → AreStarts starts n → n ≤ m → AreStarts (starts ++ m ∷ []) m
-starts-push starts n m h l =
-    record {
-      others = h.others ++ m ∷ [];
-      first = ap (λ s. s ++ m ∷ []) h.first;
-      climb = climb-more 0 n m h.others h.climb l;
-    }
+starts-push starts n m h l = grind (arith, climb-more)
 
 module _ {A : Type 0} where
   cut-length : (start : ℕ) (starts : List ℕ) (entries : List A) → length (cut_from start starts entries) ≡ length starts

@@ -8,37 +8,29 @@ use Rattle.std.proofs.lemmas.List.Sums.{sum_by-cons}
 -- one more number
 pub range-push : (a n : ℕ) → range_with_len a (suc n) ≡ range_with_len a n ++ ((a + n) ∷ [])
 range-push a zero = let e : a ≡ a + 0 = omega arith in ap (λ k. k ∷ []) e
-range-push a (suc n) =
-    let e : a + 1 + n ≡ a + suc n = omega arith in
-    ap (λ xs. a ∷ xs) (range-push (a + 1) n ∙ ap (λ k. range_with_len (a + 1) n ++ (k ∷ [])) e)
+range-push a (suc n) = grind (arith, range-push (a + 1) n)
 
 -- two tests that agree on the numbers pass the same ones
 pub filter-same : (p q : ℕ → Bool) (n a : ℕ) → ((j : ℕ) → a ≤ j → j < a + n → p j ≡ q j)
     → filter p (range_with_len a n) ≡ filter q (range_with_len a n)
 filter-same p q zero a h = refl
-filter-same p q (suc n) a h =
-    rw (h a (omega arith) (omega arith), filter-same p q n (a + 1) (λ j low high. h j (omega arith) (omega arith))) refl
+filter-same p q (suc n) a h = grind (arith, filter-same p q n (a + 1))
 
 pub filter-none : (q : ℕ → Bool) (n a : ℕ) → ((j : ℕ) → a ≤ j → j < a + n → q j ≡ false)
     → filter q (range_with_len a n) ≡ []
 filter-none q zero a h = refl
-filter-none q (suc n) a h =
-    rw (h a (omega arith) (omega arith)) (filter-none q n (a + 1) (λ j low high. h j (omega arith) (omega arith)))
+filter-none q (suc n) a h = grind (arith, filter-none q n (a + 1))
 
 -- two functions that agree on the numbers map them to the same
 pub map-same : {A : Type 0} (f g : ℕ → A) (n a : ℕ) → ((j : ℕ) → a ≤ j → j < a + n → f j ≡ g j)
     → map f (range_with_len a n) ≡ map g (range_with_len a n)
 map-same f g zero a h = refl
-map-same f g (suc n) a h =
-    let first = h a (omega arith) (omega arith) in
-    let rest = map-same f g n (a + 1) (λ j low high. h j (omega arith) (omega arith)) in
-    λ k. first k ∷ rest k
+map-same f g (suc n) a h = grind (arith, map-same f g n (a + 1))
 
 -- what one more element states
 pub map-push : {A B : Type 0} (f : A → Option B) (xs : List A) (x : A) (ys : List B) (y : B) → map f xs ≡ map Some ys
     → f x ≡ Some y → map f (xs ++ (x ∷ [])) ≡ map Some (ys ++ (y ∷ []))
-map-push f xs x ys y h k =
-    map-append f xs (x ∷ []) ∙ rw (h, k) refl ∙ sym (map-append Some ys (y ∷ []))
+map-push f xs x ys y h k = grind (arith, map-append)
 
 -- where each element states something, that is all that they state
 pub filter_map-all : {A B : Type 0} (f : A → Option B) (xs : List A) (ys : List B) → map f xs ≡ map Some ys

@@ -1,11 +1,10 @@
 -- Plain lines, as csv reads them.
 use Rattle.std.proofs.Common.{◌≡◌, ◌<◌, ◌∙◌, ◌++◌, arith, ℕ, List, [], ◌∷◌, refl, sym, ap, Bool, true, false, Option, Some, None, append-nil, append_assoc}
-use Rattle.std.specs.Prelude.{◌==◌, ◌&&◌, ◌||◌, not, ⊤}
+use Rattle.std.specs.Prelude.{not, ⊤}
 use Rattle.std.specs.List.{list_all}
 use Rattle.std.specs.Char.{is_ascii_digit}
 use Rattle.std.specs.Str.{IsAscii, IsUtf8, all_ascii_digits, is_utf8}
 use Rattle.std.proofs.lemmas.Bool.{and_parts}
-use Rattle.std.proofs.lemmas.Bool.Decides.{nat_tests}
 use Rattle.std.proofs.lemmas.Str.{is_utf8-from_IsUtf8}
 use Rattle.std.proofs.lemmas.Str.Ascii.{IsAscii-cons, IsAscii-nil}
 use Rattle.csv.specs.Machine.{Read, next_record, step}
@@ -16,7 +15,6 @@ use Rattle.csv.specs.declared.parser.State.TheVariants as st
 use Rattle.csv.specs.declared.parser.Action.TheVariants as act
 use Rattle.pb_money.specs.Digits.{drop_back, drop_front, is_empty}
 use Rattle.pb_money.specs.Whole.{WholeText}
-use Rattle.pb_money.proofs.Numbers.{digit-range}
 use Rattle.pb_records.specs.Records.{Rec, csv_settings}
 use Rattle.pb_records.specs.Cells.{clean, is_blank, is_space, is_text}
 use Rattle.pb_records.specs.Inside.Lines.{IsLineEnd, is_plain, lines_left}
@@ -47,61 +45,18 @@ IsBegun st.InComment = ⊥
 IsBegun st.AfterCr = ⊥
 
 begun-open : (s : State) → IsBegun s → IsOpen s
-begun-open st.StartRecord h = absurd h
-begun-open st.StartField h = tt
-begun-open st.InField h = tt
-begun-open st.InQuoted h = absurd h
-begun-open st.AfterQuote h = absurd h
-begun-open st.InEscape h = absurd h
-begun-open st.InComment h = absurd h
-begun-open st.AfterCr h = absurd h
-
-record AreFalse (p q r t : Bool) : Type 0 where
-  pub first : p ≡ false
-  pub second : q ≡ false
-  pub third : r ≡ false
-  pub fourth : t ≡ false
-
-none-holds : (p q r t : Bool) → not (p || (q || (r || t))) ≡ true → AreFalse p q r t
-none-holds false false false false h = record { first = refl; second = refl; third = refl; fourth = refl }
-none-holds false false false true h = cc h
-none-holds false false true t h = cc h
-none-holds false true r t h = cc h
-none-holds true q r t h = cc h
+begun-open s h = grind arith
 
 plain-step : (s : State) → IsOpen s → (b : ℕ) → is_plain b ≡ true → step commas s b ≡ (st.InField, act.Copy)
-plain-step s o b h = by s o (none-holds (b == 10) (b == 13) (b == 34) (b == 44) h)
-  where
-    by : (s : State) → IsOpen s → AreFalse (b == 10) (b == 13) (b == 34) (b == 44)
-        → step commas s b ≡ (st.InField, act.Copy)
-    by st.StartRecord o f = rw (f.first, f.second, f.third, f.fourth) refl
-    by st.StartField o f = rw (f.first, f.second, f.third, f.fourth) refl
-    by st.InField o f = rw (f.first, f.second, f.fourth) refl
-    by st.InQuoted o f = absurd o
-    by st.AfterQuote o f = absurd o
-    by st.InEscape o f = absurd o
-    by st.InComment o f = absurd o
-    by st.AfterCr o f = absurd o
+plain-step s o b h = grind arith
 
 all-first : (b : ℕ) (bs : List ℕ) → list_all is_plain (b ∷ bs) ≡ true → (is_plain b ≡ true) × (list_all is_plain bs ≡ true)
-all-first b bs h = by (is_plain b) (list_all is_plain bs) h
-  where
-    by : (x y : Bool) → (x && y) ≡ true → (x ≡ true) × (y ≡ true)
-    by true true h = (refl, refl)
-    by true false h = cc h
-    by false y h = cc h
+all-first b bs h = grind arith
 
 comma-ends : (s : State) → IsOpen s → (fields : Rec) (field more : List ℕ)
     → next_record commas s fields field (44 ∷ more) ≡ next_record commas st.StartField (fields ++ (field ∷ [])) [] more
 unfolding next_record
-comma-ends st.StartRecord o fields field more = refl
-comma-ends st.StartField o fields field more = refl
-comma-ends st.InField o fields field more = refl
-comma-ends st.InQuoted o fields field more = absurd o
-comma-ends st.AfterQuote o fields field more = absurd o
-comma-ends st.InEscape o fields field more = absurd o
-comma-ends st.InComment o fields field more = absurd o
-comma-ends st.AfterCr o fields field more = absurd o
+comma-ends s o fields field more = grind arith
 
 -- a plain byte joins the field
 joins : (s : State) → IsOpen s → (fields : Rec) (field : List ℕ) (b : ℕ) (more : List ℕ) → is_plain b ≡ true
@@ -129,16 +84,7 @@ behind_end (b ∷ bs) = bs
 line-stops : (s : State) → IsBegun s → (fields : Rec) (field rest : List ℕ) → IsLineEnd rest
     → next_record commas s fields field rest ≡ Some (fields ++ (field ∷ []), st.StartRecord, behind_end rest)
 unfolding next_record
-line-stops st.StartField o fields field [] h = refl
-line-stops st.StartField o fields field (b ∷ bs) h = rw h refl
-line-stops st.InField o fields field [] h = refl
-line-stops st.InField o fields field (b ∷ bs) h = rw h refl
-line-stops st.StartRecord o fields field rest h = absurd o
-line-stops st.InQuoted o fields field rest h = absurd o
-line-stops st.AfterQuote o fields field rest h = absurd o
-line-stops st.InEscape o fields field rest h = absurd o
-line-stops st.InComment o fields field rest h = absurd o
-line-stops st.AfterCr o fields field rest h = absurd o
+line-stops s o fields field rest h = grind arith
 
 -- plain bytes at the end of a line are the last field of its record
 line-ends : (s : State) → IsBegun s → (fields : Rec) (field a rest : List ℕ) → list_all is_plain a ≡ true
@@ -175,10 +121,8 @@ at-end (b ∷ bs) h = rw h (feed bs)
 
 pub no-mark : (rest : List ℕ) → IsLineEnd rest → strip_bom rest ≡ rest
 unfolding strip_bom
-no-mark [] h = refl
-no-mark (a ∷ []) h = refl
-no-mark (a ∷ b ∷ []) h = refl
 no-mark (a ∷ b ∷ c ∷ rest) h = rw h refl
+no-mark _ h = refl
 
 -- these fields of the text's first record are read, and the next field begins what is left
 abbrev pub HasFields : List ℕ → Rec → List ℕ → Type 0
@@ -197,8 +141,7 @@ first-field text a rest more cut comma plain = rw (cut, comma) (field-ends st.St
 
 pub next-field : (text : List ℕ) (fields : Rec) (left a rest more : List ℕ) → HasFields text fields left
     → left ≡ a ++ rest → rest ≡ 44 ∷ more → list_all is_plain a ≡ true → HasFields text (fields ++ (a ∷ [])) more
-next-field text fields left a rest more before cut comma plain =
-    before ∙ rw (cut, comma) (field-ends st.StartField tt fields [] a more plain)
+next-field text fields left a rest more before cut comma plain = grind (arith, field-ends)
 
 pub last-field : (text : List ℕ) (fields : Rec) (left a rest : List ℕ) → HasFields text fields left → left ≡ a ++ rest
     → list_all is_plain a ≡ true → IsLineEnd rest → lines_left text ≡ (fields ++ (a ∷ [])) ∷ lines_left rest
@@ -211,13 +154,7 @@ last-field text fields left a rest before cut plain end =
 all-push : (test : List ℕ → Bool) (fs : Rec) (f : List ℕ) → list_all test fs ≡ true → test f ≡ true
     → list_all test (fs ++ (f ∷ [])) ≡ true
 all-push test [] f h e = rw e refl
-all-push test (g ∷ gs) f h e = by (test g) (list_all test gs) h (all-push test gs f)
-  where
-    by : (x y : Bool) → (x && y) ≡ true → (y ≡ true → test f ≡ true → list_all test (gs ++ (f ∷ [])) ≡ true)
-        → (x && list_all test (gs ++ (f ∷ []))) ≡ true
-    by true true h more = more refl e
-    by true false h more = cc h
-    by false y h more = cc h
+all-push test (g ∷ gs) f h e = grind (arith, all-push test gs f)
 
 pub text-push : (fs : Rec) (f : List ℕ) → is_text fs ≡ true → IsUtf8 f → is_text (fs ++ (f ∷ [])) ≡ true
 unfolding is_text
@@ -229,8 +166,7 @@ no-fields = refl
 
 -- digits are plain text, and stay as they are where they are cleaned
 digit-plain : (b : ℕ) → is_ascii_digit b ≡ true → (is_plain b ≡ true) × (is_space b ≡ false) × (b < 128)
-digit-plain b h =
-    let range = digit-range b h in (grind (arith, nat_tests), grind (arith, nat_tests), omega (arith, range.1))
+digit-plain b h = grind arith
 
 pub digits-plain : (ds : List ℕ) → all_ascii_digits ds ≡ true → list_all is_plain ds ≡ true
 digits-plain [] h = refl
@@ -254,9 +190,7 @@ back-same (d ∷ ds) h =
 pub digits-clean : (ds : List ℕ) → all_ascii_digits ds ≡ true → clean ds ≡ ds
 unfolding drop_back drop_front
 digits-clean [] h = refl
-digits-clean (d ∷ ds) h =
-    let parts = and_parts (is_ascii_digit d) (all_ascii_digits ds) h in
-    rw (digit-plain d parts.0).1 (back-same (d ∷ ds) h)
+digits-clean (d ∷ ds) h = grind (arith, and_parts, digit-plain, back-same)
 
 -- a text that states a number is digits, of which there are some
 pub whole-digits : (f : List ℕ) (n : ℕ) → WholeText f n → all_ascii_digits f ≡ true
@@ -272,10 +206,4 @@ whole-clean f n w = digits-clean f (whole-digits f n w)
 -- a record of three fields is full where its last states a number
 pub third-full : (a b c : List ℕ) (n : ℕ) → WholeText c n → is_blank (a ∷ b ∷ c ∷ []) ≡ false
 unfolding is_blank
-third-full a b c n w =
-    rw (whole-clean c n w, whole-some c n w) (by (is_empty (clean a)) (is_empty (clean b)))
-  where
-    by : (p q : Bool) → (p && (q && false)) ≡ false
-    by true true = refl
-    by true false = refl
-    by false q = refl
+third-full a b c n w = grind (arith, whole-clean, whole-some)

@@ -1,66 +1,19 @@
 -- A read of one record is a step along the list of records, and takes at least two bytes, or the last one.
-use Rattle.std.proofs.Common.{◌≡◌, ◌∙◌, ◌<◌, ◌≤◌, ◌+◌, ◌*◌, ◌-◌, ℕ, suc, zero, List, [], ◌∷◌, ◌++◌, length, refl, sym, ap, arith, add-one, Bool, true, false, Option, Some, None}
-use Rattle.std.specs.Prelude.{◌==◌, ◌&&◌, if◌then◌else◌}
-use Rattle.std.proofs.lemmas.Bool.{false≢true}
-use Rattle.csv.specs.Machine.{Read, ends_at_end, next_record, step, is_end, fields_after, field_after, in_field, start_field, start_record, after_end, carriage_return, line_feed, is_byte, ends_with}
-use Rattle.csv.specs.Reading.{is_bom, records, records_from, records_next}
+use Rattle.std.proofs.Common.{◌≡◌, ◌<◌, ◌≤◌, ◌+◌, ◌*◌, ◌-◌, ℕ, suc, zero, List, [], ◌∷◌, length, refl, ap, arith, add-one, Bool, true, false, Option, Some, None}
+use Rattle.std.specs.Prelude.{if◌then◌else◌}
+use Rattle.csv.specs.Machine.{Read, ends_at_end, next_record, step, is_end, fields_after, field_after}
+use Rattle.csv.specs.Reading.{records, records_from, records_next}
 use Rattle.pb_records.specs.Records.{drop_marks}
 use Rattle.csv.specs.declared.parser.Config.{Config}
-use Rattle.csv.specs.declared.parser.Terminator.{Terminator}
-use Rattle.csv.specs.declared.parser.Terminator.TheVariants as term
 use Rattle.csv.specs.declared.parser.State.{State}
-use Rattle.csv.specs.declared.parser.State.TheVariants as st
 use Rattle.csv.specs.declared.parser.Action.{Action}
-use Rattle.csv.specs.declared.parser.Action.TheVariants as act
 
 -- where an action ends a record, its state stands between two records
 abbrev EndsBetween : State × Action → Type 0
 EndsBetween q = is_end q.1 ≡ true → ends_at_end q.0 ≡ false
 
-by_test : (b : Bool) (x y : State × Action) → EndsBetween x → EndsBetween y → EndsBetween (if b then x else y)
-by_test true x y h k = h
-by_test false x y h k = k
-
-no_end : (s : State) (a : Action) → is_end a ≡ false → EndsBetween (s, a)
-no_end s a e h = absurd (false≢true (sym e ∙ h))
-
-after : (t : Terminator) (c : ℕ) → ends_at_end (after_end t c) ≡ false
-after term.CRLF c = by (c == carriage_return)
-  where
-    by : (b : Bool) → ends_at_end (if b then st.AfterCr else st.StartRecord) ≡ false
-    by true = refl
-    by false = refl
-after (term.Any t) c = refl
-
-end_in_field : (cfg : Config) (c : ℕ) → EndsBetween (in_field cfg c)
-end_in_field cfg c =
-    by_test (c == cfg.delimiter) _ _ (no_end st.StartField act.EndField refl)
-    (by_test (ends_with cfg.terminator c) _ _ (λ e. after cfg.terminator c) (no_end st.InField act.Copy refl))
-
-end_start_field : (cfg : Config) (c : ℕ) → EndsBetween (start_field cfg c)
-end_start_field cfg c =
-    by_test (cfg.quoting && (c == cfg.quote)) _ _ (no_end st.InQuoted act.Skip refl) (end_in_field cfg c)
-
-end_start_record : (cfg : Config) (c : ℕ) → EndsBetween (start_record cfg c)
-end_start_record cfg c =
-    by_test (ends_with cfg.terminator c) _ _ (no_end st.StartRecord act.Skip refl)
-    (by_test (is_byte cfg.comment c) _ _ (no_end st.InComment act.Skip refl) (end_start_field cfg c))
-
 end_step : (cfg : Config) (s : State) (c : ℕ) → EndsBetween (step cfg s c)
-end_step cfg st.StartRecord c = end_start_record cfg c
-end_step cfg st.StartField c = end_start_field cfg c
-end_step cfg st.InField c = end_in_field cfg c
-end_step cfg st.InQuoted c =
-    by_test (cfg.quoting && (c == cfg.quote)) _ _ (no_end st.AfterQuote act.Skip refl)
-    (by_test (cfg.quoting && is_byte cfg.escape c) _ _ (no_end st.InEscape act.Skip refl)
-    (no_end st.InQuoted act.Copy refl))
-end_step cfg st.InEscape c = no_end st.InQuoted act.Copy refl
-end_step cfg st.AfterQuote c =
-    by_test (cfg.quoting && cfg.double_quote && (c == cfg.quote)) _ _ (no_end st.InQuoted act.Copy refl)
-    (end_in_field cfg c)
-end_step cfg st.InComment c =
-    by_test (c == line_feed) _ _ (no_end st.StartRecord act.Skip refl) (no_end st.InComment act.Skip refl)
-end_step cfg st.AfterCr c = by_test (c == line_feed) _ _ (no_end st.StartRecord act.Skip refl) (end_start_record cfg c)
+end_step cfg s c = grind arith
 
 -- a record that was read took a byte, or all that was left, and the reader then stands between two records
 pub record Took (xs : List ℕ) (p : Read) : Type 0 where
@@ -70,13 +23,7 @@ pub record Took (xs : List ℕ) (p : Read) : Type 0 where
 pub took : (cfg : Config) (s : State) (fields : List (List ℕ)) (field xs : List ℕ) (p : Read)
     → next_record cfg s fields field xs ≡ Some p → Took xs p
 unfolding next_record
-took cfg s fields field [] p e = by (ends_at_end s) e
-  where
-    by : (b : Bool) → (if b then Some (fields ++ (field ∷ []), st.StartRecord, []) else None) ≡ Some p → Took [] p
-    by true h =
-        let q : p ≡ (fields ++ (field ∷ []), st.StartRecord, []) = cc h in
-        rw q (record { less = omega arith; between = refl })
-    by false h = cc h
+took cfg s fields field [] p e = grind arith
 took cfg s fields field (c ∷ rest) p e =
     by (is_end (step cfg s c).1) refl e
     (took cfg (step cfg s c).0 (fields_after (step cfg s c).1 fields field) (field_after (step cfg s c).1 c field) rest
@@ -96,32 +43,8 @@ took cfg s fields field (c ∷ rest) p e =
         let m = more h in
         record { less = omega (arith, m.less); between = m.between }
 
--- the first byte after a record ends none
-abbrev GoesOn : State × Action → Type 0
-GoesOn q = is_end q.1 ≡ false
-
-go_on : (b : Bool) (x y : State × Action) → GoesOn x → (b ≡ false → GoesOn y) → GoesOn (if b then x else y)
-go_on true x y h k = h
-go_on false x y h k = k refl
-
-field_goes_on : (cfg : Config) (c : ℕ) → ends_with cfg.terminator c ≡ false → GoesOn (in_field cfg c)
-field_goes_on cfg c e = go_on (c == cfg.delimiter) (st.StartField, act.EndField) _ refl (λ d. rw e refl)
-
-start_goes_on : (cfg : Config) (c : ℕ) → GoesOn (start_record cfg c)
-start_goes_on cfg c =
-    go_on (ends_with cfg.terminator c) (st.StartRecord, act.Skip) _ refl
-    (λ e. go_on (is_byte cfg.comment c) (st.InComment, act.Skip) _ refl
-    (λ d. go_on (cfg.quoting && (c == cfg.quote)) (st.InQuoted, act.Skip) _ refl (λ q. field_goes_on cfg c e)))
-
 first_goes_on : (cfg : Config) (s : State) (c : ℕ) → ends_at_end s ≡ false → is_end (step cfg s c).1 ≡ false
-first_goes_on cfg st.StartRecord c b = start_goes_on cfg c
-first_goes_on cfg st.AfterCr c b = go_on (c == line_feed) (st.StartRecord, act.Skip) _ refl (λ e. start_goes_on cfg c)
-first_goes_on cfg st.StartField c b = cc
-first_goes_on cfg st.InField c b = cc
-first_goes_on cfg st.InQuoted c b = cc
-first_goes_on cfg st.AfterQuote c b = cc
-first_goes_on cfg st.InEscape c b = cc
-first_goes_on cfg st.InComment c b = cc
+first_goes_on cfg s c b = grind arith
 
 -- a record that is read from between two records took two bytes, or all that was left, and then at least one
 pub took_two : (cfg : Config) (s : State) (xs : List ℕ) (p : Read) → ends_at_end s ≡ false
@@ -185,17 +108,8 @@ count-from cfg (suc n) s xs b = by (next_record cfg s [] [] xs) refl (count-from
 
 marks-shrink : (xs : List ℕ) → length (drop_marks xs) ≤ length xs
 unfolding drop_marks
-marks-shrink [] = omega arith
-marks-shrink (a ∷ []) = omega arith
-marks-shrink (a ∷ b ∷ []) = omega arith
-marks-shrink (a ∷ b ∷ c ∷ rest) = by (is_bom a b c) (marks-shrink rest)
-  where
-    by : (t : Bool) → length (drop_marks rest) ≤ length rest
-        → length (if t then drop_marks rest else a ∷ b ∷ c ∷ rest) ≤ length (a ∷ b ∷ c ∷ rest)
-    by true h = omega arith
-    by false h = omega arith
+marks-shrink (a ∷ b ∷ c ∷ rest) = grind (arith, marks-shrink rest)
+marks-shrink _ = omega arith
 
 pub count-records : (cfg : Config) (bytes : List ℕ) → 2 * length (records cfg (drop_marks bytes)) ≤ length bytes + 1
-count-records cfg bytes =
-    omega
-    (arith, count-from cfg (length (drop_marks bytes) + 1) st.StartRecord (drop_marks bytes) refl, marks-shrink bytes)
+count-records cfg bytes = grind (arith, count-from, marks-shrink)

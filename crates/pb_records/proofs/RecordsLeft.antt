@@ -4,7 +4,6 @@ use Rattle.std.specs.Prelude.{IsSome, ◌==◌, ◌&&◌}
 use Rattle.std.specs.List.{list_all}
 use Rattle.std.specs.Str.{IsUtf8, is_utf8}
 use Rattle.std.proofs.lemmas.Bool.{false_from_ne_true}
-use Rattle.std.proofs.lemmas.Bool.Decides.{nat_tests}
 use Rattle.std.proofs.lemmas.Str.{IsUtf8-from_is_utf8, is_utf8-from_IsUtf8}
 use Rattle.csv.specs.Machine.{Read, ends_at_end, next_record}
 use Rattle.csv.specs.Reading.{NextIs, ReadRecord, ReadsNext, TookRecord, pending_of, records_from, source_of}
@@ -76,11 +75,7 @@ read_found a b fields h r first flexible = by (source_of left_in a) refl h.known
 -- a read that found none
 pub read_none : (a b : Reader (Bor (List ℕ))) (fields : Rec) → Stands a → ReadRecord left_in a b false fields
     → reader_left a ≡ []
-read_none a b fields h r = by (source_of left_in a) refl h.known
-  where
-    by : (o : Option (List ℕ)) → source_of left_in a ≡ o → IsSome o → reader_left a ≡ []
-    by None e k = cc k
-    by (Some xs) e k = rw e (next_none a.config a.state xs (pending_of (left_in b.rdr) b) fields b.state (rw e at r.0))
+read_none a b fields h r = grind (arith, next_none)
 
 -- a read that took a record which is no text
 pub read_took : (a b : Reader (Bor (List ℕ))) (fields : Rec) → Stands a → TookRecord left_in a b fields
@@ -115,6 +110,4 @@ text-no r h = false_from_ne_true (is_text r) (λ t. h (all-text r t))
 
 pub empty-lines : (lines : List ℕ) → (length lines == 0) ≡ true → lines_left lines ≡ []
 empty-lines [] h = nothing-left
-empty-lines (b ∷ bs) h =
-    let none : length (b ∷ bs) ≡ 0 = grind (arith, nat_tests) in
-    absurd (omega (arith, none))
+empty-lines (b ∷ bs) h = grind arith

@@ -2,7 +2,7 @@
 use Rattle.std.proofs.Common.{◌≡◌, ℕ, Bool, true, false, List, [], ◌∷◌, length, refl, sym, ap, subst, arith, Some, None}
 use Rattle.std.specs.Prelude.{◌==◌, ◌||◌, not, is_none, codes}
 use Rattle.std.specs.List.{AllByRecursion, list_any}
-use Rattle.std.proofs.lemmas.Bool.{and_left, and_right, or_from}
+use Rattle.std.proofs.lemmas.Bool.{and_right, or_from}
 use Rattle.pb_election.specs.Instance.{Instance}
 use Rattle.pb_records.specs.Records.{Rec}
 use Rattle.pb_records.specs.Cells.{is_text}
@@ -14,22 +14,12 @@ use Rattle.pb_certificate.specs.Outcomes.Text.{IsOutcomeText}
 use Rattle.pb_certificate.specs.Faults.{is_kind, outcome_fault_stands, outcome_form, same_name}
 use Rattle.pb_certificate.specs.declared.refusal.CertFault.{CertFault}
 use Rattle.pb_certificate.specs.declared.refusal.CertFault.TheVariants as fault
-use Rattle.pb_certificate.proofs.HeadRecords.{not-cut, past}
 use Rattle.pb_certificate.proofs.NamedRows.{Row, project-kind, row-project, rows-clear, two-fields}
 use Rattle.pb_certificate.proofs.NoFaults.{ClearFrom, each-nil, no-fault, none-refused}
 
 head-clear : (e : Instance) (head : Rec) → is_text head ≡ true → fields head ≡ codes "pb-outcome" ∷ codes "1" ∷ []
     → (f : CertFault) → outcome_fault_stands e [] (Some head) f ≡ false
-head-clear e head text is fault.NotUtf8 = rw text refl
-head-clear e head text is fault.BadHead = rw is refl
-head-clear e head text is fault.BadRow = refl
-head-clear e head text is fault.BadNumber = refl
-head-clear e head text is fault.UnknownVoter = refl
-head-clear e head text is fault.UnknownProject = refl
-head-clear e head text is fault.OutOfOrder = refl
-head-clear e head text is fault.Repeated = refl
-head-clear e head text is fault.TooMany = refl
-head-clear e head text is fault.Memory = refl
+head-clear e head text is f = grind arith
 
 shape-fits : (e : Instance) (r : Rec) (j : ℕ) → Row e r (Project j)
     → (not (length (fields r) == 2) || not (is_kind (codes "project") r)) ≡ false
@@ -42,30 +32,16 @@ row-clear : (e : Instance) (head : Rec) (done : List Rec) (r : Rec) (x : Named) 
     → outcome_fault_stands e (head ∷ done) (Some r) f ≡ false
 row-clear e head done r (Voter i) text row is new f = cc
 row-clear e head done r (Project j) text row is new fault.NotUtf8 = rw text refl
-row-clear e head done r (Project j) text row is new fault.BadHead =
-    or_from _ _ (and_left _ _ (past (head ∷ []) done 0 (omega arith))) (and_right _ _ refl)
+row-clear e head done r (Project j) text row is new fault.BadHead = grind arith
 row-clear e head done r (Project j) text row is new fault.BadRow = and_right _ _ (shape-fits e r j row)
-row-clear e head done r (Project j) text row is new fault.BadNumber = refl
-row-clear e head done r (Project j) text row is new fault.UnknownVoter = refl
 row-clear e head done r (Project j) text row is new fault.UnknownProject =
     and_right _ _ (ap is_none (row-project e r j row))
-row-clear e head done r (Project j) text row is new fault.OutOfOrder = refl
 row-clear e head done r (Project j) text row is new fault.Repeated = and_right _ _ new
-row-clear e head done r (Project j) text row is new fault.TooMany = refl
-row-clear e head done r (Project j) text row is new fault.Memory = refl
+row-clear e head done r (Project j) text row is new _ = refl
 
 end-clear : (e : Instance) (head : Rec) (done : List Rec) (f : CertFault)
     → outcome_fault_stands e (head ∷ done) None f ≡ false
-end-clear e head done fault.NotUtf8 = refl
-end-clear e head done fault.BadHead = or_from _ _ (and_right _ _ refl) (and_left _ _ (not-cut (head ∷ []) done))
-end-clear e head done fault.BadRow = and_right _ _ refl
-end-clear e head done fault.BadNumber = refl
-end-clear e head done fault.UnknownVoter = refl
-end-clear e head done fault.UnknownProject = and_right _ _ refl
-end-clear e head done fault.OutOfOrder = refl
-end-clear e head done fault.Repeated = and_right _ _ refl
-end-clear e head done fault.TooMany = refl
-end-clear e head done fault.Memory = refl
+end-clear e head done f = grind arith
 
 pub outcome-clear : (recs : List Rec) (e : Instance) (w : List Bool) → IsOutcomeText recs e w → (k : ℕ) (f : CertFault)
     → IsFirstFault (outcome_form e) recs k f → ⊥

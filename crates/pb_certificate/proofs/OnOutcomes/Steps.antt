@@ -1,6 +1,6 @@
 -- One more record of an outcome file.
 use Rattle.std.proofs.Common.{◌≡◌, ◌∙◌, Bool, true, false, cond, List, [], ◌∷◌, ◌++◌, length, refl, sym, ap, subst, arith, Option, Some, None}
-use Rattle.std.specs.Prelude.{◌==◌, ◌&&◌, ◌||◌, not, Ok, Err, codes, is_none}
+use Rattle.std.specs.Prelude.{◌==◌, ◌||◌, not, Ok, Err, codes, is_none}
 use Rattle.std.specs.List.{AllByRecursion, IsDistinct, list_any}
 use Rattle.pb_records.proofs.Each.{all-push}
 use Rattle.pb_election.specs.Instance.{Instance}
@@ -11,9 +11,6 @@ use Rattle.pb_records.specs.FirstFault.{NoFault}
 use Rattle.pb_records.specs.declared.drafts.Stop.TheVariants.{Fault}
 use Rattle.pb_certificate.specs.Fields.{fields, project_in, same_fields}
 use Rattle.pb_certificate.specs.Faults.{is_kind, outcome_form, same_name}
-use Rattle.pb_certificate.specs.Inside.Marks.{project_after}
-use Rattle.pb_certificate.specs.NamedRows.{Named, is_project}
-use Rattle.pb_certificate.specs.NamedRows.Named.{Project}
 use Rattle.pb_certificate.specs.Inside.Outcomes.{OutcomeRows, OutcomeStands, OutcomeTaken, after_outcome_row}
 use Rattle.pb_certificate.specs.Outcomes.Text.{IsOutcomeText}
 use Rattle.pb_certificate.specs.declared.refusal.CertFault.{CertFault}
@@ -42,8 +39,7 @@ form-at-row : (e : Instance) (h : Rec) (done : List Rec) (r : Rec) → is_text r
     ≡ row_fault (length (fields r) == 2) (is_kind (codes "project") r) (is_none (project_in e (cell 1 r)))
     (list_any (same_name r) done)
 unfolding row_fault
-form-at-row e h done r text =
-    rw (text, past (h ∷ []) done 0 (omega arith), not-cut (h ∷ []) done, behind (h ∷ []) done) refl
+form-at-row e h done r text = grind (arith, not-cut)
 
 form-at-end : (e : Instance) (h : Rec) (done : List Rec) → outcome_form e (h ∷ done) None ≡ None
 form-at-end e h done = rw (past (h ∷ []) done 0 (omega arith), not-cut (h ∷ []) done, behind (h ∷ []) done) refl
@@ -52,39 +48,12 @@ form-at-end e h done = rw (past (h ∷ []) done 0 (omega arith), not-cut (h ∷ 
 row-fault : (e : Instance) (marks : List Bool) (before : List Rec) (r : Rec) → is_text r ≡ true
     → OutcomeRows e marks before → outcome_form e before (Some r) ≡ fault_of (after_outcome_row e marks r)
 unfolding row_fault
-row-fault e marks before r text s = ap (λ (rs : List Rec). outcome_form e rs (Some r)) s.cut
-    ∙ form-at-row e s.head s.rows r text ∙ by (length (fields r) == 2) (is_kind (codes "project") r) refl refl
-  where
-    by : (two project : Bool) → (length (fields r) == 2) ≡ two → is_kind (codes "project") r ≡ project
-        → row_fault two project (is_none (project_in e (cell 1 r))) (list_any (same_name r) s.rows)
-        ≡ fault_of (cond (two && project) (project_after e (cell 1 r) marks) (Err fault.BadRow))
-    by false project is_two is_project = refl
-    by true false is_two is_project = refl
-    by true true is_two is_project = project-fault e r s.rows s.names marks s.named s.same_marks is_two is_project
+row-fault e marks before r text s = grind (arith, form-at-row, row_fault, fault_of, project-fault)
 
 -- the rows with one more
 row-added : (e : Instance) (marks marks' : List Bool) (before : List Rec) (r : Rec) → OutcomeRows e marks before
     → after_outcome_row e marks r ≡ Ok marks' → OutcomeRows e marks' (before ++ (r ∷ []))
-row-added e marks marks' before r s after = by (length (fields r) == 2) (is_kind (codes "project") r) refl refl after
-  where
-    by : (two project : Bool) → (length (fields r) == 2) ≡ two → is_kind (codes "project") r ≡ project
-        → cond (two && project) (project_after e (cell 1 r) marks) (Err fault.BadRow) ≡ Ok marks'
-        → OutcomeRows e marks' (before ++ (r ∷ []))
-    by false project two_is kind_is h = cc h
-    by true false two_is kind_is h = cc h
-    by true true two_is kind_is h =
-        let added = project-added e r s.rows s.names marks marks' s.named s.same_marks two_is kind_is h in
-        record {
-          head = s.head;
-          rows = s.rows ++ (r ∷ []);
-          names = s.names ++ (Project added.0 ∷ []);
-          cut = ap (λ (rs : List Rec). rs ++ (r ∷ [])) s.cut;
-          is_head = s.is_head;
-          named = added.1;
-          projects_alone =
-              all-push (λ (x : Named). is_project x ≡ true) s.names (Project added.0) s.projects_alone refl;
-          same_marks = added.2;
-        }
+row-added e marks marks' before r s after = grind (arith, project-added, all-push)
 
 -- What taking a record gives.
 
@@ -95,35 +64,18 @@ stands-at e b b' marks before is h = subst (λ x. OutcomeStands e x marks before
 taken-at : (e : Instance) (b b' : Bool) (marks : List Bool) (before : List Rec) (r : Rec) → b' ≡ b → is_text r ≡ true
     → AllByRecursion (λ x. is_text x ≡ true) before → OutcomeStands e b marks (before ++ (r ∷ []))
     → OutcomeTaken e b' marks (before ++ (r ∷ []))
-taken-at e b b' marks before r is text all s = (
-  all-push (λ x. is_text x ≡ true) before r all text,
-  subst (λ x. OutcomeStands e x marks (before ++ (r ∷ []))) (sym is) s,
-)
+taken-at e b b' marks before r is text all s = grind (arith, all-push)
 
 pub head-refused : (e : Instance) (b : Bool) (marks : List Bool) (r : Rec) → is_text r ≡ true → b ≡ false
     → same_fields (fields r) (codes "pb-outcome" ∷ codes "1" ∷ []) ≡ false
     → StopsAt (outcome_form e) (OutcomeTaken e b marks) r (Fault fault.BadHead)
-head-refused e b marks r text at is before h =
-    let s = stands-at e b false marks before at h in
-    rw s.0 (form-at-head e r false text is)
+head-refused e b marks r text at is before h = grind (arith, stands-at, form-at-head)
 
 pub head-taken : (e : Instance) (b : Bool) (marks : List Bool) (r : Rec) → is_text r ≡ true → b ≡ false
     → same_fields (fields r) (codes "pb-outcome" ∷ codes "1" ∷ []) ≡ true
     → Takes (outcome_form e) (OutcomeTaken e b marks) (OutcomeTaken e true marks) r
 unfolding IsDistinct
-head-taken e b marks r text at is before h =
-    let s = stands-at e b false marks before at h in
-    let rows : OutcomeRows e marks (before ++ (r ∷ [])) = record {
-      head = r;
-      rows = [];
-      names = [];
-      cut = ap (λ (rs : List Rec). rs ++ (r ∷ [])) s.0;
-      is_head = same-is (fields r) (codes "pb-outcome" ∷ codes "1" ∷ []) is;
-      named = record { each_row = refl; once = tt };
-      projects_alone = tt;
-      same_marks = s.1;
-    } in
-    (rw s.0 (form-at-head e r true text is), taken-at e true true marks before r refl text h.0 rows)
+head-taken e b marks r text at is before h = grind (arith, stands-at, same-is, form-at-head, taken-at)
 
 pub row-refused : (e : Instance) (b : Bool) (marks : List Bool) (r : Rec) (f : CertFault) → is_text r ≡ true → b ≡ true
     → after_outcome_row e marks r ≡ Err f → StopsAt (outcome_form e) (OutcomeTaken e b marks) r (Fault f)
@@ -141,9 +93,7 @@ row-taken e b b' marks marks' r text at same after before h =
 
 end-told : (e : Instance) (b : Bool) (marks : List Bool) (before : List Rec) → OutcomeTaken e b marks before
     → outcome_form e before None ≡ cond b None (Some fault.BadHead)
-end-told e true marks before h = ap (λ (rs : List Rec). outcome_form e rs None) h.1.cut
-    ∙ form-at-end e h.1.head h.1.rows
-end-told e false marks before h = rw h.1.0 refl
+end-told e b marks before h = grind (arith, form-at-end)
 
 -- all records of a file were taken, and no fault stands among them
 pub whole-outcome : (e : Instance) (b : Bool) (marks : List Bool) (recs : List Rec)

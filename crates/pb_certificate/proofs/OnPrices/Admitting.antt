@@ -3,7 +3,7 @@ use Rattle.std.proofs.Common.{◌≡◌, ◌≤◌, ◌<◌, ◌+◌, ◌-◌, �
 use Rattle.std.specs.Prelude.{◌==◌, map, nat_lt}
 use Rattle.std.specs.List.{list_any, range_with_len}
 use Rattle.std.specs.Vec.{with_item}
-use Rattle.std.proofs.lemmas.Bool.{eq-eqb, le-leb, le-ltb, lt-leb, ne_eqb}
+use Rattle.std.proofs.lemmas.Bool.{eq-eqb, le-leb, lt-leb, ne_eqb}
 use Rattle.std.proofs.lemmas.List.FromFn.{get_or-map-range_with_len, length-map-range_with_len}
 use Rattle.std.proofs.Math.ListN.{replicate, set}
 use Rattle.pb_certificate.specs.Prices.Text.{Payment, same_pair}
@@ -28,10 +28,7 @@ no-payers n xs e =
 -- the last payer that is remembered
 payer-at : (t : PriorRows) (qs : List Payment) (j x : ℕ) → Remembers t qs → 1 ≤ j → j ≤ length t.last_payers.items
     → x ≡ get_or t.last_payers.items (j - 1) x → x ≡ last_payer qs j
-payer-at t qs j x h low high is =
-    is ∙ ap (λ (xs : List ℕ). get_or xs (j - 1) x) h.last_payers_are
-    ∙ get_or-map-range_with_len (last_payer qs) 1 (length t.last_payers.items) (j - 1) j x (omega arith)
-    (omega arith)
+payer-at t qs j x h low high is = grind (arith, get_or, get_or-map-range_with_len)
 
 -- what the tests of a row say
 pub record Tested (t : PriorRows) (q : Payment) (x : ℕ) : Type 0 where
@@ -48,13 +45,11 @@ tested t q x a c d e f = record { low_voter = a; low_project = c; high_project =
 
 not-lower : (t : PriorRows) (qs : List Payment) (q : Payment) (x : ℕ) → Remembers t qs → Tested t q x
     → nat_lt q.voter (last_voter qs) ≡ false
-not-lower t qs q x h d = let same : t.last_voter ≡ last_voter qs = h.last_voter_is in
-    le-ltb q.voter (last_voter qs) (omega (arith, d.not_lower))
+not-lower t qs q x h d = grind arith
 
 any-stood : (t : PriorRows) (qs : List Payment) (q : Payment) (x : ℕ) → Remembers t qs → Tested t q x
     → list_any (same_pair q) qs ≡ (x == q.voter)
 any-stood t qs q x h d =
-    let same : t.last_voter ≡ last_voter qs = h.last_voter_is in
     sym (stood qs q d.low_voter h.in_order (omega (arith, d.not_lower)))
     ∙ ap (λ (n : ℕ). n == q.voter) (sym (payer-at t qs q.project x h d.low_project d.high_project d.payer))
 
@@ -65,7 +60,6 @@ repeated t qs q x h d same = rw (not-lower t qs q x h d, any-stood t qs q x h d,
 pub too-many : (t : PriorRows) (qs : List Payment) (q : Payment) (x : ℕ) → Remembers t qs → Tested t q x
     → (x ≡ q.voter → ⊥) → 10000000 ≤ t.rows → payment_fault qs q ≡ Some fault.TooMany
 too-many t qs q x h d other many =
-    let rows : t.rows ≡ length qs = h.rows in
     rw (
       not-lower t qs q x h d,
       any-stood t qs q x h d,
@@ -82,7 +76,6 @@ pub added : (t : PriorRows) (qs : List Payment) (q : Payment) (x : ℕ) → Reme
     (qs ++ (q ∷ []))
 added t qs q x h d other few =
     let rows : t.rows ≡ length qs = h.rows in
-    let last : t.last_voter ≡ last_voter qs = h.last_voter_is in
     let fresh : list_any (same_pair q) qs ≡ false = any-stood t qs q x h d ∙ ne_eqb x q.voter other in
     let more = length-append qs (q ∷ []) in
     let place : 1 + (q.project - 1) ≡ q.project = omega (arith, d.low_project) in

@@ -8,7 +8,7 @@ use Rattle.pb_election.specs.Instance.{Instance, all_voters, projects}
 use Rattle.pb_records.specs.Records.{Rec}
 use Rattle.pb_records.specs.Cells.{cell, is_text, nonblank}
 use Rattle.pb_records.specs.FirstFault.{NoFault}
-use Rattle.pb_certificate.specs.Fields.{StatesNumber, fields, project_in, same_fields, voter_in, whole_in, whole_within}
+use Rattle.pb_certificate.specs.Fields.{StatesNumber, fields, project_in, voter_in, whole_in, whole_within}
 use Rattle.pb_certificate.specs.Faults.{is_value_of, price_form}
 use Rattle.pb_certificate.specs.Inside.Prices.Head.{column_fields, name_fields}
 use Rattle.pb_certificate.specs.Prices.RowFaults.{row_fault}
@@ -124,42 +124,14 @@ no-rows e = record { payments = []; each_row = refl; few = omega arith; in_order
 
 one-more : (e : Instance) (before : List Rec) (r : Rec) → is_text r ≡ true → TakenParts e before
     → price_form e before (Some r) ≡ None → TakenParts e (before ++ (r ∷ []))
-one-more e [] r text h none =
-    let is = same_fields (fields r) name_fields in
-    same-is (fields r) name_fields (passes is (sym (form-at-name e r is text refl) ∙ none))
-one-more e (n ∷ []) r text h none =
-    let named = is_value_of (codes "denominator") r in
-    let bad = is_none (whole_within 1 (10 ^ 9) (cell 1 r)) in (
-      h,
-      number-stated (codes "denominator") 1 (10 ^ 9) r
-          (sym (form-at-denominator e n r named bad text refl refl) ∙ none),
-    )
-one-more e (n ∷ d ∷ []) r text h none =
-    let named = is_value_of (codes "voter_budget") r in
-    let bad = is_none (whole_within 0 (10 ^ 21) (cell 1 r)) in (
-      h.0,
-      h.1,
-      number-stated (codes "voter_budget") 0 (10 ^ 21) r
-          (sym (form-at-budget e n d r named bad text refl refl) ∙ none),
-    )
-one-more e (n ∷ d ∷ b ∷ []) r text h none =
-    let are = same_fields (fields r) column_fields in (
-      h.0,
-      h.1,
-      h.2,
-      same-is (fields r) column_fields (passes are (sym (form-at-columns e n d b r are text refl) ∙ none)),
-      no-rows e,
-    )
+one-more e [] r text h none = grind (arith, same-is, passes, form-at-name)
+one-more e (n ∷ []) r text h none = grind (arith, number-stated, form-at-denominator)
+one-more e (n ∷ d ∷ []) r text h none = grind (arith, number-stated, form-at-budget)
+one-more e (n ∷ d ∷ b ∷ []) r text h none = grind (arith, same-is, passes, form-at-columns, no-rows)
 one-more e (n ∷ d ∷ b ∷ c ∷ rows) r text h none = (h.0, h.1, h.2, h.3, row-more e n d b c rows r text h.4 none)
 
 kept : (e : Instance) → Kept (price_form e) (Taken e)
-kept e = record {
-  start = (tt, tt);
-  more =
-      λ before r h none.
-      (let text = is-text e before r none in
-      (all-push (λ x. is_text x ≡ true) before r h.0 text, one-more e before r text h.1 none));
-}
+kept e = grind (arith, is-text, all-push, one-more)
 
 -- The prices that all of them state.
 

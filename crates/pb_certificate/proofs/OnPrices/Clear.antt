@@ -1,18 +1,17 @@
 -- The text of a price certificate has no fault.
-use Rattle.std.proofs.Common.{◌≡◌, ℕ, zero, suc, ◌+◌, ◌^◌, ◌<◌, ◌≤◌, Bool, true, false, cond, List, [], ◌∷◌, ◌++◌, length, refl, sym, ◌∙◌, ap, subst, inl, inr, arith, Option, Some, None}
-use Rattle.std.specs.Prelude.{not, ◌&&◌, ◌==◌, map, nat_lt, nat_le, is_none, unwrap_or, codes, ⊤}
+use Rattle.std.proofs.Common.{◌≡◌, ℕ, zero, suc, ◌+◌, ◌^◌, ◌<◌, ◌≤◌, true, false, List, [], ◌∷◌, ◌++◌, length, refl, sym, ◌∙◌, ap, subst, inl, inr, arith, Option, Some, None}
+use Rattle.std.specs.Prelude.{◌==◌, map, nat_lt, is_none, codes, ⊤}
 use Rattle.std.specs.List.{AllByRecursion, IsDistinct, last_or, list_any}
 use Rattle.std.specs.List.Sorted.{IsNonDecreasing}
 use Rattle.std.specs.Str.{bytes_eq}
-use Rattle.std.proofs.lemmas.Bool.{and_from, and_left, and_parts, and_right, cases_Bool, eq-eqb, eqb-true, false≢true, le-ltb, lt-leb, or_from}
+use Rattle.std.proofs.lemmas.Bool.{and_from, and_left, and_parts, and_right, cases_Bool, eq-eqb, eqb-true, false≢true, le-ltb, or_from}
 use Rattle.std.proofs.lemmas.List.Elements.{All-from_recursion}
-use Rattle.std.proofs.lemmas.Option.{option_and_then_some}
 use Rattle.std.proofs.lemmas.Slice.Eq.{bytes_eq-Decides}
 use Rattle.pb_election.specs.Instance.{Instance}
 use Rattle.pb_records.specs.Records.{Field, Rec}
 use Rattle.pb_records.specs.Cells.{cell, is_text}
 use Rattle.pb_records.specs.FirstFault.{IsFirstFault}
-use Rattle.pb_certificate.specs.Fields.{fields, number, only_if, project_in, voter_in, whole_in, whole_within}
+use Rattle.pb_certificate.specs.Fields.{fields, number, project_in, voter_in, whole_in, whole_within}
 use Rattle.pb_certificate.specs.Prices.{Prices}
 use Rattle.pb_certificate.specs.Prices.Text.{IsPriceText, Payment, numerator_of, payment_by, payment_of, same_pair}
 use Rattle.pb_certificate.specs.Faults.{at_record, price_fault_stands, price_form, same_cells}
@@ -20,8 +19,6 @@ use Rattle.pb_certificate.specs.declared.refusal.CertFault.{CertFault}
 use Rattle.pb_certificate.specs.declared.refusal.CertFault.TheVariants as fault
 use Rattle.pb_certificate.proofs.Cells.{cell-is}
 use Rattle.pb_certificate.proofs.NoFaults.{ClearFrom, apart-more, each-nil, no-fault, none-refused}
-use Rattle.pb_certificate.proofs.OnPrices.Texts.{payment-parts}
-use Rattle.pb_certificate.proofs.OnPrices.RowFaults.{past}
 use Rattle.pb_certificate.proofs.OnPrices.RowSteps.{voters_of}
 use Rattle.pb_records.proofs.Lists.{map-push}
 
@@ -36,38 +33,17 @@ pub record Row (e : Instance) (r : Rec) (q : Payment) : Type 0 where
   pub numerator : numerator_of x ≡ Some q.numerator
 
 row-by : (e : Instance) (r : Rec) (q : Payment) (fs : List Field) → fields r ≡ fs → payment_by e fs ≡ Some q → Row e r q
-row-by e r q [] s h = cc
-row-by e r q (v ∷ []) s h = cc
-row-by e r q (v ∷ c ∷ []) s h = cc
-row-by e r q (v ∷ c ∷ x ∷ []) s h =
-    let parts = payment-parts (voter_in e v) (project_in e c) (numerator_of x) q h in
-    record {
-      v = v;
-      c = c;
-      x = x;
-      shape = s;
-      voter = parts.0;
-      project = parts.1;
-      numerator = parts.2;
-    }
-row-by e r q (v ∷ c ∷ x ∷ y ∷ ys) s h = cc
+row-by e r q fs s h = grind arith
 
 pub row-of : (e : Instance) (r : Rec) (q : Payment) → payment_of e r ≡ Some q → Row e r q
 row-of e r q h = row-by e r q (fields r) refl h
 
 -- a number within bounds is what the text states
 pub whole-is : (least most : ℕ) (f : Field) (n : ℕ) → whole_within least most f ≡ Some n → whole_in f ≡ Some n
-whole-is least most f n h =
-    option_and_then_some (only_if (λ k. nat_le least k && nat_le k most)) (whole_in f) n h
-    (λ x e k. e ∙ passed x (nat_le least x && nat_le x most) k)
-  where
-    passed : (x : ℕ) (b : Bool) → cond b (Some x) None ≡ Some n → Some x ≡ Some n
-    passed x true k = k
-    passed x false k = cc
+whole-is least most f n h = grind arith
 
 pub row-number : (e : Instance) (r : Rec) (q : Payment) (row : Row e r q) → number (cell 0 r) ≡ q.voter
-row-number e r q row = ap number (cell-is r (row.v ∷ row.c ∷ row.x ∷ []) 0 row.shape)
-    ∙ ap (λ o. unwrap_or o 0) (whole-is _ _ row.v q.voter row.voter)
+row-number e r q row = grind (arith, cell-is, whole-is)
 
 pairs-differ : (e : Instance) (r d : Rec) (q m : Payment) → Row e r q → Row e d m → same_pair m q ≡ false
     → same_cells r d ≡ false
@@ -82,7 +58,6 @@ pairs-differ e r d q m a b differ =
         ∙ eqb-true (number (cell 0 r)) (number (cell 0 d)) parts.0 ∙ row-number e d m b in
         let ids : a.c ≡ b.c = sym (cell-is r (a.v ∷ a.c ∷ a.x ∷ []) 1 a.shape)
         ∙ (bytes_eq-Decides (cell 1 r) (cell 1 d)).0 parts.1 ∙ cell-is d (b.v ∷ b.c ∷ b.x ∷ []) 1 b.shape in
-        let projects_same : Some q.project ≡ Some m.project = sym a.project ∙ ap (project_in e) ids ∙ b.project in
         let same_project : m.project ≡ q.project = cc in
         false≢true
         (sym differ
@@ -130,65 +105,26 @@ below-push e done r q row n h = ap (λ o. at_record o (λ d. nat_lt n (number (c
 -- the four head records
 head-clear : (e : Instance) (r : Rec) → is_text r ≡ true → fields r ≡ codes "pb-prices" ∷ codes "1" ∷ []
     → (f : CertFault) → price_fault_stands e [] (Some r) f ≡ false
-head-clear e r text is fault.NotUtf8 = rw text refl
-head-clear e r text is fault.BadHead = rw is refl
-head-clear e r text is fault.BadRow = refl
-head-clear e r text is fault.BadNumber = refl
-head-clear e r text is fault.UnknownVoter = refl
-head-clear e r text is fault.UnknownProject = refl
-head-clear e r text is fault.OutOfOrder = refl
-head-clear e r text is fault.Repeated = refl
-head-clear e r text is fault.TooMany = refl
-head-clear e r text is fault.Memory = refl
+head-clear e r text is f = grind arith
 
 value-fits : (r : Rec) (name f : Field) (least most n : ℕ) → fields r ≡ name ∷ f ∷ []
     → whole_within least most f ≡ Some n → is_none (whole_within least most (cell 1 r)) ≡ false
-value-fits r name f least most n is value =
-    ap is_none (ap (whole_within least most) (cell-is r (name ∷ f ∷ []) 1 is) ∙ value)
+value-fits r name f least most n is value = grind (arith, cell-is)
 
 denominator-clear : (e : Instance) (h r : Rec) (v : Field) (n : ℕ) → is_text r ≡ true
     → fields r ≡ codes "denominator" ∷ v ∷ [] → whole_within 1 (10 ^ 9) v ≡ Some n → (f : CertFault)
     → price_fault_stands e (h ∷ []) (Some r) f ≡ false
-denominator-clear e h r v n text is value fault.NotUtf8 = rw text refl
-denominator-clear e h r v n text is value fault.BadHead = rw (is, cell-is r (codes "denominator" ∷ v ∷ []) 0 is) refl
-denominator-clear e h r v n text is value fault.BadRow = refl
-denominator-clear e h r v n text is value fault.BadNumber =
-    or_from _ _ (or_from _ _ (value-fits r (codes "denominator") v 1 (10 ^ 9) n is value) refl) refl
-denominator-clear e h r v n text is value fault.UnknownVoter = refl
-denominator-clear e h r v n text is value fault.UnknownProject = refl
-denominator-clear e h r v n text is value fault.OutOfOrder = refl
-denominator-clear e h r v n text is value fault.Repeated = refl
-denominator-clear e h r v n text is value fault.TooMany = refl
-denominator-clear e h r v n text is value fault.Memory = refl
+denominator-clear e h r v n text is value f = grind (arith, cell-is, or_from, value-fits)
 
 budget-clear : (e : Instance) (h d r : Rec) (v : Field) (n : ℕ) → is_text r ≡ true
     → fields r ≡ codes "voter_budget" ∷ v ∷ [] → whole_within 0 (10 ^ 21) v ≡ Some n → (f : CertFault)
     → price_fault_stands e (h ∷ d ∷ []) (Some r) f ≡ false
-budget-clear e h d r v n text is value fault.NotUtf8 = rw text refl
-budget-clear e h d r v n text is value fault.BadHead = rw (is, cell-is r (codes "voter_budget" ∷ v ∷ []) 0 is) refl
-budget-clear e h d r v n text is value fault.BadRow = refl
-budget-clear e h d r v n text is value fault.BadNumber =
-    or_from _ _ (or_from _ _ refl (value-fits r (codes "voter_budget") v 0 (10 ^ 21) n is value)) refl
-budget-clear e h d r v n text is value fault.UnknownVoter = refl
-budget-clear e h d r v n text is value fault.UnknownProject = refl
-budget-clear e h d r v n text is value fault.OutOfOrder = refl
-budget-clear e h d r v n text is value fault.Repeated = refl
-budget-clear e h d r v n text is value fault.TooMany = refl
-budget-clear e h d r v n text is value fault.Memory = refl
+budget-clear e h d r v n text is value f = grind (arith, cell-is, or_from, value-fits)
 
 columns-clear : (e : Instance) (h d b r : Rec) → is_text r ≡ true
     → fields r ≡ codes "voter" ∷ codes "project" ∷ codes "payment" ∷ [] → (f : CertFault)
     → price_fault_stands e (h ∷ d ∷ b ∷ []) (Some r) f ≡ false
-columns-clear e h d b r text is fault.NotUtf8 = rw text refl
-columns-clear e h d b r text is fault.BadHead = rw is refl
-columns-clear e h d b r text is fault.BadRow = refl
-columns-clear e h d b r text is fault.BadNumber = refl
-columns-clear e h d b r text is fault.UnknownVoter = refl
-columns-clear e h d b r text is fault.UnknownProject = refl
-columns-clear e h d b r text is fault.OutOfOrder = refl
-columns-clear e h d b r text is fault.Repeated = refl
-columns-clear e h d b r text is fault.TooMany = refl
-columns-clear e h d b r text is fault.Memory = refl
+columns-clear e h d b r text is f = grind arith
 
 row-clear : (e : Instance) (h d b c r : Rec) (done : List Rec) (q : Payment) (ms : List Payment) (low : ℕ)
     → is_text r ≡ true → Row e r q → map (payment_of e) done ≡ map Some ms
@@ -196,60 +132,22 @@ row-clear : (e : Instance) (h d b c r : Rec) (done : List Rec) (q : Payment) (ms
     → NoneBelow low done → low ≤ q.voter → length done < 10000000 → (f : CertFault)
     → price_fault_stands e (h ∷ d ∷ b ∷ c ∷ done) (Some r) f ≡ false
 row-clear e h d b c r done q ms low text row taken apart below rises few fault.NotUtf8 = rw text refl
-row-clear e h d b c r done q ms low text row taken apart below rises few fault.BadHead =
-    or_from _ _ (or_from _ _ (or_from _ _ (or_from _ _
-    (and_left _ _ (past h d b c done 0 (omega arith)))
-    (and_left _ _ (past h d b c done 1 (omega arith))))
-    (and_left _ _ (past h d b c done 2 (omega arith))))
-    (and_left _ _ (past h d b c done 3 (omega arith))))
-    (and_right _ _ refl)
-row-clear e h d b c r done q ms low text row taken apart below rises few fault.BadRow =
-    and_right _ _ (ap (λ (fs : List Field). not (length fs == 3)) row.shape)
+row-clear e h d b c r done q ms low text row taken apart below rises few fault.BadHead = grind arith
+row-clear e h d b c r done q ms low text row taken apart below rises few fault.BadRow = grind arith
 row-clear e h d b c r done q ms low text row taken apart below rises few fault.BadNumber =
-    let voter_fits : is_none (whole_in (cell 0 r)) ≡ false =
-    ap is_none
-    (ap whole_in (cell-is r (row.v ∷ row.c ∷ row.x ∷ []) 0 row.shape) ∙ whole-is _ _ row.v q.voter row.voter) in
-    let numerator_fits : is_none (numerator_of (cell 2 r)) ≡ false =
-    ap is_none (ap numerator_of (cell-is r (row.v ∷ row.c ∷ row.x ∷ []) 2 row.shape) ∙ row.numerator) in
-    or_from _ _ (or_from _ _
-    (and_left _ _ (past h d b c done 1 (omega arith)))
-    (and_left _ _ (past h d b c done 2 (omega arith))))
-    (and_right _ _ (or_from _ _ voter_fits numerator_fits))
+    grind (arith, cell-is, whole-is, or_from, and_left, and_right)
 row-clear e h d b c r done q ms low text row taken apart below rises few fault.UnknownVoter =
-    let known : is_none (voter_in e (cell 0 r)) ≡ false =
-    ap is_none (ap (voter_in e) (cell-is r (row.v ∷ row.c ∷ row.x ∷ []) 0 row.shape) ∙ row.voter) in
-    and_right _ _ (and_right _ _ known)
+    grind (arith, cell-is, and_right)
 row-clear e h d b c r done q ms low text row taken apart below rises few fault.UnknownProject =
-    let known : is_none (project_in e (cell 1 r)) ≡ false =
-    ap is_none (ap (project_in e) (cell-is r (row.v ∷ row.c ∷ row.x ∷ []) 1 row.shape) ∙ row.project) in
-    and_right _ _ known
+    grind (arith, cell-is, and_right)
 row-clear e h d b c r done q ms low text row taken apart below rises few fault.OutOfOrder =
     and_right _ _
     (ap (λ n. at_record (last_or None done) (λ k. nat_lt n (number (cell 0 k)))) (row-number e r q row)
     ∙ below q.voter rises)
 row-clear e h d b c r done q ms low text row taken apart below rises few fault.Repeated =
     and_right _ _ (none-repeated e r q done ms row taken apart)
-row-clear e h d b c r done q ms low text row taken apart below rises few fault.TooMany =
-    and_right _ _ (lt-leb 10000000 (length done) few)
+row-clear e h d b c r done q ms low text row taken apart below rises few fault.TooMany = grind arith
 row-clear e h d b c r done q ms low text row taken apart below rises few fault.Memory = refl
-
-end-clear : (e : Instance) (h d b c : Rec) (done : List Rec) (f : CertFault)
-    → price_fault_stands e (h ∷ d ∷ b ∷ c ∷ done) None f ≡ false
-end-clear e h d b c done fault.NotUtf8 = refl
-end-clear e h d b c done fault.BadHead =
-    or_from _ _
-    (or_from _ _ (or_from _ _ (or_from _ _ (and_right _ _ refl) (and_right _ _ refl)) (and_right _ _ refl))
-    (and_right _ _ refl))
-    (and_left _ _ (le-ltb (length (h ∷ d ∷ b ∷ c ∷ done)) 4 (omega arith)))
-end-clear e h d b c done fault.BadRow = and_right _ _ refl
-end-clear e h d b c done fault.BadNumber =
-    or_from _ _ (or_from _ _ (and_right _ _ refl) (and_right _ _ refl)) (and_right _ _ refl)
-end-clear e h d b c done fault.UnknownVoter = and_right _ _ refl
-end-clear e h d b c done fault.UnknownProject = and_right _ _ refl
-end-clear e h d b c done fault.OutOfOrder = and_right _ _ refl
-end-clear e h d b c done fault.Repeated = and_right _ _ refl
-end-clear e h d b c done fault.TooMany = and_right _ _ refl
-end-clear e h d b c done fault.Memory = refl
 
 length-push : (xs : List Rec) (r : Rec) → length (xs ++ (r ∷ [])) ≡ length xs + 1
 length-push [] r = refl
@@ -262,8 +160,7 @@ rows-clear : (e : Instance) (h d b c : Rec) (done rows : List Rec) (ms qs : List
     → NoneBelow low done → VotersFrom low qs → length done + length rows ≤ 10000000
     → ClearFrom (price_form e) (h ∷ d ∷ b ∷ c ∷ done) rows
 unfolding IsDistinct
-rows-clear e h d b c done [] ms qs low text states taken apart once below rises few =
-    no-fault (price_fault_stands e) (h ∷ d ∷ b ∷ c ∷ done) None (end-clear e h d b c done)
+rows-clear e h d b c done [] ms qs low text states taken apart once below rises few = grind arith
 rows-clear e h d b c done (r ∷ rs) ms [] low text states taken apart once below rises few = cc
 rows-clear e h d b c done (r ∷ rs) ms (q ∷ qs) low text states taken apart once below rises few =
     let first : payment_of e r ≡ Some q = cc in

@@ -1,20 +1,18 @@
 -- The prices of a certificate, gathered row by row.
-use Rattle.std.proofs.Common.{◌≡◌, ◌∙◌, ◌≤◌, ◌<◌, ◌-◌, ℕ, Bool, true, false, cond, List, [], ◌∷◌, ◌++◌, length, refl, sym, ap, subst, arith, inl, inr, Some, None}
-use Rattle.std.specs.Prelude.{◌⊎◌, nat_le, nat_lt}
+use Rattle.std.proofs.Common.{◌≡◌, ◌∙◌, ◌≤◌, ◌<◌, ◌-◌, ℕ, false, List, [], ◌∷◌, ◌++◌, length, sym, ap, subst, arith, inl, inr, None}
+use Rattle.std.specs.Prelude.{◌⊎◌}
 use Rattle.std.specs.List.{list_any}
-use Rattle.std.proofs.lemmas.Bool.{leb-false, ltb-false}
 use Rattle.pb_election.specs.Instance.{Instance, projects, voters}
 use Rattle.pb_records.specs.Records.{Rec}
 use Rattle.pb_records.specs.FirstFault.{IsFirstFault}
 use Rattle.pb_certificate.specs.Faults.{no_memory, price_form}
-use Rattle.pb_certificate.specs.Inside.Prices.Gathering.{GathersAll, Holds, HoldsAll, prices_up_to}
+use Rattle.pb_certificate.specs.Inside.Prices.Gathering.{GathersAll, Holds, HoldsAll}
 use Rattle.pb_certificate.specs.Prices.RowFaults.{as_payment, last_voter, payment_fault}
 use Rattle.pb_certificate.specs.Prices.Text.{IsPriceText, Payment, same_pair}
 use Rattle.pb_certificate.specs.Prices.{Prices}
 use Rattle.pb_certificate.specs.Prices.Rows.{GivesNone, GivesRow, Rows, given, prices_given}
 use Rattle.pb_certificate.specs.declared.prices.gathering.Turn.{Turn}
 use Rattle.pb_certificate.specs.declared.prices.row.PriceRow.{PriceRow}
-use Rattle.pb_certificate.specs.declared.refusal.CertFault.TheVariants as fault
 use Rattle.pb_certificate.specs.declared.refusal.CertRefusal.{CertRefusal}
 use Rattle.pb_certificate.proofs.OnPrices.Clear.{price-clear}
 use Rattle.pb_certificate.proofs.OnPrices.RowSteps.{last_voter-push}
@@ -26,37 +24,12 @@ pub record MayFollow (qs : List Payment) (q : Payment) : Type 0 where
   pub few : length qs < 10000000
 
 pub may-follow : (qs : List Payment) (q : Payment) → payment_fault qs q ≡ None → MayFollow qs q
-may-follow qs q h =
-    by (nat_lt q.voter (last_voter qs)) (list_any (same_pair q) qs) (nat_le 10000000 (length qs)) refl refl refl h
-  where
-    by : (a b c : Bool) → nat_lt q.voter (last_voter qs) ≡ a → list_any (same_pair q) qs ≡ b
-        → nat_le 10000000 (length qs) ≡ c
-        → cond a (Some fault.OutOfOrder) (cond b (Some fault.Repeated) (cond c (Some fault.TooMany) None)) ≡ None
-        → MayFollow qs q
-    by true b c is_a is_b is_c k = cc k
-    by false true c is_a is_b is_c k = cc k
-    by false false true is_a is_b is_c k = cc k
-    by false false false is_a is_b is_c k =
-        record {
-          not_lower = ltb-false q.voter (last_voter qs) is_a;
-          fresh = is_b;
-          few = leb-false 10000000 (length qs) is_c;
-        }
+may-follow qs q h = grind arith
 
 -- the place in the file does not matter
 any-place : (has : Instance → Prices → Type 0) (s : Rows) (n : ℕ) (qs : List Payment) (t : Turn)
     → Holds has (record s { place = n }) qs t → Holds has s qs t
-any-place has s n qs t h =
-    record {
-      has_done = h.has_done;
-      at_hand = h.at_hand;
-      none_later = h.none_later;
-      once = h.once;
-      within = h.within;
-      small = h.small;
-      total = h.total;
-      few = h.few;
-    }
+any-place has s n qs t h = grind arith
 
 at-place : (has : Instance → Prices → Type 0) (s : Rows) (n : ℕ) (qs : List Payment) (t : Turn) → Holds has s qs t
     → Holds has (record s { place = n }) qs t
@@ -71,13 +44,7 @@ pub record Gathers (has : Instance → Prices → Type 0) (first s : Rows) (t : 
 
 pub gathers-none : (has : Instance → Prices → Type 0) (s : Rows) (t : Turn) → given s ≡ [] → Holds has s [] t
     → t.done ≡ 0 → Gathers has s s t
-gathers-none has s t none holds done =
-    record {
-      at = refl;
-      holds = subst (λ (qs : List Payment). Holds has s qs t) (sym none) holds;
-      done = omega arith;
-      voters = omega arith;
-    }
+gathers-none has s t none holds done = grind arith
 
 -- one more row is added
 pub gathers-row : (has has' : Instance → Prices → Type 0) (first s new : Rows) (t next : Turn) (q : PriceRow)
@@ -90,7 +57,6 @@ gathers-row has has' first s new t next q g row adds done =
     let holds = adds row.project.1 follows.fresh follows.few in
     let last : last_voter (given new) ≡ q.voter = ap last_voter row.given_then
     ∙ last_voter-push (given s) (as_payment q) in
-    let high : q.voter ≤ voters s.election = row.voter.1 in
     let same : new.election ≡ s.election = ap (λ (x : Rows). x.election) row.same in
     record {
       at = row.same ∙ ap (λ (x : Rows). record x { place = new.place }) g.at;
@@ -117,15 +83,7 @@ gathers-all has first s new t g none =
 pub all-gathered : (has has' : Instance → Prices → Type 0) (first : Rows) (t last : Turn) (n : ℕ)
     → (h : HoldsAll has first t) → ((s : Rows) (qs : List Payment) → Holds has s qs t → Holds has' s qs last)
     → last.done ≡ n → n ≡ voters first.election → GathersAll has' first
-all-gathered has has' first t last n h closes done is =
-    let qs = given (record first { place = h.place }) in
-    record {
-      prices = prices_up_to first qs (voters first.election);
-      states = h.states;
-      has_all = subst (λ (k : ℕ). has' first.election (prices_up_to first qs k)) (done ∙ is)
-          (closes first qs h.holds).has_done;
-      head = (refl, refl, refl);
-    }
+all-gathered has has' first t last n h closes done is = grind arith
 
 -- the prices of all rows
 abbrev pub prices-by : ℕ → ℕ → ℕ → List (List (ℕ × ℕ)) → Prices
@@ -135,24 +93,13 @@ prices-by m d b payments = record { projects = m; denominator = d; budget = b; p
 pub states-all : (recs : List Rec) (e : Instance) (first : Rows) (has : Instance → Prices → Type 0)
     (h : GathersAll has first) → first.election ≡ e → first.records ≡ recs
     → IsPriceText recs e h.prices × has e h.prices
-states-all recs e first has h same_election same_records = (
-  subst (λ (xs : List Rec). IsPriceText xs e h.prices) same_records
-      (subst (λ (x : Instance). IsPriceText first.records x h.prices) same_election h.states),
-  subst (λ (x : Instance). has x h.prices) same_election h.has_all,
-)
+states-all recs e first has h same_election same_records = grind arith
 
 -- the runs are the payments of those prices
 pub runs-state : (recs : List Rec) (e : Instance) (first : Rows) (m d b : ℕ) (runs : List (List (ℕ × ℕ)))
     → GathersAll (λ x p. runs ≡ p.payments) first → first.election ≡ e → first.records ≡ recs
     → m ≡ projects e → d ≡ first.denominator → b ≡ first.budget → IsPriceText recs e (prices-by m d b runs)
-runs-state recs e first m d b runs h same_election same_records is_m is_d is_b =
-    let all = states-all recs e first (λ x p. runs ≡ p.payments) h same_election same_records in
-    let projects_are : m ≡ h.prices.projects = is_m ∙ ap projects (sym same_election) ∙ sym h.head.0 in
-    let denominator_is : d ≡ h.prices.denominator = is_d ∙ sym h.head.1 in
-    let budget_is : b ≡ h.prices.budget = is_b ∙ sym h.head.2 in
-    let same : prices-by m d b runs ≡ h.prices =
-    λ i. prices-by (projects_are i) (denominator_is i) (budget_is i) (all.1 i) in
-    subst (IsPriceText recs e) (sym same) all.0
+runs-state recs e first m d b runs h same_election same_records is_m is_d is_b = grind arith
 
 -- a refusal of a text of prices means out of memory
 pub text-refused : (recs : List Rec) (e : Instance) (p : Prices) (r : CertRefusal) → IsPriceText recs e p

@@ -1,9 +1,9 @@
 -- One more head record of a price certificate.
-use Rattle.std.proofs.Common.{◌≡◌, ◌∙◌, ◌<◌, ◌+◌, ◌-◌, ◌^◌, ℕ, Bool, true, false, cond, List, [], ◌∷◌, length, refl, sym, ap, inl, inr, arith, Some, None, take}
+use Rattle.std.proofs.Common.{◌≡◌, ◌∙◌, ◌<◌, ◌+◌, ◌^◌, ℕ, Bool, true, false, cond, List, [], ◌∷◌, length, refl, sym, ap, inl, inr, arith, Some, None}
 use Rattle.std.specs.Prelude.{◌⊎◌, ⊤, Ok, Err, codes, is_none}
 use Rattle.pb_election.specs.Instance.{Instance}
 use Rattle.pb_records.specs.Records.{Field, Rec}
-use Rattle.pb_records.specs.Cells.{cell, is_text, nonblank}
+use Rattle.pb_records.specs.Cells.{cell, is_text}
 use Rattle.pb_records.specs.FirstFault.{Form}
 use Rattle.pb_records.specs.Inside.Position.{MeetsEnd, MeetsRecord, Position}
 use Rattle.pb_certificate.specs.Fields.{StatesNumber, fields, head_number, same_fields, whole_within}
@@ -16,7 +16,7 @@ use Rattle.pb_certificate.specs.declared.refusal.CertRefusal.{CertRefusal}
 use Rattle.pb_records.proofs.BlankText.{not-text-is-full}
 use Rattle.pb_certificate.proofs.Heads.{number-refused, number-taken, same-is, states-number}
 use Rattle.pb_certificate.proofs.OnPrices.PlaceSteps.{goes-behind, refused-at, refused-bytes, refused-end}
-use Rattle.pb_certificate.proofs.OnPrices.RowFaults.{form-at-budget, form-at-columns, form-at-denominator, form-at-name, number_fault}
+use Rattle.pb_certificate.proofs.OnPrices.RowFaults.{form-at-name, number_fault}
 
 -- The fault at the place of each head record, by how many stand before it.
 
@@ -36,22 +36,13 @@ name-form e [] r a n text is = form-at-name e r a text is
 name-form e (h ∷ hs) r a n text is = absurd (omega arith)
 
 pub denominator-form : WantsNumber 1 (codes "denominator") 1 (10 ^ 9)
-denominator-form e [] r v w n text is bad = absurd (omega arith)
-denominator-form e (h ∷ []) r v w n text is bad = form-at-denominator e h r v w text is bad
-denominator-form e (h ∷ g ∷ hs) r v w n text is bad = absurd (omega arith)
+denominator-form e h r v w n text is bad = grind arith
 
 pub budget-form : WantsNumber 2 (codes "voter_budget") 0 (10 ^ 21)
-budget-form e [] r v w n text is bad = absurd (omega arith)
-budget-form e (h ∷ []) r v w n text is bad = absurd (omega arith)
-budget-form e (h ∷ d ∷ []) r v w n text is bad = form-at-budget e h d r v w text is bad
-budget-form e (h ∷ d ∷ g ∷ hs) r v w n text is bad = absurd (omega arith)
+budget-form e h r v w n text is bad = grind arith
 
 pub columns-form : WantsFields 3 column_fields
-columns-form e [] r a n text is = absurd (omega arith)
-columns-form e (h ∷ []) r a n text is = absurd (omega arith)
-columns-form e (h ∷ d ∷ []) r a n text is = absurd (omega arith)
-columns-form e (h ∷ d ∷ b ∷ []) r a n text is = form-at-columns e h d b r a text is
-columns-form e (h ∷ d ∷ b ∷ g ∷ hs) r a n text is = absurd (omega arith)
+columns-form e h r a n text is = grind arith
 
 -- What a head record gives.
 
@@ -93,11 +84,8 @@ not-text-form : (e : Instance) (before : List Rec) (r : Rec) → is_text r ≡ f
 not-text-form e before r n = rw n refl
 
 pub end-form : (e : Instance) (before : List Rec) → length before < 4 → price_form e before None ≡ Some fault.BadHead
-end-form e [] l = refl
-end-form e (h ∷ []) l = refl
-end-form e (h ∷ d ∷ []) l = refl
-end-form e (h ∷ d ∷ b ∷ []) l = refl
 end-form e (h ∷ d ∷ b ∷ c ∷ rest) l = absurd (omega arith)
+end-form e _ l = refl
 
 refusal-is : (form : Form CertFault) (recs before : List Rec) (r : CertRefusal) (f : CertFault) (place : ℕ)
     → r.fault ≡ f → r.place ≡ place → RefusedBehind form recs before (record { fault = f; place = place })
@@ -122,20 +110,8 @@ pub head-ends : (old new : Position) → MeetsEnd old new
 head-ends old new m e recs before short s =
     inr (refused-end (price_form e) recs old new before fault.BadHead s m (end-form e before short))
 
--- a head record that was not met
-pub not-met : {A : Type 0} (states : Rec → A → Type 0) (n : ℕ) (old new : Position) (r : CertRefusal) → n < 4
-    → NextHead old new (Err r) → HeadGives states n old new (Err r)
-not-met states n old new r few next e recs before many s = next e recs before (omega arith) s
-
 -- the whole head
 
 pub in-head : (e : Instance) (recs before : List Rec) (new : Position) (r : CertRefusal) → length before < 4
     → (r ≡ no_memory) ⊎ RefusedBehind (price_form e) recs before r → ReadsHead e recs new (Err r)
-in-head e recs before new r few h = elim h [
-  | inl memory ↦ inl memory
-  | inr at ↦
-      inr (
-        at.first,
-        (let same : length (nonblank (take (r.place - 1) recs)) ≡ length before = ap length at.behind in omega arith),
-      )
-]
+in-head e recs before new r few h = grind arith

@@ -1,8 +1,7 @@
 -- A cursor that goes on behind records at which no fault stands.
-use Rattle.std.proofs.Common.{◌≡◌, ◌∙◌, ◌≤◌, ◌+◌, ◌-◌, ℕ, suc, Bool, true, false, cond, List, [], ◌∷◌, ◌++◌, length, refl, sym, ap, subst, inl, inr, arith, Some, None, append_assoc, append-nil, length-append, take, drop}
+use Rattle.std.proofs.Common.{◌≡◌, ◌∙◌, ◌≤◌, ◌+◌, ◌-◌, ℕ, suc, true, false, List, [], ◌∷◌, ◌++◌, length, refl, sym, ap, subst, arith, Some, None, append_assoc, append-nil, length-append, take}
 use Rattle.std.specs.Prelude.{not}
 use Rattle.std.specs.List.{AllByRecursion}
-use Rattle.std.proofs.lemmas.Bool.{cases_lt}
 use Rattle.std.proofs.lemmas.List.{take_all, take-append-drop, length-take-le}
 use Rattle.std.proofs.lemmas.List.Elements.{filter-append}
 use Rattle.std.proofs.lemmas.Option.{slice_get_past}
@@ -21,18 +20,10 @@ use Rattle.pb_certificate.specs.declared.refusal.CertFault.{CertFault}
 
 one-more : (form : Form CertFault) (recs : List Rec) (n : ℕ) → ((k : ℕ) → k ≤ n → fault_at form recs k ≡ None)
     → fault_at form recs (n + 1) ≡ None → (k : ℕ) → k ≤ n + 1 → fault_at form recs k ≡ None
-one-more form recs n h here k le = elim (cases_lt n k) [
-  | inl more ↦ let same : n + 1 ≡ k = omega arith in subst (λ (i : ℕ). fault_at form recs i ≡ None) same here
-  | inr less ↦ h k less
-]
+one-more form recs n h here k le = grind arith
 
 blank-first : (b : Rec) (bs : List Rec) → nonblank (b ∷ bs) ≡ [] → (is_blank b ≡ true) × (nonblank bs ≡ [])
-blank-first b bs h = by (is_blank b) refl h
-  where
-    by : (t : Bool) → is_blank b ≡ t → cond (not t) (b ∷ nonblank bs) (nonblank bs) ≡ []
-        → (is_blank b ≡ true) × (nonblank bs ≡ [])
-    by true is k = (is, k)
-    by false is k = cc k
+blank-first b bs h = grind arith
 
 -- blank records have no fault
 clear-blanks : (form : Form CertFault) (taken blanks tail : List Rec) → nonblank blanks ≡ []
@@ -64,15 +55,7 @@ record Cut (form : Form CertFault) (recs : List Rec) (c : Position) (before : Li
 
 cut-of : (form : Form CertFault) (recs : List Rec) (c : Position) (before : List Rec) → StandsBehind form recs c before
     → Cut form recs c before
-cut-of form recs c before s =
-    let many = length-take-le c.place recs s.within in
-    record {
-      taken = take c.place recs;
-      cut = sym (take-append-drop c.place recs) ∙ ap (λ (xs : List Rec). take c.place recs ++ xs) (sym s.left);
-      many = many;
-      behind = s.behind;
-      clear = λ k le. s.clear k (omega arith);
-    }
+cut-of form recs c before s = grind (arith, length-take-le, take-append-drop)
 
 -- a cursor that has gone over some records
 stands : (form : Form CertFault) (recs taken : List Rec) (c : Position) (before : List Rec) → recs ≡ taken ++ c.left
@@ -80,17 +63,7 @@ stands : (form : Form CertFault) (recs taken : List Rec) (c : Position) (before 
     → AllByRecursion (λ r. is_text r ≡ true) before → ((k : ℕ) → k ≤ length taken → fault_at form recs k ≡ None)
     → StandsBehind form recs c before
 stands form recs taken c before cut many behind text clear =
-    let whole_many : length recs ≡ length taken + length c.left = ap length cut ∙ length-append taken c.left in
-    record {
-      within = omega arith;
-      left = sym (ap (drop c.place) cut ∙ ap (λ (n : ℕ). drop n (taken ++ c.left)) (sym many)
-          ∙ drop-append_seam taken c.left);
-      behind = ap (λ (xs : List Rec). nonblank (take c.place xs)) cut
-          ∙ ap (λ (n : ℕ). nonblank (take n (taken ++ c.left))) (sym many) ∙ ap nonblank (take-append_seam taken c.left)
-          ∙ behind;
-      text = text;
-      clear = λ k le. clear k (omega arith);
-    }
+    grind (arith, length-append, drop-append_seam, take-append_seam)
 
 -- Going on.
 
@@ -128,9 +101,7 @@ pub goes-behind : (form : Form CertFault) (recs : List Rec) (old new : Position)
     → StandsBehind form recs new (before ++ (new.row ∷ []))
 goes-behind form recs old new before s m none =
     let b = before-of form recs old m.blanks (new.row ∷ new.left) before s m.are_blank m.cut in
-    let place : new.place ≡ old.place + length m.blanks + 1 = m.at in
     let many : length (b.taken ++ (new.row ∷ [])) ≡ length b.taken + 1 = length-append b.taken (new.row ∷ []) in
-    let taken_many : length b.taken ≡ old.place + length m.blanks = b.many in
     let here = form-here form recs b.taken new.left before new.row b.cut b.behind m.is_full ∙ none in
     let clear = one-more form recs (length b.taken) b.clear here in
     let full : nonblank (new.row ∷ []) ≡ new.row ∷ [] = rw m.is_full refl in
@@ -147,7 +118,6 @@ refused-by : (form : Form CertFault) (recs : List Rec) (old : Position) (blanks 
     → form before (Some r) ≡ Some f → RefusedBehind form recs before (record { fault = f; place = place })
 refused-by form recs old blanks rest before r f place s none cut full at is =
     let b = before-of form recs old blanks (r ∷ rest) before s none cut in
-    let many : length b.taken ≡ old.place + length blanks = b.many in
     let long : length recs ≡ length b.taken + length (r ∷ rest) = ap length b.cut ∙ length-append b.taken (r ∷ rest) in
     let here = form-here form recs b.taken rest before r b.cut b.behind full ∙ is in
     let same : length b.taken + 1 ≡ place = omega arith in
@@ -183,7 +153,6 @@ pub at-end : (form : Form CertFault) (recs : List Rec) (old new : Position) (bef
 at-end form recs old new before s m =
     let b = before-of form recs old old.left [] before s m.are_blank (sym (append-nil old.left)) in
     let all : recs ≡ b.taken = b.cut ∙ append-nil b.taken in
-    let many : length b.taken ≡ old.place + length old.left = b.many in
     let place : new.place ≡ old.place + length old.left = m.at in (
       stands form recs b.taken new before (b.cut ∙ ap (λ (xs : List Rec). b.taken ++ xs) (sym m.none_left))
           (omega arith) b.behind s.text b.clear,

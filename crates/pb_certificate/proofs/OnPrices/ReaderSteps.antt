@@ -1,5 +1,5 @@
 -- One more row of a price certificate.
-use Rattle.std.proofs.Common.{◌≡◌, ◌∙◌, ◌≤◌, ℕ, Bool, true, false, List, [], ◌∷◌, ◌++◌, length, refl, sym, ap, subst, inl, inr, arith, Some, None, append_assoc, drop, take}
+use Rattle.std.proofs.Common.{◌≡◌, ◌∙◌, ◌≤◌, ℕ, Bool, true, false, List, [], ◌∷◌, ◌++◌, length, refl, sym, ap, subst, inl, inr, arith, Some, None, append_assoc, drop}
 use Rattle.std.specs.Prelude.{◌⊎◌, MatchResult, Option, Result, Ok, Err, filter_map, map}
 use Rattle.std.specs.List.{AllByRecursion}
 use Rattle.std.specs.List.Sorted.{IsNonDecreasing}
@@ -7,7 +7,6 @@ use Rattle.std.proofs.lemmas.Bool.{false≢true}
 use Rattle.pb_election.specs.Instance.{Instance, all_voters}
 use Rattle.pb_records.specs.Records.{Rec}
 use Rattle.pb_records.specs.Cells.{is_text, nonblank}
-use Rattle.pb_records.specs.FirstFault.{fault_at}
 use Rattle.pb_records.specs.Inside.Position.{MeetsEnd, MeetsRecord, MeetsTriple, Position}
 use Rattle.pb_records.specs.Inside.Lines.{IsTriple}
 use Rattle.pb_records.specs.declared.lines.Triple.{Triple}
@@ -182,9 +181,7 @@ pub row-answered : (old : RowReader) (cursor : Position) (prior : PriorRows) (ta
     → length prior.last_payers.items ≡ length old.prior.last_payers.items → place ≡ cursor.place
     → MatchResult taken (λ q. r ≡ Ok (Some q)) (λ f. r ≡ Err (record { fault = f; place = place }))
     → Advances old (record old { cursor = cursor; prior = prior }) r
-row-answered old cursor prior (Ok q) place r h m takes many at is = rw is (row-taken old cursor prior q h m takes many)
-row-answered old cursor prior (Err f) place r h m takes many at is =
-    rw (is, at) (inr (row-refused old cursor f h m takes))
+row-answered old cursor prior taken place r h m takes many at is = grind (arith, row-taken, row-refused)
 
 pub triple-answered : (old : RowReader) (cursor : Position) (t : Triple) (prior : PriorRows)
     (taken : Result PriceRow CertFault) (place : ℕ) (r : Result (Option PriceRow) CertRefusal) → IsReading old
@@ -242,7 +239,6 @@ none-left old cursor h m =
     let recs = certificate_records old.bytes.now in
     let end = at-end (price_form e) recs old.cursor cursor (h.heads ++ h.rows) h.stands m in
     let rows = stated-length (payment_of e) h.rows h.payments h.each_row in
-    let most : length h.payments ≤ 10000000 = h.remembers.few in
     let reading : IsReading (record old { cursor = cursor }) =
     record {
       heads = h.heads;
@@ -287,14 +283,7 @@ none-left old cursor h m =
 -- the start
 pub opened : (e : Instance) (recs : List Rec) (c : Position) → c.place ≡ 0 → c.left ≡ recs
     → StandsBehind (price_form e) recs c []
-opened e recs c place left =
-    record {
-      within = omega arith;
-      left = left ∙ ap (λ (n : ℕ). drop n recs) (sym place);
-      behind = ap (λ (n : ℕ). nonblank (take n recs)) place;
-      text = tt;
-      clear = λ k le. (let zero' : k ≡ 0 = omega arith in ap (fault_at (price_form e) recs) zero');
-    }
+opened e recs c place left = grind arith
 
 pub refused-in-head : (recs : List Rec) (e : Instance) (new : Position) (r : CertRefusal) → ReadsHead e recs new (Err r)
     → IsInHead recs r

@@ -26,11 +26,7 @@ place_fault r done =
     (cond (nat_le 10000000 (length done)) (Some fault.TooMany) None))
 
 enough : (h d b c : Rec) (done : List Rec) → nat_le 4 (length (h ∷ d ∷ b ∷ c ∷ done)) ≡ true
-enough h d b c done = by (nat_le 4 (length (h ∷ d ∷ b ∷ c ∷ done))) refl
-  where
-    by : (t : Bool) → nat_le 4 (length (h ∷ d ∷ b ∷ c ∷ done)) ≡ t → t ≡ true
-    by true e = refl
-    by false e = grind arith
+enough h d b c done = grind arith
 
 pub past : (h d b c : Rec) (done : List Rec) (n : ℕ) → n < 4 → (length (h ∷ d ∷ b ∷ c ∷ done) == n) ≡ false
 past h d b c done n l = ne_eqb (length (h ∷ d ∷ b ∷ c ∷ done)) n (λ e. omega arith)
@@ -47,12 +43,7 @@ by-parts : (a n1 n2 v1 v2 j : Bool) (rest : Option CertFault) → v1 ≡ not n1
     (cond a (Some fault.BadRow)
     (cond (n1 || n2) (Some fault.BadNumber)
     (cond v2 (Some fault.UnknownVoter) (cond j (Some fault.UnknownProject) None)))) rest
-by-parts true n1 n2 v1 v2 j rest e = refl
-by-parts false true n2 v1 v2 j rest e = refl
-by-parts false false true v1 v2 j rest e = refl
-by-parts false false false v1 true j rest e = rw e refl
-by-parts false false false v1 false true rest e = rw e refl
-by-parts false false false v1 false false rest e = rw e refl
+by-parts a n1 n2 v1 v2 j rest e = grind arith
 
 some-not-none : (o : Option ℕ) → is_some o ≡ not (is_none o)
 some-not-none None = refl
@@ -88,16 +79,12 @@ number_fault named bad = cond named (cond bad (Some fault.BadNumber) None) (Some
 pub form-at-denominator : (e : Instance) (h r : Rec) (v w : Bool) → is_text r ≡ true
     → is_value_of (codes "denominator") r ≡ v → is_none (whole_within 1 (10 ^ 9) (cell 1 r)) ≡ w
     → price_form e (h ∷ []) (Some r) ≡ number_fault v w
-form-at-denominator e h r true true text is bad = rw (text, is, bad) refl
-form-at-denominator e h r true false text is bad = rw (text, is, bad) refl
-form-at-denominator e h r false w text is bad = rw (text, is) refl
+form-at-denominator e h r v w text is bad = grind arith
 
 pub form-at-budget : (e : Instance) (h d r : Rec) (v w : Bool) → is_text r ≡ true
     → is_value_of (codes "voter_budget") r ≡ v → is_none (whole_within 0 (10 ^ 21) (cell 1 r)) ≡ w
     → price_form e (h ∷ d ∷ []) (Some r) ≡ number_fault v w
-form-at-budget e h d r true true text is bad = rw (text, is, bad) refl
-form-at-budget e h d r true false text is bad = rw (text, is, bad) refl
-form-at-budget e h d r false w text is bad = rw (text, is) refl
+form-at-budget e h d r v w text is bad = grind arith
 
 pub form-at-columns : (e : Instance) (h d b r : Rec) (a : Bool) → is_text r ≡ true
     → same_fields (fields r) (codes "voter" ∷ codes "project" ∷ codes "payment" ∷ []) ≡ a

@@ -39,7 +39,6 @@ same-ids : (e : Instance) (a b : Field) (j k : ℕ) → project_in e a ≡ Some 
 same-ids e a b j k is_a is_b = elim (cases_Bool (bytes_eq a b)) [
   | inl same ↦
       let ids : a ≡ b = (bytes_eq-Decides a b).0 same in
-      let places : Some j ≡ Some k = sym is_a ∙ ap (project_in e) ids ∙ is_b in
       let equal : j ≡ k = cc in
       same ∙ sym (eq-eqb j k equal)
   | inr other ↦

@@ -1,5 +1,5 @@
 -- One more payment after some others.
-use Rattle.std.proofs.Common.{◌≡◌, ◌≢◌, ◌≤◌, ◌∙◌, ℕ, Bool, true, false, List, [], ◌∷◌, ◌++◌, refl, sym, ap, subst, inl, inr, arith}
+use Rattle.std.proofs.Common.{◌≡◌, ◌≢◌, ◌≤◌, ◌∙◌, ℕ, Bool, true, false, List, [], ◌∷◌, ◌++◌, refl, sym, inl, inr, arith}
 use Rattle.std.specs.Prelude.{◌==◌, ◌&&◌, ◌||◌, filter, map}
 use Rattle.std.specs.List.{AllByRecursion, IsDistinct, list_any}
 use Rattle.std.proofs.lemmas.Bool.{and_parts, cases_Bool, cases_eq, eq-eqb, eqb-true, false≢true, ne_eqb}
@@ -20,8 +20,7 @@ last-push n x [] = refl
 last-push n x (y ∷ ys) = last-push y x ys
 
 pub last_voter-push : (qs : List Payment) (q : Payment) → last_voter (qs ++ (q ∷ [])) ≡ q.voter
-last_voter-push qs q = ap (last_number 0) (map-append (λ (p : Payment). p.voter) qs (q ∷ []))
-    ∙ last-push 0 q.voter (voters_of qs)
+last_voter-push qs q = grind (arith, map-append, last-push)
 
 rise-push : (low x : ℕ) (xs : List ℕ) → RiseFrom low xs → last_number low xs ≤ x → RiseFrom low (xs ++ (x ∷ []))
 rise-push low x [] h l = (l, tt)
@@ -29,9 +28,7 @@ rise-push low x (y ∷ ys) h l = (h.0, rise-push y x ys h.1 l)
 
 pub in-order-push : (qs : List Payment) (q : Payment) → RiseFrom 0 (voters_of qs) → last_voter qs ≤ q.voter
     → RiseFrom 0 (voters_of (qs ++ (q ∷ [])))
-in-order-push qs q h l =
-    subst (RiseFrom 0) (sym (map-append (λ (p : Payment). p.voter) qs (q ∷ [])))
-    (rise-push 0 q.voter (voters_of qs) h l)
+in-order-push qs q h l = grind (arith, map-append, rise-push)
 
 -- a pair stood before exactly where its project was last named by its voter
 all-rise-low : (low n : ℕ) (xs : List ℕ) → RiseFrom low xs → n ≤ low → RiseFrom n xs
@@ -131,16 +128,8 @@ once-push qs q once new = distinct-push same_pair qs q once (apart qs q new)
 
 -- the last payers after one more
 pub payer-here : (qs : List Payment) (q : Payment) → last_payer (qs ++ (q ∷ [])) q.project ≡ q.voter
-payer-here qs q =
-    let named : (q.project == q.project) ≡ true = eq-eqb q.project q.project refl in
-    ap (λ ps. last_number 0 (voters_of ps)) (filter-append (λ (p : Payment). p.project == q.project) qs (q ∷ []))
-    ∙ rw named
-    (ap (last_number 0) (map-append (λ (p : Payment). p.voter) (filter (λ p. p.project == q.project) qs) (q ∷ []))
-    ∙ last-push 0 q.voter (voters_of (filter (λ p. p.project == q.project) qs)))
+payer-here qs q = grind (arith, eq-eqb, filter-append, map-append, last-push)
 
 pub payer-other : (qs : List Payment) (q : Payment) (j : ℕ) → j ≢ q.project
     → last_payer (qs ++ (q ∷ [])) j ≡ last_payer qs j
-payer-other qs q j other =
-    let past : (q.project == j) ≡ false = ne_eqb q.project j (λ e. other (sym e)) in
-    ap (λ ps. last_number 0 (voters_of ps)) (filter-append (λ (p : Payment). p.project == j) qs (q ∷ []))
-    ∙ rw past (ap (λ ps. last_number 0 (voters_of ps)) (append-nil (filter (λ (p : Payment). p.project == j) qs)))
+payer-other qs q j other = grind (arith, ne_eqb, filter-append, append-nil)

@@ -1,9 +1,8 @@
 -- The payment that a row states, by its cells.
-use Rattle.std.proofs.Common.{◌≡◌, ◌∙◌, ℕ, [], ◌∷◌, true, length, refl, sym, ap, arith, None, Some}
+use Rattle.std.proofs.Common.{◌≡◌, ◌∙◌, ℕ, true, length, refl, sym, ap, arith, None, Some}
 use Rattle.std.specs.Prelude.{◌==◌, ◌&&◌, nat_le}
 use Rattle.std.proofs.lemmas.Bool.{eq-eqb}
 use Rattle.csv.specs.Records.{field_at}
-use Rattle.pb_money.specs.Digits.{is_empty}
 use Rattle.pb_money.specs.Whole.{WholeText}
 use Rattle.pb_records.specs.Inside.Lines.{IsTriple}
 use Rattle.pb_records.specs.declared.lines.Triple.{Triple}
@@ -14,8 +13,7 @@ use Rattle.pb_records.specs.Cells.{cell, clean}
 use Rattle.pb_certificate.specs.Fields.{fields, only_if, project_in, voter_in, whole_in}
 use Rattle.pb_certificate.specs.Prices.RowFaults.{row_fault}
 use Rattle.pb_certificate.specs.declared.refusal.CertFault.TheVariants as fault
-use Rattle.pb_certificate.specs.Prices.Text.{numerator_of, payment_by, payment_of}
-use Rattle.pb_certificate.specs.Prices.{most_numerator}
+use Rattle.pb_certificate.specs.Prices.Text.{numerator_of, payment_of}
 use Rattle.pb_certificate.proofs.Heads.{triple-is}
 use Rattle.pb_certificate.proofs.Numbers.{within-bounds}
 use Rattle.pb_certificate.proofs.Widths.{keeps-last}
@@ -23,8 +21,7 @@ use Rattle.pb_certificate.proofs.Widths.{keeps-last}
 pub payment-of-cells : (e : Instance) (r : Rec) (i j n : ℕ) → (length (fields r) == 3) ≡ true
     → voter_in e (cell 0 r) ≡ Some i → project_in e (cell 1 r) ≡ Some j → numerator_of (cell 2 r) ≡ Some n
     → payment_of e r ≡ Some (record { voter = i; project = j; numerator = n })
-payment-of-cells e r i j n three voter project numerator =
-    ap (payment_by e) (triple-is r three) ∙ rw (voter, project, numerator) refl
+payment-of-cells e r i j n three voter project numerator = grind (arith, triple-is)
 
 -- the cells of a record of three fields whose numbers were read
 pub record ThreeCells (t : Triple) (r : Rec) : Type 0 where
@@ -39,20 +36,7 @@ whole-states f n w = rw (whole-clean f n w, w.digits) (ap Some (sym w.value))
 
 pub three-cells : (t : Triple) (r : Rec) → IsTriple t r → ThreeCells t r
 unfolding field_at
-three-cells t r h =
-    let row = h.first ∷ t.second.now ∷ h.third ∷ [] in
-    rw h.fields
-    (record {
-      three =
-          eq-eqb (length (fields row)) 3
-          (keeps-last row 2 (omega arith)
-          (ap is_empty (whole-clean h.third t.third h.third_states) ∙ whole-some h.third t.third h.third_states));
-      voter = whole-states h.first t.first h.first_states;
-      project = refl;
-      payment =
-          within-bounds 0 most_numerator t.third (clean h.third) (whole-states h.third t.third h.third_states)
-          (omega arith) (omega (arith, h.small));
-    })
+three-cells t r h = grind (arith, eq-eqb, keeps-last, whole-clean, whole-some, whole-states, within-bounds)
 
 -- the voter that such a record names
 pub voter-of : (e : Instance) (t : Triple) (r : Rec) → IsTriple t r

@@ -1,5 +1,5 @@
 -- A search among the payments of a voter, which rise by project.
-use Rattle.std.proofs.Common.{◌≡◌, ◌<◌, ◌≤◌, ◌+◌, ℕ, zero, suc, List, [], ◌∷◌, length, get_or, refl, sym, subst, inl, inr, arith}
+use Rattle.std.proofs.Common.{◌≡◌, ◌<◌, ◌≤◌, ◌+◌, ℕ, zero, suc, List, [], ◌∷◌, length, get_or, refl, sym, inl, inr, arith}
 use Rattle.std.specs.Prelude.{◌≢◌, MatchResult, Ok, Err, Result, map}
 use Rattle.std.specs.List.Sorted.{IsBinarySearchResult, IsNonDecreasingBy, IsSearchInRange}
 use Rattle.std.specs.Ordering.{nat_cmp, ordering_index}
@@ -30,9 +30,7 @@ projects-rise : (low high : ℕ) (qs : Pays) → IsSet low high (map (λ q. q.0)
     → project_at qs i ≤ project_at qs k
 projects-rise low high [] set i k le h = omega (arith, h)
 projects-rise low high (q ∷ qs) set zero zero le h = omega arith
-projects-rise low high (q ∷ qs) set zero (suc k) le h =
-    let behind = project-above (q.0 + 1) high qs set.2 k (omega (arith, h)) in
-    omega (arith, behind)
+projects-rise low high (q ∷ qs) set zero (suc k) le h = grind (arith, project-above)
 projects-rise low high (q ∷ qs) set (suc i) zero le h = omega (arith, le)
 projects-rise low high (q ∷ qs) set (suc i) (suc k) le h =
     projects-rise (q.0 + 1) high qs set.2 i k (omega (arith, le)) (omega (arith, h))
@@ -65,9 +63,7 @@ numerator-none (q ∷ qs) j none =
 pub payment-searched : (low high : ℕ) (qs : Pays) (j : ℕ) (r : Result ℕ ℕ) → IsSet low high (map (λ q. q.0) qs)
     → IsSearchInRange r (length qs) → IsBinarySearchResult (λ q. nat_cmp q.0 j) qs r
     → MatchResult r (λ k. numerator_in qs j ≡ (get_or qs k (0, 0)).1) (λ k. numerator_in qs j ≡ 0)
-payment-searched low high qs j (Ok k) set within equal =
-    let same : project_at qs k ≡ j = ranked _ j _ (sym (equal (0, 0))) in
-    subst (λ n. numerator_in qs n ≡ (get_or qs k (0, 0)).1) same (numerator-at low high qs set k within)
+payment-searched low high qs j (Ok k) set within equal = grind (arith, get_or, numerator-at)
 payment-searched low high qs j (Err i) set within parted =
     let sides = parted (comparisons-rise low high qs j set) in
     numerator-none qs j (λ k h same. elim (cases_lt k i) [

@@ -3,7 +3,7 @@ use Rattle.std.proofs.Common.{◌≡◌, ◌≢◌, ◌≤◌, ◌<◌, ◌+◌,
 use Rattle.std.specs.Prelude.{◌==◌, ◌&&◌, All, nat_lt}
 use Rattle.std.specs.List.{AllByRecursion, IsDistinct, cons_option, sum_by}
 use Rattle.std.specs.List.Sorted.{IsNonDecreasingBy}
-use Rattle.std.proofs.lemmas.Bool.{cases_Bool, cases_eq, cases_lt, eq-eqb, eqb-true, false≢true, lt-ltb, ltb-true, ne_eqb}
+use Rattle.std.proofs.lemmas.Bool.{cases_Bool, cases_eq, cases_lt, eq-eqb, eqb-true, false≢true, lt-ltb, ne_eqb}
 use Rattle.std.proofs.lemmas.List.Elements.{All-from_recursion}
 use Rattle.std.proofs.lemmas.List.Sorted.{All-permutation, sum_by-IsPermutation}
 use Rattle.std.proofs.lemmas.List.Sums.{sum_by-cons}
@@ -20,14 +20,12 @@ numerator-low : (low high j : ℕ) (qs : List (ℕ × ℕ)) → IsSet low high (
     → numerator_in qs j ≡ 0
 numerator-low low high j [] s l = refl
 numerator-low low high j (q ∷ qs) s l =
-    let first : low ≤ q.0 = s.0 in
     rw (ne_eqb q.0 j (λ e. omega arith)) (numerator-low (q.0 + 1) high j qs s.2 (omega arith))
 
 pairs-are : (f : ℕ → ℕ) (n a high : ℕ) (ys : List (ℕ × ℕ)) → a + n ≡ high + 1 → IsSet a high (paid_projects ys)
     → AllByRecursion (λ q. 0 < q.1) ys → ((j : ℕ) → a ≤ j → numerator_in ys j ≡ f j) → ys ≡ pairs f a n
 pairs-are f zero a high [] e s some h = refl
-pairs-are f zero a high (q ∷ qs) e s some h = let low : a ≤ q.0 = s.0 in let top : q.0 ≤ high = s.1 in
-    absurd (omega arith)
+pairs-are f zero a high (q ∷ qs) e s some h = grind arith
 pairs-are f (suc n) a high [] e s some h =
     let none : f a ≡ 0 = sym (h a (omega arith)) in
     rw none (pairs-are f n (a + 1) high [] (omega arith) tt tt (λ j l. h j (omega arith)))
@@ -42,7 +40,6 @@ pairs-are f (suc n) a high (q ∷ qs) e s some h = elim (cases_eq q.0 a) [
       rw (lt-ltb 0 (f a) positive) (λ i. (here i, is i) ∷ rest i)
       )
   | inr other ↦ (
-      let low : a ≤ q.0 = s.0 in
       let above : a + 1 ≤ q.0 = omega arith in
       let none : f a ≡ 0 = sym (h a (omega arith))
       ∙ numerator-low (a + 1) high a (q ∷ qs) (above, s.1, s.2) (omega arith) in
@@ -197,7 +194,6 @@ paid-projects-rise low high [] nd once bounds = tt
 paid-projects-rise low high (q ∷ qs) nd once bounds =
     let whole = sum_by-cons (count q.0) q qs in
     let one : count q.0 q ≡ 1 = rw (eq-eqb q.0 q.0 refl) refl in
-    let at_most = once q.0 in
     let none : sum_by (count q.0) qs ≡ 0 = omega arith in
     let least : All (λ r. q.0 ≤ r.0) qs = λ k d within. nd 0 (suc k) d (omega arith) (omega arith) in
     let later : AllByRecursion (λ r. q.0 + 1 ≤ r.0) qs =
@@ -226,13 +222,7 @@ paid-bounds (q ∷ qs) m i h = by ((q.voter == i) && nat_lt 0 q.numerator) (paid
 paid-some : (qs : List Payment) (i : ℕ) → AllByRecursion (λ p. 0 < p.1) (payments_made qs i)
 unfolding paid-cons
 paid-some [] i = tt
-paid-some (q ∷ qs) i = by (q.voter == i) (nat_lt 0 q.numerator) refl (paid-some qs i)
-  where
-    by : (a b : Bool) → nat_lt 0 q.numerator ≡ b → AllByRecursion (λ p. 0 < p.1) (payments_made qs i)
-        → AllByRecursion (λ p. 0 < p.1) (paid-cons (a && b) q (payments_made qs i))
-    by true true is rest = (ltb-true 0 q.numerator is, rest)
-    by true false is rest = rest
-    by false b is rest = rest
+paid-some (q ∷ qs) i = grind (arith, paid-some qs i)
 
 moved : (P : ℕ × ℕ → Type 0) (xs ys : List (ℕ × ℕ)) → IsPermutation xs ys → AllByRecursion P xs → AllByRecursion P ys
 moved P xs ys p h = each-of P ys (All-permutation P xs ys p (All-from_recursion P xs h))

@@ -1,21 +1,20 @@
 -- The prices that a text states.
 use Rattle.std.proofs.Common.{◌≡◌, ℕ, zero, suc, ◌+◌, ◌-◌, ◌^◌, ◌<◌, ◌≤◌, Bool, true, false, cond, List, [], ◌∷◌, length, refl, sym, ◌∙◌, ap, subst, inl, inr, arith, Option, Some, None, get_or}
-use Rattle.std.specs.Prelude.{◌&&◌, ◌==◌, All, map, filter_map, nat_le, nat_lt}
+use Rattle.std.specs.Prelude.{◌&&◌, ◌==◌, All, map, filter_map, nat_lt}
 use Rattle.std.specs.List.{AllByRecursion, cons_option, range_with_len, sum_by}
-use Rattle.std.proofs.lemmas.Bool.{and_parts, cases_eq, cases_lt, eq-eqb, leb-true, lt-ltb, ltb-true, ne_eqb, both_ways}
+use Rattle.std.proofs.lemmas.Bool.{cases_eq, cases_lt, eq-eqb, lt-ltb, ne_eqb, both_ways}
 use Rattle.std.proofs.lemmas.List.Elements.{All-from_recursion}
 use Rattle.std.proofs.lemmas.List.Sums.{sum_by-cons}
 use Rattle.std.proofs.lemmas.List.FromFn.{get_or-map-range_with_len, length-map-range_with_len}
 use Rattle.std.specs.Option.{option_map}
-use Rattle.std.proofs.lemmas.Option.{option_and_then_some}
 use Rattle.pb_records.proofs.Lists.{sum-mapped}
 use Rattle.pb_records.proofs.Each.{all-every, all-map}
 use Rattle.pb_election.specs.Instance.{Instance, IsProject, IsSet, IsVoter, all_voters, projects, voters}
 use Rattle.pb_records.specs.Records.{Field, Rec}
 use Rattle.pb_election.proofs.Sets.{set-lower}
 use Rattle.pb_certificate.specs.Prices.{ArePrices, IsPaymentMap, Prices, numerator_in, payment}
-use Rattle.pb_certificate.specs.Fields.{fields, only_if, project_in, voter_in, whole_in, whole_within}
-use Rattle.pb_certificate.specs.Prices.Text.{IsPriceText, Payment, above_0, numerator_of, payment_by, payment_from, payment_of, payments_stated, stated}
+use Rattle.pb_certificate.specs.Fields.{fields, whole_within}
+use Rattle.pb_certificate.specs.Prices.Text.{IsPriceText, Payment, above_0, payment_by, payment_of, payments_stated, stated}
 
 -- the pairs of a range of projects with their numerators, where these aren't 0
 abbrev pub pairs : (ℕ → ℕ) → ℕ → ℕ → List (ℕ × ℕ)
@@ -26,32 +25,17 @@ paid_projects qs = map (λ q. q.0) qs
 
 pairs-rise : (f : ℕ → ℕ) (n a high : ℕ) → a + n ≤ high + 1 → IsSet a high (paid_projects (pairs f a n))
 pairs-rise f zero a high b = tt
-pairs-rise f (suc n) a high b = go (nat_lt 0 (f a)) (pairs-rise f n (a + 1) high (omega arith))
-  where
-    go : (r : Bool) → IsSet (a + 1) high (paid_projects (pairs f (a + 1) n))
-        → IsSet a high (paid_projects (cons_option (cond r (Some (a, f a)) None) (pairs f (a + 1) n)))
-    go true rest = (omega arith, omega arith, rest)
-    go false rest = set-lower (a + 1) a high (paid_projects (pairs f (a + 1) n)) (omega arith) rest
+pairs-rise f (suc n) a high b = grind (arith, set-lower, pairs-rise f n (a + 1) high)
 
 pairs-all : (P : ℕ × ℕ → Type 0) (f : ℕ → ℕ) (n a : ℕ) → ((j : ℕ) → 0 < f j → P (j, f j))
     → AllByRecursion P (pairs f a n)
 pairs-all P f zero a h = tt
-pairs-all P f (suc n) a h = go (nat_lt 0 (f a)) refl (pairs-all P f n (a + 1) h)
-  where
-    go : (r : Bool) → nat_lt 0 (f a) ≡ r → AllByRecursion P (pairs f (a + 1) n)
-        → AllByRecursion P (cons_option (cond r (Some (a, f a)) None) (pairs f (a + 1) n))
-    go true e rest = (h a (ltb-true 0 (f a) e), rest)
-    go false e rest = rest
+pairs-all P f (suc n) a h = grind (arith, pairs-all P f n (a + 1) h)
 
 -- a project before a range isn't among those that are paid for
 numerator-past : (f : ℕ → ℕ) (n a j : ℕ) → j < a → numerator_in (pairs f a n) j ≡ 0
 numerator-past f zero a j h = refl
-numerator-past f (suc n) a j h = go (nat_lt 0 (f a)) (numerator-past f n (a + 1) j (omega arith))
-  where
-    go : (r : Bool) → numerator_in (pairs f (a + 1) n) j ≡ 0
-        → numerator_in (cons_option (cond r (Some (a, f a)) None) (pairs f (a + 1) n)) j ≡ 0
-    go true rest = rw (ne_eqb a j (λ e. omega arith)) rest
-    go false rest = rest
+numerator-past f (suc n) a j h = grind (arith, numerator-past f n (a + 1) j)
 
 numerator-at : (f : ℕ → ℕ) (n a j : ℕ) → a ≤ j → j < a + n → numerator_in (pairs f a n) j ≡ f j
 numerator-at f zero a j low high = absurd (omega arith)
@@ -73,49 +57,16 @@ numerator-at f (suc n) a j low high = elim (cases_eq a j) [
     later e true rest = rw (ne_eqb a j e) rest
     later e false rest = rest
 
--- a value that passed a test
-only_if-some : (t : ℕ → Bool) (x n : ℕ) → only_if t x ≡ Some n → (t n ≡ true)
-only_if-some t x n h = go (t x) refl h
-  where
-    go : (r : Bool) → t x ≡ r → cond r (Some x) None ≡ Some n → t n ≡ true
-    go true e k = let same : x ≡ n = cc in subst (λ y. t y ≡ true) same e
-    go false e k = cc
-
 pub within-some : (least most : ℕ) (f : Field) (n : ℕ) → whole_within least most f ≡ Some n → (least ≤ n) × (n ≤ most)
-within-some least most f n h =
-    option_and_then_some (only_if (λ k. nat_le least k && nat_le k most)) (whole_in f) n h
-    (λ x e k.
-    (let parts : (nat_le least n ≡ true)
-    × (nat_le n most ≡ true) = and_parts (nat_le least n) (nat_le n most)
-    (only_if-some (λ y. nat_le least y && nat_le y most) x n k) in
-    (leb-true least n parts.0, leb-true n most parts.1)))
+within-some least most f n h = grind arith
 
 pub map-some : {A B : Type 0} (g : A → B) (o : Option A) (b : B) → option_map g o ≡ Some b
     → (a : A) × (o ≡ Some a) × (g a ≡ b)
 map-some g None b h = cc
 map-some g (Some a) b h = (a, refl, cc)
 
--- what a payment was made of
-pub payment-parts : (i j n : Option ℕ) (q : Payment) → payment_from i j n ≡ Some q
-    → (i ≡ Some q.voter) × (j ≡ Some q.project) × (n ≡ Some q.numerator)
-payment-parts None j n q h = cc
-payment-parts (Some i) None n q h = cc
-payment-parts (Some i) (Some j) None q h = cc
-payment-parts (Some i) (Some j) (Some n) q h =
-    let made : Payment = record { voter = i; project = j; numerator = n } in
-    let same : made ≡ q = cc in (
-      ap (λ (p : Payment). Some p.voter) same,
-      ap (λ (p : Payment). Some p.project) same,
-      ap (λ (p : Payment). Some p.numerator) same,
-    )
-
 payment-bounded : (e : Instance) (fs : List Field) (q : Payment) → payment_by e fs ≡ Some q → q.numerator ≤ 10 ^ 21
-payment-bounded e [] q h = cc
-payment-bounded e (v ∷ []) q h = cc
-payment-bounded e (v ∷ c ∷ []) q h = cc
-payment-bounded e (v ∷ c ∷ x ∷ []) q h =
-    (within-some 0 (10 ^ 21) x q.numerator (payment-parts (voter_in e v) (project_in e c) (numerator_of x) q h).2).1
-payment-bounded e (v ∷ c ∷ x ∷ y ∷ ys) q h = cc
+payment-bounded e fs q h = grind arith
 
 rows-bounded : (e : Instance) (rows : List Rec) (qs : List Payment) → map (payment_of e) rows ≡ map Some qs
     → AllByRecursion (λ q. q.numerator ≤ 10 ^ 21) qs
@@ -152,56 +103,24 @@ map-stated m qs i bounded = record {
 -- where two functions differ at one project alone, the pairs of the one are at most one more
 pairs-same : (f g : ℕ → ℕ) (k : ℕ) → ((j : ℕ) → (j ≡ k → ⊥) → f j ≡ g j) → (n a : ℕ) → k < a → pairs f a n ≡ pairs g a n
 pairs-same f g k same zero a past = refl
-pairs-same f g k same (suc n) a past =
-    rw (same a (λ e. omega arith), pairs-same f g k same n (a + 1) (omega arith)) refl
+pairs-same f g k same (suc n) a past = grind (arith, pairs-same f g k same n (a + 1))
 
 pairs-most-one : (f g : ℕ → ℕ) (k : ℕ) → ((j : ℕ) → (j ≡ k → ⊥) → f j ≡ g j) → (n a : ℕ)
     → length (pairs f a n) ≤ length (pairs g a n) + 1
 pairs-most-one f g k same zero a = omega arith
-pairs-most-one f g k same (suc n) a = elim (cases_eq a k) [
-  | inl e ↦ here (nat_lt 0 (f a)) (nat_lt 0 (g a)) (ap length (pairs-same f g k same n (a + 1) (omega arith)))
-  | inr e ↦ later e (nat_lt 0 (f a)) (pairs-most-one f g k same n (a + 1))
-]
-  where
-    here : (r s : Bool) → length (pairs f (a + 1) n) ≡ length (pairs g (a + 1) n)
-        → length (cons_option (cond r (Some (a, f a)) None) (pairs f (a + 1) n))
-        ≤ length (cons_option (cond s (Some (a, g a)) None) (pairs g (a + 1) n)) + 1
-    here true true l = omega arith
-    here true false l = omega arith
-    here false true l = omega arith
-    here false false l = omega arith
-
-    later : (a ≡ k → ⊥) → (r : Bool) → length (pairs f (a + 1) n) ≤ length (pairs g (a + 1) n) + 1
-        → length (cons_option (cond (nat_lt 0 (f a)) (Some (a, f a)) None) (pairs f (a + 1) n))
-        ≤ length (cons_option (cond (nat_lt 0 (g a)) (Some (a, g a)) None) (pairs g (a + 1) n)) + 1
-    later e r l = rw (same a e) (go (nat_lt 0 (g a)))
-      where
-        go : (b : Bool) → length (cons_option (cond b (Some (a, g a)) None) (pairs f (a + 1) n))
-            ≤ length (cons_option (cond b (Some (a, g a)) None) (pairs g (a + 1) n)) + 1
-        go true = omega arith
-        go false = l
+pairs-most-one f g k same (suc n) a = grind (arith, cases_eq, pairs-same, pairs-most-one f g k same n (a + 1))
 
 -- likewise a sum over voters of counts that differ by one at one voter
 sum-same : (f g : ℕ → ℕ) (k : ℕ) → ((i : ℕ) → (i ≡ k → ⊥) → f i ≡ g i) → (n a : ℕ) → k < a
     → sum_by f (range_with_len a n) ≡ sum_by g (range_with_len a n)
 sum-same f g k same zero a past = refl
-sum-same f g k same (suc n) a past =
-    rw (sum_by-cons, sum_by-cons, same a (λ e. omega arith), sum-same f g k same n (a + 1) (omega arith)) refl
+sum-same f g k same (suc n) a past = grind (arith, sum_by-cons, sum-same f g k same n (a + 1))
 
 sum-most-one : (f g : ℕ → ℕ) (k : ℕ) → ((i : ℕ) → (i ≡ k → ⊥) → f i ≡ g i) → f k ≤ g k + 1 → (n a : ℕ)
     → sum_by f (range_with_len a n) ≤ sum_by g (range_with_len a n) + 1
 sum-most-one f g k same one zero a = omega arith
 sum-most-one f g k same one (suc n) a =
-    let left : sum_by f (a ∷ range_with_len (a + 1) n) ≡ f a + sum_by f (range_with_len (a + 1) n) =
-    sum_by-cons f a (range_with_len (a + 1) n) in
-    let right : sum_by g (a ∷ range_with_len (a + 1) n) ≡ g a + sum_by g (range_with_len (a + 1) n) =
-    sum_by-cons g a (range_with_len (a + 1) n) in
-    elim (cases_eq a k) [
-      | inl e ↦
-          (let rest = sum-same f g k same n (a + 1) (omega arith) in let here : f a
-          ≤ g a + 1 = subst (λ x. f x ≤ g x + 1) (sym e) one in omega arith)
-      | inr e ↦ (let rest = sum-most-one f g k same one n (a + 1) in let here : f a ≡ g a = same a e in omega arith)
-    ]
+    grind (arith, sum_by-cons, cases_eq, sum-same, sum-most-one f g k same one n (a + 1))
 
 -- how many payments are stated for a voter
 count_of : Instance → List Payment → ℕ → ℕ
@@ -215,24 +134,13 @@ sum-none : (f : ℕ → ℕ) → ((i : ℕ) → f i ≡ 0) → (n a : ℕ) → s
 sum-none f none zero a = refl
 sum-none f none (suc n) a = sum_by-cons f a (range_with_len (a + 1) n) ∙ rw (none a, sum-none f none n (a + 1)) refl
 
-stated-other : (q : Payment) (qs : List Payment) (i j : ℕ) → (i ≡ q.voter → ⊥) → stated (q ∷ qs) i j ≡ stated qs i j
-stated-other q qs i j other = rw (ne_eqb q.voter i (λ e. other (sym e))) refl
-
 stated-past : (q : Payment) (qs : List Payment) (i j : ℕ) → (j ≡ q.project → ⊥) → stated (q ∷ qs) i j ≡ stated qs i j
-stated-past q qs i j other = rw (ne_eqb q.project j (λ e. other (sym e))) (go (q.voter == i))
-  where
-    go : (b : Bool) → cond (b && false) q.numerator (stated qs i j) ≡ stated qs i j
-    go true = refl
-    go false = refl
+stated-past q qs i j other = grind arith
 
 count-other : (e : Instance) (q : Payment) (qs : List Payment) (i : ℕ) → (i ≡ q.voter → ⊥)
     → count_of e (q ∷ qs) i ≡ count_of e qs i
 unfolding count_of
-count-other e q qs i other = ap length (go (projects e) 1)
-  where
-    go : (n a : ℕ) → pairs (stated (q ∷ qs) i) a n ≡ pairs (stated qs i) a n
-    go zero a = refl
-    go (suc n) a = rw (stated-other q qs i a other, go n (a + 1)) refl
+count-other e q qs i other = grind arith
 
 few-stated : (e : Instance) (qs : List Payment) → sum_by (count_of e qs) (all_voters e) ≤ length qs
 unfolding count_of
@@ -265,7 +173,6 @@ states-prices recs e p t =
     let count : sum_by length p.payments ≡ sum_by (count_of e t.payments) (all_voters e) =
     ap (sum_by length) t.same_payments ∙ sum-mapped length (payments_stated e t.payments) (all_voters e) in
     let rows : length t.payments ≡ length t.rows = stated-length (payment_of e) t.rows t.payments t.each_row in
-    let most : length t.rows ≤ 10000000 = t.few in
     let few = few-stated e t.payments in
     record {
       system = record {
@@ -284,9 +191,6 @@ states-prices recs e p t =
 pub stated-payment : (recs : List Rec) (e : Instance) (p : Prices) (t : IsPriceText recs e p) (i j : ℕ) → IsVoter e i
     → IsProject e j → payment p i j ≡ stated t.payments i j
 stated-payment recs e p t i j v project =
-    let high : i ≤ voters e = v.1 in
-    let low : 1 ≤ i = v.0 in
-    let high' : j ≤ projects e = project.1 in
     let row : get_or (map (payments_stated e t.payments) (range_with_len 1 (voters e))) (i - 1) []
     ≡ payments_stated e t.payments i =
     get_or-map-range_with_len (payments_stated e t.payments) 1 (voters e) (i - 1) i [] (omega arith)

@@ -1,7 +1,7 @@
 -- The payments by voter with one more row, or one more voter that is done.
-use Rattle.std.proofs.Common.{◌≡◌, ◌≤◌, ◌<◌, ◌+◌, ◌^◌, ◌∙◌, ℕ, zero, suc, Bool, true, false, cond, List, [], ◌∷◌, ◌++◌, length, refl, sym, ap, subst, arith, add-one, append-nil, length-append, Some, None, IsPermutation}
-use Rattle.std.specs.Prelude.{◌==◌, ◌&&◌, map, nat_lt}
-use Rattle.std.specs.List.{AllByRecursion, IsDistinct, cons_option, list_any, range_with_len, sum_by}
+use Rattle.std.proofs.Common.{◌≡◌, ◌≤◌, ◌<◌, ◌+◌, ◌^◌, ◌∙◌, ℕ, zero, suc, true, false, List, [], ◌∷◌, ◌++◌, length, refl, sym, ap, subst, arith, add-one, append-nil, length-append, IsPermutation}
+use Rattle.std.specs.Prelude.{◌==◌, map, nat_lt}
+use Rattle.std.specs.List.{AllByRecursion, IsDistinct, list_any, range_with_len, sum_by}
 use Rattle.std.specs.List.Sorted.{IsNonDecreasingBy}
 use Rattle.std.proofs.lemmas.List.FromFn.{length-map-range_with_len}
 use Rattle.std.proofs.lemmas.Bool.{eq-eqb, le-ltb, lt-ltb, ne_eqb}
@@ -24,24 +24,15 @@ use Rattle.pb_certificate.proofs.OnPrices.Texts.{map-stated, pairs}
 -- the payments of a voter after one more
 paid-append : (qs : List Payment) (q : Payment) (i : ℕ)
     → payments_made (qs ++ (q ∷ [])) i ≡ payments_made qs i ++ payments_made (q ∷ []) i
-paid-append qs q i =
-    filter_map-append
-    (λ (p : Payment). cond ((p.voter == i) && nat_lt 0 p.numerator) (Some (p.project, p.numerator)) None) qs (q ∷ [])
+paid-append qs q i = grind (arith, filter_map-append)
 
 paid-here : (qs : List Payment) (q : Payment) → nat_lt 0 q.numerator ≡ true
     → payments_made (qs ++ (q ∷ [])) q.voter ≡ payments_made qs q.voter ++ ((q.project, q.numerator) ∷ [])
-paid-here qs q some = let same : (q.voter == q.voter) ≡ true = eq-eqb q.voter q.voter refl in
-    paid-append qs q q.voter ∙ rw (same, some) refl
+paid-here qs q some = grind (arith, eq-eqb, paid-append)
 
 paid-nothing : (qs : List Payment) (q : Payment) (i : ℕ) → nat_lt 0 q.numerator ≡ false
     → payments_made (qs ++ (q ∷ [])) i ≡ payments_made qs i
-paid-nothing qs q i none = paid-append qs q i ∙ by (q.voter == i)
-  where
-    by : (b : Bool)
-        → payments_made qs i ++ cons_option (cond (b && nat_lt 0 q.numerator) (Some (q.project, q.numerator)) None) []
-        ≡ payments_made qs i
-    by true = rw none (append-nil (payments_made qs i))
-    by false = append-nil (payments_made qs i)
+paid-nothing qs q i none = grind (arith, paid-append, append-nil)
 
 -- a voter that no payment has yet
 paid-none : (qs : List Payment) (k i : ℕ) → AllByRecursion (λ q. q.voter ≤ k) qs → k < i → payments_made qs i ≡ []
@@ -53,8 +44,7 @@ paid-none (q ∷ qs) k i h l = let first : q.voter ≤ k = h.0 in
 stated-other : (qs : List Payment) (q : Payment) (i j : ℕ) → (q.voter == i) ≡ false
     → stated (qs ++ (q ∷ [])) i j ≡ stated qs i j
 stated-other [] q i j h = rw h refl
-stated-other (p ∷ ps) q i j h =
-    ap (λ (n : ℕ). cond ((p.voter == i) && (p.project == j)) p.numerator n) (stated-other ps q i j h)
+stated-other (p ∷ ps) q i j h = grind (arith, stated-other ps q i j h)
 
 pairs-same : (f g : ℕ → ℕ) (n a : ℕ) → ((j : ℕ) → f j ≡ g j) → pairs f a n ≡ pairs g a n
 pairs-same f g zero a h = refl
@@ -64,27 +54,13 @@ pairs-same f g (suc n) a h = rw (h a, pairs-same f g n (a + 1) h) refl
 map-push : {A : Type 0} (f : ℕ → A) (n a : ℕ)
     → map f (range_with_len a (suc n)) ≡ map f (range_with_len a n) ++ (f (a + n) ∷ [])
 map-push f zero a = let e : a + 0 ≡ a = omega arith in rw e refl
-map-push f (suc n) a =
-    let e : a + suc n ≡ a + 1 + n = omega arith in
-    ap (λ xs. f a ∷ xs) (map-push f n (a + 1) ∙ ap (λ k. map f (range_with_len (a + 1) n) ++ (f k ∷ [])) (sym e))
+map-push f (suc n) a = grind (arith, map-push f n (a + 1))
 
 -- No payments.
 pub no-rows : (has : Instance → Prices → Type 0) (s : Rows) (t : Turn) → has s.election (prices_up_to s [] 0)
     → t.done ≡ 0 → t.payments.items ≡ [] → Holds has s [] t
 unfolding IsDistinct
-no-rows has s t empty start none =
-    let n : t.done ≡ 0 = start in
-    record {
-      has_done = subst (λ (k : ℕ). has s.election (prices_up_to s [] k)) (sym n) empty;
-      at_hand = none;
-      none_later = tt;
-      once = tt;
-      within = tt;
-      small = tt;
-      total = subst (λ (k : ℕ). sum_by length (prices_up_to s [] k).payments + length t.payments.items ≤ 0) (sym n)
-          (let l : length t.payments.items ≡ 0 = ap length none in omega arith);
-      few = omega arith;
-    }
+no-rows has s t empty start none = grind arith
 
 -- One more voter that is done.
 
@@ -120,8 +96,6 @@ pub can-take : (has : Instance → Prices → Type 0) (s : Rows) (qs : List Paym
 can-take has s qs t run h sorted moved =
     let is : run ≡ stated_by (projects s.election) qs (t.done + 1) = run-stated has s qs t run h sorted moved in
     let as_long : length run ≡ length t.payments.items = length_permutation t.payments.items run moved in
-    let total : sum_by length (stated_up_to (projects s.election) qs t.done) + length t.payments.items ≤ length qs =
-    h.total in
     let few : length qs ≤ 10000000 = h.few in
     record {
       election = s.election;
@@ -171,10 +145,7 @@ closed has has' s qs old new run h sorted moved taken many none_left =
 
 row-done : (s : Rows) (qs : List Payment) (q : Payment) (n : ℕ) → q.voter ≡ n + 1
     → stated_up_to (projects s.election) qs n ≡ stated_up_to (projects s.election) (qs ++ (q ∷ [])) n
-row-done s qs q n at =
-    map-same (stated_by (projects s.election) qs) (stated_by (projects s.election) (qs ++ (q ∷ []))) n 1
-    (λ i low l. pairs-same (stated qs i) (stated (qs ++ (q ∷ [])) i) (projects s.election) 1
-    (λ j. sym (stated-other qs q i j (ne_eqb q.voter i (λ e. omega arith)))))
+row-done s qs q n at = grind (arith, map-same, pairs-same, stated-other, ne_eqb)
 
 one-row : (has : Instance → Prices → Type 0) (s : Rows) (qs : List Payment) (q : Payment) (old new : Turn)
     → Holds has s qs old → q.voter ≡ old.done + 1 → list_any (same_pair q) qs ≡ false → 1 ≤ q.project

@@ -24,27 +24,16 @@ format-clear : (e : Instance) (head : Rec) → is_text head ≡ true → (is_ver
     → (f : CertFault) → violation_fault_stands e [] (Some head) f ≡ false
 format-clear e head text is fault.NotUtf8 = rw text refl
 format-clear e head text is fault.BadHead = rw is refl
-format-clear e head text is fault.BadRow = refl
-format-clear e head text is fault.BadNumber = refl
-format-clear e head text is fault.UnknownVoter = refl
-format-clear e head text is fault.UnknownProject = refl
-format-clear e head text is fault.OutOfOrder = refl
-format-clear e head text is fault.Repeated = refl
-format-clear e head text is fault.TooMany = refl
-format-clear e head text is fault.Memory = refl
+format-clear e head text is _ = refl
 
 measure-clear : (e : Instance) (head second : Rec) → is_version_2 head ≡ true → is_text second ≡ true
     → states_measure second ≡ true → (f : CertFault) → violation_fault_stands e (head ∷ []) (Some second) f ≡ false
 measure-clear e head second two text is fault.NotUtf8 = rw text refl
 measure-clear e head second two text is fault.BadHead = rw (two, is) refl
-measure-clear e head second two text is fault.BadRow = rw two refl
-measure-clear e head second two text is fault.BadNumber = rw two refl
-measure-clear e head second two text is fault.UnknownVoter = rw two refl
-measure-clear e head second two text is fault.UnknownProject = rw two refl
 measure-clear e head second two text is fault.OutOfOrder = refl
-measure-clear e head second two text is fault.Repeated = rw two refl
 measure-clear e head second two text is fault.TooMany = refl
 measure-clear e head second two text is fault.Memory = refl
+measure-clear e head second two text is _ = rw two refl
 
 row-clear : (e : Instance) (m : Measure) (heads : List Rec) → StateMeasure m heads
     → (done : List Rec) (r : Rec) (x : Named) → is_text r ≡ true → Row e r x → Unit {0}
@@ -88,14 +77,10 @@ end-clear e m heads s done fault.NotUtf8 = refl
 end-clear e m heads s done fault.BadHead =
     or_from _ _ (or_from _ _ (and_right _ _ refl) (no-measure m heads done None (λ k. not (states_measure k)) s))
     (and_left _ _ (ap (nat_lt (length (heads ++ done))) (heads-counted m heads done s) ∙ not-cut heads done))
-end-clear e m heads s done fault.BadRow = and_right _ _ refl
-end-clear e m heads s done fault.BadNumber = and_right _ _ refl
-end-clear e m heads s done fault.UnknownVoter = and_right _ _ refl
-end-clear e m heads s done fault.UnknownProject = and_right _ _ refl
 end-clear e m heads s done fault.OutOfOrder = refl
-end-clear e m heads s done fault.Repeated = and_right _ _ refl
 end-clear e m heads s done fault.TooMany = refl
 end-clear e m heads s done fault.Memory = refl
+end-clear e m heads s done _ = and_right _ _ refl
 
 -- the head records have no fault, and so neither has the whole
 with-heads : (e : Instance) (m : Measure) (heads rows : List Rec) → StateMeasure m heads

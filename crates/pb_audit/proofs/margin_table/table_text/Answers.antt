@@ -1,8 +1,7 @@
-use Rattle.std.proofs.Common.{◌<◌, ◌∙◌, arith}
-use Rattle.std.proofs.lemmas.Result.{IfOk-weaker}
+use Rattle.std.proofs.Common.{◌<◌, arith}
 use Rattle.pb_election.specs.Instance.{projects}
 use Rattle.pb_records.specs.Inside.RecordWriter.{held}
-use Rattle.pb_audit.proofs.MarginTable.{row_pushed, table_written}
+use Rattle.pb_audit.proofs.MarginTable.{row_pushed}
 use Rattle.pb_audit.proofs.margin_table.table_text.Goals as goal
 
 pub loop-k-preserved : goal.loop-k-preserved
@@ -18,9 +17,4 @@ loop-k-preserved c =
     }
 
 pub returns : goal.returns
-returns c = λ w p are.
-    IfOk-weaker c.close.result _ _
-    (λ text is. is
-    ∙ table_written c.args.election.now w p c.args.margins.now c.loop-k.k (held c.loop-k.writer) are
-    (omega (arith, c.loop-k-test.false, c.loop-k.auto.k-end, c.projects-k-end.ensures.value))
-    (c.loop-k.invariant.text w p are)) c.close.ensures
+returns c = grind arith

@@ -112,27 +112,20 @@ place-at : (start : ℕ) (ids : List Field) (k : ℕ) → IsDistinct bytes_eq id
     → position_from (bytes_eq (get_or ids k [])) start ids ≡ Some (start + k)
 unfolding IsDistinct
 place-at start [] k d h = absurd (omega arith)
-place-at start (x ∷ xs) zero d h =
-    let e : start + 0 ≡ start = omega arith in
-    rw (same-bytes x, e) refl
+place-at start (x ∷ xs) zero d h = grind (arith, same-bytes)
 place-at start (x ∷ xs) (suc k) d h =
     let other : bytes_eq x (get_or xs k []) ≡ false = all-at (λ y. bytes_eq x y ≡ false) xs k [] d.0 (omega arith) in
     let e : start + 1 + k ≡ start + suc k = omega arith in
     rw (other-bytes x (get_or xs k []) other) (place-at (start + 1) xs k d.1 (omega arith) ∙ ap Some e)
 
 project-is : (e : Instance) (j : ℕ) → IsElection e → IsProject e j → project_in e (id_of e j) ≡ Some j
-project-is e j s p =
-    let low : 1 ≤ j = p.0 in
-    let high : j ≤ projects e = p.1 in
-    let n : 1 + (j - 1) ≡ j = omega arith in
-    place-at 1 e.ids (j - 1) s.distinct (omega arith) ∙ ap Some n
+project-is e j s p = grind (arith, place-at)
 
 -- The rows.
 
 pub row-shown : (e : Instance) (i : ℕ) (q : ℕ × ℕ) → IsElection e → i < 10 ^ 64 → IsPayment (projects e) q
     → IsShown (row_of e i q)
 row-shown e i q s v h =
-    let small : q.1 ≤ 10 ^ 21 = h.small in
     three-shown (decimal i) (id_of e q.0) (decimal q.1) (decimal-text i v) (id-at e q.0 s (h.low, h.high)).text
     (decimal-text q.1 (omega arith)) (decimal-clean i v) (decimal-some i v)
 
@@ -140,7 +133,6 @@ pub row-states : (e : Instance) (i : ℕ) (q : ℕ × ℕ) → IsElection e → 
     → payment_of e (row_of e i q) ≡ Some (payment_at i q)
 row-states e i q s v h =
     let small : q.1 ≤ 10 ^ 21 = h.small in
-    let few : voters e ≤ 1000000 = s.few_voters in
     let high : i ≤ voters e = v.1 in
     let small_voter : i < 10 ^ 64 = omega arith in
     let small_number : q.1 < 10 ^ 64 = omega arith in

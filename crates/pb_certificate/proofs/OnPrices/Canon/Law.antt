@@ -1,5 +1,5 @@
 -- The canonical text states the prices that it was made of, and no others.
-use Rattle.std.proofs.Common.{◌≡◌, ◌∙◌, ◌≤◌, ◌<◌, ◌+◌, ◌-◌, ◌^◌, ℕ, zero, suc, List, [], ◌∷◌, ◌++◌, length, map, refl, sym, ap, subst, arith, true, Some, Option, get_or}
+use Rattle.std.proofs.Common.{◌≡◌, ◌∙◌, ◌≤◌, ◌<◌, ◌+◌, ◌-◌, ◌^◌, ℕ, zero, suc, List, [], ◌∷◌, length, map, refl, sym, ap, subst, arith, true, Some, Option, get_or}
 use Rattle.std.specs.Prelude.{codes, decimal, filter_map, flat_map, slice_index_or}
 use Rattle.std.specs.List.{AllByRecursion, range_with_len, sum_by}
 use Rattle.std.specs.Str.{is_utf8}
@@ -78,11 +78,7 @@ stated-range : {A B : Type 0} (g : A → Option B) (rows : ℕ → List A) (pays
     → ((i : ℕ) → a ≤ i → i < a + n → map g (rows i) ≡ map Some (pays i))
     → map g (flat_map rows (range_with_len a n)) ≡ map Some (flat_map pays (range_with_len a n))
 stated-range g rows pays zero a h = refl
-stated-range g rows pays (suc n) a h =
-    let first = h a (omega arith) (omega arith) in
-    let rest = stated-range g rows pays n (a + 1) (λ i low high. h i (omega arith) (omega arith)) in
-    map-append g (rows a) (flat_map rows (range_with_len (a + 1) n)) ∙ (λ k. first k ++ rest k)
-    ∙ sym (map-append Some (pays a) (flat_map pays (range_with_len (a + 1) n)))
+stated-range g rows pays (suc n) a h = grind (arith, map-append, stated-range g rows pays n (a + 1))
 
 -- The payments of some prices for an election.
 
@@ -107,15 +103,10 @@ voter-states e i (q ∷ qs) s low high h =
 
 rows-state : (e : Instance) (p : Prices) → IsElection e → ArePrices e p
     → map (payment_of e) (payment_rows e p) ≡ map Some (paid e p)
-rows-state e p s a =
-    stated-range (payment_of e) (λ i. rows_of_voter e i (payments_of p i)) (λ i. of_voter i (payments_of p i))
-    (voters e) 1
-    (λ i low high. voter-states e i (payments_of p i) s low (omega arith)
-    (each-payment (projects e) (payments_of p i) (voter-map e p i a low (omega arith))))
+rows-state e p s a = grind (arith, stated-range, of_voter, voter-states, each-payment, voter-map)
 
 rows-many : (e : Instance) (p : Prices) → ArePrices e p → length (payment_rows e p) ≤ 10000000
 rows-many e p a =
-    let few : sum_by length p.payments ≤ 10000000 = a.system.few in
     let rows : length (payment_rows e p) ≡ sum_by (λ i. length (rows_of_voter e i (payments_of p i))) (all_voters e) =
     length-flat_map (λ i. rows_of_voter e i (payments_of p i)) (all_voters e) in
     let each : sum_by (λ i. length (rows_of_voter e i (payments_of p i))) (all_voters e)
@@ -144,9 +135,6 @@ all-stated e p a = by-voter e p a
 
 shown : (e : Instance) (p : Prices) → IsElection e → ArePrices e p → AllByRecursion IsShown (canonical_records e p)
 shown e p s a =
-    let d : p.denominator ≤ 10 ^ 9 = a.system.denominator.1 in
-    let b : p.budget ≤ 10 ^ 21 = a.system.budget in
-    let few : voters e ≤ 1000000 = s.few_voters in
     all-records IsShown e p a (heads-shown p.denominator p.budget (omega arith) (omega arith))
     (λ i q low high h. row-shown e i q s (omega arith) h)
 

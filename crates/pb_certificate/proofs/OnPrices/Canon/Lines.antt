@@ -1,15 +1,13 @@
 -- The text that `csv` writes of a record is its line, where no field has a control byte.
-use Rattle.std.proofs.Common.{◌≡◌, ◌∙◌, ◌<◌, ◌≤◌, ◌^◌, ℕ, List, [], ◌∷◌, ◌++◌, map, refl, ap, arith, append-nil, Bool, true, false}
-use Rattle.std.specs.Prelude.{◌==◌, ◌||◌, decimal, flat_map, if◌then◌else◌, nat_lt, not}
+use Rattle.std.proofs.Common.{◌≡◌, ◌∙◌, ◌<◌, ◌≤◌, ◌^◌, ℕ, List, [], ◌∷◌, ◌++◌, map, refl, ap, arith, append-nil, false}
+use Rattle.std.specs.Prelude.{◌==◌, ◌||◌, decimal, flat_map, if◌then◌else◌, nat_lt}
 use Rattle.std.specs.List.{AllByRecursion, join_with_byte, list_any}
-use Rattle.std.proofs.lemmas.Bool.{and_parts, ne_eqb, or_parts, not-true}
+use Rattle.std.proofs.lemmas.Bool.{or_parts}
 use Rattle.std.proofs.lemmas.Bool.Decides.{nat_tests}
 use Rattle.std.specs.Str.Parse.{AllDigits}
-use Rattle.std.proofs.lemmas.Str.Parse.{digit_from_value}
 use Rattle.std.proofs.lemmas.Fmt.{decimal_is_IsNumeral_wide}
 use Rattle.csv.specs.Writing.{default_writer, escaped, field_text, fields_text, is_blank, needs_byte, row_text}
 use Rattle.pb_records.specs.Records.{Field, Rec, quote_byte}
-use Rattle.pb_money.specs.Digits.{is_empty}
 use Rattle.pb_election.specs.Rows.{is_control, is_id}
 use Rattle.pb_election.specs.Text.{IsId}
 use Rattle.pb_certificate.specs.Prices.Canon.{comma, in_quotes, line, written}
@@ -24,10 +22,7 @@ not-control b h = let low = (or_parts (nat_lt b 32) (b == 127) h).0 in grind (ar
 
 -- a byte that is no control byte calls for quotes where it is a comma or a quote
 same-need : (b : ℕ) → 32 ≤ b → needs_byte default_writer b ≡ ((b == comma) || (b == quote_byte))
-same-need b h =
-    let r : (b == 13) ≡ false = ne_eqb b 13 (λ e. absurd (omega arith)) in
-    let n : (b == 10) ≡ false = ne_eqb b 10 (λ e. absurd (omega arith)) in
-    rw (r, n) (grind arith)
+same-need b h = grind arith
 
 same-needs : (f : Field) → IsPlain f → list_any (needs_byte default_writer) f
     ≡ list_any (λ b. (b == comma) || (b == quote_byte)) f
@@ -39,18 +34,10 @@ same-needs (b ∷ bs) h = let parts = or_parts (is_control b) (list_any is_contr
 abbrev doubled_byte : ℕ → List ℕ
 doubled_byte b = if b == quote_byte then quote_byte ∷ quote_byte ∷ [] else b ∷ []
 
-quote-is : (b : ℕ) → (b == 34) ≡ true → b ≡ 34
-quote-is b h = grind (arith, nat_tests)
-
 same-escaped-text : (f : Field) → escaped default_writer f ≡ flat_map doubled_byte f
 unfolding escaped
 same-escaped-text [] = refl
-same-escaped-text (b ∷ bs) = rw (same-escaped-text bs) (by (b == 34) refl)
-  where
-    by : (t : Bool) → (b == 34) ≡ t → (if t then 34 ∷ b ∷ flat_map doubled_byte bs else b ∷ flat_map doubled_byte bs)
-        ≡ (if t then quote_byte ∷ quote_byte ∷ [] else b ∷ []) ++ flat_map doubled_byte bs
-    by true e = ap (λ (x : ℕ). 34 ∷ x ∷ flat_map doubled_byte bs) (quote-is b e)
-    by false e = refl
+same-escaped-text (b ∷ bs) = grind (arith, same-escaped-text bs)
 
 same-quoted : (f : Field) → 34 ∷ (escaped default_writer f ++ (34 ∷ [])) ≡ in_quotes f
 same-quoted f = ap (λ (x : List ℕ). 34 ∷ (x ++ (34 ∷ []))) (same-escaped-text f)
@@ -62,7 +49,6 @@ field-written f h = rw (same-needs f h, same-quoted f) refl
 digits-plain : (f : Field) → AllDigits 10 f → IsPlain f
 digits-plain [] h = refl
 digits-plain (b ∷ bs) h =
-    let d = digit_from_value b h.0 in
     let c : is_control b ≡ false = grind (arith, nat_tests) in
     rw (c, digits-plain bs h.1) refl
 
@@ -71,8 +57,7 @@ decimal-plain n h = digits-plain (decimal n) (decimal_is_IsNumeral_wide n h).0.1
 
 pub id-plain : (id : Field) → IsId id → IsPlain id
 unfolding is_id
-id-plain id h =
-    not-true (list_any is_control id) (and_parts (not (is_empty id)) (not (list_any is_control id)) h.bytes).1
+id-plain id h = grind arith
 
 -- Records of plain fields.
 

@@ -1,6 +1,6 @@
 -- The records of the canonical text are those that were written.
-use Rattle.std.proofs.Common.{◌≡◌, ◌∙◌, ◌<◌, ◌≤◌, ◌+◌, ◌^◌, ℕ, zero, suc, List, [], ◌∷◌, ◌++◌, length, map, refl, sym, ap, arith, Some}
-use Rattle.std.specs.List.{AllByRecursion, join_with_byte, range_with_len}
+use Rattle.std.proofs.Common.{◌≡◌, ◌∙◌, ◌<◌, ◌≤◌, ◌+◌, ℕ, zero, suc, List, [], ◌∷◌, ◌++◌, length, refl, sym, ap, arith, Some}
+use Rattle.std.specs.List.{AllByRecursion, range_with_len}
 use Rattle.std.proofs.lemmas.List.{length-append}
 use Rattle.csv.specs.Machine.{next_record}
 use Rattle.csv.specs.Reading.{default_config, records_from}
@@ -10,11 +10,10 @@ use Rattle.pb_records.proofs.Each.{all-append, all-flat_map, all-map, all-range,
 use Rattle.pb_election.specs.Instance.{Instance, projects, voters}
 use Rattle.pb_records.specs.Records.{Rec, drop_marks}
 use Rattle.pb_election.specs.Text.{IsElection}
-use Rattle.pb_certificate.specs.Prices.Canon.{Canon, canonical_records, comma, head_records, line, line_end, lines, payment_rows, rows_of_voter, written}
+use Rattle.pb_certificate.specs.Prices.Canon.{Canon, canonical_records, head_records, line, lines, payment_rows, rows_of_voter}
 use Rattle.pb_certificate.specs.Faults.{certificate_records}
 use Rattle.pb_certificate.specs.Prices.{ArePrices, IsPaymentMap, Prices, payments_of}
 use Rattle.pb_certificate.proofs.OnPrices.Canon.Lines.{ArePlain, decimal-plain, row-line}
-use Rattle.pb_certificate.proofs.OnPrices.Payments.{map-at}
 use Rattle.pb_certificate.proofs.OnPrices.Canon.Written.{IsPayment, each-payment, row-plain, row_of}
 
 -- a record of two fields or more with no control byte
@@ -26,11 +25,10 @@ IsWritable (f ∷ g ∷ fs) = ArePlain (f ∷ g ∷ fs)
 -- such a record is read back, whatever follows it
 read-line : (r : Rec) (tail : List ℕ) → IsWritable r
     → next_record default_config st.StartRecord [] [] (line r ++ tail) ≡ Some (r, st.StartRecord, tail)
-read-line [] tail h = absurd h
-read-line (f ∷ []) tail h = absurd h
 read-line (f ∷ g ∷ fs) tail h =
     ap (λ (x : List ℕ). next_record default_config st.StartRecord [] [] (x ++ tail)) (sym (row-line f g fs h))
     ∙ read-write (f ∷ g ∷ fs) tail
+read-line _ tail h = absurd h
 
 read-lines : (rows : List Rec) (n : ℕ) → AllByRecursion IsWritable rows → length rows < n
     → records_from default_config n st.StartRecord (lines rows) ≡ rows
@@ -42,9 +40,7 @@ read-lines (r ∷ rs) (suc n) h l =
 
 line-some : (r : Rec) → 1 ≤ length (line r)
 unfolding line
-line-some r =
-    let end : List ℕ = line_end ∷ [] in
-    omega (arith, length-append (join_with_byte comma (map written r)) end)
+line-some r = grind (arith, length-append)
 
 lines-longer : (rows : List Rec) → length rows ≤ length (lines rows)
 lines-longer [] = omega arith
@@ -55,9 +51,7 @@ lines-longer (r ∷ rs) = omega (arith, length-append (line r) (lines rs), line-
 -- what one voter pays is a map over the projects of the election
 pub voter-map : (e : Instance) (p : Prices) (i : ℕ) → ArePrices e p → 1 ≤ i → i ≤ voters e
     → IsPaymentMap (projects e) (payments_of p i)
-voter-map e p i a low high =
-    let many : length p.payments ≡ voters e = a.fits.each_voter in
-    rw a.fits.each_project at (map-at p i a.system low (omega arith))
+voter-map e p i a low high = grind arith
 
 -- what holds of each row of the canonical text
 pub all-rows : (Q : Rec → Type 0) (e : Instance) (p : Prices) → ArePrices e p
@@ -80,9 +74,6 @@ all-records Q e p a heads h =
 writable : (e : Instance) (p : Prices) → IsElection e → ArePrices e p
     → AllByRecursion IsWritable (canonical_records e p)
 writable e p s a =
-    let d : p.denominator ≤ 10 ^ 9 = a.system.denominator.1 in
-    let b : p.budget ≤ 10 ^ 21 = a.system.budget in
-    let few : voters e ≤ 1000000 = s.few_voters in
     all-records IsWritable e p a (
       (refl, (refl, tt)),
       (

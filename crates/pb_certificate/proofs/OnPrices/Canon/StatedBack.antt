@@ -1,12 +1,10 @@
 -- The payments that the rows of some prices state are those of the prices, and they stand in order.
 use Rattle.std.proofs.Common.{◌≡◌, ◌∙◌, ◌≤◌, ◌<◌, ◌+◌, ℕ, zero, suc, true, false, List, [], ◌∷◌, ◌++◌, map, refl, sym, ap, subst, arith, inl, inr, Some}
-use Rattle.std.specs.Prelude.{◌==◌, filter_map, flat_map, if◌then◌else◌, nat_lt}
+use Rattle.std.specs.Prelude.{◌==◌, filter_map, flat_map, nat_lt}
 use Rattle.std.specs.List.{AllByRecursion, IsDistinct, cons_option, range_with_len}
 use Rattle.std.specs.List.Sorted.{IsNonDecreasing}
 use Rattle.std.proofs.lemmas.Bool.{cases_eq, eq-eqb, lt-ltb, ne_eqb}
-use Rattle.std.proofs.Math.Bool.{and-false}
 use Rattle.pb_election.specs.Instance.{IsSet}
-use Rattle.pb_election.proofs.Sets.{is-itself}
 use Rattle.pb_certificate.specs.Prices.{numerator_in}
 use Rattle.pb_certificate.specs.Prices.Text.{Payment, above_0, same_pair, stated}
 use Rattle.pb_certificate.proofs.OnPrices.Canon.Written.{all-at}
@@ -31,26 +29,17 @@ stated-other s (q ∷ qs) tail i j h = rw h (stated-other s qs tail i j h)
 stated-own : (i : ℕ) (qs : List (ℕ × ℕ)) (tail : List Payment) (j : ℕ) → stated tail i j ≡ 0
     → stated (of_voter i qs ++ tail) i j ≡ numerator_in qs j
 stated-own i [] tail j h = h
-stated-own i (q ∷ qs) tail j h =
-    rw (is-itself i) (ap (λ (t : ℕ). if q.0 == j then q.1 else t) (stated-own i qs tail j h))
+stated-own i (q ∷ qs) tail j h = grind (arith, stated-own i qs tail j h)
 
 stated-before : (f : ℕ → List (ℕ × ℕ)) (n a i j : ℕ) → i < a → stated (of_voters f a n) i j ≡ 0
 stated-before f zero a i j h = refl
-stated-before f (suc n) a i j h =
-    stated-other a (f a) (of_voters f (a + 1) n) i j (ne_eqb a i (λ e. absurd (omega arith)))
-    ∙ stated-before f n (a + 1) i j (omega arith)
+stated-before f (suc n) a i j h = grind (arith, stated-other, ne_eqb, stated-before f n (a + 1) i j)
 
 pub stated-all : (f : ℕ → List (ℕ × ℕ)) (n a i j : ℕ) → a ≤ i → i < a + n
     → stated (of_voters f a n) i j ≡ numerator_in (f i) j
 stated-all f zero a i j low high = absurd (omega arith)
-stated-all f (suc n) a i j low high = elim (cases_eq a i) [
-  | inl e ↦
-      let tail : stated (of_voters f (a + 1) n) i j ≡ 0 = stated-before f n (a + 1) i j (omega arith) in
-      subst (λ (s : ℕ). stated (of_voter s (f s) ++ of_voters f (a + 1) n) i j ≡ numerator_in (f i) j) (sym e)
-      (stated-own i (f i) (of_voters f (a + 1) n) j tail)
-  | inr e ↦ stated-other a (f a) (of_voters f (a + 1) n) i j (ne_eqb a i e)
-      ∙ stated-all f n (a + 1) i j (omega arith) (omega arith)
-]
+stated-all f (suc n) a i j low high =
+    grind (arith, cases_eq, stated-before, stated-own, stated-other, ne_eqb, stated-all f n (a + 1) i j)
 
 -- A voter's payments from what is stated of each project.
 
@@ -66,9 +55,7 @@ stated_pairs qs a n = filter_map (λ j. above_0 j (numerator_in qs j)) (range_wi
 -- a payment for a project before a range makes no difference there
 pairs-rest : (q : ℕ × ℕ) (qs : List (ℕ × ℕ)) (n a : ℕ) → q.0 < a → stated_pairs (q ∷ qs) a n ≡ stated_pairs qs a n
 pairs-rest q qs zero a h = refl
-pairs-rest q qs (suc n) a h =
-    rw (ne_eqb q.0 a (λ e. absurd (omega arith)))
-    (ap (cons_option (above_0 a (numerator_in qs a))) (pairs-rest q qs n (a + 1) (omega arith)))
+pairs-rest q qs (suc n) a h = grind (arith, pairs-rest q qs n (a + 1))
 
 pairs-none : (n a : ℕ) → stated_pairs [] a n ≡ []
 pairs-none zero a = refl
@@ -134,23 +121,17 @@ follows-own : (i j : ℕ) (x low high : ℕ) (qs : List (ℕ × ℕ)) (tail : Li
     → IsSet low high (map (λ q. q.0) qs) → AllByRecursion (MayFollow (payment_at i (j, x))) tail
     → AllByRecursion (MayFollow (payment_at i (j, x))) (of_voter i qs ++ tail)
 follows-own i j x low high [] tail l h t = t
-follows-own i j x low high (q ∷ qs) tail l h t =
-    let other : (j == q.0) ≡ false = ne_eqb j q.0 (λ e. absurd (omega (arith, h.0))) in (
-      (omega arith, rw (other, and-false (i == i)) refl),
-      follows-own i j x (q.0 + 1) high qs tail (omega (arith, h.0)) h.2 t,
-    )
+follows-own i j x low high (q ∷ qs) tail l h t = grind (arith, follows-own i j x (q.0 + 1) high qs tail)
 
 follows-voter : (r : Payment) (s : ℕ) (qs : List (ℕ × ℕ)) (tail : List Payment) → r.voter < s
     → AllByRecursion (MayFollow r) tail → AllByRecursion (MayFollow r) (of_voter s qs ++ tail)
 follows-voter r s [] tail l t = t
-follows-voter r s (q ∷ qs) tail l t =
-    ((omega arith, rw (ne_eqb r.voter s (λ e. absurd (omega arith))) refl), follows-voter r s qs tail l t)
+follows-voter r s (q ∷ qs) tail l t = grind (arith, follows-voter r s qs tail l t)
 
 follows-voters : (r : Payment) (f : ℕ → List (ℕ × ℕ)) (n a : ℕ) → r.voter < a
     → AllByRecursion (MayFollow r) (of_voters f a n)
 follows-voters r f zero a l = tt
-follows-voters r f (suc n) a l =
-    follows-voter r a (f a) (of_voters f (a + 1) n) l (follows-voters r f n (a + 1) (omega arith))
+follows-voters r f (suc n) a l = grind (arith, follows-voter, follows-voters r f n (a + 1))
 
 ordered-own : (f : ℕ → List (ℕ × ℕ)) (n i low high : ℕ) (qs : List (ℕ × ℕ)) → IsSet low high (map (λ q. q.0) qs)
     → InOrder (of_voters f (i + 1) n) → InOrder (of_voter i qs ++ of_voters f (i + 1) n)
@@ -164,6 +145,4 @@ ordered-own f n i low high (q ∷ qs) h t = (
 pub ordered : (f : ℕ → List (ℕ × ℕ)) (high n a : ℕ)
     → ((i : ℕ) → a ≤ i → i < a + n → IsSet 1 high (map (λ q. q.0) (f i))) → InOrder (of_voters f a n)
 ordered f high zero a h = tt
-ordered f high (suc n) a h =
-    ordered-own f n a 1 high (f a) (h a (omega arith) (omega arith))
-    (ordered f high n (a + 1) (λ i l k. h i (omega arith) (omega arith)))
+ordered f high (suc n) a h = grind (arith, ordered-own, ordered f high n (a + 1))

@@ -16,15 +16,12 @@ use Rattle.pb_certificate.specs.Prices.{Prices, PricesFit, payments_of}
 -- the head alone
 pub head-alone : (d b : ℕ) (h0 h1 : List ℕ) → h0 ≡ [] → h1 ≡ h0 ++ lines (head_records d b)
     → h1 ≡ lines (head_records d b) ++ []
-head-alone d b h0 h1 e0 e1 = e1 ∙ ap (λ (x : List ℕ). x ++ lines (head_records d b)) e0
-    ∙ sym (append-nil (lines (head_records d b)))
+head-alone d b h0 h1 e0 e1 = grind (arith, append-nil)
 
 flat-same : (f g : ℕ → List Rec) (n a : ℕ) → ((i : ℕ) → a ≤ i → i < a + n → f i ≡ g i)
     → flat_map f (range_with_len a n) ≡ flat_map g (range_with_len a n)
 flat-same f g zero a h = refl
-flat-same f g (suc n) a h =
-    ap (λ (x : List Rec). x ++ flat_map f (range_with_len (a + 1) n)) (h a (omega arith) (omega arith))
-    ∙ ap (λ (x : List Rec). g a ++ x) (flat-same f g n (a + 1) (λ i low high. h i (omega arith) (omega arith)))
+flat-same f g (suc n) a h = grind (arith, flat-same f g n (a + 1))
 
 -- the rows of one more voter
 rows-next : (e : Instance) (p : Prices) (run : List (ℕ × ℕ)) (voter : ℕ) → voter ≡ length p.payments + 1

@@ -42,19 +42,7 @@ pub heads-written : (d b : ℕ) (h0 h1 h2 h3 h4 : List ℕ) → d < 10 ^ 64 → 
     → h4 ≡ h3 ++ row_text default_writer (codes "voter" ∷ codes "project" ∷ codes "payment" ∷ [])
     → h4 ≡ h0 ++ lines (head_records d b)
 heads-written d b h0 h1 h2 h3 h4 hd hb e1 e2 e3 e4 =
-    let f1 : h1 ≡ h0 ++ line (codes "pb-prices" ∷ codes "1" ∷ []) = e1 ∙ ap (λ (x : List ℕ). h0 ++ x) name-line in
-    let f2 : h2 ≡ h1 ++ line (codes "denominator" ∷ decimal d ∷ []) =
-    e2 ∙ ap (λ (x : List ℕ). h1 ++ x) (denominator-line d hd) in
-    let f3 : h3 ≡ h2 ++ line (codes "voter_budget" ∷ decimal b ∷ []) =
-    e3 ∙ ap (λ (x : List ℕ). h2 ++ x) (budget-line b hb) in
-    let f4 : h4 ≡ h3 ++ line (codes "voter" ∷ codes "project" ∷ codes "payment" ∷ []) =
-    e4 ∙ ap (λ (x : List ℕ). h3 ++ x) columns-line in
-    f4 ∙ ap (λ (x : List ℕ). x ++ line (codes "voter" ∷ codes "project" ∷ codes "payment" ∷ []))
-    (f3 ∙ ap (λ (x : List ℕ). x ++ line (codes "voter_budget" ∷ decimal b ∷ []))
-    (f2 ∙ ap (λ (x : List ℕ). x ++ line (codes "denominator" ∷ decimal d ∷ [])) f1))
-    ∙ join-four (line (codes "pb-prices" ∷ codes "1" ∷ [])) (line (codes "denominator" ∷ decimal d ∷ []))
-    (line (codes "voter_budget" ∷ decimal b ∷ [])) (line (codes "voter" ∷ codes "project" ∷ codes "payment" ∷ []))
-    h0
+    grind (arith, name-line, denominator-line, budget-line, columns-line, join-four)
 
 -- The rows of a voter.
 
@@ -91,10 +79,7 @@ pub payment-at : (m : ℕ) (qs : List (ℕ × ℕ)) (k : ℕ) → IsPaymentMap m
 payment-at m qs k h l = all-at (IsPayment m) qs k (0, 0) (each-payment m qs h) l
 
 pub id-at : (e : Instance) (j : ℕ) → IsElection e → IsProject e j → IsId (id_of e j)
-id-at e j s p =
-    let low : 1 ≤ j = p.0 in
-    let high : j ≤ projects e = p.1 in
-    all-at IsId e.ids (j - 1) [] s.ids (omega arith)
+id-at e j s p = grind (arith, all-at)
 
 -- the record of a payment
 abbrev pub row_of : Instance → ℕ → ℕ × ℕ → Rec
@@ -102,9 +87,7 @@ row_of e i q = decimal i ∷ id_of e q.0 ∷ decimal q.1 ∷ []
 
 pub row-plain : (e : Instance) (i : ℕ) (q : ℕ × ℕ) → IsElection e → i < 10 ^ 64 → IsPayment (projects e) q
     → ArePlain (row_of e i q)
-row-plain e i q s v h =
-    let small : q.1 ≤ 10 ^ 21 = h.small in
-    (decimal-plain i v, (id-plain (id_of e q.0) (id-at e q.0 s (h.low, h.high)), (decimal-plain q.1 (omega arith), tt)))
+row-plain e i q s v h = grind (arith, decimal-plain, id-plain, id-at)
 
 pub lines-push : (rows : List Rec) (r : Rec) → lines (rows ++ (r ∷ [])) ≡ lines rows ++ line r
 lines-push rows r = flat_map-append line rows (r ∷ []) ∙ ap (λ (x : List ℕ). lines rows ++ x) (append-nil (line r))

@@ -11,14 +11,12 @@ use Rattle.pb_certificate.proofs.fields.voter_in.Goals as goal
 
 -- what the test of a fault says
 other : (w : WholeFault) → true ≡ not (sameb the_type w whole.TooLarge) → w ≡ whole.TooLarge → ⊥
-other whole.Empty e k = cc k
-other whole.NotDigits e k = cc k
 other whole.TooLarge e k = cc e
+other _ e k = cc k
 
 large : (w : WholeFault) → false ≡ not (sameb the_type w whole.TooLarge) → w ≡ whole.TooLarge
-large whole.Empty e = cc e
-large whole.NotDigits e = cc e
 large whole.TooLarge e = refl
+large _ e = cc e
 
 pub returns-in-Ok : goal.returns-in-Ok
 returns-in-Ok c =

@@ -8,8 +8,7 @@ use Rattle.pb_cohesion.proofs.Loops.{set-at, set-length}
 use Rattle.pb_cohesion.proofs.explaining.count_not_approved.Goals as goal
 
 pub count_missing-count-requires-clause-voter : goal.count_missing-count-requires-clause-voter
-count_missing-count-requires-clause-voter c =
-    set-at 1 (voters c.args.election.now) c.args.group.now c.loop-i.i-index c.requires.group c.loop-i-test.true
+count_missing-count-requires-clause-voter c = grind (arith, set-at)
 
 pub overflow_add-count : goal.overflow_add-count
 overflow_add-count c =

@@ -1,6 +1,5 @@
-use Rattle.std.proofs.Common.{◌+◌, ◌≤◌, ◌-◌, ℕ, get_or, length, sym, ap, arith}
+use Rattle.std.proofs.Common.{ℕ, get_or, sym, ap, arith}
 use Rattle.std.specs.Prelude.{nat_le}
-use Rattle.pb_election.specs.Instance.{voters}
 use Rattle.pb_cohesion.specs.Groups.{gets, sat}
 use Rattle.pb_cohesion.proofs.Ballots.{worth-is}
 use Rattle.pb_cohesion.proofs.Counted.{all-seen, few-more, none-seen, seen-more}
@@ -8,14 +7,10 @@ use Rattle.pb_cohesion.proofs.Loops.{set-at, set-length}
 use Rattle.pb_cohesion.proofs.explaining.satisfied_members.Goals as goal
 
 pub ballot-requires : goal.ballot-requires
-ballot-requires g c =
-    set-at 1 (voters c.args.election.now) c.args.group.now c.loop-i.i-index c.requires.group c.loop-i-test.true
+ballot-requires g c = grind (arith, set-at)
 
 pub note-requires : goal.note-requires
-note-requires g c =
-    let members : length c.args.group.now ≤ voters c.args.election.now + 1 - 1 =
-    set-length 1 (voters c.args.election.now) c.args.group.now c.requires.group in
-    omega (arith, c.loop-i.invariant.few, c.requires.sound.few_voters)
+note-requires g c = grind (arith, set-length)
 
 pub loop-i-init : goal.loop-i-init
 loop-i-init g c = record { seen = none-seen _ _; few = omega arith }

@@ -1,14 +1,11 @@
-use Rattle.std.proofs.Common.{◌+◌, ◌≤◌, ◌-◌, length, ◌∙◌, ap, arith}
+use Rattle.std.proofs.Common.{◌∙◌, ap, arith}
 use Rattle.pb_cohesion.specs.ViolationFindings.{violation_findings}
 use Rattle.pb_cohesion.proofs.Counted.{findings-are}
 use Rattle.pb_cohesion.proofs.Loops.{set-length}
 use Rattle.pb_cohesion.proofs.explaining.violation_findings.Goals as goal
 
 pub overflow_cast-result : goal.overflow_cast-result
-overflow_cast-result g c =
-    let members : length c.group-group.result.now ≤ c.args.violation.now.voters + 1 - 1 =
-    set-length 1 c.args.violation.now.voters c.group-group.result.now c.group-group.ensures.rising in
-    omega (arith, members, c.requires.violation.each_voter, c.voters.ensures.sound.few_voters)
+overflow_cast-result g c = grind (arith, set-length)
 
 pub returns-clause-value : goal.returns-clause-value
 returns-clause-value g c =
@@ -25,13 +22,4 @@ returns-clause-value g c =
     ∙ ap (violation_findings meaning c.args.election.now marks c.args.violation.now.group) c.demand-demand.ensures.value
 
 pub returns-clause-small : goal.returns-clause-small
-returns-clause-small g c =
-    let demanded : length c.demand-demand.result.now ≤ c.args.violation.now.projects + 1 - 1 =
-    set-length 1 c.args.violation.now.projects c.demand-demand.result.now c.demand-demand.ensures.rising in
-    omega (
-      arith,
-      demanded,
-      c.requires.violation.each_project,
-      c.voters.ensures.sound.few_projects,
-      c.cost_of_all.ensures.small,
-    )
+returns-clause-small g c = grind (arith, set-length)

@@ -1,5 +1,4 @@
 use Rattle.std.proofs.Common.{◌<◌, ◌≤◌, ◌+◌, ◌*◌, ◌-◌, ◌∙◌, ℕ, suc, add-one, ap, sym, arith, get_or, length}
-use Rattle.std.specs.Char.{is_ascii_digit}
 use Rattle.std.proofs.lemmas.List.Sums.{prefix_len-le-length}
 use Rattle.pb_money.proofs.Numbers.{all-more, digits-in-front, eighteen-at-most, no-more-in-front, number-more, one-longer}
 use Rattle.pb_money.proofs.digits.leading_number.Goals as goal
@@ -51,13 +50,4 @@ returns-clause-small c =
 
 pub returns-clause-all : goal.returns-clause-all
 returns-clause-all c =
-    let text = c.args.text.now in
-    let i = c.loop-len.len in
-    let most : i ≤ length text = omega (arith, c.min-most.ensures, c.loop-len.invariant.within) in
-    let front = digits-in-front text i most c.loop-len.invariant.digits in
-    elim c.loop-len-test.branch [
-      | then-loop-len-test+else-is_ascii_digit w ↦
-          omega (arith, front, c.min-most.ensures, no-more-in-front text i (sym w.is_ascii_digit.ensures.value ∙ w.if-is_ascii_digit.false))
-      | else-loop-len-test w ↦
-          omega (arith, front, c.min-most.ensures, prefix_len-le-length is_ascii_digit text)
-    ]
+    grind (arith, digits-in-front, then-loop-len-test+else-is_ascii_digit, no-more-in-front, else-loop-len-test, prefix_len-le-length)

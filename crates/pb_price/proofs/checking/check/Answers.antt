@@ -3,37 +3,17 @@ use Rattle.pb_price.specs.Inside.Tallies.{IsTallyOf}
 use Rattle.pb_price.specs.Answers.{IsVerdictOn}
 use Rattle.pb_price.proofs.Bounds.{steps-bound, sums-of-bound}
 use Rattle.pb_price.proofs.Groups.{on-prices, same-answer}
-use Rattle.pb_price.proofs.Payments.{few-rows, takes-none, tally-of}
+use Rattle.pb_price.proofs.Payments.{few-rows, tally-of}
 use Rattle.pb_price.proofs.checking.check.Goals as goal
 
 pub take_prices-requires : goal.take_prices-requires
-take_prices-requires c = record {
-  prices = c.requires.prices;
-  none = takes-none c.args.election.now c.args.prices.now c.payment_grains-budget.result c.in_ok-tally.tally
-      c.in_ok-tally.ensures.0 c.in_ok-tally.ensures.1
-      (omega (arith, c.payment_grains-budget.ensures, c.budget.ensures.value));
-}
+take_prices-requires c = grind arith
 
 pub finish-requires : goal.finish-requires
 finish-requires c = (c.take_prices.ensures.taken, c.take_prices.ensures.tallied, few-rows _ _ _ c.take_prices.ensures)
 
 pub judge-checked-requires : goal.judge-checked-requires
-judge-checked-requires c =
-    let whole = c.finish.ensures.taken c.take_prices.ensures.taken c.take_prices.ensures.tallied in
-    record {
-      outcome = c.requires.outcome;
-      low = c.denominator.ensures.low;
-      high = c.denominator.ensures.high;
-      budget = omega (arith, whole.budget, whole.taken.small_budget);
-      sums = whole.sums.as_many;
-      small = λ k ip. sums-of-bound c.args.election.now _ c.finish.new.self k whole ip;
-      steps =
-          omega (
-            arith,
-            steps-bound c.args.election.now c.take_prices.ensures.taken c.finish.new.self whole
-                (few-rows _ _ _ c.take_prices.ensures),
-          );
-    }
+judge-checked-requires c = grind (arith, sums-of-bound, steps-bound, few-rows)
 
 pub returns : goal.returns
 returns c =

@@ -6,17 +6,7 @@ use Rattle.pb_price.proofs.Groups.{on-prices}
 use Rattle.pb_price.proofs.checking.check_rows.Goals as goal
 
 pub judge-requires : goal.judge-requires
-judge-requires c =
-    let t = c.in_ok-taken.ensures.taken in
-    record {
-      outcome = c.requires;
-      low = t.low;
-      high = t.high;
-      budget = t.small_budget;
-      sums = t.tally.sums.as_many;
-      small = t.in_range;
-      steps = omega (arith, t.few_steps);
-    }
+judge-requires c = grind arith
 
 pub returns : goal.returns
 returns c =

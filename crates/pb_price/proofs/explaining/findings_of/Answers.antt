@@ -4,17 +4,7 @@ use Rattle.pb_price.proofs.Certificates.{of-any, only-memory}
 use Rattle.pb_price.proofs.explaining.findings_of.Goals as goal
 
 pub findings_by-requires : goal.findings_by-requires
-findings_by-requires c =
-    let t = c.in_ok-taken.ensures.taken in
-    record {
-      outcome = c.requires;
-      low = t.low;
-      high = t.high;
-      budget = t.small_budget;
-      sums = t.tally.sums.as_many;
-      small = t.in_range;
-      steps = omega arith;
-    }
+findings_by-requires c = grind arith
 
 pub returns : goal.returns
 returns c =

@@ -1,8 +1,8 @@
 use Rattle.std.proofs.Common.{◌≡◌, ◌+◌, ◌^◌, ◌≤◌, get_or, pos, refl, sym, ◌∙◌, ap, subst, arith, rules, to_z-of_z, to_z, of_z}
 use Rattle.std.specs.Int.{w128}
 use Rattle.pb_money.specs.Grains.{cost_grains}
-use Rattle.pb_election.specs.Instance.{IsProject, cost_of, projects}
-use Rattle.pb_price.specs.Inside.Looked.{AreFoundTo, AreSmallFindings}
+use Rattle.pb_election.specs.Instance.{IsProject, cost_of}
+use Rattle.pb_price.specs.Inside.Looked.{AreSmallFindings}
 use Rattle.pb_price.specs.Inside.Tallies.{AreInRange, IsWithin}
 use Rattle.pb_price.proofs.Ballots.{nothing}
 use Rattle.pb_price.proofs.Looking.{cost-in-range, found-none, funded-then, paid-in-range, small-funded, small-none, small-unfunded, sums-in-range, unfunded-then}
@@ -54,12 +54,4 @@ loop-k-preserved c =
     ]
 
 pub returns-clause-found : goal.returns-clause-found
-returns-clause-found c =
-    let end : c.loop-k.k ≡ projects c.args.election.now =
-    omega (arith, c.loop-k-test.false, c.loop-k.auto.k-end, c.projects-k-end.ensures.value) in
-    let fits : to_z w128 (of_z w128 c.args.remaining) ≡ c.args.remaining = search (rules, to_z-of_z) in
-    subst (λ r. AreFoundTo (projects c.args.election.now) c.args.election.now c.args.outcome.now.marks
-    c.args.denominator r c.args.sums.now c.loop-k.findings) fits
-    (subst
-    (λ n. AreFoundTo n c.args.election.now c.args.outcome.now.marks c.args.denominator
-    (to_z w128 (of_z w128 c.args.remaining)) c.args.sums.now c.loop-k.findings) end c.loop-k.invariant.found)
+returns-clause-found c = grind arith

@@ -4,22 +4,10 @@ use Rattle.pb_price.proofs.Certificates.{of-any, only-memory}
 use Rattle.pb_price.proofs.figures.findings_and_margins_of.Goals as goal
 
 pub margins_in-requires : goal.margins_in-requires
-margins_in-requires c =
-    let t = c.in_ok-taken.ensures.taken in
-    record { outcome = c.requires; low = t.low; high = t.high; sums = t.tally.sums.as_many }
+margins_in-requires c = grind arith
 
 pub findings_by-findings-requires : goal.findings_by-findings-requires
-findings_by-findings-requires c =
-    let t = c.in_ok-taken.ensures.taken in
-    record {
-      outcome = c.requires;
-      low = t.low;
-      high = t.high;
-      budget = t.small_budget;
-      sums = t.tally.sums.as_many;
-      small = t.in_range;
-      steps = omega arith;
-    }
+findings_by-findings-requires c = grind arith
 
 pub returns-clause-only : goal.returns-clause-only
 returns-clause-only c =

@@ -2,20 +2,14 @@ use Rattle.std.proofs.Common.{◌≤◌, ℕ, [], ◌∷◌, refl, arith, inr}
 use Rattle.std.proofs.lemmas.List.Elements.{All-from_recursion}
 use Rattle.pb_election.specs.Instance.{Approves}
 use Rattle.pb_cohesion.specs.Amounts.{pays}
-use Rattle.pb_certificate.specs.Samples.{sample_outcome, sample_prices, sample_with_costs}
-use Rattle.pb_cohesion.specs.Conditions.{S5}
+use Rattle.pb_certificate.specs.Samples.{sample_outcome, sample_with_costs}
 use Rattle.pb_cohesion.specs.Groups.{Blocks, IsGroupWithin, Offer}
 use Rattle.pb_cohesion.specs.Outcome.{IsFunded, IsUnfunded}
-use Rattle.pb_cohesion.proofs.Culprits.{S5-iff}
-use Rattle.pb_cohesion.proofs.Stable.{none_blocks}
 use Rattle.pb_price.specs.Samples.{moved_prices}
 use Rattle.pb_price.proofs.samples.left_and_offered.Goals as goal
 
 pub returns-clause-not_added : goal.returns-clause-not_added
-returns-clause-not_added c block =
-    let stable : S5 (sample_with_costs 6 4 2) sample_outcome sample_prices =
-    (S5-iff (sample_with_costs 6 4 2) sample_outcome sample_prices).0 refl in
-    none_blocks (sample_with_costs 6 4 2) sample_outcome sample_prices _ 3 block.0 stable block.1
+returns-clause-not_added c block = grind arith
 
 pub returns-clause-not_left_alone : goal.returns-clause-not_left_alone
 returns-clause-not_left_alone c none =

@@ -1,6 +1,6 @@
 use mir.Syntax.{w128}
 use mir.Val.{of_z, to_z}
-use Rattle.std.proofs.Common.{◌≡◌, ◌+◌, ◌-◌, get_or, length, set, subst, sym, take, ◌∙◌, ap, arith}
+use Rattle.std.proofs.Common.{◌≡◌, ◌+◌, ◌-◌, get_or, length, set, subst, take, arith}
 use Rattle.std.specs.Prelude.{ℤ, ◌+ℤ◌}
 use Rattle.pb_price.specs.Inside.Tallies.{AreChanged, with_supporter}
 use Rattle.pb_price.specs.declared.tally.ProjectSums.{ProjectSums}
@@ -23,9 +23,7 @@ bounds-projects-j c =
 -- the sums with one more supporter, as they are kept
 with-kept : (s : ProjectSums) (l o kept_left kept_offer : ℤ) → kept_left ≡ s.left +ℤ l → kept_offer ≡ s.offer +ℤ o
     → with_supporter l o s ≡ record s { left = kept_left; offer = kept_offer; supporters = s.supporters + 1 }
-with-kept s l o kept_left kept_offer h k =
-    ap (λ x. record s { left = x; offer = s.offer +ℤ o; supporters = s.supporters + 1 }) (sym h)
-    ∙ ap (λ x. record s { left = kept_left; offer = x; supporters = s.supporters + 1 }) (sym k)
+with-kept s l o kept_left kept_offer h k = grind arith
 
 pub overflow_add-sums : goal.overflow_add-sums
 overflow_add-sums c =

@@ -7,22 +7,10 @@ use Rattle.pb_price.proofs.Whole.{whole-steps}
 use Rattle.pb_price.proofs.tallying.take_certificate.Goals as goal
 
 pub take_rows-requires : goal.take_rows-requires
-take_rows-requires c = record {
-  election = c.in_ok-rows.ensures.election;
-  none_given = c.in_ok-rows.ensures.none_given;
-  tallied = before-rows c.args.election.now c.in-Ok.tally c.in_ok-rows.rows c.payment_grains-budget.result
-      c.in-Ok.ensures.0 (omega (arith, c.payment_grains-budget.ensures, c.budget.ensures.value))
-      c.in_ok-rows.ensures.none_given;
-  none_closed = c.in-Ok.ensures.1;
-}
+take_rows-requires c = grind (arith, before-rows)
 
 pub finish-requires : goal.finish-requires
-finish-requires c =
-    let taken = c.in_ok-take_rows.ensures.taken in (
-      _,
-      tallied-by c.in_ok-rows.rows c.args.election.now c.take_rows.new.tally taken c.in_ok-rows.ensures.election,
-      omega (arith, taken.few),
-    )
+finish-requires c = grind arith
 
 pub returns-clause-taken : goal.returns-clause-taken
 returns-clause-taken c =

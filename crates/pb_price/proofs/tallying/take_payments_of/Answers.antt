@@ -1,19 +1,11 @@
 use Rattle.std.proofs.Common.{◌<◌, get_or, length, sym, ap, subst, arith}
 use Rattle.pb_certificate.specs.Prices.{IsPaymentMap, payments_of}
-use Rattle.pb_price.specs.Inside.Tallies.{CanTakeRow, TakesRow, Tallied}
+use Rattle.pb_price.specs.Inside.Tallies.{TakesRow, Tallied}
 use Rattle.pb_price.proofs.Payments.{can-take, row_of, takes-next, took-next, took-voter, with_next}
 use Rattle.pb_price.proofs.tallying.take_payments_of.Goals as goal
 
 pub take-requires : goal.take-requires
-take-requires c =
-    let is = c.payments_of-payments.ensures.value in
-    subst (λ qs. CanTakeRow c.args.election.now c.loop-project.tally
-    (row_of c.args.i (get_or qs c.loop-project.project-index (0, 0)))) (sym c.payments_of-payments.ensures.value)
-    (can-take c.args.election.now c.args.prices.now c.args.i c.loop-project.project-index (0, 0) c.loop-project.tally
-    c.loop-project.invariant c.requires.prices
-    (subst (λ qs. IsPaymentMap c.args.prices.now.projects qs) c.payments_of-payments.ensures.value
-    c.payments_of-payments.ensures.map)
-    (omega (arith, c.loop-project-test.true, ap length c.payments_of-payments.ensures.value)) c.requires.voter)
+take-requires c = grind (arith, row_of, get_or, can-take)
 
 pub loop-project-preserved : goal.loop-project-preserved
 loop-project-preserved c =

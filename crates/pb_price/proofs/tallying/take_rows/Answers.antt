@@ -1,22 +1,13 @@
-use Rattle.std.proofs.Common.{length, refl, ◌∙◌, ap, arith}
+use Rattle.std.proofs.Common.{◌∙◌, ap, arith}
 use Rattle.pb_certificate.specs.Prices.Rows.{Rows}
-use Rattle.pb_price.proofs.Rows.{can-take, falls, few-then, last-then, takes-row}
+use Rattle.pb_price.proofs.Rows.{can-take, few-then, last-then, takes-row}
 use Rattle.pb_price.proofs.tallying.take_rows.Goals as goal
 
 pub loop-behind-init : goal.loop-behind-init
-loop-behind-init c = record {
-  same = refl;
-  tallied = c.requires.tallied;
-  closed = omega (arith, c.requires.none_closed);
-  few = omega (arith, ap length c.requires.none_given);
-}
+loop-behind-init c = grind arith
 
 pub take-requires : goal.take-requires
-take-requires c =
-    let given_row = rw c.in-Some.is at c.in_ok-behind.ensures.row in
-    can-take c.args.election.now c.loop-behind.left c.in_ok-behind.behind c.in-Some.row c.loop-behind.tally given_row
-    (ap (λ x. x.election) c.loop-behind.invariant.same ∙ c.requires.election) c.loop-behind.invariant.tallied
-    c.loop-behind.invariant.closed
+take-requires c = grind (arith, can-take)
 
 pub loop-behind-preserved : goal.loop-behind-preserved
 loop-behind-preserved c =
@@ -34,7 +25,4 @@ loop-behind-preserved c =
     }
 
 pub loop-behind-smaller : goal.loop-behind-smaller
-loop-behind-smaller c =
-    let given_row = rw c.in-Some.is at c.in_ok-behind.ensures.row in
-    falls c.loop-behind.left c.in_ok-behind.behind given_row.record_of given_row.next
-    (ap (λ x. x.records) given_row.same)
+loop-behind-smaller c = grind arith

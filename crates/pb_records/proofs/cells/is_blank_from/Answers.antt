@@ -14,9 +14,7 @@ returns-then-not-is_empty c =
     sym (sym c.loop-field.invariant ∙ b ∙ rw e refl)
 
 pub loop-field-smaller : goal.loop-field-smaller
-loop-field-smaller c =
-    omega
-    (arith, field-some (fields_of c.args.row.now) c.loop-field.i c.in-Some.field.now (sym c.in-Some.ensures.value))
+loop-field-smaller c = grind (arith, field-some)
 
 pub loop-field-preserved : goal.loop-field-preserved
 loop-field-preserved c =
@@ -26,5 +24,4 @@ loop-field-preserved c =
     sym (rw e at b) ∙ c.loop-field.invariant
 
 pub returns : goal.returns
-returns c = sym (blank-none (fields_of c.args.row.now) c.loop-field.i (sym c.in_default.ensures.value))
-    ∙ c.loop-field.invariant
+returns c = grind (arith, blank-none)

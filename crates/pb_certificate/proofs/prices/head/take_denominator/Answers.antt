@@ -1,16 +1,10 @@
 use Rattle.std.proofs.Common.{◌∙◌, ◌^◌, arith, sym}
 use Rattle.std.specs.Prelude.{codes}
-use Rattle.std.proofs.lemmas.Result.{err_from_is_err_and}
-use Rattle.pb_certificate.specs.Fields.{StatesNumber}
-use Rattle.pb_certificate.proofs.OnPrices.HeadSteps.{denominator-form, not-met, value-refused, value-taken}
+use Rattle.pb_certificate.proofs.OnPrices.HeadSteps.{denominator-form, value-refused, value-taken}
 use Rattle.pb_certificate.proofs.prices.head.take_denominator.Goals as goal
 
 pub returns-in_err-next_head : goal.returns-in_err-next_head
-returns-in_err-next_head c =
-    let p = err_from_is_err_and c.from_residual.result c.from_residual.ensures.1 in
-    rw (p.1, p.2)
-    (not-met (StatesNumber (codes "denominator") 1 (10 ^ 9)) 1 c.args.cursor.now c.next_head.new.cursor
-    c.in_err-next_head.field-0.0 (omega arith) c.in_err-next_head.ensures)
+returns-in_err-next_head c = grind arith
 
 pub returns-in-Ok : goal.returns-in-Ok
 returns-in-Ok c =

@@ -7,8 +7,4 @@ use Rattle.pb_election.proofs.election_draft.ElectionDraft.take_project.Goals as
 
 pub returns : goal.returns
 unfolding lowest_fault
-returns c =
-    elim c.match-add.branch [
-      | in-Ok-add w ↦ rw w.result-is (grind (arith, common_steps, money-value _ _ c.in-Ok.ensures.found))
-      | in-Err w ↦ rw w.result-is tt
-    ]
+returns c = grind (arith, in-Ok-add, common_steps, money-value, in-Err)

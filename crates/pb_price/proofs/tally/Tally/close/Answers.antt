@@ -1,4 +1,4 @@
-use Rattle.std.proofs.Common.{rules, nat_lt, ◌≡◌, ◌+◌, ◌^◌, get_or, length, refl, sym, ap, subst, ◌∙◌, arith}
+use Rattle.std.proofs.Common.{nat_lt, ◌≡◌, ◌+◌, ◌^◌, get_or, length, refl, sym, ap, subst, ◌∙◌, arith}
 use Rattle.std.proofs.lemmas.Int.{ints}
 use Rattle.std.proofs.lemmas.List.{with_items_is}
 use Rattle.pb_election.specs.Instance.{IsSet, projects}
@@ -10,12 +10,10 @@ use Rattle.pb_price.proofs.Closing.{closed, left-kept, most-kept}
 use Rattle.pb_price.proofs.tally.Tally.close.Goals as goal
 
 pub left_of-left-requires-clause-spent : goal.left_of-left-requires-clause-spent
-left_of-left-requires-clause-spent c =
-    omega (arith, spent-bound c.args.election.now c.requires.tallied.0 c.args.self.now c.requires.tallied.1)
+left_of-left-requires-clause-spent c = grind (arith, spent-bound)
 
 pub offer_of-offer-requires : goal.offer_of-offer-requires
-offer_of-offer-requires c =
-    omega (arith, largest-bound c.args.election.now c.requires.tallied.0 c.args.self.now c.requires.tallied.1)
+offer_of-offer-requires c = grind (arith, largest-bound)
 
 pub give-requires : goal.give-requires
 give-requires c =
@@ -43,41 +41,16 @@ give-requires c =
     }
 
 pub overflow_cast-compared : goal.overflow_cast-compared
-overflow_cast-compared c =
-    search
-    (rules, arith, ints, spent-bound c.args.election.now c.requires.tallied.0 c.args.self.now c.requires.tallied.1)
+overflow_cast-compared c = grind (arith, spent-bound)
 
 pub note-requires : goal.note-requires
-note-requires c =
-    let most = spent-bound c.args.election.now c.requires.tallied.0 c.args.self.now c.requires.tallied.1 in
-    record {
-      few = over-few c.args.election.now c.requires.tallied.0 c.args.self.now c.requires.tallied.1;
-      here = record {
-        bound = omega (arith, c.requires.tallied.1.budget, c.requires.tallied.1.taken.small_budget);
-        amount = (omega (arith, ints, most), omega (arith, ints, most));
-      };
-      shown = over-small c.args.election.now c.requires.tallied.0 c.args.self.now c.requires.tallied.1;
-    }
+note-requires c = grind (arith, spent-bound, over-few, over-small)
 
 pub overflow_add-self : goal.overflow_add-self
-overflow_add-self c =
-    omega (
-      arith,
-      ap length c.ballot-ballot.ensures.value,
-      ballot-bound c.args.election.now (c.args.self.now.closed + 1),
-      c.requires.tallied.1.sound.few_approvals,
-    )
+overflow_add-self c = grind arith
 
 pub overflow_add-self-2 : goal.overflow_add-self-2
-overflow_add-self-2 c =
-    omega (
-      arith,
-      steps-bound c.args.election.now c.requires.tallied.0 c.args.self.now c.requires.tallied.1
-          c.requires.tallied.2,
-      ap length c.ballot-ballot.ensures.value,
-      ballot-bound c.args.election.now (c.args.self.now.closed + 1),
-      c.requires.tallied.1.sound.few_approvals,
-    )
+overflow_add-self-2 c = grind (arith, steps-bound, ballot-bound)
 
 pub returns-clause-taken : goal.returns-clause-taken
 returns-clause-taken c = λ a h. (

@@ -2,11 +2,7 @@ use Rattle.std.proofs.Common.{◌∙◌, arith}
 use Rattle.pb_price.proofs.tally.Tally.finish.Goals as goal
 
 pub close_to-requires : goal.close_to-requires
-close_to-requires c = record {
-  tallied = c.requires;
-  order = omega (arith, c.voters.ensures.value, c.requires.1.taken.within);
-  last = omega (arith, c.voters.ensures.value);
-}
+close_to-requires c = grind arith
 
 pub returns-clause-taken : goal.returns-clause-taken
 returns-clause-taken c = c.close_to.ensures.taken

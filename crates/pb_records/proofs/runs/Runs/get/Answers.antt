@@ -13,9 +13,8 @@ pub overflow_add-place : goal.overflow_add-place
 overflow_add-place g c =
     let starts = c.self.inside.starts.items in
     let entries = c.self.inside.entries.items in
-    let within = rw (← c.self.view_is) at c.requires in
     let long = runs-length starts (length entries) entries c.self.invariant in
-    search (rules, within, long)
+    search (rules, long)
 
 pub index-requires-2 : goal.index-requires-2
 index-requires-2 g c =
@@ -53,8 +52,4 @@ slice_bounds-result-end g c =
     search rules
 
 pub returns : goal.returns
-returns g c =
-    let within = rw (← c.self.view_is) at c.requires in
-    let run = run-at c.self.inside.starts.items c.self.inside.entries.items c.args.place c.index.result.now
-    c.index-2.result.now c.self.invariant within c.index.ensures c.index-2.ensures in
-    rw (← c.self.view_is, c.deref.ensures.value) run.run
+returns g c = grind (arith, run-at)
