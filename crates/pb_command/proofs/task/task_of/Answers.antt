@@ -1,4 +1,4 @@
-use Rattle.std.proofs.Common.{[], sym, false, is_some, option_map, ◌≡◌, ◌∙◌, ap, ap₂, subst, true, refl, map, string_bytes, inl, inr, ◌⊎◌}
+use Rattle.std.proofs.Common.{[], sym, false, is_some, option_map, ◌≡◌, ◌∙◌, ap, ap₂, subst, true, refl, map, string_bytes, ◌⊎◌, arith}
 use Rattle.clap.specs.Words.{HasKind, IsAmong, Kinds, fault_of, is_simple, is_simple_and_free, kind_of, subcommand_of, takes}
 use Rattle.clap.specs.declared.error.kind.ErrorKind.{ErrorKind}
 use Rattle.clap.specs.declared.error.kind.ErrorKind.TheVariants.{OutOfMemory}
@@ -37,9 +37,7 @@ returns-clause-taken c =
 fault_is : (kinds : Kinds) (k : ErrorKind) (f : UsageFault) → (k ≡ OutOfMemory) ⊎ IsAmong k kinds
     → (k ≡ OutOfMemory → f ≡ Memory)
     → (f ≡ Memory) ⊎ FitsKind k f → IsFaultOf kinds f
-fault_is kinds k f (inl out) memory fits = inl (memory out)
-fault_is kinds k f (inr among) memory (inl m) = inl m
-fault_is kinds k f (inr among) memory (inr fits) = inr (k, among, fits)
+fault_is kinds k f h memory fits = grind arith
 
 pub returns-clause-refused : goal.returns-clause-refused
 returns-clause-refused c =
