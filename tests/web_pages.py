@@ -227,6 +227,11 @@ def try_frame(visit):
                 "no script runs in the frame")
     fits = "return Math.abs(inside.documentElement.scrollHeight - frame.clientHeight) < 40"
     visit.browser.wait(ask + fits, "the frame's height", 10)
+    before, after = visit.browser.ask("""scrollTo(0, 1e6);
+const before = scrollY;
+dispatchEvent(new Event('resize'));
+return [before, scrollY];""")
+    visit.holds(before > 0 and after == before, f"a window of another size stays where it is: {before}, {after}")
 
 
 def try_drops(visit):

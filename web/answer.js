@@ -34,10 +34,14 @@ function showPage(frame, page) {
 
 /** @type {(frame: HTMLIFrameElement) => void} */
 function fitFrame(frame) {
-  const inside = frame.contentDocument?.documentElement;
-  // Less than any page is high, so that what is measured is the page and not the frame.
+  const inside = frame.contentDocument?.documentElement, place = frame.parentElement;
+  if (!inside || !place) return;
+  // Less than any page is high, so that what is measured is the page and not the frame. Its place stays as high as it
+  // is meanwhile, so that nobody who has scrolled down is thrown back.
+  place.style.minHeight = `${place.offsetHeight}px`;
   frame.style.height = "4rem";
-  if (inside) frame.style.height = `${Math.min(HIGHEST_FRAME, inside.scrollHeight + 4)}px`;
+  frame.style.height = `${Math.min(HIGHEST_FRAME, inside.scrollHeight + 4)}px`;
+  place.style.minHeight = "";
 }
 
 /**
