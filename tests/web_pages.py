@@ -331,6 +331,70 @@ def try_choices(visit):
     visit.same([refused], visit.answers(1), "a file whose kind is chosen")
 
 
+LAST_FILE = "return [...document.querySelectorAll('#file-list bdi')].pop().textContent"
+
+
+def give_anew(visit, path):
+    """Gives a file that is there and isn't the last of the list. It comes to its end."""
+    visit.holds(visit.browser.ask(LAST_FILE) != path.name, f"{path.name} isn't the last file")
+    visit.give(path)
+    browsers.until(lambda: visit.browser.ask(LAST_FILE) == path.name, 20, f"{path.name} once more")
+
+
+def try_corrected(visit):
+    """What was chosen holds for a file that was corrected since, and not for one that is gone: an answer is about the
+    files that are there."""
+    room = visit.new_room()
+    good = (EXAMPLES / "sample.pb").read_text(encoding="utf-8")
+    bad = good.replace("budget;10", "budget;1")
+    one, two, claim = room / "one.pb", room / "two.pb", room / "claim.csv"
+    two.write_text(bad, encoding="utf-8")
+    shutil.copy(EXAMPLES / "sample.prices.csv", claim)
+
+    def claimed(count):
+        chosen = "return document.querySelector('#audit-list [aria-label=Election]').selectedOptions[0].textContent"
+        rows = [each[1:] for each in visit.answers(count) if each[0] == "claim.csv"]
+        return [*rows, visit.browser.ask(chosen)]
+
+    one.write_text(good, encoding="utf-8")
+    visit.open()
+    visit.give(one, two, claim)
+    visit.answers(3)
+    visit.browser.ask(CHOOSE, "#audit-list [aria-label=Election]", "one.pb")
+    visit.same([("Yes", "supported priceable"), "one.pb"], claimed(2), "the election that is chosen")
+    one.write_text(bad, encoding="utf-8")
+    give_anew(visit, one)
+    wanted = visit.says("prices", "one.pb", "claim.csv", folder=room).split("\n")[0]
+    visit.same([("No", wanted), "one.pb"], claimed(2), "the chosen election, corrected")
+    give_anew(visit, claim)
+    visit.same([("No", wanted), "one.pb"], claimed(2), "the same certificate once more")
+    one.write_text(good, encoding="utf-8")
+    give_anew(visit, one)
+    visit.same([("Yes", "supported priceable"), "one.pb"], claimed(2), "the chosen election, corrected again")
+    visit.browser.click("[aria-label='Remove one.pb']")
+    found = [(name, word) for name, word, _ in visit.answers(1)]
+    visit.same([("claim.csv", "No")], found, "the chosen election is removed, so the other is the only one")
+
+
+def try_corrected_outcome(visit):
+    """The same with an outcome that is chosen."""
+    outcome = visit.new_room() / "winners.csv"
+    shutil.copy(EXAMPLES / "district.other.outcome.csv", outcome)
+    visit.open()
+    visit.give(outcome, EXAMPLES / "sample.pb", EXAMPLES / "district.pb", EXAMPLES / "district.violation.csv")
+    visit.answers(2)
+    visit.browser.ask(CHOOSE, "#audit-list [aria-label='Funded projects']", "winners.csv")
+    visit.holds(("district.violation.csv", "Yes", "violation") in visit.answers(2), "the chosen outcome")
+    shutil.copy(EXAMPLES / "district.stable.outcome.csv", outcome)
+    give_anew(visit, outcome)
+    words = ["violation", "district.pb", "district.violation.csv", "--outcome", "district.stable.outcome.csv"]
+    wanted = ("district.violation.csv", "No", visit.says(*words).split("\n")[0])
+    visit.holds(wanted in visit.answers(2), f"the chosen outcome, corrected: {visit.answers(2)}")
+    visit.browser.click("[aria-label='Remove winners.csv']")
+    wanted = ("district.violation.csv", "No", "failed V4 voter 9")
+    visit.holds(wanted in visit.answers(2), "the chosen outcome is removed, so the election's is audited")
+
+
 def try_replacing(visit):
     """A file is replaced by its button. The chooser of files is the browser's, so the page's call of it is left out."""
     if not isinstance(visit.browser, browsers.Chromium):
@@ -345,6 +409,19 @@ def try_replacing(visit):
     visit.browser.wait(is_other, "another file")
     visit.same([("district.prices.csv", "Yes", None)], visit.answers(1), "the file in its place")
     visit.same("Files (2)", visit.text("#files-head"), "two files are there")
+    claim = visit.new_room() / "claim.csv"
+    shutil.copy(EXAMPLES / "district.prices.csv", claim)
+    visit.browser.click("#clear")
+    visit.give(EXAMPLES / "district.pb", EXAMPLES / "sample.pb", claim)
+    visit.answers(3)
+    visit.browser.ask(CHOOSE, "#audit-list [aria-label=Election]", "district.pb")
+    visit.answers(2)
+    visit.browser.click("[aria-label='Replace claim.csv']")
+    visit.give(EXAMPLES / "sample.wrong.prices.csv", to="#replace-input")
+    visit.browser.wait("return document.body.textContent.includes('sample.wrong.prices.csv')", "a file of another name")
+    chosen = "return document.querySelector('#audit-list [aria-label=Election]').selectedOptions[0].textContent"
+    visit.answers(2)
+    visit.same("district.pb", visit.browser.ask(chosen), "the election that was chosen for the file it replaces")
 
 
 def try_folder(visit):
@@ -569,8 +646,8 @@ def drive(score, engine, page, program, pictures):
 
 def tests(page, server, downloads, pictures):
     return [
-        try_answers, try_frame, try_drops, try_folder_drop, try_choices, try_replacing, try_refusal, try_folder,
-        try_hostile_names, try_many, try_stop, try_bad_files, try_languages, web_reach.try_names,
+        try_answers, try_frame, try_drops, try_folder_drop, try_choices, try_corrected, try_corrected_outcome,
+        try_replacing, try_refusal, try_folder, try_hostile_names, try_many, try_stop, try_bad_files, try_languages, web_reach.try_names,
         functools.partial(web_reach.try_keyboard, downloads=downloads),
         functools.partial(try_connections, server=server),
         functools.partial(try_faults, page=page),

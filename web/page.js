@@ -55,8 +55,12 @@ class Page {
     return [];
   }
 
-  /** @param {Piece[]} pieces */
-  set(pieces) {
+  /**
+   * @param {Piece[]} pieces
+   * @param {Map<Piece, Piece>} replaced
+   */
+  set(pieces, replaced = new Map()) {
+    this.choices = choicesAmong(this.choices, pieces, replaced);
     this.pieces = pieces;
     this.isNew = true;
     element("files-open").open = pieces.length <= MOST_IN_SIGHT;
@@ -100,7 +104,7 @@ class Page {
     if (!found || !old) return;
     const kind = await kindOf(found.file);
     const piece = { file: found.file, folder: old.folder, kind: kind === "unknown" ? old.kind : kind };
-    this.set(this.pieces.map(each => each === old ? piece : each));
+    this.set(this.pieces.map(each => each === old ? piece : each), new Map([[old, piece]]));
   }
 
   /**

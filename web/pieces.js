@@ -106,6 +106,9 @@ function byName(a, b) {
   return keyOf(a) < keyOf(b) ? -1 : 1;
 }
 
+/** @type {(a: Piece, b: Piece) => boolean} */
+const isSamePath = (a, b) => a.folder === b.folder && a.file.name === b.file.name;
+
 /**
  * Adds files to those that are there. One of the same name and folder takes the other's place.
  * @param {Piece[]} pieces
@@ -113,8 +116,28 @@ function byName(a, b) {
  * @returns {Piece[]}
  */
 function withPieces(pieces, added) {
-  /** @type {(a: Piece, b: Piece) => boolean} */
-  const isSame = (a, b) => a.folder === b.folder && a.file.name === b.file.name;
-  const kept = pieces.filter(piece => !added.some(each => isSame(piece, each)));
+  const kept = pieces.filter(piece => !added.some(each => isSamePath(piece, each)));
   return [...kept, ...added];
+}
+
+/**
+ * The choices among the files that are there now. What was chosen for a file, and where it was chosen itself, goes over
+ * to the file that took its place, if that can be the same; a file that is gone is chosen no more.
+ * @param {Map<Piece, Choice>} choices
+ * @param {Piece[]} pieces
+ * @param {Map<Piece, Piece>} replaced by which file each was replaced
+ * @returns {Map<Piece, Choice>}
+ */
+function choicesAmong(choices, pieces, replaced) {
+  const now = (/** @type {Piece} */ old) => {
+    const isLike = (/** @type {Piece} */ each) => each.kind === old.kind || (isCertificate(each) && isCertificate(old));
+    const places = pieces.filter(each => each === replaced.get(old) || isSamePath(each, old));
+    return pieces.includes(old) ? old : places.find(isLike);
+  };
+  const kept = new Map();
+  for (const [certificate, { election, outcome }] of choices) {
+    const its = now(certificate);
+    if (its) kept.set(its, { election: election && now(election), outcome: outcome && now(outcome) });
+  }
+  return kept;
 }
