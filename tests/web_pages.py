@@ -514,6 +514,76 @@ new MutationObserver((_, observer) => {
     visit.same([("large.prices.csv", "Yes", None)], visit.answers(1), "the same again")
 
 
+# Does what is asked once an audit runs and another has a button to show its answer. Then it notes what the last audit
+# does as the answer comes in sight, and has the figures saved.
+WHILE_BUSY = """
+window.whenShown = null;
+const observer = new MutationObserver(() => {
+  const button = document.querySelector("[aria-label='Show the answer on a.prices.csv']");
+  const isRunning = document.querySelector('[data-state=running]');
+  if (button && isRunning && !window.isPressed) { window.isPressed = true; button.click(); }
+  if (document.querySelector('#answer').hidden || window.whenShown) return;
+  window.whenShown = document.querySelector('#audit-list > li:last-child').dataset.state;
+  setTimeout(() => document.querySelector('#margins').click());
+});
+observer.observe(document.querySelector('#audit-list'), {childList: true});
+observer.observe(document.querySelector('#answer'), {attributes: true});
+"""
+
+
+def try_while_busy(visit, downloads):
+    """What is asked for while audits run is done ahead of those that wait."""
+    room = visit.new_room()
+    shutil.copy(EXAMPLES / "sample.pb", room / "a.pb")
+    shutil.copy(EXAMPLES / "sample.prices.csv", room / "a.prices.csv")
+    for name, path in zip((".pb", ".prices.csv"), large_files(room)):
+        shutil.copy(path, room / f"b{name}")
+        path.rename(room / f"c{name}")
+    visit.open()
+    visit.browser.ask(WHILE_BUSY)
+    visit.give(*sorted(room.iterdir()))
+    visit.same(["Yes"] * 3, [word for _, word, _ in visit.answers(3)], "audits between which an answer is shown")
+    state = visit.browser.ask("return window.whenShown")
+    visit.holds(state in ("waiting", "running"), f"the last audit is {state} when the answer is shown")
+    visit.same(visit.says("page", "a.pb", "a.prices.csv", folder=room), visit.shown(), "the page shown between audits")
+    saved, wanted = downloads / "a.prices.margins.csv", visit.says("margins", "a.pb", "a.prices.csv", folder=room)
+    browsers.until(lambda: saved.exists() and saved.read_text() == wanted, 20, "saving between audits")
+    saved.unlink()
+
+
+# Presses or chooses something once an audit of this file runs.
+ONCE_IT_RUNS = """
+const [name, selector, value] = arguments;
+const observer = new MutationObserver(() => {
+  if (document.querySelector('[data-state=running] bdi')?.textContent !== name) return;
+  observer.disconnect();
+  const element = document.querySelector(selector);
+  if (value === null) element.click();
+  else { element.value = value; element.dispatchEvent(new Event('change')); }
+});
+observer.observe(document.querySelector('#audit-list'), {childList: true});
+"""
+
+
+def try_changes_while_busy(visit):
+    """An option of prices leaves a violation alone that is being checked; the language is that of the page, whenever it
+    is chosen."""
+    election, certificate = large_files(visit.new_room())
+    violation = election.parent / "large.violation.csv"
+    violation.write_text("pb-violation,1\nproject,a\nvoter,1\n")
+    visit.open()
+    visit.browser.ask(ONCE_IT_RUNS, violation.name, "#stable", None)
+    visit.give(election, violation, EXAMPLES / "sample.prices.csv", EXAMPLES / "sample.pb")
+    found = visit.answers(2)
+    visit.same(["No", "Yes"], [word for _, word, _ in found], "audits with an option that is chosen meanwhile")
+    visit.holds(visit.browser.ask("return document.querySelector('#stable').checked"), "the option is chosen")
+    visit.browser.click("#clear")
+    visit.browser.ask(ONCE_IT_RUNS, certificate.name, "#language", "de")
+    visit.give(election, certificate)
+    visit.same([(certificate.name, "Ja", None)], visit.answers(1), "an audit whose language is chosen meanwhile")
+    visit.holds('lang="de"' in visit.shown()[:200], f"its page is in German: {visit.shown()[:200]}")
+
+
 def try_bad_files(visit):
     """A file that is too long, and one that was changed since it was chosen; the next audit works."""
     room = visit.new_room()
@@ -599,20 +669,36 @@ def try_looks(visit, pictures):
             visit.answers(1)
 
 
+SPEAK = """
+const choice = document.querySelector('#language');
+choice.value = arguments[0];
+choice.dispatchEvent(new Event('change'));
+"""
+
+
 def try_languages(visit):
     """Each language of the page, and the answer in it."""
     visit.open()
     visit.give(EXAMPLES / "sample.pb", EXAMPLES / "sample.prices.csv")
     visit.answers(1)
     for code, head in HEADS.items():
-        visit.browser.ask("""const choice = document.querySelector('#language');
-choice.value = arguments[0];
-choice.dispatchEvent(new Event('change'));""", code)
+        visit.browser.ask(SPEAK, code)
         visit.answers(1)
         visit.same(head, visit.text("h1"), f"the head in {code}")
         wanted = visit.says("page", "sample.pb", "sample.prices.csv", "--language", code)
         visit.same(wanted, visit.shown(), f"the answer in {code}")
         visit.same([], visit.browser.ask(WORDLESS), f"words that {code} lacks")
+    visit.browser.ask(SPEAK, "en")
+    visit.give(EXAMPLES / "district.pb", EXAMPLES / "district.voter-id.violation.csv")
+    visit.answers(2)
+    visit.browser.ask(SPEAK, "fr")
+    visit.answers(2)
+    wanted = visit.says("page", "sample.pb", "sample.prices.csv", "--language", "fr")
+    visit.same(wanted, visit.shown(), "the answer that was shown, of several")
+    visit.browser.click("[aria-label='Montrer la réponse sur district.voter-id.violation.csv']")
+    visit.browser.ask(SPEAK, "de")
+    told = visit.browser.ask("return document.querySelector('#refusal').innerText")
+    visit.holds("enthält einen Fehler" in told, f"a refusal that was shown: {told}")
 
 
 def drive(score, engine, page, program, pictures):
@@ -647,7 +733,8 @@ def drive(score, engine, page, program, pictures):
 def tests(page, server, downloads, pictures):
     return [
         try_answers, try_frame, try_drops, try_folder_drop, try_choices, try_corrected, try_corrected_outcome,
-        try_replacing, try_refusal, try_folder, try_hostile_names, try_many, try_stop, try_bad_files, try_languages, web_reach.try_names,
+        try_replacing, try_refusal, try_folder, try_hostile_names, try_many, try_stop, try_bad_files, try_languages, try_changes_while_busy, web_reach.try_names,
+        functools.partial(try_while_busy, downloads=downloads),
         functools.partial(web_reach.try_keyboard, downloads=downloads),
         functools.partial(try_connections, server=server),
         functools.partial(try_faults, page=page),

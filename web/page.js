@@ -25,6 +25,9 @@ class Page {
     this.words = WORDS[this.language];
     this.runner = new Runner(makeEngine());
     this.isBusy = false;
+    // What somebody asked for that isn't done yet.
+    /** @type {(() => Promise<void>)[]} */
+    this.asked = [];
     this.isDrawnSoon = false;
     // Whether files came since the last answers: then the page leads to these.
     this.isNew = false;
@@ -116,24 +119,30 @@ class Page {
     this.pair();
   }
 
-  /** @param {Mode} mode */
+  /**
+   * Asks otherwise of prices, which is nothing to a violation.
+   * @param {Mode} mode
+   */
   setMode(mode) {
+    const isPrices = (/** @type {Audit} */ { task }) => task.certificate?.kind === "prices";
     this.mode = mode;
-    this.runner.stop();
-    this.audits = this.audits.map(audit => audit.task.certificate?.kind === "prices" ? newAudit(audit.task) : audit);
-    this.shown = null;
+    if (this.audits.some(audit => audit.state === "running" && isPrices(audit))) this.runner.stop();
+    this.audits = this.audits.map(audit => isPrices(audit) ? newAudit(audit.task) : audit);
+    if (this.shown && isPrices(this.shown)) this.shown = null;
     this.draw();
     this.work();
   }
 
   /** Ends the audit that runs, and lets none begin that waits. */
   stop() {
+    this.asked = [];
     this.audits = this.audits.map(audit => audit.state === "waiting" ? { ...audit, state: "stopped" } : audit);
     this.runner.stop();
   }
 
   /** @param {Audit} audit */
   again(audit) {
+    if (this.shown === audit) this.shown = null;
     this.put(audit, newAudit(audit.task));
     this.draw();
     this.work();
@@ -150,21 +159,42 @@ class Page {
     return audit;
   }
 
-  /** Does what waits, one after the other. The only audit is shown at once. */
+  /**
+   * Has something done ahead of the audits that wait, once the one that runs is done.
+   * @param {() => Promise<void>} order
+   */
+  ask(order) {
+    this.asked.push(order);
+    this.work();
+  }
+
+  /** Does what was asked for and what waits, one after the other. */
   async work() {
     if (this.isBusy) return;
     this.isBusy = true;
     let hasWorked = false;
-    for (let next; (next = this.audits.find(audit => audit.state === "waiting")); hasWorked = true) {
-      const isOnly = this.audits.length === 1;
-      const done = await this.do(next, isOnly ? "page" : next.task.certificate?.kind ?? "read");
-      if (isOnly && done && this.audits.includes(done)) this.reveal(done);
+    for (;;) {
+      const asked = this.asked.shift(), next = this.audits.find(audit => audit.state === "waiting");
+      if (!asked && !next) break;
+      if (asked) await asked();
+      else if (next) await this.answer(next);
+      hasWorked = hasWorked || !asked;
     }
     this.isBusy = false;
     this.draw();
     if (hasWorked && this.audits.length > 1) speak(element("totals").textContent);
     if (this.isNew && this.audits.length > 0) element("audits").scrollIntoView();
     this.isNew = false;
+  }
+
+  /**
+   * Does an audit that waits. The only one is shown at once.
+   * @param {Audit} audit
+   */
+  async answer(audit) {
+    const isOnly = this.audits.length === 1;
+    const done = await this.do(audit, isOnly ? "page" : audit.task.certificate?.kind ?? "read");
+    if (isOnly && done && this.audits.includes(done)) this.reveal(done);
   }
 
   /**
@@ -212,20 +242,29 @@ class Page {
   }
 
   /**
-   * Shows an audit's answer, and asks for its page where only its line is there.
+   * Leads to an audit's answer.
    * @param {Audit} audit
    */
-  async show(audit) {
-    if (this.isBusy) return;
-    const needsPage = audit.task.certificate && !audit.page && !audit.refused && !audit.problem;
-    this.isBusy = true;
-    const line = audit.line;
-    const done = needsPage ? await this.do(audit, "page") : audit;
-    this.isBusy = false;
-    if (done) this.reveal(this.put(done, { ...done, line: done.line ?? line }));
-    element("answer").scrollIntoView();
-    element("answer").focus({ preventScroll: true });
-    this.work();
+  show(audit) {
+    this.isNew = false;
+    this.open(audit, () => {
+      element("answer").scrollIntoView();
+      element("answer").focus({ preventScroll: true });
+    });
+  }
+
+  /**
+   * Opens an audit's answer, and asks for its page where only its line is there.
+   * @param {Audit} audit
+   * @param {() => void} then
+   */
+  open(audit, then) {
+    const openNow = (/** @type {Audit | false | undefined} */ done) => {
+      if (done) this.reveal(done);
+      if (done && this.shown === done) then();
+    };
+    if (audit.page || audit.refused || audit.problem) return openNow(audit);
+    this.ask(async () => openNow(this.audits.includes(audit) && await this.do(audit, "page")));
   }
 
   /** @param {Audit} audit */
@@ -241,16 +280,15 @@ class Page {
    * @param {string} command
    * @param {string} ending
    */
-  async saveBy(command, ending) {
+  saveBy(command, ending) {
     const audit = this.shown;
-    if (!audit || this.isBusy) return;
-    this.isBusy = true;
-    const name = savedName(audit, ending), told = await this.order(audit.task, command, name);
-    this.isBusy = false;
-    const isFailed = told?.tells === "nothing";
-    element("saved").textContent = isFailed ? problemSentence(this.words, { file: "", ...told }) : "";
-    if (told?.tells === "answer") saveAs(name, told.bytes, "text/csv");
-    this.work();
+    if (!audit) return;
+    this.ask(async () => {
+      const name = savedName(audit, ending), told = await this.order(audit.task, command, name);
+      const isFailed = told?.tells === "nothing";
+      element("saved").textContent = isFailed ? problemSentence(this.words, { file: "", ...told }) : "";
+      if (told?.tells === "answer") saveAs(name, told.bytes, "text/csv");
+    });
   }
 
   /** @param {string} language */
@@ -258,10 +296,14 @@ class Page {
     this.language = language;
     this.words = WORDS[language];
     setWords(this.words, language);
-    // Answers are in the language in which they were asked for.
-    this.audits = this.audits.map(audit => audit.page ? { ...newAudit(audit.task) } : audit);
+    const place = this.shown ? this.audits.indexOf(this.shown) : -1;
+    // An answer is in the language in which it was asked for.
+    if (this.audits.some(audit => audit.state === "running")) this.runner.stop();
+    this.audits = this.audits.map(audit =>
+      audit.state === "running" ? newAudit(audit.task) : audit.page ? { ...audit, page: undefined } : audit);
     this.shown = null;
     this.draw();
+    if (place >= 0) this.open(this.audits[place], () => {});
     this.work();
   }
 
