@@ -395,6 +395,20 @@ def try_corrected_outcome(visit):
     visit.holds(wanted in visit.answers(2), "the chosen outcome is removed, so the election's is audited")
 
 
+def try_names_of_files(visit):
+    """Files whose names differ in capitals belong together, and a size is in words."""
+    room = visit.new_room()
+    for name, old in {"NORTH.PB": "sample.pb", "North.Prices.csv": "sample.prices.csv"}.items():
+        shutil.copy(EXAMPLES / old, room / name)
+    visit.open()
+    visit.give(EXAMPLES / "district.pb", *room.iterdir())
+    visit.holds(("North.Prices.csv", "Yes", "supported priceable") in visit.answers(2), "names with other capitals")
+    (room / "small.csv").write_bytes(b"x" * 201)
+    visit.give(room / "small.csv")
+    visit.browser.wait("return document.querySelector('#file-list').textContent.includes('small.csv')", "a small file")
+    visit.holds("201 bytes" in visit.text("#file-list"), f"a size: {visit.text('#file-list')}")
+
+
 def try_replacing(visit):
     """A file is replaced by its button. The chooser of files is the browser's, so the page's call of it is left out."""
     if not isinstance(visit.browser, browsers.Chromium):
@@ -733,7 +747,8 @@ def drive(score, engine, page, program, pictures):
 def tests(page, server, downloads, pictures):
     return [
         try_answers, try_frame, try_drops, try_folder_drop, try_choices, try_corrected, try_corrected_outcome,
-        try_replacing, try_refusal, try_folder, try_hostile_names, try_many, try_stop, try_bad_files, try_languages, try_changes_while_busy, web_reach.try_names,
+        try_replacing, try_refusal, try_folder, try_hostile_names, try_many, try_stop, try_bad_files, try_languages,
+        try_names_of_files, try_changes_while_busy, web_reach.try_names,
         functools.partial(try_while_busy, downloads=downloads),
         functools.partial(web_reach.try_keyboard, downloads=downloads),
         functools.partial(try_connections, server=server),

@@ -74,6 +74,9 @@ function saveAs(name, content, type) {
 function sizeOf(bytes, language) {
   const units = ["byte", "kilobyte", "megabyte"];
   const thousands = bytes < 1e3 ? 0 : bytes < 1e6 ? 1 : 2;
-  const form = { style: /** @type {const} */ ("unit"), unit: units[thousands], maximumFractionDigits: thousands && 1 };
+  const form = /** @type {const} */ ({
+    style: "unit", unit: units[thousands], unitDisplay: thousands ? "short" : "long",
+    maximumFractionDigits: thousands && 1,
+  });
   return new Intl.NumberFormat(language, form).format(bytes / 1000 ** thousands);
 }

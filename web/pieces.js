@@ -37,11 +37,17 @@ async function kindOf(file) {
   const front = await file.slice(0, FRONT).text().catch(() => "");
   const record = front.trimStart().replace(/^\ufeff?\s*"?/, "");
   const byRecord = MARKS.find(({ begins }) => record.startsWith(begins));
-  return (byRecord ?? MARKS.find(({ ends }) => file.name.endsWith(ends)))?.kind ?? "unknown";
+  return (byRecord ?? MARKS.find(({ ends }) => lower(file.name).endsWith(ends)))?.kind ?? "unknown";
 }
 
 /** @type {(piece: Piece) => boolean} */
 const isCertificate = piece => piece.kind === "prices" || piece.kind === "violation";
+
+/** @type {(name: string) => string} */
+const lower = name => name.toLowerCase();
+
+/** @type {(piece: Piece) => string} */
+const pathOf = piece => `${piece.folder}${piece.file.name}`;
 
 /**
  * The name of an election without its ending.
@@ -57,7 +63,7 @@ const stemOf = piece => piece.file.name.replace(/\.pb$/i, "");
  */
 function electionOf(piece, elections) {
   const near = elections.filter(each => each.folder === piece.folder);
-  const named = near.filter(each => piece.file.name.startsWith(`${stemOf(each)}.`));
+  const named = near.filter(each => lower(piece.file.name).startsWith(`${lower(stemOf(each))}.`));
   named.sort((a, b) => stemOf(b).length - stemOf(a).length);
   return named[0] ?? (elections.length === 1 ? elections[0] : null);
 }
@@ -71,8 +77,8 @@ function electionOf(piece, elections) {
  * @returns {Piece | null}
  */
 function outcomeOfTask(certificate, outcomes, isOnly) {
-  const name = certificate.file.name.replace(/\.(prices|violation)\.csv$/, ".outcome.csv");
-  const named = outcomes.find(each => each.folder === certificate.folder && each.file.name === name);
+  const name = lower(certificate.file.name).replace(/\.(prices|violation)\.csv$/, ".outcome.csv");
+  const named = outcomes.find(each => each.folder === certificate.folder && lower(each.file.name) === name);
   return named ?? (isOnly && outcomes.length === 1 ? outcomes[0] : null);
 }
 
@@ -100,9 +106,9 @@ function tasksOf(pieces, choices) {
 
 /** @type {(a: Task, b: Task) => number} */
 function byName(a, b) {
-  const pathOf = (/** @type {Piece | null} */ piece) => piece ? `${piece.folder}/${piece.file.name}` : "";
+  const placeOf = (/** @type {Piece | null} */ piece) => piece ? `${piece.folder}/${piece.file.name}` : "";
   const keyOf = (/** @type {Task} */ { election, certificate }) =>
-    `${pathOf(election ?? certificate)}\0${pathOf(certificate)}`;
+    `${placeOf(election ?? certificate)}\0${placeOf(certificate)}`;
   return keyOf(a) < keyOf(b) ? -1 : 1;
 }
 
