@@ -409,6 +409,37 @@ def try_names_of_files(visit):
     visit.holds("201 bytes" in visit.text("#file-list"), f"a size: {visit.text('#file-list')}")
 
 
+IN_SIGHT = "return document.querySelector(arguments[0]).checkVisibility?.() !== false"
+
+
+PRINT_BY_KEYS = """
+const frame = document.querySelector('#frame'), keys = {key: 'p', ctrlKey: true, bubbles: true, cancelable: true};
+let printed = 0;
+frame.contentWindow.print = () => { printed += 1; };
+const dispatch = element => element.dispatchEvent(new element.ownerDocument.defaultView.KeyboardEvent('keydown', keys));
+return [dispatch(document.body), dispatch(frame.contentDocument.body), printed];
+"""
+
+
+def try_printing(visit):
+    """The keys that print have the answer printed, wherever they are pressed, and what prints else has no buttons."""
+    visit.open()
+    pressed = "new KeyboardEvent('keydown', {key: 'p', ctrlKey: true, bubbles: true, cancelable: true})"
+    is_left = visit.browser.ask(f"return document.body.dispatchEvent({pressed})")
+    visit.holds(is_left, "without an answer the keys are the browser's")
+    visit.browser.click("#example")
+    visit.answers(1)
+    is_there = "return document.querySelector('#frame').contentDocument?.body?.children.length > 0"
+    visit.browser.wait(is_there, "the frame")
+    visit.same([False, False, 2], visit.browser.ask(PRINT_BY_KEYS), "Ctrl and P in the page and in its frame")
+    if isinstance(visit.browser, browsers.Chromium):
+        visit.browser.tools("Emulation.setEmulatedMedia", media="print")
+        parts = ("#drop", "#files", "#print", "#audits bdi", "#frame")
+        seen = [name for name in parts if visit.browser.ask(IN_SIGHT, name)]
+        visit.browser.tools("Emulation.setEmulatedMedia", media="")
+        visit.same(["#audits bdi", "#frame"], seen, "what is on paper")
+
+
 def try_replacing(visit):
     """A file is replaced by its button. The chooser of files is the browser's, so the page's call of it is left out."""
     if not isinstance(visit.browser, browsers.Chromium):
@@ -748,7 +779,7 @@ def tests(page, server, downloads, pictures):
     return [
         try_answers, try_frame, try_drops, try_folder_drop, try_choices, try_corrected, try_corrected_outcome,
         try_replacing, try_refusal, try_folder, try_hostile_names, try_many, try_stop, try_bad_files, try_languages,
-        try_names_of_files, try_changes_while_busy, web_reach.try_names,
+        try_names_of_files, try_printing, try_changes_while_busy, web_reach.try_names,
         functools.partial(try_while_busy, downloads=downloads),
         functools.partial(web_reach.try_keyboard, downloads=downloads),
         functools.partial(try_connections, server=server),

@@ -27,9 +27,24 @@ function showPage(frame, page) {
   frame.onload = () => {
     const styled = /** @type {HTMLElement[]} */ ([...frame.contentDocument?.querySelectorAll("[data-style]") ?? []]);
     for (const each of styled) each.style.cssText = each.dataset.style ?? "";
+    // Keys that are pressed in the frame don't come to the page.
+    frame.contentDocument?.addEventListener("keydown", printByKeys);
     fitFrame(frame);
   };
   frame.srcdoc = page.replaceAll(' style="', ' data-style="');
+}
+
+/**
+ * The keys that print do it as the button does, where there is one. As a part of this page an answer would be cut
+ * through its lines.
+ * @type {(event: KeyboardEvent) => void}
+ */
+function printByKeys(event) {
+  const { key, ctrlKey, metaKey, shiftKey, altKey } = event;
+  const isPrint = key.toLowerCase() === "p" && (ctrlKey || metaKey) && !shiftKey && !altKey;
+  if (!isPrint || element("answer").hidden || element("found").hidden) return;
+  event.preventDefault();
+  element("print").click();
 }
 
 /** @type {(frame: HTMLIFrameElement) => void} */

@@ -74,6 +74,7 @@ function listenToAnswer(page) {
     page.shown?.page && saveAs(savedName(page.shown, ".html"), page.shown.page, "text/html"));
   element("margins").addEventListener("click", () => page.saveBy("margins", ".margins.csv"));
   element("tidy").addEventListener("click", () => page.saveBy("tidy", ".tidy.csv"));
+  addEventListener("keydown", printByKeys);
   addEventListener("resize", () => fitFrame(element("frame")));
 }
 
