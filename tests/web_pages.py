@@ -23,6 +23,8 @@ LONGEST_FILE = 2**28
 MOST_TOLD = 400
 HEADS = {"en": "Check a participatory budgeting outcome", "pl": "Sprawdź wynik budżetu obywatelskiego",
          "de": "Ein Ergebnis eines Bürgerhaushalts prüfen", "fr": "Vérifier le résultat d’un budget participatif"}
+# What is told of sample.pb.
+READ = "Voters: 3. Projects: 3. Funded: 2."
 BAD_NAME = "<img src=x onerror=\"document.title='taken'\"><b>.pb"
 
 # What the list of audits says: the file, the word on it, the line of the program, and what is beside it.
@@ -193,12 +195,16 @@ class Visit:
         return pathlib.Path(tempfile.mkdtemp(dir=self.room))
 
 
+SENTENCE = "return document.querySelector('#audit-list .grows').textContent"
+
+
 def try_answers(visit):
     """A yes, a no by an option, a certificate of the other kind, another outcome: each the program's page."""
     visit.open()
     visit.give(EXAMPLES / "district.pb", EXAMPLES / "district.prices.csv")
     visit.same([("district.prices.csv", "Yes", None)], visit.answers(1), "prices that support the outcome")
     visit.same(visit.says("page", "district.pb", "district.prices.csv"), visit.shown(), "the page of these prices")
+    visit.holds("The prices support this outcome" in visit.browser.ask(SENTENCE), "the answer stands beside its word")
     visit.browser.click("#stable")
     visit.same([("district.prices.csv", "No", None)], visit.answers(1), "the stable form")
     wanted = visit.says("page", "district.pb", "district.prices.csv", "--stable")
@@ -284,6 +290,15 @@ def try_refusal(visit):
               "there is no voter '20582'; the election has 60 voters", line]  # fmt: skip
     for each in wanted:
         visit.holds(each in told, f"the refusal has {each}: {told}")
+    english = visit.browser.ask("return [...document.querySelectorAll('#refusal [lang=en]')].map(e => e.textContent)")
+    visit.holds(set(wanted[2:]) <= set(english), f"what is in English, whatever the page's language: {english}")
+    unsaid = visit.new_room() / "unsaid.pb"
+    unsaid.write_text((EXAMPLES / "sample.pb").read_text(encoding="utf-8").replace("selected", "chosen"))
+    visit.browser.click("#clear")
+    visit.give(unsaid, EXAMPLES / "sample.prices.csv")
+    visit.answers(1)
+    told = visit.text("#refusal")
+    visit.holds("Add the outcome file" in told, f"an outcome that is missing: {told}")
 
 
 def districts(room):
@@ -321,7 +336,7 @@ def try_choices(visit):
     visit.holds(("claim.csv", "Yes", "violation") in visit.answers(2), "the chosen outcome")
     visit.browser.click("#clear")
     visit.give(EXAMPLES / "sample.pb")
-    visit.same([("sample.pb", "Read", "read 3 voters 3 projects 2 funded")], visit.answers(1), "an election alone")
+    visit.same([("sample.pb", "Read", None)], visit.answers(1), "an election alone")
     visit.give(room / "what.csv")
     is_asked = "return document.querySelector(\"#file-list [aria-label='What what.csv is']\") !== null"
     visit.browser.wait(is_asked, "a file of no kind")
@@ -395,6 +410,96 @@ def try_corrected_outcome(visit):
     visit.holds(wanted in visit.answers(2), "the chosen outcome is removed, so the election's is audited")
 
 
+def try_totals(visit):
+    """The totals count each audit, prices and violations apart, and are read out."""
+    room = visit.new_room()
+    (room / "empty.pb").write_bytes(b"")
+    (room / "wide.pb").write_text((EXAMPLES / "sample.pb").read_text(encoding="utf-8"), encoding="utf-16")
+    shutil.copy(EXAMPLES / "sample.prices.csv", room / "stray.csv")
+    visit.open()
+    visit.give(EXAMPLES / "sample.pb", EXAMPLES / "sample.prices.csv", *room.iterdir())
+    visit.answers(4)
+    wanted = "Prices support the outcome: 1, don't support it: 0. Refused: 2. Not answered: 1."
+    visit.same([wanted, wanted], [visit.text("#totals"), visit.text("#spoken")], "totals with refused elections")
+
+
+def try_unused(visit):
+    """An outcome that is used no more, since files came, is told, and that of an answer is named."""
+    visit.open()
+    visit.give(EXAMPLES / "district.pb", EXAMPLES / "district.violation.csv", EXAMPLES / "district.other.outcome.csv")
+    visit.same([("district.violation.csv", "Yes", None)], visit.answers(1), "a violation of the only outcome")
+    visit.same("", visit.text("#notes"), "all files are used")
+    about = "checked against district.pb, with the funded projects of district.other.outcome.csv"
+    visit.holds(about in visit.text("#about"), f"what the answer is about: {visit.text('#about')}")
+    visit.give(EXAMPLES / "district.prices.csv")
+    told = [(name, word) for name, word, _ in visit.answers(2)]
+    visit.same([("district.prices.csv", "Yes"), ("district.violation.csv", "No")], told, "with another certificate")
+    wanted = ("Not used: district.other.outcome.csv. Choose it under “Funded projects”, beside the certificate that it "
+              "goes with.")
+    visit.same(wanted, visit.text("#notes"), "the outcome isn't used")
+    visit.holds(visit.text("#spoken").endswith(wanted), f"and that is read out: {visit.text('#spoken')}")
+    last = "#audit-list > li:last-child [aria-label='Funded projects']"
+    visit.browser.ask(CHOOSE, last, "district.other.outcome.csv")
+    visit.holds(("district.violation.csv", "Yes", "violation") in visit.answers(2), "the outcome is chosen")
+    totals = "Prices support the outcome: 1, don't support it: 0. Violation proved: 1, not proved: 0."
+    visit.same([totals, ""], [visit.text("#totals"), visit.text("#notes")], "the totals then")
+    visit.browser.click("#clear")
+    visit.give(EXAMPLES / "district.other.outcome.csv")
+    visit.browser.wait("return document.querySelector('#notes').textContent", "an outcome alone")
+    visit.holds("only together with an election (NAME.pb) and a certificate" in visit.text("#notes"), "what it wants")
+
+
+IS_OPEN = "return document.querySelector('#files-open').open"
+IN_SIGHT = "return document.querySelector(arguments[0]).checkVisibility?.() !== false"
+
+
+def try_no_kind(visit):
+    """A file of no kind is told, also in a list that is folded, and several are ignored."""
+    room = visit.new_room()
+    report, other = room / "report.pdf", room / "notes.txt"
+    for path in (report, other):
+        path.write_bytes(b"%PDF-1.4")
+    wanted = ("report.pdf isn't an election, a certificate or an outcome. If you think that it is one, say which in "
+              "the list of files.")
+    visit.open()
+    for files in ([], [EXAMPLES / "district.pb", *sorted(EXAMPLES.glob("district.*.csv"))]):
+        if files:
+            visit.browser.click("#clear")
+            visit.give(*files)
+            visit.answers()
+            visit.holds(not visit.browser.ask(IS_OPEN), "many are folded")
+        visit.give(report)
+        visit.browser.wait("return document.querySelector('#notes .problem')", "a file of no kind")
+        visit.same(wanted, visit.text("#notes .problem"), "a file of no kind")
+        visit.holds(wanted in visit.text("#spoken"), "it is read out")
+        visit.holds(visit.browser.ask(IS_OPEN), "the list is open")
+        visit.same(not files, visit.browser.ask(IN_SIGHT, "[data-word=needed]"), "what is needed, until it is there")
+    visit.browser.click("#clear")
+    visit.same(["", "Files (0)"], [visit.text("#notes"), visit.text("#spoken")], "all files are removed")
+    visit.give(report, other)
+    visit.browser.wait("return document.querySelector('#notes').textContent", "two files of no kind")
+    wanted = "Ignored, since they aren't files for an audit: report.pdf, notes.txt"
+    visit.same(wanted, visit.text("#notes"), "two of them")
+    visit.holds(not visit.browser.ask(IN_SIGHT, "#files"), "none are listed")
+
+
+def try_no_certificate(visit):
+    """An election alone: what was read, and where a certificate comes from; but not for one that is refused."""
+    room = visit.new_room()
+    (room / "empty.pb").write_bytes(b"")
+    command = "python -m pbaudit equal-shares NAME.pb --completion add1 -o NAME.prices.csv"
+    visit.open()
+    visit.give(EXAMPLES / "sample.pb")
+    visit.same([("sample.pb", "Read", None)], visit.answers(1), "an election alone")
+    for each in (READ, "Add a certificate"):
+        visit.holds(each in visit.browser.ask(SENTENCE), f"{each}: {visit.browser.ask(SENTENCE)}")
+    visit.same(command, visit.text("#notes code"), "the command that writes prices")
+    visit.browser.click("#clear")
+    visit.give(room / "empty.pb")
+    visit.same(["Refused"], [word for _, word, _ in visit.answers(1)], "an empty election")
+    visit.holds("certificate" not in visit.browser.ask(SENTENCE) + visit.text("#notes"), "none is asked for there")
+
+
 def try_names_of_files(visit):
     """Files whose names differ in capitals belong together, and a size is in words."""
     room = visit.new_room()
@@ -405,11 +510,8 @@ def try_names_of_files(visit):
     visit.holds(("North.Prices.csv", "Yes", "supported priceable") in visit.answers(2), "names with other capitals")
     (room / "small.csv").write_bytes(b"x" * 201)
     visit.give(room / "small.csv")
-    visit.browser.wait("return document.querySelector('#file-list').textContent.includes('small.csv')", "a small file")
+    visit.browser.wait("return document.querySelector('#notes .problem')", "a small file")
     visit.holds("201 bytes" in visit.text("#file-list"), f"a size: {visit.text('#file-list')}")
-
-
-IN_SIGHT = "return document.querySelector(arguments[0]).checkVisibility?.() !== false"
 
 
 PRINT_BY_KEYS = """
@@ -478,10 +580,13 @@ def try_folder(visit):
     visit.browser.give_folder("#folder-input", folder)
     found = {name.split("/")[-1]: line for name, _, line in visit.answers(5)}
     report = dict(each.split(": ", 1) for each in visit.says("folder", str(folder)).splitlines() if ": " in each)
-    wanted = {name: report[name] for name in found}
+    wanted = {name: None if name == "alone.pb" else report[name] for name in found}
     visit.same(wanted, found, "the lines of a folder")
-    visit.holds("notes.txt" in visit.text("#passed-over"), "other files are ignored")
-    visit.holds("Yes: 1. No: 2. Refused: 1." in visit.text("#totals"), f"the totals: {visit.text('#totals')}")
+    visit.holds(READ in visit.text("#audit-list"), "what was read of an election alone")
+    visit.holds("notes.txt" in visit.text("#notes"), "other files are ignored")
+    wanted = ("Prices support the outcome: 1, don't support it: 1. Violation proved: 0, not proved: 1. Refused: 1. "
+              "Without a certificate: 1.")  # fmt: skip
+    visit.same(wanted, visit.text("#totals"), "the totals")
     visit.browser.click("#audit-list [aria-label='Show the answer on north.prices.csv']")
     visit.browser.wait("return !document.querySelector('#answer').hidden", "the answer")
     wanted = visit.says("page", "north.pb", "north.prices.csv", folder=folder)
@@ -779,7 +884,8 @@ def tests(page, server, downloads, pictures):
     return [
         try_answers, try_frame, try_drops, try_folder_drop, try_choices, try_corrected, try_corrected_outcome,
         try_replacing, try_refusal, try_folder, try_hostile_names, try_many, try_stop, try_bad_files, try_languages,
-        try_names_of_files, try_printing, try_changes_while_busy, web_reach.try_names,
+        try_totals, try_unused, try_no_kind, try_no_certificate, try_names_of_files, try_changes_while_busy,
+        try_printing, web_reach.try_names,
         functools.partial(try_while_busy, downloads=downloads),
         functools.partial(web_reach.try_keyboard, downloads=downloads),
         functools.partial(try_connections, server=server),

@@ -56,7 +56,7 @@ def try_keyboard(visit, downloads):
     visit.holds(visit.browser.ask("return window.isAsked === true"), "Enter on the button asks for files")
     visit.give(EXAMPLES / "sample.pb", EXAMPLES / "sample.prices.csv")
     visit.same([("sample.prices.csv", "Yes", None)], visit.answers(1), "an audit")
-    visit.same("sample.prices.csv: Yes", visit.text("#spoken"), "what is read out")
+    visit.same("sample.prices.csv: Yes. The prices support this outcome", visit.text("#spoken"), "what is read out")
     tab_to(visit, "#exhaustive")
     visit.browser.press(browsers.SPACE)
     is_checked = visit.browser.ask("return document.querySelector('#exhaustive').checked")
@@ -77,7 +77,11 @@ def try_keyboard(visit, downloads):
     visit.browser.ask("document.querySelector('#language').focus()")
     tab_to(visit, "Remove sample.prices.csv")
     visit.browser.press(browsers.ENTER)
-    visit.same([("sample.pb", "Read", "read 3 voters 3 projects 2 funded")], visit.answers(1), "a file that is removed")
+    visit.same([("sample.pb", "Read", None)], visit.answers(1), "a file that is removed")
+    visit.same("Remove sample.pb", visit.browser.ask(FOCUS)[0], "the focus is at the next file")
+    visit.browser.press(browsers.ENTER)
+    visit.same("#choose", visit.browser.ask(FOCUS)[0], "the focus when all files are removed")
+    visit.same("Files (0)", visit.text("#spoken"), "what is read out then")
 
 
 def try_names(visit):

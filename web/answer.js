@@ -4,11 +4,14 @@
 
 /** The height of the frame is that of what is in it, up to this. */
 const HIGHEST_FRAME = 100_000;
+/** How the refusal of an election begins that says of no project whether it is funded. */
+const NO_OUTCOME = "refused election 17 ";
 
 /** @type {(words: Words, audit: Audit) => void} */
 function showAnswer(words, { task, page, refused, problem }) {
-  const { certificate, election } = task;
-  element("about").textContent = certificate && election ? words.about(certificate.file.name, election.file.name) : "";
+  const { certificate, election, outcome } = task;
+  const about = certificate && election ? words.about(certificate.file.name, election.file.name) : "";
+  element("about").textContent = about && outcome ? about + words.withOutcome(outcome.file.name) : about;
   element("saved").textContent = "";
   element("found").hidden = page === undefined;
   element("refusal").hidden = page !== undefined;
@@ -67,8 +70,9 @@ function refusalOf(words, { file, line, sentences, excerpt, text }) {
   return [
     make("p", {}, make("strong", {}, words.refused(file))),
     ...line > 0 ? [make("p", {}, words.atLine(file, line)), make("pre", {}, excerpt)] : [],
-    ...sentences.map(each => make("p", {}, each)),
-    make("p", { class: "soft" }, `${words.programPrints} `, make("code", {}, text)),
+    ...sentences.map(each => make("p", { lang: "en" }, each)),
+    ...text.startsWith(NO_OUTCOME) ? [make("p", {}, words.needsOutcome)] : [],
+    make("p", { class: "soft" }, `${words.programPrints} `, make("code", { lang: "en" }, text)),
   ];
 }
 

@@ -20,7 +20,7 @@ FRAME_STYLE = HERE.parent / "crates" / "pb_page" / "src" / "style.rt"
 # In the order in which they build on each other.
 WORKER = ["statuses.js", "auditor.js", "worker.js"]
 SCRIPTS = ["words/en.js", "words/pl.js", "words/de.js", "words/fr.js", "statuses.js", "elements.js", "pieces.js",
-           "gather.js", "audits.js", "lists.js", "answer.js", "page.js", "start.js"]
+           "gather.js", "audits.js", "lists.js", "notes.js", "answer.js", "page.js", "start.js"]
 
 
 def text_of(name):

@@ -6,13 +6,14 @@
 
 /**
  * An audit and how far it is. `line` is what the program prints first; `page` the answer for people, once it was asked
- * for.
+ * for, and `sentence` its head.
  * @typedef {object} Audit
  * @property {Task} task
  * @property {State} state
  * @property {number=} status
  * @property {string=} line
  * @property {string=} page
+ * @property {string=} sentence
  * @property {Refused=} refused
  * @property {{why: "memory" | "trap" | "unreadable" | "tooLong", file: string}=} problem
  */
@@ -135,6 +136,7 @@ function answered(audit, told, command) {
     return { ...audit, state: "done", problem: { why: nothing.why, file: nothing.file ?? "" } };
   }
   const text = new TextDecoder().decode(told.bytes);
-  const found = command === "page" ? { page: text } : { line: text.split("\n", 1)[0] };
+  const sentence = /<section class="answer"><h2>([^<]*)/.exec(text)?.[1];
+  const found = command === "page" ? { page: text, sentence } : { line: text.split("\n", 1)[0] };
   return { ...audit, state: "done", status: told.status, ...found };
 }

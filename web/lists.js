@@ -13,7 +13,7 @@ const kindWord = (words, kind) => ({
 })[kind];
 
 /** @type {(piece: Piece) => HTMLElement} */
-const nameOf = piece => make("bdi", {}, `${piece.folder}${piece.file.name}`);
+const nameOf = piece => make("bdi", {}, pathOf(piece));
 
 /**
  * A file, with what it is.
@@ -55,17 +55,43 @@ function badgeOf(words, { state, status, task, problem }) {
 }
 
 /**
- * The sentence beside the badge: what the program prints, or what is missing.
+ * An election that has no certificate and was read.
+ * @type {(audit: Audit) => boolean}
+ */
+const isRead = ({ task, state, status }) => !task.certificate && state === "done" && status === YES;
+
+/**
+ * What the program prints of an election, in the page's language.
+ * @type {(words: Words, line: string) => string}
+ */
+function readLine(words, line) {
+  const [, voters, projects, funded] = /^read (\d+) voters (\d+) projects (?:(\d+) funded|no outcome)/.exec(line) ?? [];
+  return words.readLine(voters, projects, funded ?? words.noneSaid);
+}
+
+/**
+ * The sentence beside the badge: the answer's, what the program prints, or what is missing.
  * @param {Words} words
  * @param {Audit} audit
  */
 function lineOf(words, audit) {
-  const { task, line, problem } = audit;
+  const { task, line, sentence, problem } = audit;
   if (problem) return make("span", {}, problemSentence(words, problem));
   if (!task.election) return make("span", { class: "soft" }, words.wantsElection);
-  const parts = line ? [make("code", {}, line)] : [];
-  if (!task.certificate) parts.push(make("span", { class: "soft" }, ` ${words.noCertificate}`));
-  return make("span", {}, ...parts);
+  if (isRead(audit)) {
+    return make("span", {}, readLine(words, line ?? ""), make("span", { class: "soft" }, ` ${words.noCertificate}`));
+  }
+  return make("span", {}, sentence ? `${sentence} ` : "", ...line ? [make("code", { lang: "en" }, line)] : []);
+}
+
+/**
+ * What is read out of an audit.
+ * @type {(words: Words, audit: Audit) => string}
+ */
+function saidOf(words, audit) {
+  const name = (audit.task.certificate ?? audit.task.election)?.file.name ?? "";
+  const badge = audit.state === "incomplete" ? null : badgeOf(words, audit).textContent;
+  return words.said(name, [badge, lineOf(words, audit).textContent?.trim()].filter(Boolean).join(". "));
 }
 
 /** @type {(words: Words, problem: {why: string, file: string}) => string} */
@@ -97,7 +123,7 @@ function candidates({ pieces }, kind, chosen) {
  * @param {(piece: Piece | null) => void} change
  */
 function pieceChoice(word, first, pieces, chosen, change) {
-  const names = [...first, ...pieces.map(piece => `${piece.folder}${piece.file.name}`)];
+  const names = [...first, ...pieces.map(pathOf)];
   const place = chosen ? pieces.indexOf(chosen) + first.length : 0;
   const choice = makeChoice(word, names, place, at => change(pieces[at - first.length] ?? null));
   return make("label", {}, make("span", { class: "soft" }, word), choice);

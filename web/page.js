@@ -44,7 +44,7 @@ class Page {
     const kinds = await Promise.all(found.map(({ file }) => kindOf(file)));
     const added = found.map(({ file, folder }, at) => ({ file, folder, kind: kinds[at] }));
     const known = added.filter(piece => piece.kind !== "unknown" || found.length === 1);
-    this.passedOver = added.filter(piece => !known.includes(piece)).map(piece => `${piece.folder}${piece.file.name}`);
+    this.passedOver = added.filter(piece => !known.includes(piece)).map(pathOf);
     this.set(withPieces(this.pieces, known));
   }
 
@@ -66,7 +66,7 @@ class Page {
     this.choices = choicesAmong(this.choices, pieces, replaced);
     this.pieces = pieces;
     this.isNew = true;
-    element("files-open").open = pieces.length <= MOST_IN_SIGHT;
+    element("files-open").open = pieces.length <= MOST_IN_SIGHT || pieces.some(piece => piece.kind === "unknown");
     this.pair();
   }
 
@@ -92,7 +92,10 @@ class Page {
 
   /** @param {Piece} piece */
   remove(piece) {
+    const place = this.pieces.indexOf(piece);
     this.set(this.pieces.filter(each => each !== piece));
+    const items = element("file-list").children, next = items[Math.min(place, items.length - 1)];
+    (next?.querySelector("button:last-of-type") ?? element("choose")).focus();
   }
 
   /** @param {Piece} piece */
@@ -182,8 +185,8 @@ class Page {
     }
     this.isBusy = false;
     this.draw();
-    if (hasWorked && this.audits.length > 1) speak(element("totals").textContent);
-    if (this.isNew && this.audits.length > 0) element("audits").scrollIntoView();
+    if (hasWorked || this.isNew) this.tell();
+    if (this.isNew && !element("audits").hidden) element("audits").scrollIntoView();
     this.isNew = false;
   }
 
@@ -227,8 +230,15 @@ class Page {
     return told;
   }
 
+  /** Has read out what came of the files: the answer, or the totals of several, and what is said of the files. */
+  tell() {
+    const [only, ...others] = this.audits, notes = [...element("notes").children].map(note => note.textContent);
+    const answers = others.length > 0 ? element("totals") : element("files-head");
+    speak([only && others.length === 0 ? saidOf(this.words, only) : answers.textContent, ...notes].join(" "));
+  }
+
   /**
-   * Notes what became of an audit. Of several the totals are read out, once all are done.
+   * Notes what became of an audit.
    * @param {Audit} old
    * @param {Audit} audit
    */
@@ -236,8 +246,6 @@ class Page {
     if (!this.audits.includes(old)) return undefined;
     this.put(old, audit);
     this.drawSoon();
-    const name = (audit.task.certificate ?? audit.task.election)?.file.name ?? "";
-    if (this.audits.length === 1) speak(this.words.said(name, badgeOf(this.words, audit).textContent ?? ""));
     return audit;
   }
 
@@ -299,11 +307,14 @@ class Page {
     const place = this.shown ? this.audits.indexOf(this.shown) : -1;
     // An answer is in the language in which it was asked for.
     if (this.audits.some(audit => audit.state === "running")) this.runner.stop();
-    this.audits = this.audits.map(audit =>
-      audit.state === "running" ? newAudit(audit.task) : audit.page ? { ...audit, page: undefined } : audit);
+    this.audits = this.audits.map(audit => {
+      if (audit.state === "running") return newAudit(audit.task);
+      return audit.page ? { ...audit, page: undefined, sentence: undefined } : audit;
+    });
     this.shown = null;
     this.draw();
-    if (place >= 0) this.open(this.audits[place], () => {});
+    speak("");
+    if (place >= 0) this.open(this.audits[place], () => this.tell());
     this.work();
   }
 
@@ -320,32 +331,43 @@ class Page {
 
   /** Draws the lists and shows what has something in it. */
   draw() {
-    const { words, pieces, audits, passedOver } = this;
+    const { words, pieces, audits } = this, notes = notesOf(this);
     fill(element("file-list"), pieces.map(piece => pieceItem(this, piece)));
     fill(element("audit-list"), audits.map(audit => auditItem(this, audit)));
-    element("passed-over").hidden = passedOver.length === 0;
-    element("passed-over").textContent = words.passedOver(passedOver.length, passedOver.slice(0, 5).join(", "));
-    document.body.classList.toggle("has-files", pieces.length > 0);
+    element("notes").replaceChildren(...notes);
+    document.body.classList.toggle("has-audits", audits.length > 0);
     element("files-head").textContent = `${words.files} (${pieces.length})`;
-    element("files").hidden = pieces.length === 0 && passedOver.length === 0;
+    element("files").hidden = pieces.length === 0;
     element("options").hidden = !pieces.some(piece => piece.kind === "prices");
-    element("audits").hidden = audits.length === 0;
+    element("audits").hidden = audits.length === 0 && notes.length === 0;
     element("answer").hidden = this.shown === null;
-    drawTotals(words, audits);
+    element("totals").hidden = audits.length < 2;
+    element("totals").textContent = totalsOf(words, audits);
   }
 }
 
 /** @type {(task: Task) => Audit} */
 const newAudit = task => ({ task, state: task.election ? "waiting" : "incomplete" });
 
-/** @type {(words: Words, audits: Audit[]) => void} */
-function drawTotals(words, audits) {
-  const answered = audits.filter(audit => audit.task.certificate && audit.state === "done");
-  const of = (/** @type {number} */ status) => answered.filter(audit => audit.status === status).length;
-  const isOpen = (/** @type {Audit} */ { state, problem }) =>
-    problem || ["waiting", "running", "stopped"].includes(state);
-  element("totals").hidden = audits.length < 2;
-  element("totals").textContent = words.totals(of(YES), of(NO), of(REFUSED), audits.filter(isOpen).length);
+/**
+ * How many audits ended in which way. Those of prices and of violations are told apart, since of these a Yes is no good
+ * news. All together are as many as the audits.
+ * @type {(words: Words, audits: Audit[]) => string}
+ */
+function totalsOf(words, audits) {
+  const done = audits.filter(audit => audit.state === "done" && !audit.problem);
+  const [yes, no] = [YES, NO].map(status => (/** @type {Kind} */ kind) =>
+    done.filter(audit => audit.status === status && audit.task.certificate?.kind === kind).length);
+  const refused = done.filter(audit => audit.status === REFUSED).length, read = done.filter(isRead).length;
+  const prices = yes("prices") + no("prices"), violations = yes("violation") + no("violation");
+  const open = audits.length - prices - violations - refused - read;
+  return [
+    prices > 0 ? words.pricesTotals(yes("prices"), no("prices")) : "",
+    violations > 0 ? words.violationTotals(yes("violation"), no("violation")) : "",
+    refused > 0 ? words.refusedTotal(refused) : "",
+    read > 0 ? words.readTotal(read) : "",
+    open > 0 ? words.openTotal(open) : "",
+  ].filter(Boolean).join(" ");
 }
 
 /** The first language of the browser's that the page has. */

@@ -93,6 +93,7 @@ function listenToConnect(page) {
 function start() {
   const page = new Page();
   setWords(page.words, page.language);
+  element("makes-prices").textContent = MAKES_PRICES;
   for (const listen of [listenToFiles, listenToDrops, listenToOptions, listenToAnswer, listenToConnect]) listen(page);
   page.runner.engine.module.catch(() => {
     element("broken").textContent = page.words.broken;
