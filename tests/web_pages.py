@@ -434,8 +434,8 @@ def try_unused(visit):
     visit.give(EXAMPLES / "district.prices.csv")
     told = [(name, word) for name, word, _ in visit.answers(2)]
     visit.same([("district.prices.csv", "Yes"), ("district.violation.csv", "No")], told, "with another certificate")
-    wanted = ("Not used: district.other.outcome.csv. Choose it under “Funded projects”, beside the certificate that it "
-              "goes with.")
+    wanted = ("Not used: district.other.outcome.csv. An outcome is chosen under “Funded projects”, beside its "
+              "certificate.")  # fmt: skip
     visit.same(wanted, visit.text("#notes"), "the outcome isn't used")
     visit.holds(visit.text("#spoken").endswith(wanted), f"and that is read out: {visit.text('#spoken')}")
     last = "#audit-list > li:last-child [aria-label='Funded projects']"
@@ -459,8 +459,8 @@ def try_no_kind(visit):
     report, other = room / "report.pdf", room / "notes.txt"
     for path in (report, other):
         path.write_bytes(b"%PDF-1.4")
-    wanted = ("report.pdf isn't an election, a certificate or an outcome. If you think that it is one, say which in "
-              "the list of files.")
+    wanted = ("report.pdf isn't an election, a certificate or an outcome. If it is one, choose which in the list of "
+              "files.")  # fmt: skip
     visit.open()
     for files in ([], [EXAMPLES / "district.pb", *sorted(EXAMPLES.glob("district.*.csv"))]):
         if files:
@@ -498,6 +498,11 @@ def try_no_certificate(visit):
     visit.give(room / "empty.pb")
     visit.same(["Refused"], [word for _, word, _ in visit.answers(1)], "an empty election")
     visit.holds("certificate" not in visit.browser.ask(SENTENCE) + visit.text("#notes"), "none is asked for there")
+    visit.browser.click("#clear")
+    visit.give(EXAMPLES / "sample.prices.csv")
+    visit.same([("sample.prices.csv", "\u2013", None)], visit.answers(1), "a certificate alone")
+    wanted = "sample.prices.csv: Add the election that this certificate is about (NAME.pb)."
+    visit.same(wanted, visit.text("#spoken"), "what is read out of it")
 
 
 def try_names_of_files(visit):

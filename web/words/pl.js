@@ -27,7 +27,7 @@ WORDS.pl = {
   more: count => ` i jeszcze ${count}`,
   isNoFile: names => `${names} to ani wybory, ani certyfikat, ani wynik. Jeśli sądzisz inaczej, wskaż na liście plików, co to jest.`,
   unused: names => `Nieużyte: ${names}.`,
-  chooseOutcome: "Wybierz ten plik w polu „Sfinansowane projekty” obok certyfikatu, do którego należy.",
+  chooseOutcome: "Wynik wybiera się w polu „Sfinansowane projekty” obok jego certyfikatu.",
   outcomeAlone: "Plik wyniku jest używany tylko razem z plikiem wyborów (NAZWA.pb) i certyfikatem.",
   making: "Nie masz jeszcze certyfikatu? Daje go ten, kto liczył głosy, albo ten, kto wątpi w wynik. Certyfikat naruszenia to kilka wierszy, które można napisać samodzielnie. Dla metody równych udziałów (Equal Shares) to polecenie pakietu pbaudit dla Pythona oblicza wynik i zapisuje ceny:",
   clear: "Usuń wszystkie pliki",
