@@ -386,6 +386,9 @@ def try_corrected(visit):
     one.write_text(good, encoding="utf-8")
     give_anew(visit, one)
     visit.same([("Yes", "supported priceable"), "one.pb"], claimed(2), "the chosen election, corrected again")
+    visit.browser.ask(CHOOSE, "#file-list [aria-label='What one.pb is']", "outcome")
+    found = [(name, word) for name, word, _ in visit.answers()]
+    visit.same([("claim.csv", "Refused")], found, "the chosen election is said to be an outcome")
     visit.browser.click("[aria-label='Remove one.pb']")
     found = [(name, word) for name, word, _ in visit.answers(1)]
     visit.same([("claim.csv", "No")], found, "the chosen election is removed, so the other is the only one")
@@ -480,6 +483,7 @@ def try_no_kind(visit):
     visit.browser.wait("return document.querySelector('#notes').textContent", "two files of no kind")
     wanted = "Ignored, since they aren't files for an audit: report.pdf, notes.txt"
     visit.same(wanted, visit.text("#notes"), "two of them")
+    visit.same(f"Files (0) {wanted}", visit.text("#spoken"), "what is read out of two of them")
     visit.holds(not visit.browser.ask(IN_SIGHT, "#files"), "none are listed")
 
 
@@ -513,6 +517,16 @@ def try_names_of_files(visit):
     visit.open()
     visit.give(EXAMPLES / "district.pb", *room.iterdir())
     visit.holds(("North.Prices.csv", "Yes", "supported priceable") in visit.answers(2), "names with other capitals")
+    both = visit.new_room()
+    for name, old in {"A.pb": "sample.pb", "a.pb": "district.pb", "a.prices.csv": "district.prices.csv",
+                      "A.outcome.csv": "sample.outcome.csv", "a.outcome.csv": "district.stable.outcome.csv"}.items():
+        shutil.copy(EXAMPLES / old, both / name)
+    wanted = visit.says("prices", "a.pb", "a.prices.csv", "--outcome", "a.outcome.csv", folder=both).split("\n")[0]
+    visit.browser.click("#clear")
+    visit.give(*sorted(both.iterdir()))
+    told = [line for name, _, line in visit.answers(2) if name == "a.prices.csv"]
+    visit.same([wanted], told, "names that differ in capitals alone")
+    visit.same("Not used: A.outcome.csv.", visit.text("#notes")[:24], "the outcome of the other")
     (room / "small.csv").write_bytes(b"x" * 201)
     visit.give(room / "small.csv")
     visit.browser.wait("return document.querySelector('#notes .problem')", "a small file")

@@ -56,30 +56,36 @@ const pathOf = piece => `${piece.folder}${piece.file.name}`;
 const stemOf = piece => piece.file.name.replace(/\.pb$/i, "");
 
 /**
- * The election of whose name a file's name begins, the longest such in its own folder; or the only one that there is.
+ * The election of whose name a file's name begins, the longest such in its own folder; or the only one of whose name it
+ * begins but for capitals; or the only one that there is.
  * @param {Piece} piece
  * @param {Piece[]} elections
  * @returns {Piece | null}
  */
 function electionOf(piece, elections) {
   const near = elections.filter(each => each.folder === piece.folder);
-  const named = near.filter(each => lower(piece.file.name).startsWith(`${lower(stemOf(each))}.`));
-  named.sort((a, b) => stemOf(b).length - stemOf(a).length);
-  return named[0] ?? (elections.length === 1 ? elections[0] : null);
+  const namedBy = (/** @type {(name: string) => string} */ read) =>
+    near.filter(each => read(piece.file.name).startsWith(`${read(stemOf(each))}.`));
+  const named = namedBy(name => name).sort((a, b) => stemOf(b).length - stemOf(a).length), alike = namedBy(lower);
+  if (named.length > 0) return named[0];
+  return [alike, elections].find(each => each.length === 1)?.[0] ?? null;
 }
 
 /**
  * The outcome file of an audit: the one that is named as the certificate is, as A.B.outcome.csv beside A.B.prices.csv;
- * or the only file, where there are one election and one certificate.
+ * or the only one that is named so but for capitals; or the only file, where there are one election and one
+ * certificate.
  * @param {Piece} certificate
  * @param {Piece[]} outcomes
  * @param {boolean} isOnly
  * @returns {Piece | null}
  */
 function outcomeOfTask(certificate, outcomes, isOnly) {
-  const name = lower(certificate.file.name).replace(/\.(prices|violation)\.csv$/, ".outcome.csv");
-  const named = outcomes.find(each => each.folder === certificate.folder && lower(each.file.name) === name);
-  return named ?? (isOnly && outcomes.length === 1 ? outcomes[0] : null);
+  const name = certificate.file.name.replace(/\.(prices|violation)\.csv$/i, ".outcome.csv");
+  const near = outcomes.filter(each => each.folder === certificate.folder);
+  const named = near.find(each => each.file.name === name);
+  const alike = near.filter(each => lower(each.file.name) === lower(name));
+  return named ?? [alike, isOnly ? outcomes : []].find(each => each.length === 1)?.[0] ?? null;
 }
 
 /**
