@@ -679,7 +679,10 @@ new MutationObserver((_, observer) => {
 }).observe(document.querySelector('#work'), {attributes: true});""")
     visit.give(*paths)
     visit.same([("large.prices.csv", "Stopped", None)], visit.answers(1), "an audit that is stopped")
+    focus = "return document.activeElement.id"
+    visit.same("audit-list", visit.browser.ask(focus), "the focus, once there is nothing to stop")
     visit.browser.click("#audit-list [aria-label='Check again: large.prices.csv']")
+    visit.same("audit-list", visit.browser.ask(focus), "the focus, once the button is gone")
     visit.same([("large.prices.csv", "Yes", None)], visit.answers(1), "the same again")
 
 

@@ -185,7 +185,7 @@ function auditItem(page, audit) {
 }
 
 /**
- * Fills a list again, and leaves the focus where it was among its elements.
+ * Fills a list again, and leaves the focus where it was among its elements, or else at the list.
  * @param {HTMLElement} list
  * @param {HTMLElement[]} items
  */
@@ -195,5 +195,5 @@ function fill(list, items) {
     .filter(each => each.getAttribute("aria-label") === label);
   const place = likeIt().findIndex(each => each === has);
   list.replaceChildren(...items);
-  if (label) likeIt()[place]?.focus();
+  if (label) (likeIt()[place] ?? list).focus({ preventScroll: true });
 }

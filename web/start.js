@@ -68,7 +68,10 @@ function listenToOptions(page) {
 
 /** @type {(page: Page) => void} */
 function listenToAnswer(page) {
-  element("stop").addEventListener("click", () => page.stop());
+  element("stop").addEventListener("click", () => {
+    page.stop();
+    element("audit-list").focus({ preventScroll: true });
+  });
   element("print").addEventListener("click", () => element("frame").contentWindow.print());
   element("save").addEventListener("click", () =>
     page.shown?.page && saveAs(savedName(page.shown, ".html"), page.shown.page, "text/html"));
