@@ -209,11 +209,14 @@ def try_answers(visit):
     visit.same([("district.prices.csv", "No", None)], visit.answers(1), "the stable form")
     wanted = visit.says("page", "district.pb", "district.prices.csv", "--stable")
     visit.same(wanted, visit.shown(), "the page of the stable form")
+    visit.holds("The prices don\u2019t support this outcome" in visit.browser.ask(SENTENCE), "the No stands in words")
     visit.browser.click("#clear")
     visit.give(EXAMPLES / "district.pb", EXAMPLES / "district.violation.csv", EXAMPLES / "district.other.outcome.csv")
     visit.same([("district.violation.csv", "Yes", None)], visit.answers(1), "a violation of another outcome")
     words = ["page", "district.pb", "district.violation.csv", "--outcome", "district.other.outcome.csv"]
     visit.same(visit.says(*words), visit.shown(), "the page of a violation")
+    wanted = "district.violation.csv: Yes. This group was treated worse than it deserves"
+    visit.same(wanted, visit.text("#spoken"), "what is read out of a violation")
     visit.holds(visit.browser.ask("return document.querySelector('#options').hidden"), "a violation has no options")
 
 

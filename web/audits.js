@@ -136,7 +136,7 @@ function answered(audit, told, command) {
     return { ...audit, state: "done", problem: { why: nothing.why, file: nothing.file ?? "" } };
   }
   const text = new TextDecoder().decode(told.bytes);
-  const sentence = /<section class="answer"><h2>([^<]*)/.exec(text)?.[1];
+  const sentence = /<section class="answer[^>]*><h2>([^<]*)/.exec(text)?.[1];
   const found = command === "page" ? { page: text, sentence } : { line: text.split("\n", 1)[0] };
   return { ...audit, state: "done", status: told.status, ...found };
 }
