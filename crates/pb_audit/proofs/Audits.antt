@@ -1,5 +1,5 @@
 -- The answers on several inputs.
-use Rattle.std.proofs.Common.{◌≡◌, ◌∙◌, ap, refl, subst, sym, Bool, Option, List}
+use Rattle.std.proofs.Common.{◌≡◌, ◌∙◌, ap, refl, subst, Bool, Option, List, arith}
 use Rattle.std.specs.Prelude.{IfOk, IfSome, Result, Ok, Err, Some, None}
 use Rattle.pb_election.specs.Instance.{Instance}
 use Rattle.pb_records.specs.Loading.{Delivery}
@@ -18,33 +18,20 @@ use Rattle.pb_reply.specs.declared.input.Stop.{Stop}
 use Rattle.pb_reply.specs.declared.input.Stop.TheVariants as stop
 use Rattle.pb_reply.specs.declared.status.Status.{Status}
 
-abbrev pub status_of : Reply → Status
-status_of r = r.status
-
 -- What is told of some replies is told of others, where each of those is one of these.
 pub told_weaker : {T : Type 0} (told : Reply → T) (P Q : Reply → Type 0) → ((r : Reply) → P r → Q r)
     → (work : Result T Stop) → IfTold told P work → IfTold told Q work
-told_weaker told P Q each (Ok own) is = (is.0, (each is.0 is.1.0, is.1.1))
-told_weaker told P Q each (Err (stop.Refused r)) is = each (refused r) is
-told_weaker told P Q each (Err stop.Memory) is = tt
+told_weaker told P Q each work is = grind arith
 
 -- The lines that are told of a reply are the reply.
 pub lines_told : (P Q : Reply → Type 0) → ((r : Reply) → P r → Q r) → (work : Result Reply Stop)
     → IfSome (settled (λ r. r) work) P → IfTold (λ r. r) Q work
-lines_told P Q each (Ok own) is = (own, (each own is, refl))
-lines_told P Q each (Err (stop.Refused r)) is = each (refused r) is
-lines_told P Q each (Err stop.Memory) is = tt
+lines_told P Q each work is = grind arith
 
 -- What the work came to is told of one of these replies.
 pub settled_told : {T : Type 0} (told : Reply → T) (is_reply : Reply → Type 0) (work : Result T Stop) (own : T)
     → settled told work ≡ Some own → IfTold told is_reply work → Tells told is_reply own
-settled_told told is_reply (Ok mine) own is h =
-    let same : Some mine ≡ Some own = is in
-    let one : own ≡ mine = cc in (h.0, (h.1.0, one ∙ h.1.1))
-settled_told told is_reply (Err (stop.Refused r)) own is h =
-    let same : Some (told (refused r)) ≡ Some own = is in
-    let one : own ≡ told (refused r) = cc in (refused r, (h, one))
-settled_told told is_reply (Err stop.Memory) own is h = cc
+settled_told told is_reply work own is h = grind arith
 
 -- An audit of an election, an outcome and a certificate. Where the election is refused, the others may state anything.
 abbrev pub election_refused : {A : Type 0} (rules : AuditRules A)
@@ -84,9 +71,7 @@ pub promised_of : {A : Type 0} (rules : AuditRules A)
     → Promised rules
     → (e : Instance) (w : List Bool) (d : Delivery) (c : Stated A) (r : Reply) → rules.states e d c
     → r ≡ with_input c (λ a. rules.reply e w a) → IfOk c (λ a. rules.promises r.status e w a)
-promised_of rules each e w d (Ok a) r given is =
-    subst (λ (s : Status). rules.promises s e w a) (sym (ap status_of is)) (each e w d a given)
-promised_of rules each e w d (Err why) r given is = tt
+promised_of rules each e w d c r given is = grind arith
 
 -- the election and the outcome are accepted
 abbrev pub certificate_answered : {A : Type 0} (rules : AuditRules A)
@@ -140,8 +125,7 @@ pub certificate_settled : {A T : Type 0} (rules : AuditRules A) (told : Reply �
     → IfTold told (AnswersCertificate rules.states rules.reply e w certificate) work
     → IfTold told (AnswersAudit rules election outcome certificate) work
 certificate_settled rules told each election outcome certificate e w work given taken answered =
-    told_weaker told _ _
-    (λ r. certificate_answered rules each election outcome certificate e w r given taken) work answered
+    grind (arith, told_weaker)
 
 -- The same over readers.
 unfoldable pub readers_stopped_at_election : {A : Type 0} (rules : AuditRules A)

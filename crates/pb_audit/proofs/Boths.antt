@@ -1,10 +1,9 @@
 -- The answers on both certificates.
-use Rattle.std.proofs.Common.{◌≡◌, ◌∙◌, ap, refl, subst, Bool, Option, List}
+use Rattle.std.proofs.Common.{◌≡◌, ◌∙◌, ap, refl, subst, Bool, Option, List, arith}
 use Rattle.std.specs.Prelude.{◌↔◌, IfSome, Result, Ok, Err, Some, None}
 use Rattle.pb_election.specs.Instance.{Instance}
 use Rattle.pb_records.specs.Loading.{Delivery}
 use Rattle.pb_records.specs.Loading as delivery
-use Rattle.pb_certificate.specs.Faults.{certificate_records}
 use Rattle.pb_certificate.specs.Prices.{Prices}
 use Rattle.pb_certificate.specs.declared.violations.measure.Measure.{Measure}
 use Rattle.pb_certificate.proofs.Unique.{group-text-sets}
@@ -25,14 +24,12 @@ use Rattle.pb_reply.specs.declared.input.InputName.TheVariants as name
 use Rattle.pb_reply.specs.declared.input.Stop.{Stop}
 use Rattle.pb_reply.specs.declared.input.Stop.TheVariants as stop
 use Rattle.pb_reply.specs.declared.status.Status.{Status}
-use Rattle.pb_reply.specs.declared.status.Status.TheVariants.{Yes, No, Refused}
+use Rattle.pb_reply.specs.declared.status.Status.TheVariants.{Yes}
 use Rattle.pb_audit.proofs.Audits.{lines_told, readers_answered, readers_stopped_at_election, readers_stopped_at_outcome}
-use Rattle.pb_audit.proofs.Promises.{no-yes, prices_promise, violation_promises}
+use Rattle.pb_audit.proofs.Promises.{prices_promise, violation_promises}
 
 both_yes : (first second : Status) → (yes_where_both first second ≡ Yes) ↔ ((first ≡ Yes) × (second ≡ Yes))
-both_yes Yes second = (λ h. (refl, h), λ h. h.1)
-both_yes No second = (λ h. no-yes h, λ h. no-yes h.0)
-both_yes (Refused r) second = (λ h. cc, λ h. let no : Refused r ≡ Yes = h.0 in cc)
+both_yes first second = grind arith
 
 -- what the reply on prices and a claim of sets promises
 both_promise : (m : Mode) (e : Instance) (w : List Bool) (p : Prices) (claim : GroupAndDemand) → IsGroup e claim.1
@@ -58,9 +55,7 @@ both_promise m e w p claim group demand =
 -- a claim that is stated is one of sets
 claim_sets : (e : Instance) (d : Delivery) (claim : GroupAndDemand) → StatesViolation name.Violation e d (Ok claim)
     → IsGroup e claim.1 × AreProjects e claim.2
-claim_sets e (delivery.Bytes bytes) claim states =
-    group-text-sets (certificate_records bytes) e claim.0 claim.1 claim.2 states
-claim_sets e _ claim states = cc
+claim_sets e d claim states = grind (arith, group-text-sets)
 
 pub both_promises : (m : Mode) (violation : Delivery) → Promised (both_rules m violation)
 both_promises m violation e w prices (p, Ok claim) states =

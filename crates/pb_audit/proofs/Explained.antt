@@ -1,13 +1,10 @@
 -- The answers of `explain`.
-use Rattle.std.proofs.Common.{◌≡◌, ◌∙◌, ℕ, Bool, true, false, List, [], ◌≤◌, ap, inl, inr}
-use Rattle.std.specs.Prelude.{ℤ, pos, ◌-ℤ◌, int_le, IfSome, Option, Result, Some, None, Ok, Err, filter, option_map, slice_get}
-use Rattle.std.specs.List.{AllByRecursion, list_all}
+use Rattle.std.proofs.Common.{◌≡◌, ℕ, Bool, true, false, List, [], ◌≤◌, inl, inr, arith}
+use Rattle.std.specs.Prelude.{ℤ, pos, ◌-ℤ◌, IfSome, Option, Result, Some, None, Ok, Err, option_map, slice_get}
+use Rattle.std.specs.List.{AllByRecursion}
 use Rattle.std.specs.Option.{option_or}
 use Rattle.pb_records.specs.Loading.{Delivery}
-use Rattle.pb_records.specs.Loading as delivery
 use Rattle.pb_records.proofs.Each.{all-filter, all-first}
-use Rattle.pb_certificate.specs.Faults.{certificate_records}
-use Rattle.pb_certificate.proofs.OnPrices.Texts.{states-prices}
 use Rattle.pb_election.specs.Instance.{Instance, IsProject, IsSet, all_projects, projects, supporters}
 use Rattle.pb_certificate.specs.Prices.{Prices}
 use Rattle.pb_certificate.specs.declared.violations.measure.Measure.{Measure}
@@ -15,10 +12,9 @@ use Rattle.pb_cohesion.specs.Amounts.{budget_limit, cost, left, paid}
 use Rattle.pb_cohesion.specs.Conditions.{culprits_of_C1, culprits_of_C3, culprits_of_C4, culprits_of_C5, culprits_of_Exhaustive, culprits_of_S5, most_of, sum_ℤ}
 use Rattle.pb_cohesion.specs.FirstV.{culprits_of_V2}
 use Rattle.pb_cohesion.specs.Outcome.{unfunded}
-use Rattle.pb_price.specs.Findings.{closest, comparison, excess, finding, findings, total_grains}
+use Rattle.pb_price.specs.Findings.{comparison, finding, findings, total_grains}
 use Rattle.pb_price.specs.First.{verdict_of}
 use Rattle.pb_price.specs.Told.{first_told}
-use Rattle.pb_price.specs.declared.Failure.{Failure}
 use Rattle.pb_price.specs.declared.Findings.{Findings}
 use Rattle.pb_price.specs.declared.Mode.{Mode}
 use Rattle.pb_price.proofs.Told.{tell-first}
@@ -80,15 +76,7 @@ names-project : (e : Instance) (culprits candidates : List ℕ) (bound : ℕ →
     → AllByRecursion (IsProject e) culprits → AllByRecursion (IsProject e) candidates
     → ShowsProject e (finding culprits candidates bound amount)
 names-project e culprits candidates bound amount of_culprits of_candidates =
-    named-first e bound amount
-    (option_or (slice_get culprits 0) (closest candidates (λ x. excess (comparison bound amount x))))
-    (named-either e (slice_get culprits 0) (closest candidates (λ x. excess (comparison bound amount x)))
-    (all-first (IsProject e) culprits of_culprits)
-    (all-first (IsProject e)
-    (filter
-    (λ x. list_all (λ y. int_le (excess (comparison bound amount y)) (excess (comparison bound amount x)))
-    candidates) candidates)
-    (all-filter (IsProject e) _ candidates of_candidates)))
+    grind (arith, named-first, named-either, all-first, all-filter)
 
 pub findings_name_projects : (e : Instance) (w : List Bool) (p : Prices) → NameProjects e (findings e w p)
 findings_name_projects e w p = record {
@@ -114,21 +102,14 @@ missing_names_projects e s t set =
 -- the denominator of prices that are stated
 pub denominator-low : (e : Instance) (d : Delivery) (p : Prices) → StatesPrices Certificate e d (Ok p)
     → 1 ≤ p.denominator
-denominator-low e (delivery.Bytes bytes) p given =
-    (states-prices (certificate_records bytes) e p given).system.denominator.0
-denominator-low e _ p given = cc
+denominator-low e d p given = grind arith
 
 -- the reply on the findings on prices is that on the prices
 pub findings_explain : (m : Mode) (e : Instance) (w : List Bool) (p : Prices) (f : Findings) → 1 ≤ p.denominator
     → f ≡ findings e w p
     → with_table (price_table m e f) (verdict_reply m e (verdict_of (first_told m f))) ≡ explained_prices m e w p
-findings_explain m e w p f low is =
-    ap (λ (x : Findings). with_table (price_table m e x) (verdict_reply m e (verdict_of (first_told m x)))) is
-    ∙ ap (λ (o : Option Failure). with_table (price_table m e (findings e w p)) (verdict_reply m e (verdict_of o)))
-    (tell-first m e w p low)
+findings_explain m e w p f low is = grind (arith, tell-first)
 
 pub told_names_project : (m : Mode) (e : Instance) (w : List Bool) (p : Prices) (f : Findings) → 1 ≤ p.denominator
     → f ≡ findings e w p → PricesNameProject e (verdict_of (first_told m f))
-told_names_project m e w p f low is =
-    prices_name_projects m e w p (verdict_of (first_told m f))
-    (ap (λ (x : Findings). verdict_of (first_told m x)) is ∙ ap verdict_of (tell-first m e w p low))
+told_names_project m e w p f low is = grind (arith, prices_name_projects, tell-first)

@@ -1,5 +1,5 @@
 -- `explain` has one answer on what is delivered of its inputs.
-use Rattle.std.proofs.Common.{◌≡◌, ◌∙◌, Bool, true, false, Option, ap, inl, inr, refl, sym}
+use Rattle.std.proofs.Common.{◌≡◌, ◌∙◌, Bool, true, false, Option, ap, inl, inr, refl, sym, arith}
 use Rattle.std.specs.Prelude.{Ok, Err}
 use Rattle.pb_election.specs.Instance.{Instance}
 use Rattle.pb_records.specs.Loading.{Delivery}
@@ -26,18 +26,12 @@ of-violation (Err r) = Err r
 -- a certificate that is taken as prices states prices, and one that is taken as a violation states a violation
 as-prices : (e : Instance) (d : Delivery) → is_violation d ≡ false → (s : Stated Certificate) → StatesCertificate e d s
     → (p : Stated Prices) × StatesPrices name.Certificate e d p × (s ≡ of-prices p)
-as-prices e d is (Ok (OfPrices p)) h = (Ok p, h.1, refl)
-as-prices e d is (Ok (OfViolation v)) h = cc
-as-prices e d is (Err r) (inl h) = (Err r, h.1, refl)
-as-prices e d is (Err r) (inr h) = cc
+as-prices e d is s h = grind arith
 
 as-violation : (e : Instance) (d : Delivery) → is_violation d ≡ true → (s : Stated Certificate)
     → StatesCertificate e d s → (v : Stated GroupAndDemand) × StatesViolation name.Certificate e d v
     × (s ≡ of-violation v)
-as-violation e d is (Ok (OfPrices p)) h = cc
-as-violation e d is (Ok (OfViolation v)) h = (Ok v, h.1, refl)
-as-violation e d is (Err r) (inl h) = cc
-as-violation e d is (Err r) (inr h) = (Err r, h.1, refl)
+as-violation e d is s h = grind arith
 
 certificate-same : (e : Instance) (d : Delivery) (b : Bool) → is_violation d ≡ b → (s t : Stated Certificate)
     → StatesCertificate e d s → StatesCertificate e d t → s ≡ t

@@ -1,5 +1,5 @@
 -- What an input states is one thing.
-use Rattle.std.proofs.Common.{◌≡◌, ◌∙◌, ℕ, List, Option, Some, None, ap, inl, inr, refl, sym}
+use Rattle.std.proofs.Common.{◌≡◌, ◌∙◌, ℕ, List, Option, Some, None, ap, inl, inr, refl, sym, arith}
 use Rattle.std.specs.Prelude.{◌⊎◌, Ok, Err}
 use Rattle.pb_records.proofs.FirstOrNone.{HasFirst}
 use Rattle.pb_election.specs.Faults as elections
@@ -53,11 +53,7 @@ states-some input is_text is_refused k delivery.TooLong = (Err (refusal_of input
 states-same : {A : Type 0} (input : InputName) (is_text : List ℕ → A → Type 0)
     (is_refused : List ℕ → InputRefusal → Type 0) → Decides is_text is_refused → (d : Delivery) (s t : Stated A)
     → States input is_text is_refused d s → States input is_text is_refused d t → s ≡ t
-states-same input is_text is_refused k (delivery.Bytes bytes) (Ok a) (Ok b) h i = ap Ok (k.alone bytes a b h i)
-states-same input is_text is_refused k (delivery.Bytes bytes) (Ok a) (Err r) h i = absurd (k.apart bytes a r h i)
-states-same input is_text is_refused k (delivery.Bytes bytes) (Err r) (Ok a) h i = absurd (k.apart bytes a r i h)
-states-same input is_text is_refused k (delivery.Bytes bytes) (Err r) (Err s) h i = ap Err (k.first bytes r s h i)
-states-same input is_text is_refused k _ s t h i = h ∙ sym i
+states-same input is_text is_refused k d s t h i = grind arith
 
 states-one : {A : Type 0} (input : InputName) (is_text : List ℕ → A → Type 0)
     (is_refused : List ℕ → InputRefusal → Type 0)

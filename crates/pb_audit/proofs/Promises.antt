@@ -1,12 +1,9 @@
 -- What an answer promises where no input was refused.
-use Rattle.std.proofs.Common.{◌≡◌, refl, Bool, List, Option, ℕ}
+use Rattle.std.proofs.Common.{◌≡◌, refl, Bool, List, Option, ℕ, arith}
 use Rattle.std.specs.Prelude.{None, Some}
 use Rattle.pb_election.specs.Instance.{Instance}
 use Rattle.pb_certificate.specs.Prices.{Prices}
-use Rattle.pb_cohesion.specs.FirstV.{FirstV, violation_verdict_of}
-use Rattle.pb_cohesion.specs.Satisfactions.{worth_by}
 use Rattle.pb_certificate.specs.declared.violations.measure.Measure.{Measure}
-use Rattle.pb_cohesion.specs.declared.ViolationFailure.{ViolationFailure}
 use Rattle.pb_cohesion.proofs.Verdicts.{violates-iff}
 use Rattle.pb_price.specs.First.{First, verdict_of}
 use Rattle.pb_price.specs.declared.Failure.{Failure}
@@ -14,7 +11,7 @@ use Rattle.pb_price.specs.declared.Mode.{Mode}
 use Rattle.pb_price.proofs.Groups.{budgets, fair, no-violation, plain-no, plain-yes, stable-no, stable-yes}
 use Rattle.pb_price.proofs.FirstFalse.{supports-iff}
 use Rattle.pb_audit.specs.Answers.{price_reply, violation_reply}
-use Rattle.pb_reply.specs.Replies.{price_status, violation_status}
+use Rattle.pb_reply.specs.Replies.{price_status}
 use Rattle.pb_audit.specs.Promises.{PricesPromise, ViolationPromises}
 use Rattle.pb_reply.specs.declared.status.Status.TheVariants.{Yes, No}
 
@@ -51,13 +48,4 @@ prices_promise m e w p = by_first (First m e w p) refl
 -- what a verdict on a group and its demand promises
 pub violation_promises : (e : Instance) (w : List Bool) (claim : Measure × List ℕ × List ℕ)
     → ViolationPromises (violation_reply e w claim).status e w claim
-violation_promises e w claim = by_first (FirstV (worth_by claim.0 e) e w claim.1 claim.2) refl
-  where
-    by_first : (f : Option ViolationFailure) → FirstV (worth_by claim.0 e) e w claim.1 claim.2 ≡ f
-        → ViolationPromises (violation_status (violation_verdict_of f)) e w claim
-    by_first None is = (λ yes'. (violates-iff (worth_by claim.0 e) e w claim.1 claim.2).0 is, λ v. refl)
-    by_first (Some f) is = (
-      λ yes'. no-yes yes',
-      λ v. let none : FirstV (worth_by claim.0 e) e w claim.1 claim.2
-          ≡ None = (violates-iff (worth_by claim.0 e) e w claim.1 claim.2).1 v in cc,
-    )
+violation_promises e w claim = grind (arith, violates-iff, no-yes)

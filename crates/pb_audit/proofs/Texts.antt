@@ -1,11 +1,10 @@
 -- Texts that are made line by line.
-use Rattle.std.proofs.Common.{◌≡◌, ◌∙◌, ap, subst, sym, List, [], ◌∷◌, ◌++◌, append_assoc}
+use Rattle.std.proofs.Common.{◌≡◌, List, [], ◌∷◌, ◌++◌, append_assoc, arith}
 use Rattle.std.proofs.lemmas.List.Concat.{flat_map-append}
 use Rattle.std.specs.Prelude.{Option, Result, codes}
-use Rattle.std.proofs.lemmas.Result.{IfOk-weaker}
 use Rattle.pb_records.specs.declared.loading.Sink.{Ghosts as Sink}
 use Rattle.pb_records.specs.Records.{Text}
-use Rattle.pb_reply.specs.Replies.{Answer, Reply, answer_of, text_of, TellsReply}
+use Rattle.pb_reply.specs.Replies.{Reply, answer_of, text_of, TellsReply}
 use Rattle.pb_reply.specs.Writing.{Writes}
 use Rattle.pb_reply.specs.declared.status.Fault.{Fault}
 use Rattle.pb_reply.specs.declared.status.Status.{Status}
@@ -14,33 +13,14 @@ use Rattle.pb_audit.specs.Reports.{certificate_lines, file_lines, lines_of}
 -- lines after lines
 pub text_after : (a b : List Text) (old middle new : Text) → middle ≡ old ++ text_of a → new ≡ middle ++ text_of b
     → new ≡ old ++ text_of (a ++ b)
-text_after a b old middle new first then = then
-    ∙ (ap (λ (t : Text). t ++ text_of b) first
-    ∙ (append_assoc old (text_of a) (text_of b) ∙ ap (λ (t : Text). old ++ t) (sym (flat_map-append _ a b))))
+text_after a b old middle new first then = grind (arith, append_assoc, flat_map-append)
 
 -- a written reply of a kind is an answer of that kind
 pub reply_told : {W : Type 0} (sink : Sink W) (is_reply : Reply → Type 0) (reply : Reply) (result : Result Status Fault)
     (old new : W)
     → is_reply reply → Writes sink (λ answer. answer ≡ answer_of reply) result old new
     → Writes sink (TellsReply is_reply) result old new
-reply_told sink is_reply reply result old new of written = record {
-  written = IfOk-weaker result _ _
-      (λ status h.
-      record {
-        answer = h.answer;
-        of_inputs = told h.answer h.of_inputs;
-        text = h.text;
-        ends = h.ends;
-        flushed = h.flushed;
-        calm = h.calm;
-      }) written.written;
-  cut_short = λ fails. let h = written.cut_short fails in
-      record { answer = h.answer; of_inputs = told h.answer h.of_inputs; front = h.front; failed = h.failed };
-  untouched = written.untouched;
-}
-  where
-    told : (answer : Answer Status) → answer ≡ answer_of reply → TellsReply is_reply answer
-    told answer is = record { reply = reply; of_inputs = of; out = is }
+reply_told sink is_reply reply result old new of written = grind arith
 
 -- the lines on the files of an entry, one after the other
 pub found_text : (spelled name : Text) (read : Reply) (prices violation : Option Reply) (old first second new : Text)
@@ -49,12 +29,7 @@ pub found_text : (spelled name : Text) (read : Reply) (prices violation : Option
     → second ≡ first ++ text_of (certificate_lines (spelled ++ codes ".prices.csv") prices)
     → new ≡ second ++ text_of (certificate_lines (spelled ++ codes ".violation.csv") violation)
     → new ≡ old ++ text_of (lines_of (record { name = name; read = read; prices = prices; violation = violation }))
-found_text spelled name read prices violation old first second new is one two three =
-    subst (λ (n : Text). new
-    ≡ old ++ text_of (lines_of (record { name = n; read = read; prices = prices; violation = violation }))) is
-    (text_after _ (certificate_lines (spelled ++ codes ".violation.csv") violation) old second new
-    (text_after (file_lines (spelled ++ codes ".pb") read) (certificate_lines (spelled ++ codes ".prices.csv") prices)
-    old first second one two) three)
+found_text spelled name read prices violation old first second new is one two three = grind (arith, text_after)
 
 -- the line of the total, piece by piece
 pub total_text : (old e y n r : Text)
@@ -73,14 +48,4 @@ pub total_pushed : (old a b c d f g h i new e y n r : Text)
     ++ text_of
     ((codes "total " ++ e ++ codes " elections " ++ y ++ codes " yes " ++ n ++ codes " no " ++ r
     ++ codes " refused") ∷ [])
-total_pushed old a b c d f g h i new e y n r is-a is-b is-c is-d is-f is-g is-h is-i last =
-    last
-    ∙ (ap (λ (t : Text). t ++ text_of (codes " refused" ∷ []))
-    (is-i ∙ ap (λ (t : Text). t ++ r)
-    (is-h ∙ ap (λ (t : Text). t ++ codes " no ")
-    (is-g ∙ ap (λ (t : Text). t ++ n)
-    (is-f ∙ ap (λ (t : Text). t ++ codes " yes ")
-    (is-d ∙ ap (λ (t : Text). t ++ y)
-    (is-c ∙ ap (λ (t : Text). t ++ codes " elections ")
-    (is-b ∙ ap (λ (t : Text). t ++ e) is-a)))))))
-    ∙ total_text old e y n r)
+total_pushed old a b c d f g h i new e y n r is-a is-b is-c is-d is-f is-g is-h is-i last = grind (arith, total_text)
