@@ -2,10 +2,13 @@
 through its own protocol, Marionette. Each starts with an empty profile."""
 import base64
 import json
+import os
 import pathlib
+import re
 import shutil
 import socket
 import subprocess
+import tempfile
 import time
 import urllib.request
 
@@ -23,12 +26,6 @@ class BrowserError(Exception):
 
 def program(names):
     return next(filter(None, map(shutil.which, names)), None)
-
-
-def free_port():
-    with socket.socket() as listening:
-        listening.bind(("127.0.0.1", 0))
-        return listening.getsockname()[1]
 
 
 def until(ask, seconds, what):
@@ -100,27 +97,31 @@ class Chromium(Browser):
     }  # fmt: skip
 
     def __init__(self, folder, downloads, language="en"):
-        port = free_port()
-        self.address = f"http://127.0.0.1:{port}"
-        words = [shutil.which("chromedriver"), f"--port={port}"]
-        self.driver = subprocess.Popen(words, stdout=subprocess.DEVNULL, stderr=subprocess.DEVNULL)
-        try:
-            until(self.is_ready, START_SECONDS, "chromedriver")
-            options = ["--headless=new", "--no-sandbox", "--disable-gpu", "--disable-dev-shm-usage",
-                       f"--user-data-dir={folder}", f"--accept-lang={language}", f"--lang={language}"]
-            settings = {"args": options, "binary": program(CHROMIUM),
-                        "prefs": {"download.default_directory": str(downloads), "intl.accept_languages": language}}
-            asked = {"capabilities": {"alwaysMatch": {"goog:chromeOptions": settings}}}
-            self.session = f"/session/{self.call('POST', '/session', asked)['sessionId']}"
-        except Exception:
-            self.driver.kill()
-            raise
+        with tempfile.TemporaryFile() as told:
+            words = [shutil.which("chromedriver"), "--port=0"]
+            self.driver = subprocess.Popen(words, stdout=told, stderr=subprocess.DEVNULL)
+            try:
+                port = until(lambda: self.port_in(told), START_SECONDS, "chromedriver")
+                self.address = f"http://127.0.0.1:{port}"
+                self.session = f"/session/{self.started(folder, downloads, language)}"
+            except Exception:
+                self.driver.kill()
+                raise
 
-    def is_ready(self):
-        try:
-            return self.call("GET", "/status")["ready"]
-        except OSError:
-            return False
+    def started(self, folder, downloads, language):
+        """The number of a session that begins."""
+        options = ["--headless=new", "--no-sandbox", "--disable-gpu", "--disable-dev-shm-usage",
+                   f"--user-data-dir={folder}", f"--accept-lang={language}", f"--lang={language}"]
+        settings = {"args": options, "binary": program(CHROMIUM),
+                    "prefs": {"download.default_directory": str(downloads), "intl.accept_languages": language}}
+        asked = {"capabilities": {"alwaysMatch": {"goog:chromeOptions": settings}}}
+        return self.call("POST", "/session", asked)["sessionId"]
+
+    @staticmethod
+    def port_in(told):
+        """The port that the driver chose, which it tells once it listens there."""
+        found = re.search(rb"successfully on port (\d+)", os.pread(told.fileno(), 4096, 0))
+        return found and int(found[1])
 
     def call(self, method, path, words=None):
         body = None if words is None else json.dumps(words).encode()
@@ -163,11 +164,10 @@ class Firefox(Browser):
     name = "Firefox"
 
     def __init__(self, folder, downloads, language="en"):
-        port = free_port()
         folder = pathlib.Path(folder)
         folder.mkdir(exist_ok=True)
         # A page may read a folder that a hand chose. Here none does, so Firefox is told to let it be read without.
-        settings = {"marionette.port": port, "intl.accept_languages": language, "browser.download.folderList": 2,
+        settings = {"marionette.port": 0, "intl.accept_languages": language, "browser.download.folderList": 2,
                     "dom.filesystem.pathcheck.disabled": True, "browser.download.alwaysOpenPanel": False,
                     "browser.download.dir": str(downloads), "browser.download.useDownloadDir": True,
                     "browser.shell.checkDefaultBrowser": False, "datareporting.policy.dataSubmissionEnabled": False,
@@ -177,7 +177,7 @@ class Firefox(Browser):
         words = [program(FIREFOX), "--headless", "--no-remote", "--marionette", "--profile", str(folder)]
         self.process = subprocess.Popen(words, stdout=subprocess.DEVNULL, stderr=subprocess.DEVNULL)
         try:
-            self.socket = until(lambda: self.connected(port), START_SECONDS, "Firefox")
+            self.socket = until(lambda: self.connected(folder / "MarionetteActivePort"), START_SECONDS, "Firefox")
             self.number, self.rest = 0, b""
             self.read()
             self.command("NewSession", {"capabilities": {"alwaysMatch": {}}})
@@ -186,10 +186,12 @@ class Firefox(Browser):
             raise
 
     @staticmethod
-    def connected(port):
+    def connected(chosen):
+        """A connection to the port that Firefox chose, which stands in a file of its profile."""
         try:
+            port = int(chosen.read_text())
             return socket.create_connection(("127.0.0.1", port), timeout=START_SECONDS + ANSWER_SECONDS)
-        except OSError:
+        except (OSError, ValueError):
             return None
 
     def read(self):
