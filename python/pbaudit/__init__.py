@@ -57,13 +57,15 @@ _PARTS = {
 _PART_OF = {name: part for part, names in _PARTS.items() for name in names}
 
 
-def __getattr__(name: str) -> object:
-    if name not in _PART_OF:
-        raise AttributeError(f"module {__name__!r} has no attribute {name!r}")
-    from importlib import import_module
-    value: object = getattr(import_module(f".{_PART_OF[name]}", __name__), name)
-    globals()[name] = value
-    return value
+# A checker of types has the imports above, and would take any name for one that is here.
+if not TYPE_CHECKING:
+    def __getattr__(name: str) -> object:
+        if name not in _PART_OF:
+            raise AttributeError(f"module {__name__!r} has no attribute {name!r}")
+        from importlib import import_module
+        value: object = getattr(import_module(f".{_PART_OF[name]}", __name__), name)
+        globals()[name] = value
+        return value
 
 
 def __dir__() -> List[str]:

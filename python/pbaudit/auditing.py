@@ -65,7 +65,7 @@ class Verdict:
     Where something fails, `condition` names the first that does, as "C3" or "V4", and `voter` (numbered from 1, by the
     ballots) and `project` (the id) say where, each None where the condition names none. `moved` is None but where
     `validate_price_system` was asked for prices near the given ones: then it is how far the payment that moved farthest
-    did, in the currency of the costs.
+    did, in the currency of the costs. For the page in a notebook a verdict keeps the files that were audited.
     """
 
     holds: bool
@@ -118,8 +118,8 @@ class Finding:
 
 @dataclass(frozen=True)
 class Explanation:
-    """What each condition comes to, in their order, with the answer to the audit itself. `str` is the text that the
-    program prints."""
+    """What each condition comes to, in their order, with the answer to the audit itself, and true where that is.
+    `str` is the text that the program prints."""
 
     verdict: Verdict
     findings: Tuple[Finding, ...]
@@ -128,6 +128,9 @@ class Explanation:
     def _repr_html_(self) -> Optional[str]:
         """The page about the certificate, as a notebook shows it."""
         return self.verdict._repr_html_()
+
+    def __bool__(self) -> bool:
+        return self.verdict.holds
 
     def __str__(self) -> str:
         return self.text

@@ -9,7 +9,7 @@ from typing import Any, Dict, Iterable, Iterator, List, Optional, Sequence, Set,
 
 from .amounts import MOST_DENOMINATOR, MOST_NUMERATOR, NearAmount, common_denominator, least_multiple, near, ratio
 from .auditing import audit_prices
-from .files import Path, write_to
+from .files import Path, checked_path, write_to
 from .records import records
 from .rounding import CannotKeep, Given, Rounding
 from .town import Town
@@ -28,9 +28,10 @@ DENOMINATORS = (100, 10**4, 10**6, MOST_DENOMINATOR)
 class PriceCertificate:
     """A price certificate that supports the outcome that it was made for.
 
-    `denominator` is D; `voter_budget` is a numerator over it; a row is a voter (from 1), a project's id and a
-    numerator. `moved` is the farthest that a payment moved from what was given, and `raised` by how much the voter
-    budget rose (or fell, where it is below 0), in the currency of the costs. `file` is the certificate as a file.
+    `denominator` is D; `voter_budget` is a numerator over it, so it is divided by D to be an amount; a row is a voter
+    (from 1), a project's id and a numerator. `moved` is the farthest that a payment moved from what was given, and
+    `raised` by how much the voter budget rose (or fell, where it is below 0), in the currency of the costs. `file` is
+    the certificate as a file.
     """
 
     denominator: int
@@ -47,7 +48,7 @@ class PriceCertificate:
 
     def write(self, path: Path) -> None:
         """Writes the file. Raises OSError."""
-        write_to(path, self.file)
+        write_to(checked_path(path), self.file)
 
 
 def price_certificate(instance: AnyInstance, profile: Profile, budget_allocation: Iterable[AnyProject],
@@ -117,6 +118,8 @@ def _given(town: Town, projects: Projects, voter_budget: Optional[NearAmount], p
     # Whether something is off by more than noise is told from rounded sums, since exact ones take long.
     spent = _spent(town, floats)
     budget = _most(town, amounts, spent) if voter_budget is None else _payable(voter_budget, "the voter budget")
+    if budget < -noise:
+        raise ValueError("the voter budget is below 0")
     given = Given(amounts, floats, budget, noise, payments.kinds == {float})
     has, off = float(budget), float(noise)
     for voter, total in enumerate(spent):

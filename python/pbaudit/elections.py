@@ -1,6 +1,6 @@
 """Elections as Python values, for whoever has no pabutools."""
 from dataclasses import dataclass
-from typing import Any, Iterator, List
+from typing import Any, Collection, Iterable, Iterator
 
 
 @dataclass(frozen=True)
@@ -14,10 +14,16 @@ class Project:
 
 @dataclass(frozen=True)
 class Instance:
-    """The projects of an election, and its budget limit, in the currency of the costs and as one of them."""
+    """The projects of an election, in their order, and its budget limit, in the currency of the costs and as one of
+    them. A set of projects is put in order by their ids."""
 
-    projects: List[Project]
+    projects: Iterable[Project]
     budget_limit: Any
+
+    def __post_init__(self) -> None:
+        # What can be gone through once only is kept.
+        if hasattr(self.projects, "__next__") and not isinstance(self.projects, Collection):
+            object.__setattr__(self, "projects", list(self.projects))
 
     def __iter__(self) -> Iterator[Project]:
         return iter(self.projects)

@@ -2,11 +2,19 @@
 import errno
 import os
 import reprlib
-from typing import BinaryIO, Optional, Union
+from typing import Any, List, Optional, Protocol, Union
+
+
+
+class Opened(Protocol):
+    """A binary file that is open for reading."""
+
+    def read(self, size: int = ..., /) -> bytes: ...
+
 
 Path = Union[str, "os.PathLike[str]"]
-# The path of a file, its bytes, or a binary file that is open for reading, which is read from where it stands.
-File = Union[bytes, bytearray, memoryview, Path, BinaryIO]
+# The path of a file, its bytes, or an open file, which is read from where it stands to its end.
+File = Union[bytes, bytearray, memoryview, Path, Opened]
 # A file of more bytes than this is refused, so no more than one byte more is ever read.
 MOST_BYTES = 2**28
 
@@ -32,11 +40,18 @@ def path_of(file: Optional[File]) -> Optional[str]:
 
 
 def write_to(path: Optional[Path], data: bytes) -> bytes:
-    """The data, written to a file as well where a path is given. Raises OSError."""
+    """The data, written to a file as well where a path is given. Raises OSError, and TypeError for what is no path."""
     if path is not None:
-        with open(path, "wb") as file:
+        with open(checked_path(path), "wb") as file:
             file.write(data)
     return data
+
+
+def checked_path(path: Any) -> Path:
+    """A path. Raises TypeError for what isn't one, such as an open file or the number of one."""
+    if not isinstance(path, (str, os.PathLike)):
+        raise TypeError(f"{reprlib.repr(path)} isn't the path of a file to write: give a str or a pathlib.Path")
+    return path
 
 
 def _bytes_at(path: str) -> bytes:
@@ -55,11 +70,21 @@ def _bytes_at(path: str) -> bytes:
         raise OSError(errno.EINVAL, str(why), path) from None
 
 
-def _bytes_in(file: BinaryIO) -> bytes:
+def _bytes_in(file: Opened) -> bytes:
+    """All that an open file has. One without a buffer, such as a pipe, gives it in parts."""
     if not callable(getattr(file, "read", None)):
         raise TypeError(f"{reprlib.repr(file)} isn't a file: give its path, its bytes, or the file opened by "
                         "open(path, 'rb')")
-    data = file.read(MOST_BYTES + 1)
-    if not isinstance(data, bytes):
-        raise TypeError(f"{file!r} is opened as text: open it by open(path, 'rb')")
-    return data
+    parts: List[bytes] = []
+    left = MOST_BYTES + 1
+    while left > 0:
+        part: Any = file.read(left)
+        if part is None:
+            raise BlockingIOError(errno.EAGAIN, "the file has nothing to read yet, and doesn't wait", path_of(file))
+        if not isinstance(part, bytes):
+            raise TypeError(f"{file!r} is opened as text: open it by open(path, 'rb')")
+        if not part:
+            break
+        parts.append(part)
+        left -= len(part)
+    return b"".join(parts)

@@ -32,12 +32,16 @@ CERTIFICATES = {".prices.csv": "prices", ".violation.csv": "violation"}
 @dataclass(frozen=True)
 class FolderReport:
     """The report on a folder: its text, and a status as that of `pbaudit folder`: 2 where a file is refused, else 1
-    where a certificate is answered no, else 0. Where the workers on an election were lost three times, the line on it
-    ends in `fault worker`, its name (without `.pb`) is in `lost`, and the status is 4."""
+    where a certificate is answered no, else 0. It is true where the status is 0. Where the workers on an election were
+    lost three times, the line on it ends in `fault worker`, its name (without `.pb`) is in `lost`, and the status is
+    4."""
 
     text: str
     status: int
     lost: Tuple[str, ...] = ()
+
+    def __bool__(self) -> bool:
+        return self.status == 0
 
     def __str__(self) -> str:
         return self.text
@@ -61,7 +65,8 @@ Found = Dict[Entry, List[Line]]
 def audit_folder(path: Path, executor: Optional[Executor] = None, *, stable: bool = False,
                  exhaustive: bool = True, cover: bool = False) -> FolderReport:
     """Audits the elections `NAME.pb` of a folder with `NAME.prices.csv` and `NAME.violation.csv` where these lie beside
-    them, and answers the text and the status of `pbaudit folder`.
+    them, and answers the text and the status of `pbaudit folder`, without what that says on standard error of files
+    that it passes over.
 
     Without an executor the elections are audited here, one after the other. With one they are its tasks, small
     elections many to a task: processes of a `ProcessPoolExecutor`, or a Dask cluster by `client.get_executor()`, whose

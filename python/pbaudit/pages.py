@@ -1,15 +1,16 @@
 """The page about a certificate, for readers who know no file formats. The auditor makes it."""
 import os
+import stat
 from typing import Mapping, Optional
 
 from ._auditor import Mode, PageWords
 from .auditing import page_bytes
-from .files import File, Path, path_of, write_to
+from .files import File, Path, checked_path, path_of, write_to
 
 LANGUAGES = ("en", "pl", "de", "fr")
 
 
-def page(election: File, certificate: File, *, outcome: Optional[File] = None, stable: bool = False,
+def page(election: File, certificate: File, outcome: Optional[File] = None, *, stable: bool = False,
          exhaustive: bool = True, cover: bool = False, language: str = "en") -> str:
     """A page on a price or a violation certificate, as one HTML file. The outcome and the switches are as for
     `explain`, and the language is "en", "pl", "de" or "fr". Raises Refusal, OSError and MemoryError, and a ValueError
@@ -17,12 +18,12 @@ def page(election: File, certificate: File, *, outcome: Optional[File] = None, s
     return _made(election, certificate, outcome, Mode(stable, exhaustive, cover), language).decode("utf-8")
 
 
-def write_page(election: File, certificate: File, *, outcome: Optional[File] = None, path: Optional[Path] = None,
+def write_page(election: File, certificate: File, outcome: Optional[File] = None, *, path: Optional[Path] = None,
                stable: bool = False, exhaustive: bool = True, cover: bool = False, language: str = "en") -> bytes:
     """The bytes of `page`, written to `path` as well where one is given. Raises as `page`, and a ValueError where the
     page would replace one of these files, and then writes nothing."""
     files = {"election": election, "certificate": certificate, "outcome": outcome}
-    over = None if path is None else replaced(path, files)
+    over = None if path is None else replaced(checked_path(path), files)
     if over:
         raise ValueError(f"the path of the page is that of the {over}, which it would replace")
     return write_to(path, _made(election, certificate, outcome, Mode(stable, exhaustive, cover), language))
@@ -53,8 +54,16 @@ def _name(file: Optional[File], role: str) -> str:
 
 
 def _is_same(file: Optional[File], path: Path) -> bool:
-    """Whether a file is given by a path that leads, like the other, to one regular file."""
+    """Whether a file, given by a path or open, is the regular file at another path."""
     try:
-        return isinstance(file, (str, os.PathLike)) and os.path.isfile(file) and os.path.samefile(file, path)
-    except OSError:
+        there = os.stat(path)
+        if isinstance(file, (str, os.PathLike)):
+            found = os.stat(file)
+        else:
+            number = getattr(file, "fileno", None)
+            if number is None:
+                return False
+            found = os.fstat(number())
+    except (OSError, ValueError):
         return False
+    return stat.S_ISREG(there.st_mode) and os.path.samestat(found, there)

@@ -24,9 +24,6 @@ TOO_MANY = ("the amounts have too large a common denominator for a certificate (
 class _TooMany(ValueError):
     """Amounts that no certificate states."""
 
-    def __init__(self) -> None:
-        super().__init__(TOO_MANY)
-
 
 def validate_price_system(instance: AnyInstance, profile: Profile, budget_allocation: Iterable[AnyProject],
                           voter_budget: Amount, payment_functions: Iterable[PaymentFunction], stable: bool = False,
@@ -88,12 +85,12 @@ def _scale(costs: List[Fraction], denominators: Iterable[int]) -> Tuple[int, int
     for denominator in denominators:
         common *= denominator // gcd(common, denominator)
         if common > most:
-            raise _TooMany
+            raise _TooMany(TOO_MANY)
     rest = common // gcd(common, factor)
     while rest > MOST_DENOMINATOR:
         prime = next((number for number in range(2, 10**5) if rest % number == 0), rest)
         rest //= prime
         factor *= prime
     if max(costs) * factor > MOST_COST:
-        raise _TooMany
+        raise _TooMany(TOO_MANY)
     return factor, rest

@@ -20,12 +20,13 @@ from typing import (
 )
 
 from .amounts import Amount, NearAmount, exact_cost, exact_price, ratio
+from .elections import Instance
 from .matrices import PaymentRows, ballots_in, is_matrix
 
 BLANKS = " \t\n\v\f\r"
 PROJECTS = "projects or their ids"
-MERGED = ("the profile has merged ballots with counts, so its voters have no order that payments could be in: give one "
-          "ballot for each voter")
+MERGED = ("the profile is a mapping, as merged ballots with counts are, so its voters have no order that payments "
+          "could be in: give a list with one ballot for each voter")
 
 
 class Named(Protocol):
@@ -197,7 +198,7 @@ def costs_of(instance: AnyInstance) -> Dict[str, Fraction]:
     order by the ids."""
     costs: Dict[str, Fraction] = {}
     projects = listed(instance, "the instance is", "projects with a budget_limit")
-    for project in sorted(projects, key=id_of) if isinstance(projects, AnySet) else projects:
+    for project in projects if _has_order(instance) else sorted(projects, key=id_of):
         name = id_of(project)
         if not hasattr(project, "cost"):
             raise TypeError(f"the instance's project {name} has no cost")
@@ -207,10 +208,15 @@ def costs_of(instance: AnyInstance) -> Dict[str, Fraction]:
     return costs
 
 
+def _has_order(instance: AnyInstance) -> bool:
+    """Whether the projects of an instance have an order of their own."""
+    return not isinstance(instance.projects if isinstance(instance, Instance) else instance, AnySet)
+
+
 def projects_of(instance: AnyInstance) -> Tuple[Projects, List[Fraction], Fraction]:
     """The projects of an instance, what they cost, and the budget limit."""
     costs = costs_of(instance)
-    projects = Projects(costs, has_order=not isinstance(instance, AnySet))
+    projects = Projects(costs, has_order=_has_order(instance))
     return projects, list(costs.values()), limit_of(instance)
 
 
@@ -233,6 +239,8 @@ def _ballots(profile: Profile) -> Iterator[Collection[AnyProject]]:
     """The ballots of a profile, each as it is given, or as a list where it can be read once only."""
     if isinstance(profile, AnyMapping):
         raise ValueError(MERGED)
+    if isinstance(profile, (set, frozenset)):
+        raise ValueError("the profile is a set, whose voters have no order that payments could be in: give a list")
     for voter, ballot in enumerate(listed(profile, "the profile is", "ballots"), 1):
         if isinstance(ballot, AnyMapping):
             raise TypeError(f"the ballot of voter {voter} is {reprlib.repr(ballot)}, a mapping as cardinal ballots "

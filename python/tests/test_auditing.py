@@ -202,6 +202,8 @@ class Audits(unittest.TestCase):
         self.assertEqual([found.name for found in told.findings if found.state == "fails"], ["C3"])
         self.assertEqual([found.name for found in told.findings if found.state == "not asked"], ["Cover", "S5"])
         self.assertIn("39599.99", told.findings[5].sentence)
+        self.assertIs(bool(told), False)
+        self.assertIs(bool(pbaudit.explain(files[0], EXAMPLES / "district.prices.csv")), True)
         told = pbaudit.explain(*files, stable=True, exhaustive=False, cover=True)
         self.assertEqual([found.name for found in told.findings if found.state == "not asked"], ["Exhaustive", "C5"])
         files = files[0], EXAMPLES / "district.violation.csv", EXAMPLES / "district.other.outcome.csv"
@@ -280,6 +282,22 @@ class Audits(unittest.TestCase):
         for given in (7, ["e.pb"], range(10**6), None):
             with self.assertRaisesRegex(TypeError, "isn't a file: give its path"):
                 pbaudit.read(given)
+
+    def test_files_that_give_less_than_is_asked_for(self):
+        """As pipes and sockets without a buffer do: what comes first isn't the file."""
+        class Slow:
+            def __init__(self, path):
+                self.parts = [path.read_bytes()[at:at + 700] for at in range(0, path.stat().st_size, 700)]
+
+            def read(self, size=-1):
+                return self.parts.pop(0) if self.parts else b""
+
+        files = EXAMPLES / "district.pb", EXAMPLES / "district.prices.csv"
+        self.assertEqual(pbaudit.read(Slow(files[0])), pbaudit.read(files[0]))
+        self.assertTrue(pbaudit.audit_prices(*map(Slow, files)))
+        waiting = mock.Mock(read=mock.Mock(side_effect=[b"META\n", None]))
+        with self.assertRaises(BlockingIOError):
+            pbaudit.read(waiting)
 
     def test_contents_in_the_place_of_a_path(self):
         text = (EXAMPLES / "district.pb").read_text(encoding="utf-8")

@@ -101,6 +101,11 @@ class Roundings(unittest.TestCase):
         with self.assertRaises(ValueError):
             price_certificate(SAMPLE, PROFILE, [A, B], 4, [{}, {}, {}], denominator=10**9 + 1)
 
+    def test_a_budget_below_0(self):
+        for ballots, payments in (([], []), ([[], []], [{}, {}])):
+            with self.assertRaisesRegex(ValueError, "^the voter budget is below 0$"):
+                price_certificate(SAMPLE, ballots, [], -4, payments, exhaustive=False)
+
     def test_amounts_beyond_those_of_a_certificate(self):
         for amount in (10**21 + 1, 10**400, -10**400, Fraction(10**400), Fraction(10**5000, 3), 1e300):
             with self.assertRaisesRegex(ValueError, "^the voter budget isn't from 0 to 10.21, "):

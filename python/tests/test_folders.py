@@ -129,6 +129,11 @@ class Folders(unittest.TestCase):
     def test_here(self):
         self.assertEqual(pbaudit.audit_folder(self.room), self.wanted())
         self.assertEqual(pbaudit.audit_folder(self.room).status, 2)
+        self.assertFalse(pbaudit.audit_folder(self.room))
+        os.mkdir(os.path.join(self.room, "yes"))
+        for name in ("a.pb", "a.prices.csv"):
+            shutil.copy(os.path.join(self.room, name), os.path.join(self.room, "yes"))
+        self.assertTrue(pbaudit.audit_folder(os.path.join(self.room, "yes")))
         modes = {"stable": ("--stable", True), "exhaustive": ("--no-exhaustive", False), "cover": ("--cover", True)}
         for name, (switch, value) in modes.items():
             self.assertEqual(pbaudit.audit_folder(self.room, **{name: value}), self.wanted(switch))

@@ -65,8 +65,9 @@ class Matrices(unittest.TestCase):
             budget_limit = 10
 
         for ballots, paid in ((self.numpy.array(BALLOTS), PAYMENTS), (PROFILE, self.numpy.array(PAID))):
-            with self.assertRaisesRegex(ValueError, "^the instance is a set, whose projects have no order"):
-                validate_price_system(SetOfProjects([A, B, C]), ballots, [A, B], 4, paid)
+            for instance in (SetOfProjects([A, B, C]), Instance({A, B, C}, 10)):
+                with self.assertRaisesRegex(ValueError, "^the instance is a set, whose projects have no order"):
+                    validate_price_system(instance, ballots, [A, B], 4, paid)
 
 
 if __name__ == "__main__":

@@ -93,6 +93,15 @@ class Pages(unittest.TestCase):
         self.assertIn("explain election certificate", Tags(write_page(io.BytesIO(DISTRICT.read_bytes()), PRICES.read_bytes())
                                                            .decode()).text)
 
+    def test_an_open_file_is_not_replaced(self):
+        with tempfile.TemporaryDirectory() as room:
+            path = pathlib.Path(shutil.copy(DISTRICT, room))
+            with open(path, "rb") as opened, self.assertRaisesRegex(ValueError, "that of the election"):
+                pbaudit.write_page(opened, PRICES, path=path)
+            self.assertEqual(path.read_bytes(), DISTRICT.read_bytes())
+        with self.assertRaisesRegex(TypeError, "isn't the path of a file to write"):
+            pbaudit.write_page(DISTRICT, PRICES, path=io.BytesIO())
+
     def test_a_language_that_is_not_there(self):
         for language in ("xx", "EN", ""):
             with self.assertRaisesRegex(ValueError, "not one of en, pl, de, fr"):

@@ -1,4 +1,6 @@
 """Files and verdicts from Python values."""
+import io
+import pickle
 import tempfile
 import unittest
 from collections import Counter
@@ -48,8 +50,14 @@ class PriceSystems(unittest.TestCase):
         projects = [Project(f"{number:02}", 1) for number in range(40)]
         verdict = validate_price_system(SetOfProjects(projects), [projects], [], 0, [{}])
         self.assertEqual((verdict.condition, verdict.project), ("Exhaustive", "00"))
+        self.assertEqual(validate_price_system(Instance(set(projects), 10), [projects], [], 0, [{}]), verdict)
         made = pbaudit.price_certificate(SetOfProjects([A, B, C]), PROFILE, [A, B], 4, PAYMENTS)
         self.assertEqual(made.file, pbaudit.write_prices(4, PAYMENTS))
+
+    def test_a_profile_that_is_a_set(self):
+        for profile in (set(map(frozenset, PROFILE)), frozenset(map(frozenset, PROFILE))):
+            with self.assertRaisesRegex(ValueError, "^the profile is a set, whose voters have no order"):
+                validate_price_system(SAMPLE, profile, [A, B], 4, PAYMENTS)
 
     def test_names_stand_for_projects(self):
         payments = [{"a": 2, "b": 2}, {"a": 4}, {"b": 2}]
@@ -98,8 +106,9 @@ class PriceSystems(unittest.TestCase):
         payments = [{project: Fraction(project.cost, prime) for project, prime in zip(projects, primes) if voter < prime}
                     for voter in range(71)]
         given = Instance(projects, sum(project.cost for project in projects)), ballots, projects, 10_000, payments
-        with self.assertRaisesRegex(ValueError, "^the amounts have too large a common denominator .* near=True audits "):
+        with self.assertRaisesRegex(ValueError, "^the amounts have too large a common denominator .* near=True") as caught:
             validate_price_system(*given)
+        self.assertEqual(pickle.loads(pickle.dumps(caught.exception)).args, caught.exception.args)
         verdict = validate_price_system(*given, near=True)
         self.assertEqual((str(verdict), verdict.moved), ("supported priceable", pbaudit.price_certificate(*given).moved))
         self.assertTrue(0 < verdict.moved < Fraction(1, 10))
@@ -162,6 +171,9 @@ class PriceSystems(unittest.TestCase):
                     pbaudit.write_prices(4, [first, *rest])
 
     def test_values_that_are_read_once(self):
+        instance = Instance((project for project in (A, B, C)), 10)
+        for _ in range(2):
+            self.assertEqual(pbaudit.write_election(instance, PROFILE), pbaudit.write_election(SAMPLE, PROFILE))
         for check in (validate_price_system, pbaudit.price_certificate):
             for exhaustive in (True, False):
                 ballots = (iter(ballot) for ballot in PROFILE)
@@ -218,6 +230,16 @@ class Files(unittest.TestCase):
             self.assertTrue(pbaudit.audit_prices(election, prices))
             self.assertEqual(pbaudit.audit_violation(election, claim).condition, "V4")
             self.assertTrue(pbaudit.audit_violation(election, claim, outcome))
+
+    def test_a_place_that_is_no_path(self):
+        made = pbaudit.price_certificate(SAMPLE, PROFILE, [A, B], 4, PAYMENTS)
+        for path in (True, 1, io.BytesIO(), b"x.csv"):
+            with self.assertRaisesRegex(TypeError, "isn't the path of a file to write"):
+                pbaudit.write_outcome(["a"], path)
+            with self.assertRaisesRegex(TypeError, "isn't the path of a file to write"):
+                made.write(path)
+        with self.assertRaisesRegex(TypeError, "isn't the path of a file to write"):
+            made.write(None)
 
     def test_what_cannot_be_written(self):
         def projects(name, cost=1):
@@ -297,7 +319,7 @@ class Files(unittest.TestCase):
         for make in makes:
             with self.assertRaisesRegex(TypeError, "^the ballot of voter 2 is {.*}, a mapping as cardinal ballots are"):
                 make([{A}, {B: 3}, {C}])
-            with self.assertRaisesRegex(ValueError, "^the profile has merged ballots with counts, .* one ballot for each"):
+            with self.assertRaisesRegex(ValueError, "^the profile is a mapping, as merged ballots with counts are, .* one ballot for each"):
                 make(Counter({frozenset([A]): 3}))
 
     def test_numbers_of_other_kinds(self):
