@@ -5,3 +5,7 @@ use Rattle.pb_page.proofs.headlines.english.Goals as goal
 pub returns-in-NotSupported : goal.returns-in-NotSupported
 unfolding encode_utf8
 returns-in-NotSupported c = search rules
+
+pub returns-in-NoViolation : goal.returns-in-NoViolation
+unfolding encode_utf8
+returns-in-NoViolation c = search rules
