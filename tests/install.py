@@ -337,6 +337,7 @@ def try_building(score, work):
     score.same((70, ""), (done.returncode, done.stdout), "nothing is built: status and output")
     score.check("rt, the command of the Rattle kit, is not on the PATH" in done.stderr, f"nothing is built: {done.stderr}")
     score.check("install: the program could not be built" in done.stderr, f"nothing is built: {done.stderr}")
+    score.check(not (work / "from copy").exists(), "nothing is built: folders are left")
     # With a program there, the library alone is missing.
     out = copy / "crates/pbaudit/out"
     out.mkdir()

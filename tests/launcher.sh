@@ -423,6 +423,7 @@ launcher=''
 for changed in crates.txt HANDLES crates/pb_money/src/lib.rt crates/pb_price/specs/First.antt crates/pb_audit/proofs/Lib.antt; do
   turn "$copy/$changed"
   wants "a release is of another $changed" 7 1 'pbaudit: building' build
+  grep -qF 'release/pbaudit is not used' "$work/errors" && count yes || count no "another $changed: why it builds isn't told"
   rm -rf "$copy"/crates/*/out
   path=$work/tools
   wants "a release is of another $changed, without rt" 70 0 'release/pbaudit is not used' build
