@@ -17,8 +17,8 @@ use Rattle.pb_price.proofs.Told.{tell-first}
 use Rattle.pb_reply.specs.Inputs.{StatesPrices}
 use Rattle.pb_reply.specs.Lines.{price_line}
 use Rattle.pb_reply.specs.declared.input.InputName.TheVariants as name
-use Rattle.pb_audit.specs.Explained.{OfPrices, is_violation}
-use Rattle.pb_audit.proofs.Explained.{denominator-low}
+use Rattle.pb_reply.specs.Certificates.{OfPrices, is_violation}
+use Rattle.pb_reply.proofs.Culprits.{denominator-low}
 use Rattle.pb_page.specs.Taken.{TellsCertificate}
 use Rattle.pb_page.specs.declared.told.CertificateFigures.TheVariants as found
 use Rattle.pb_page.specs.declared.told.PriceFigures.{PriceFigures}

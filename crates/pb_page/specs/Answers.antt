@@ -12,12 +12,11 @@ use Rattle.pb_price.specs.First.{First, verdict_of}
 use Rattle.pb_price.specs.Margins.{AreMargins}
 use Rattle.pb_price.specs.Told.{first_told}
 use Rattle.pb_price.specs.declared.Mode.{Mode}
-use Rattle.pb_reply.specs.Inputs.{Stated, audited}
+use Rattle.pb_reply.specs.Inputs.{FilesState, Stated, audited}
 use Rattle.pb_reply.specs.Lines.{price_line, violation_line}
 use Rattle.pb_reply.specs.Replies.{Answer, answer_of, refused}
 use Rattle.pb_reply.specs.declared.status.Status.{Status}
-use Rattle.pb_audit.specs.Answers.{FilesState}
-use Rattle.pb_audit.specs.Explained.{Certificate, OfPrices, OfViolation, StatesCertificate, explained_reply}
+use Rattle.pb_reply.specs.Certificates.{Certificate, OfPrices, OfViolation, StatesCertificate, certificate_status}
 use Rattle.pb_page.specs.Pieces.{Close, Headline, Line, Open, Piece, rendering}
 use Rattle.pb_page.specs.Rows.{ListsProjects}
 use Rattle.pb_page.specs.Sums.{HasInOrder, files_of, sums_of}
@@ -73,7 +72,7 @@ pub record HasAnswer (pieces : List Piece) : Type 0 where
   pub is : pieces ≡ front ++ (headline_box ++ (middle ++ (line_box ++ back)))
 
 -- The page about a certificate, in a language: what the pieces show is what is told, the sums are those of these files,
--- the projects stand in their orders, and the status is that of `explain`.
+-- the projects stand in their orders, and the status is that of the audit.
 pub record IsPage (m : Mode) (language : Language) (files : List Delivery) (e : Instance) (w : List Bool)
     (c : Certificate) (a : Answer Status) : Type 0 where
   pub told : Told
@@ -84,7 +83,7 @@ pub record IsPage (m : Mode) (language : Language) (files : List Delivery) (e : 
   pub sums : HasInOrder (sums_of files) pieces
   pub projects : ListsProjects told.mode told.found pieces
   pub text : a.text ≡ rendering (shows_of told) pieces
-  pub status : a.status ≡ (explained_reply m e w c).status
+  pub status : a.status ≡ certificate_status m e w c
 
 -- the page, or the line of the first input that is refused
 abbrev pub PageOnCertificate : Mode → Language → List Delivery → Instance → List Bool → Stated Certificate

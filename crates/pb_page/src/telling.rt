@@ -5,7 +5,7 @@ ghost use Rattle.pb_election.specs.Outcome.{OutcomeFits};
 ghost use Rattle.pb_certificate.specs.Violations.{ClaimFits};
 ghost use Rattle.pb_reply.specs.Inside.Loaded.{lent};
 ghost use Rattle.pb_reply.specs.Inside.Taking.{IfTaken};
-ghost use Rattle.pb_audit.specs.Explained.{is_violation};
+ghost use Rattle.pb_reply.specs.Certificates.{is_violation};
 ghost use Rattle.pb_page.specs.Answers.{TellsGroup};
 ghost use Rattle.pb_page.specs.Taken.{FindsFigures, TellsCertificate};
 ghost use Rattle.pb_page.specs.Told as spec;
