@@ -14,6 +14,7 @@ from typing import Callable, Dict, Iterator, List, Optional, Sequence, Tuple
 
 from ._auditor import Mode, Question, ask
 from .files import MOST_BYTES, Path
+from .shown import visible
 
 # The ending of a file that was audited, its line, and its status.
 Line = Tuple[str, str, int]
@@ -220,7 +221,7 @@ def _by_executor(executor: Executor, tasks: List[List[Entry]], attempt: str, fou
 
 def _named(task: List[Entry]) -> str:
     more = f" and {len(task) - 1} elections after it" if len(task) > 1 else ""
-    return f"{task[0].name}.pb{more}"
+    return f"{visible(task[0].name)}.pb{more}"
 
 
 def _alone(entries: List[Entry], found: Found) -> None:

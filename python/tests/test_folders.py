@@ -255,6 +255,10 @@ class Folders(unittest.TestCase):
                 self.assertTrue(os.path.isdir(mark))
                 self.assertEqual([call.args[1] for call in warning.call_args_list].count("b.pb"), losses)
 
+    def test_a_name_forges_no_line_of_a_log(self):
+        entries = [folders.Entry("", "a\u2028WARNING\u009bb", (), 1, folders.Mode())] * 2
+        self.assertEqual(folders._named(entries), "a\\u{2028}WARNING\\u{9b}b.pb and 1 elections after it")
+
     def test_small_elections_share_a_task(self):
         """In their order, and a large one has a task to itself."""
         sizes = [1, 2, 2**23, 3, 2**23 - 3, 4]
