@@ -81,6 +81,17 @@ def muddled(chance):
     return Case(["prices", "town.pb", "claim.csv", *mode, *words], files)
 
 
+def close(chance):
+    """Prices with nothing changed, or with one project cheaper by little, so that all holds but at most C5 or S5."""
+    mode = some_mode(chance)
+    town, claim = making.supported(chance, "--stable" in mode and chance.random() < 0.3)
+    if chance.random() < 0.6:
+        making.cheaper(chance, town, claim, 1)
+    plain = chance.random() < 0.6
+    files = {"town.pb": dressed(chance, town, plain), "claim.csv": making.prices_file(chance, town, claim, plain)}
+    return Case(["prices", "town.pb", "claim.csv", *mode], files)
+
+
 def dressed_prices(chance):
     return a_price_check(chance, dressed)
 
@@ -89,7 +100,7 @@ def dressed_violation(chance):
     return a_violation_check(chance, dressed)
 
 
-KINDS = {dressed_prices: 3, muddled: 4, dressed_violation: 4, a_price_check: 1, a_violation_check: 1}
+KINDS = {dressed_prices: 3, close: 3, muddled: 4, dressed_violation: 4, a_price_check: 1, a_violation_check: 1}
 DAMAGED = 0.1
 
 
@@ -126,9 +137,20 @@ def of_demand(count):
     return Case(["violation", "town.pb", "claim.csv"], case.files)
 
 
+def of_offers(count):
+    """A case of so many projects for which the supporters could offer more than they cost, and have nothing left."""
+    ids = [b"%d" % number for number in range(count + 1)]
+    costs = [10 * making.MILLION] + [5 * making.MILLION] * count
+    town = making.Town(ids, costs, costs[0], {0}, [set(range(count + 1))])
+    chance = random.Random(count)
+    claim = making.prices_file(chance, town, making.Claim(1, 10, {(0, 0): 10}), True)
+    return Case(["prices", "town.pb", "claim.csv"], {"town.pb": dressed(chance, town, True), "claim.csv": claim})
+
+
 def fixed_cases():
     """What chance doesn't meet: tables that are cut, files that aren't there, and sizes of one byte and of none."""
     made = [of_rows(1001, False), of_rows(1003, True), of_rows(1000, False), of_rows(1005, True), of_demand(1001)]
+    made += [of_offers(1), of_offers(3), of_offers(5)]
     for number, case in enumerate(made):
         yield renamed(random.Random(number), case, f"rows {number}")
     small = a_price_check(random.Random(5), dressed).files["town.pb"]

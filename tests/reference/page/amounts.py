@@ -31,9 +31,10 @@ def shown(amount, decimals, language):
     return (MINUS if amount < 0 else "") + text + (CUT if rest else "")
 
 
-def rounded(amount, decimals):
+def rounded(amount, decimals, denominator):
     """The amount with so many decimals that is nearest; of two the larger."""
-    return Fraction(int(amount * 10**decimals + Fraction(1, 2)), 10**decimals)
+    step = denominator * 10 ** (6 - decimals)
+    return Fraction((int(amount * denominator * 10**6) + step // 2) // step, 10**decimals)
 
 
 def length(part, whole, width_of_whole=WIDTH):

@@ -4,7 +4,7 @@ from dataclasses import dataclass
 from fractions import Fraction
 
 from . import amounts
-from .labels import MOST_OF_A_CURRENCY, MOST_UNDER_POINTER, Labels, cut, visible
+from .labels import MOST_OF_A_CURRENCY, MOST_SHOWN, MOST_UNDER_POINTER, Labels, cut, visible
 from .nodes import element
 from .wording import Wording
 
@@ -72,7 +72,7 @@ class Case:
 
     def words_of_others(self, text, class_=None):
         """What a file says, isolated from the words around it, in its language; under the pointer the rest of it."""
-        under = cut(text, MOST_UNDER_POINTER) if cut(text) != text else None
+        under = cut(text, MOST_UNDER_POINTER) if len(text) > MOST_SHOWN else None
         return element("bdi", cut(text), class_=class_, lang=self.names_in, title=under)
 
     def framed(self, text):

@@ -83,29 +83,36 @@ class Reader(HTMLParser):
     handle_pi = unknown_decl = handle_comment
 
 
-def pieces_of(node, place=""):
+def pieces_of(node):
     """The pieces that tell something, in order, each with its place: texts, attributes, and where elements begin and
     end. Of a style sheet nothing is a piece."""
+    pieces = []
+    add_pieces(pieces, node, "")
+    return pieces
+
+
+def add_pieces(pieces, node, place):
     if node.tag == "style":
         return
     is_piece = node.tag not in WRAPPERS
     if is_piece:
-        yield place, f"<{node.tag}>"
+        pieces.append((place, f"<{node.tag}>"))
     for name, value in sorted(node.attributes.items()):
         if name == "class":
             value = " ".join(sorted(TELLING.intersection(value.split())))
         if value or name != "class":
-            yield place, f"{name}={value}"
+            pieces.append((place, f"{name}={value}"))
     counts, words = {}, ""
-    for child in node.children:
+    # The last one is no child; it ends the words before it.
+    for child in [*node.children, None]:
         if isinstance(child, str):
             words += child
             continue
         if words:
-            yield place, repr(words)
-        words, counts[child.tag] = "", counts.get(child.tag, 0) + 1
-        yield from pieces_of(child, f"{place} {child.tag}{counts[child.tag]}")
-    if words:
-        yield place, repr(words)
+            pieces.append((place, repr(words)))
+        words = ""
+        if child:
+            counts[child.tag] = counts.get(child.tag, 0) + 1
+            add_pieces(pieces, child, f"{place} {child.tag}{counts[child.tag]}")
     if is_piece and node.tag not in VOID:
-        yield place, f"</{node.tag}>"
+        pieces.append((place, f"</{node.tag}>"))

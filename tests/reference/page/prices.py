@@ -142,18 +142,29 @@ class PriceFigures:
 # The tables.
 
 
-def unfunded(case, figures):
+def closest_first(figures):
     """The projects that weren't funded, those to which the least is missing first."""
+    return sorted(figures.claim.unfunded(), key=lambda each: figures.claim.cost(each) - figures.has(each))
+
+
+def wrongly_paid_first(figures):
+    """The projects that were funded, those that are paid furthest from their cost first, and then the dearest."""
+    cost, paid = figures.claim.cost, figures.claim.paid
+    return sorted(figures.claim.funded(), key=lambda each: (-abs(paid(each) - cost(each)), -cost(each)))
+
+
+def unfunded(case, figures):
+    """The projects that weren't funded, by what their supporters have left or can offer."""
     form = "stable" if figures.is_stable else "plain"
-    missing = {project: case.cost(project) - figures.has(project) for project in figures.claim.unfunded()}
+    projects = closest_first(figures)
     title = element("h2", case.say("unfunded.title"))
-    if not missing:
+    if not projects:
         return element("section", title, element("p", case.say("unfunded.none")), class_="sorted")
     columns = [
         ("projects.project", WORDS), ("projects.cost", MONEY), ("projects.supporters", NUMBER),
         (f"unfunded.amount.{form}", MONEY), ("unfunded.against", BAR),
     ]  # fmt: skip
-    rows = [unfunded_row(case, figures, project) for project in sorted(missing, key=lambda each: missing[each])]
+    rows = [unfunded_row(case, figures, project) for project in projects]
     return element(
         "section", title, element("p", case.say(f"unfunded.how.{form}")), orders(case),
         table(case, "unfunded.title", columns, rows), class_="sorted",
@@ -205,13 +216,11 @@ def distance(case, has, cost):
 
 
 def funded(case, figures):
-    """The projects that were funded: those that are paid furthest from their cost first, and then the dearest."""
+    """The projects that were funded, by the part of the limit that they take."""
     title = element("h2", case.say("funded.title"))
-    projects = figures.claim.funded()
+    projects = wrongly_paid_first(figures)
     if not projects:
         return element("section", title, element("p", case.say("funded.none")))
-    paid = figures.claim.paid
-    projects.sort(key=lambda each: (-abs(paid(each) - case.cost(each)), -case.cost(each)))
     columns = [
         ("projects.project", WORDS), ("projects.cost", MONEY), ("projects.supporters", NUMBER),
         ("funded.per_supporter", MONEY), ("funded.part", BAR),
@@ -223,7 +232,7 @@ def funded(case, figures):
 
 def funded_row(case, figures, project):
     cost, count = case.cost(project), len(case.election.supporters(project))
-    each = case.amount(amounts.rounded(cost / count, case.decimals)) if count else "\u2013"
+    each = case.amount(amounts.rounded(cost / count, case.decimals, figures.claim.prices.denominator)) if count else "\u2013"
     part = [
         bar(part_label(case, project, case.limit), cost, case.limit, amounts.length(cost, case.limit) is None),
         element("span", part_in_words(case, cost, case.limit), " \u00b7 "),
@@ -255,7 +264,7 @@ def comes_to(case, figures, name):
     if name == "Exhaustive" and figures.culprits["Feasible"]:
         name = "Feasible"
     meaning = f"comes_to.{name}." + ("fails" if figures.culprits[name] else "holds")
-    return SENTENCES[name](case, figures, meaning) + places(case, figures, name)
+    return said_of(name)(case, figures, meaning) + places(case, figures, name)
 
 
 def said_of_feasible(case, figures, meaning):
@@ -338,11 +347,13 @@ def voter_words(voter):
     return amounts.grouped(voter)
 
 
-SENTENCES = {
-    "Feasible": said_of_feasible, "Exhaustive": said_of_exhaustive, "Cover": said_of_cover,
-    "C1": said_of_c1, "C2": said_of_c2, "C3": said_of_payments("C3"), "C4": said_of_payments("C4"),
-    "C5": said_of_supporters("C5", "left"), "S5": said_of_supporters("S5", "offer"),
-}  # fmt: skip
+def said_of(name):
+    """What writes the sentence of a condition."""
+    return {
+        "Feasible": said_of_feasible, "Exhaustive": said_of_exhaustive, "Cover": said_of_cover,
+        "C1": said_of_c1, "C2": said_of_c2, "C3": said_of_payments("C3"), "C4": said_of_payments("C4"),
+        "C5": said_of_supporters("C5", "left"), "S5": said_of_supporters("S5", "offer"),
+    }[name]  # fmt: skip
 
 
 # Where a condition fails at several places: at how many, and where by most.
