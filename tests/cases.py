@@ -44,7 +44,7 @@ def a_read(chance):
     return Case(["read", "town.pb"], files)
 
 
-def a_price_check(chance):
+def a_price_check(chance, election_file=making.election_file):
     """Prices that mostly support the outcome but for one small change, as a case of 'prices'."""
     mode = some_mode(chance)
     town, claim = making.supported(chance, "--stable" in mode and chance.random() < 0.6)
@@ -56,17 +56,17 @@ def a_price_check(chance):
         town.limit = min(making.MOST_COST, max(0, budgets - chance.choice([0, 0, 1])))
     plain = chance.random() < 0.4
     words, files = some_outcome(chance, town, plain)
-    files["town.pb"] = making.election_file(chance, town, plain)
+    files["town.pb"] = election_file(chance, town, plain)
     files["claim.csv"] = making.prices_file(chance, town, claim, plain)
     return Case(["prices", "town.pb", "claim.csv", *mode, *words], files)
 
 
-def a_violation_check(chance):
+def a_violation_check(chance, election_file=making.election_file):
     town, group, demand = making.a_violation(chance)
     plain = chance.random() < 0.4
     words, files = some_outcome(chance, town, plain)
     version = b"2" if chance.random() < 0.6 else b"1"
-    files["town.pb"] = making.election_file(chance, town, plain)
+    files["town.pb"] = election_file(chance, town, plain)
     files["claim.csv"] = making.violation_file(chance, town, group, demand, plain, (b"pb-violation", version))
     return Case(["violation", "town.pb", "claim.csv", *words], files)
 
@@ -139,9 +139,9 @@ KINDS = {
 DAMAGED = 0.5
 
 
-def random_case(chance, kinds):
+def random_case(chance, kinds, damaged=DAMAGED):
     case = chance.choices(list(kinds), list(kinds.values()))[0](chance)
-    if case.words[:1] != ["folder"] and chance.random() < DAMAGED:
+    if case.words[:1] != ["folder"] and chance.random() < damaged:
         if case.stdin is not None:
             case.stdin = damage(chance, case.stdin)
         else:

@@ -1,0 +1,161 @@
+"""Cases for the page about a certificate: elections with names and facts that others wrote, and figures of all sizes."""
+import random
+
+import making
+from cases import Case, a_price_check, a_violation_check, random_case, some_mode, some_outcome
+
+# What may stand in META and in the column 'name': markup, quotes, marks that turn what follows, and long words.
+WORDS = [
+    "Park", "Sprachcafé für Neuzugezogene", "Plac zabaw „Pod Lipą”", "Radbügel; 24 Stück", "a", "<b>bold</b>", "&lt;",
+    "\"><script>document.title='x'</script>", "{project}", "{", "%s", "\u202eevil", "a\u200bb", "tab\tinside", "\u00a0",
+    "z" * 80, "z" * 81, "ź" * 2000, "ź" * 2001, "e\u0301", "🌳", "', '", "-", "0", "</bdi></th>", "Yes", "\\u{202e}",
+    "line\nbreak", "''", "« guillemets »", "x" * 79 + "\u202e",
+]  # fmt: skip
+FACTS = {
+    "description": WORDS,
+    "country": ["Poland", "Polska", "Germany", "Austria", "Österreich", "France", "UK", "Brazil", "Italy", "Nowhere"],
+    "unit": ["Warszawa", *WORDS], "district": ["Mitte", *WORDS], "language": ["pl", "de", "fr", "en", "nl", "xx", "PL"],
+    "rule": ["greedy", "equalshares", *WORDS], "currency": ["PLN", "EUR", "zł", "$", "<b>", "z" * 12, "z" * 13, "\u202ex"],
+    "date_begin": ["2026", "02.03.2026", "z" * 81], "date_end": ["2026", "22.03.2026"], "turnout": ["4711", "12 %"],
+    "num_votes": ["999"],
+}  # fmt: skip
+TOWNS = ["town.pb", "a town.pb", "it's.pb", "-town.pb", "ü.pb", "$(touch x).pb", "x;y.pb", "a" * 90 + ".pb", "--.pb", "q\".pb"]
+CLAIMS = ["claim.csv", "; touch PWNED #.csv", "'.csv", "-c.csv", "a_B-9.csv", "b" * 81 + ".csv", "`id`.csv"]
+OUTCOMES = ["outcome.csv", "out come.csv", "&.csv"]
+MOST_AMOUNT = 10**12 * making.MILLION
+
+
+def dressed(chance, town, plain):
+    """An election as a file with facts, and with names of its projects."""
+    facts = [[key, chance.choice(FACTS[key])] for key in FACTS if chance.random() < 0.4]
+    if facts and chance.random() < 0.2:
+        key, _ = chance.choice(facts)
+        facts += [[key.upper(), chance.choice(FACTS[key])]] if key != "num_votes" else []
+    columns = [b"project_id", b"cost", b"selected", b"name"]
+    if chance.random() < 0.3:
+        columns.insert(chance.randrange(5), chance.choice([b"name", b"Name", b"category"]))
+    town.limit = min(MOST_AMOUNT, town.limit)
+    meta = [[b"budget", making.amount(chance, town.limit, plain)], [b"vote_type", b"approval"]]
+    meta += [[making.any_case(chance, key.encode(), plain), value.encode()] for key, value in facts]
+    chance.shuffle(meta)
+    records = [[b"META"], [b"key", b"value"], *meta, [b"PROJECTS"], columns]
+    for place, project_id in enumerate(town.ids):
+        cells = {b"project_id": project_id, b"cost": making.amount(chance, town.costs[place], plain),
+                 b"selected": making.mark(chance, place in town.funded, plain)}
+        names = [cells.get(each) or (chance.choice(WORDS).encode() if chance.random() < 0.8 else b"") for each in columns]
+        records.append(making.shortened(chance, names, plain))
+    records += [[b"VOTES"], [b"voter_id", b"vote"]]
+    for voter, ballot in enumerate(town.ballots):
+        named = [town.ids[place] for place in sorted(ballot)]
+        records.append([b"%d" % (7000 - voter), making.vote(chance, named, plain)])
+    return making.join(chance, records, b";", plain)
+
+
+def coarser(chance, town):
+    """Rounds what isn't funded, and the limit, up to whole units, tenths, hundredths or thousandths."""
+    unit = chance.choice([10**6, 10**6, 10**5, 10**4, 10**3])
+    for place in set(range(len(town.ids))) - town.funded:
+        town.costs[place] = -(-town.costs[place] // unit) * unit
+    town.limit = -(-town.limit // unit) * unit
+
+
+def muddled(chance):
+    """Prices with many things changed, so that conditions fail at several places, and by much."""
+    mode = some_mode(chance)
+    town, claim = making.supported(chance, chance.random() < 0.5)
+    if chance.random() < 0.4:
+        claim.budget //= chance.choice([2, 3, 10, 10**6])
+    for _ in range(chance.choice([0, 2, 5, 9])):
+        making.nudge(chance, town, claim)
+    for place in range(len(town.ids)):
+        if chance.random() < 0.1:
+            town.costs[place] = chance.choice([0, 0, 1, making.MILLION, 10**9 * making.MILLION])
+    if chance.random() < 0.3:
+        town.funded ^= {place for place in range(len(town.ids)) if chance.random() < 0.3}
+    if chance.random() < 0.6:
+        coarser(chance, town)
+    plain = chance.random() < 0.6
+    words, files = some_outcome(chance, town, plain)
+    files["town.pb"] = dressed(chance, town, plain)
+    files["claim.csv"] = making.prices_file(chance, town, claim, plain)
+    return Case(["prices", "town.pb", "claim.csv", *mode, *words], files)
+
+
+def close(chance):
+    """Prices with nothing changed, or with one project cheaper by little, so that all holds but at most C5 or S5."""
+    mode = some_mode(chance)
+    town, claim = making.supported(chance, "--stable" in mode and chance.random() < 0.3)
+    if chance.random() < 0.6:
+        making.cheaper(chance, town, claim, 1)
+    plain = chance.random() < 0.6
+    files = {"town.pb": dressed(chance, town, plain), "claim.csv": making.prices_file(chance, town, claim, plain)}
+    return Case(["prices", "town.pb", "claim.csv", *mode], files)
+
+
+def dressed_prices(chance):
+    return a_price_check(chance, dressed)
+
+
+def dressed_violation(chance):
+    return a_violation_check(chance, dressed)
+
+
+KINDS = {dressed_prices: 3, close: 3, muddled: 4, dressed_violation: 4, a_price_check: 1, a_violation_check: 1}
+DAMAGED = 0.1
+
+
+def page_case(seed, number):
+    """A case of `page`, from a seed of its own; the files have names of all kinds."""
+    chance = random.Random(f"page {seed}/{number}")
+    return renamed(chance, random_case(chance, KINDS, DAMAGED), f"{seed}/{number}")
+
+
+def renamed(chance, case, name):
+    """The case as one of `page`, its files under other names. The options of prices are ignored for a violation."""
+    named = {"town.pb": chance.choice(TOWNS), "claim.csv": chance.choice(CLAIMS), "outcome.csv": chance.choice(OUTCOMES)}
+    options = case.words[3:] + (some_mode(chance) if case.words[0] == "violation" else [])
+    # What stands behind "--" is no option, as "-town.pb".
+    words = ["page", *(named.get(word, word) for word in options), "--", named["town.pb"], named["claim.csv"]]
+    return Case(words, {named[file]: data for file, data in case.files.items()}, name=name)
+
+
+def of_rows(count, funded):
+    """A case of so many projects, all funded or none, of which a table shows the first thousand."""
+    ids = [b"%d" % number for number in range(count)]
+    costs = [(number * 7919 % 1009) * making.MILLION for number in range(count)]
+    town = making.Town(ids, costs, sum(costs), set(range(count)) if funded else set(), [set(range(count)), {0, 1}])
+    chance = random.Random(count)
+    claim = making.prices_file(chance, town, making.Claim(3, 100, {(0, 5): 7}), True)
+    return Case(["prices", "town.pb", "claim.csv"], {"town.pb": dressed(chance, town, True), "claim.csv": claim})
+
+
+def of_demand(count):
+    """A case of a group that demands so many projects."""
+    case, chance = of_rows(count, False), random.Random(count)
+    town = making.Town([b"%d" % number for number in range(count)], [], 0, set(), [])
+    case.files["claim.csv"] = making.violation_file(chance, town, {0}, set(range(count)), True)
+    return Case(["violation", "town.pb", "claim.csv"], case.files)
+
+
+def of_offers(count):
+    """A case of so many projects for which the supporters could offer more than they cost, and have nothing left."""
+    ids = [b"%d" % number for number in range(count + 1)]
+    costs = [10 * making.MILLION] + [5 * making.MILLION] * count
+    town = making.Town(ids, costs, costs[0], {0}, [set(range(count + 1))])
+    chance = random.Random(count)
+    claim = making.prices_file(chance, town, making.Claim(1, 10, {(0, 0): 10}), True)
+    return Case(["prices", "town.pb", "claim.csv"], {"town.pb": dressed(chance, town, True), "claim.csv": claim})
+
+
+def fixed_cases():
+    """What chance doesn't meet: tables that are cut, files that aren't there, and sizes of one byte and of none."""
+    made = [of_rows(1001, False), of_rows(1003, True), of_rows(1000, False), of_rows(1005, True), of_demand(1001)]
+    made += [of_offers(1), of_offers(3), of_offers(5)]
+    for number, case in enumerate(made):
+        yield renamed(random.Random(number), case, f"rows {number}")
+    small = a_price_check(random.Random(5), dressed).files["town.pb"]
+    for name, data in (("none", b""), ("a byte", b"x"), ("missing", None)):
+        files = {"town.pb": small} if data is None else {"town.pb": small, "claim.csv": data}
+        yield Case(["page", "town.pb", "claim.csv"], files, name=name)
+    yield Case(["page", "town.pb", "claim.csv"], {}, name="nothing")
+    yield Case(["page", "--outcome", "o.csv", "town.pb", "claim.csv"], {"town.pb": small, "claim.csv": b""}, name="no outcome")

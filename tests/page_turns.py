@@ -1,0 +1,189 @@
+"""Changes of the reference for pages, by each of which it writes a page that says something else."""
+import contextlib
+import unittest.mock
+from fractions import Fraction
+
+from reference.page import amounts, bars, labels, prices, states, tables, whole, wording
+from reference.page import case as case_of_page
+from reference.page.case import Case, InputFile
+from reference.page.group import GroupFigures
+from reference.page.nodes import element
+from reference.page.prices import PriceFigures
+from reference.page.wording import Wording
+
+
+class Turn:
+    """What is turned, and in which places: of each the object, the name, and what makes the new one of the old one."""
+
+    def __init__(self, what, *places):
+        self.what, self.places = what, places
+
+    @contextlib.contextmanager
+    def made(self):
+        with contextlib.ExitStack() as stack:
+            for holder, name, make in self.places:
+                stack.enter_context(unittest.mock.patch.object(holder, name, make(getattr(holder, name))))
+            yield
+
+
+def exchanged(one, other):
+    """Each of two sentences stands where the other has to stand."""
+    turned = {one: other, other: one}
+
+    def say_turned(old):
+        return lambda self, meaning, count=None: old(self, turned.get(meaning, meaning), count)
+
+    return Turn(f"{one} and {other} exchanged", (Wording, "say", say_turned))
+
+
+def instead(new):
+    """Something else in the place of what there was."""
+    return lambda old: new
+
+
+def answers(change):
+    """The old answer, changed."""
+    return lambda old: lambda *given, **named: change(old(*given, **named))
+
+
+def asked(change):
+    """The old answer to other words."""
+    return lambda old: lambda *given: old(*change(*given))
+
+
+EXCHANGED = [
+    exchanged("claims.violation.yes", "claims.violation.no"),
+    exchanged("claims.prices.yes", "claims.prices.yes_stable"),
+    exchanged("claims.prices.yes", "claims.prices.no_by_payments"),
+    exchanged("claims.prices.no_by_payments", "claims.prices.no_by_outcome"),
+    exchanged("claims.prices.no_by_payments", "claims.prices.plain_alone"),
+    exchanged("not_said.violation.yes", "not_said.violation.no"),
+    exchanged("not_said.prices.yes", "not_said.prices.no_by_payments"),
+    exchanged("not_said.prices.no_by_payments", "not_said.prices.no_by_outcome"),
+    exchanged("answer.prices.yes", "answer.prices.no"),
+    exchanged("answer.prices.yes", "answer.prices.yes_stable"),
+    exchanged("answer.violation.yes", "answer.violation.no"),
+    exchanged("why.prices.yes", "why.prices.yes_stable"),
+    exchanged("asked.form.plain", "asked.form.stable"),
+    exchanged("asked.exhaustive.yes", "asked.exhaustive.no"),
+    exchanged("asked.cover.yes", "asked.cover.no"),
+    exchanged("asked.measure.count", "asked.measure.cost"),
+    exchanged("asked.other_form.stable_too", "asked.other_form.plain_holds"),
+    exchanged("state.holds", "state.fails"),
+    exchanged("state.holds", "state.not_asked"),
+    exchanged("state.conditions", "state.tests"),
+    exchanged("name.C1", "name.C4"),
+    exchanged("asks.V3", "asks.V4"),
+    exchanged("comes_to.C5.holds", "comes_to.C5.fails"),
+    exchanged("comes_to.Cover.holds", "comes_to.Cover.fails"),
+    exchanged("comes_to.V3.holds", "comes_to.V3.fails"),
+    exchanged("places.projects", "places.voters"),
+    exchanged("places.largest.elsewhere", "places.amount.elsewhere"),
+    exchanged("glance.of_the_limit.left", "glance.of_the_limit.over"),
+    exchanged("glance.of_the_budgets.left", "glance.of_the_budgets.over"),
+    exchanged("unfunded.title", "funded.title"),
+    exchanged("unfunded.none", "funded.none"),
+    exchanged("unfunded.over", "unfunded.under"),
+    exchanged("unfunded.amount.plain", "unfunded.amount.stable"),
+    exchanged("unfunded.label.plain", "unfunded.label.stable"),
+    exchanged("unfunded.order.dearest", "unfunded.order.supported"),
+    exchanged("funded.paid.over", "funded.paid.under"),
+    exchanged("group.share", "group.cost"),
+    exchanged("demand.funded", "demand.unfunded"),
+    exchanged("words.left.means", "words.offer.means"),
+    exchanged("files.election", "files.certificate"),
+    exchanged("head.rule", "head.turnout"),
+]
+STATES = [
+    Turn("each condition on prices holds", (PriceFigures, "state", instead(lambda self, name: "holds"))),
+    Turn("each condition on prices is asked",
+         (PriceFigures, "state", instead(lambda self, name: "fails" if self.culprits[name] else "holds"))),
+    Turn("signs exchanged", (states, "SIGNS", lambda old: {**old, "holds": old["fails"], "fails": old["holds"]})),
+    Turn("a badge that fails looks good", (states, "CLASSES", lambda old: {**old, "fails": "state"})),
+    Turn("good and bad news of prices exchanged", (PriceFigures, "is_good_news", answers(lambda good: not good))),
+    Turn("good and bad news of groups exchanged", (GroupFigures, "is_good_news", answers(lambda good: not good))),
+    Turn("the plain form isn't told apart", (PriceFigures, "fails_as_stable_alone", instead(lambda self: False))),
+    Turn("the outcome is never to blame", (PriceFigures, "fails_by_outcome", instead(lambda self: False))),
+    Turn("the outcome is always to blame", (PriceFigures, "fails_by_outcome", instead(lambda self: True))),
+]
+FIGURES = [
+    Turn("what a member gets and what is demanded exchanged",
+         (GroupFigures, "gets", lambda old: GroupFigures.demanded),
+         (GroupFigures, "demanded", lambda old: GroupFigures.gets)),
+    Turn("amounts as numbers of projects",
+         (GroupFigures, "worth", instead(lambda self, case, worth: [amounts.grouped(worth)]))),
+    Turn("the whole limit for the share",
+         (GroupFigures, "share_of_limit", instead(lambda self: Fraction(self.election.limit, 10**6)))),
+    Turn("leftovers and offers exchanged",
+         (prices, "sums_of", asked(lambda figures, name: (figures, "S5" if name == "C5" else "C5")))),
+    Turn("leftovers where offers are asked",
+         (PriceFigures, "has", instead(lambda self, project: self.claim.left_of_supporters(project)))),
+    Turn("too much as if it were within the limit",
+         (prices, "said_of_feasible", asked(lambda case, found, _: (case, found, "comes_to.Feasible.holds")))),
+    Turn("the first place that fails isn't named",
+         (prices, "first_project", instead(lambda figures, name, otherwise: otherwise))),
+    Turn("another spender",
+         (prices, "spends_most", instead(lambda found: min(found.claim.election.voters, key=found.claim.spends)))),
+    Turn("voters counted from 0", (prices, "voter_words", asked(lambda voter, *rest: (voter - 1, *rest)))),
+    Turn("nothing on other places", (prices, "places", instead(lambda case, figures, name: []))),
+    Turn("costs without decimals", (Case, "cost", answers(Fraction.__floor__))),
+]
+SHOWN = [
+    Turn("no minus", (amounts, "MINUS", instead(""))),
+    Turn("no ellipsis", (amounts, "CUT", instead(""))),
+    Turn("no thousands", (amounts, "THOUSANDS", instead(""))),
+    Turn("points for commas", (amounts, "POINT", lambda old: {language: "." for language in old})),
+    Turn("two decimals always", (amounts, "decimals_for", instead(lambda amounts: 2))),
+    Turn("one decimal alone", (amounts, "decimals_for", instead(lambda all_: max(map(amounts.places, all_))))),
+    Turn("the cost per supporter cut",
+         (amounts, "rounded", instead(lambda amount, places, *_: Fraction(int(amount * 10**places), 10**places)))),
+    Turn("percents rounded",
+         (amounts, "length", lambda old: lambda part, whole, width=amounts.WIDTH:
+          old(part + Fraction(whole, 2 * width), whole, width))),
+    Turn("marks at the end", (amounts, "MARK", instead(amounts.WIDTH))),
+    Turn("stripes where a bar ends at its mark",
+         (prices, "bar_against", asked(lambda label, amount, bound, _: (label, amount, bound, amount >= bound)))),
+    Turn("no stripes", (bars, "drawn", asked(lambda label, length, has_mark, _: (label, length, has_mark, False)))),
+    Turn("bars without labels", (bars, "drawn", asked(lambda label, *rest: ("", *rest)))),
+    Turn("bars without marks", (bars, "drawn", asked(lambda label, length, _, is_over: (label, length, False, is_over)))),
+    Turn("amounts without currency", (Case, "money", instead(lambda self, value: [self.amount(value)]))),
+    Turn("columns without currency", (Case, "unit", instead(lambda self: []))),
+    Turn("two forms in Polish", (wording, "form_for", asked(lambda language, count: ("en", count)))),
+    Turn("12 as 2 in Polish", (wording, "form_for", asked(lambda language, count: (
+        language, count % 10 + 20 if language == "pl" and count > 9 else count)))),
+]
+NAMES = [
+    Turn("hidden characters stay", (labels, "HIDDEN", instead(set()))),
+    Turn("names cut elsewhere", (case_of_page, "cut", lambda old: lambda text, most=79: old(text, most))),
+    Turn("less under the pointer",
+         (Case, "words_of_others", asked(lambda self, text, *class_: (self, text[:100], *class_)))),
+    Turn("names of others without a frame",
+         (Case, "framed", instead(lambda self, text: self.words_of_others(labels.cut(text))))),
+    Turn("names in no language", (labels.Labels, "language", instead(lambda self: None))),
+    Turn("ids for names", (Case, "project_name", instead(lambda self, project: labels.cut(self.id(project))))),
+    Turn("another order of places", (whole, "place", answers(lambda told: told[::-1]))),
+    Turn("the last day alone", (whole, "dates", instead(lambda case: whole.fact(case, "date_end")))),
+    Turn("the file for the title", (whole, "title", instead(lambda case: labels.visible(case.files[0].name)))),
+]
+ROWS = [
+    Turn("the furthest first", (prices, "closest_first", answers(lambda projects: projects[::-1]))),
+    Turn("funded projects as in the file", (prices, "wrongly_paid_first", instead(lambda found: found.claim.funded()))),
+    Turn("two orders exchanged", (prices, "order_by", asked(lambda cost, supporters: (supporters, cost)))),
+    Turn("cells exchanged",
+         (tables, "row", asked(lambda case, columns, project, order, *cells: (case, columns, project, order, *cells[::-1])))),
+    Turn("cells without heads", (tables, "cell", instead(lambda case, column, told: element("td", told, role="cell")))),
+    Turn("nothing paid in vain", (prices.SummedClaim, "paid", instead(lambda self, project: 0))),
+    Turn("each project paid exactly", (prices, "payment", asked(lambda case, paid, cost: (case, cost, cost)))),
+]
+CHECKED = [
+    Turn("the command without options", (PriceFigures, "options", instead(lambda self: []))),
+    Turn("options in the command on a group", (GroupFigures, "options", instead(lambda self: ["--stable"]))),
+    Turn("names of files without quotes", (whole, "shell_word", instead(lambda name: name))),
+    Turn("another sum", (InputFile, "sum", instead(property(lambda self: "0" * 64)))),
+    Turn("files exchanged", (whole.Audit, "files", answers(lambda files: files[:1] + files[:0:-1]))),
+    Turn("another line", (whole, "footer", asked(lambda case, audit: (
+        case, unittest.mock.Mock(line=b"supported\n", found=audit.found))))),
+    Turn("another version", (whole, "version", instead(lambda: "0.0.0"))),
+    Turn("words in another order", (GroupFigures, "words", instead(("demand", "share")))),
+]
+TURNS = EXCHANGED + STATES + FIGURES + SHOWN + NAMES + ROWS + CHECKED

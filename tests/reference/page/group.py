@@ -1,0 +1,177 @@
+"""What the page says of a violation certificate."""
+from fractions import Fraction
+
+from .. import violations
+from . import amounts
+from .bars import bar, bar_against, part_in_words
+from .nodes import element
+from .prices import part_label, voter_words
+from .states import condition_item
+from .tables import BAR, MONEY, WORDS, order_by, table
+
+MILLION = 10**6
+
+
+class GroupFigures:
+    """What is found of a group and its demand."""
+
+    words = ("share", "demand")
+
+    def __init__(self, election, funded, violation):
+        self.election, self.violation = election, violation
+        self.funded = funded
+        self.members, self.voters = len(violation.group), len(election.ballots)
+        self.demand = sorted(violation.demand)
+        self.culprits = {name: culprits_of(election, funded, violation) for name, culprits_of in violations.TESTS}
+        self.failed = next((name for name in self.culprits if self.culprits[name]), None)
+        self.cost = Fraction(sum(election.costs[project] for project in self.demand), MILLION)
+        self.share = self.share_of_limit()
+
+    def share_of_limit(self):
+        """The group's share of the limit, cut to millionths."""
+        return Fraction(self.election.limit * self.members // max(self.voters, 1), MILLION)
+
+    def answer(self):
+        return "answer.violation.no" if self.failed else "answer.violation.yes"
+
+    def is_good_news(self):
+        return self.failed is not None
+
+    def not_said(self):
+        return "not_said.violation.no" if self.failed else "not_said.violation.yes"
+
+    def may_be_said(self):
+        return "claims.violation.no" if self.failed else "claims.violation.yes"
+
+    def options(self):
+        return []
+
+    # What projects are worth.
+
+    def demanded(self):
+        return violations.worth(self.election, self.violation.demand, self.violation.by_cost)
+
+    def enough(self):
+        """The first member that gets as much as is demanded."""
+        return self.culprits["V4"][0][0] if self.culprits["V4"] else None
+
+    def gets(self):
+        """What the first member gets that gets enough, or else the most that a member gets."""
+        members = self.violation.group if self.enough() is None else [self.enough()]
+        return max((self.gets_of(voter) for voter in members), default=0)
+
+    def gets_of(self, voter):
+        return violations.worth(self.election, self.election.ballot(voter) & self.funded, self.violation.by_cost)
+
+    def worth(self, case, worth):
+        """What projects are worth: an amount, or a number of projects."""
+        return case.money(Fraction(worth, MILLION)) if self.violation.by_cost else [amounts.grouped(worth)]
+
+    # The parts of the page.
+
+    def why(self, case):
+        return self.comes_to(case, self.failed) if self.failed else [case.say("why.violation.yes")]
+
+    def asked_for(self, case):
+        return element("li", case.say("asked.measure." + ("cost" if self.violation.by_cost else "count")))
+
+    def figures(self, case):
+        listed = [condition_item(case, name, "fails" if culprits else "holds", self.comes_to(case, name))
+                  for name, culprits in self.culprits.items()]
+        return [
+            element("section", element("h2", case.say("group.title")), self.tiles(case),
+                    self.bar_of_share(case), self.bar_of_gets(case)),
+            element("section", element("h2", case.say("demand.title")), self.demand_table(case)),
+            element("section", element("h2", case.say("state.tests")), element("ol", listed)),
+        ]
+
+    def tiles(self, case):
+        count, all_ = amounts.grouped(self.members), amounts.grouped(self.voters)
+        return [
+            tile(case, "group.members", case.filled("glance.some_of_all", count=count, all=all_)),
+            money_tile(case, "group.share", self.share),
+            money_tile(case, "group.cost", self.cost),
+        ]
+
+    def bar_of_share(self, case):
+        label = case.wording.label("comes_to.V3.holds", share=case.money(self.share), cost=case.money(self.cost))
+        against = case.filled("group.against", amount=case.money(self.share), bound=case.money(self.cost))
+        return [
+            element("p", case.say("group.bar_of_share")),
+            bar_against(label, self.share, self.cost, False),
+            element("span", against, class_="verdict"),
+        ]
+
+    def bar_of_gets(self, case):
+        if self.enough() is None:
+            caption = [case.say("group.bar_of_gets.most")]
+        else:
+            caption = case.filled("group.bar_of_gets.enough", voter=voter_words(self.enough()))
+        gets, demanded = self.worth(case, self.gets()), self.worth(case, self.demanded())
+        return [
+            element("p", caption),
+            bar_against(self.gets_label(case), self.gets(), self.demanded(), self.enough() is not None),
+            element("span", case.filled("group.against", amount=gets, bound=demanded), class_="verdict"),
+        ]
+
+    def gets_label(self, case):
+        figures = {"gets": self.worth(case, self.gets()), "demanded": self.worth(case, self.demanded())}
+        if self.enough() is None:
+            return case.wording.label("comes_to.V4.holds", **figures)
+        return case.wording.label("comes_to.V4.fails", voter=voter_words(self.enough()), **figures)
+
+    def demand_table(self, case):
+        if not self.demand:
+            return element("p", case.say("demand.none"))
+        columns = [("projects.project", WORDS), ("projects.cost", MONEY), ("demand.state", WORDS), ("demand.part", BAR)]
+        return table(case, "demand.title", columns, [self.demand_row(case, project) for project in self.demand])
+
+    def demand_row(self, case, project):
+        state = case.say("demand.funded" if project in self.funded else "demand.unfunded")
+        cost = case.cost(project)
+        is_over = amounts.length(cost, self.share) is None
+        part = [
+            bar(part_label(case, project, self.share), cost, self.share, is_over),
+            element("span", part_in_words(case, cost, self.share), class_="verdict"),
+        ]
+        return project, order_by(0, 0), case.amount(cost), state, part
+
+    def comes_to(self, case, name):
+        """What a test comes to; and at how many places it fails, where these are several."""
+        culprits = self.culprits[name]
+        meaning = f"comes_to.{name}." + ("fails" if culprits else "holds")
+        return self.SENTENCES[name](self, case, meaning) + self.places(case, name)
+
+    def said_of_v1(self, case, meaning):
+        return case.filled(meaning, members=amounts.grouped(self.members), voters=amounts.grouped(self.voters))
+
+    def said_of_v2(self, case, meaning):
+        if not self.culprits["V2"]:
+            return [case.say(meaning)]
+        voter, project = self.culprits["V2"][0]
+        return case.filled(meaning, voter=voter_words(voter), project=case.project(project))
+
+    def said_of_v3(self, case, meaning):
+        return case.filled(meaning, share=case.money(self.share), cost=case.money(self.cost))
+
+    def said_of_v4(self, case, meaning):
+        named = {} if self.enough() is None else {"voter": voter_words(self.enough())}
+        worths = {"gets": self.worth(case, self.gets()), "demanded": self.worth(case, self.demanded())}
+        return case.filled(meaning, **named, **worths)
+
+    SENTENCES = {"V1": said_of_v1, "V2": said_of_v2, "V3": said_of_v3, "V4": said_of_v4}
+
+    def places(self, case, name):
+        count, kind = len(self.culprits[name]), {"V2": "approvals", "V4": "voters"}.get(name)
+        if count < 2:
+            return []
+        return [" ", case.filled(f"places.{kind}", count, count=amounts.grouped(count))]
+
+
+def tile(case, name, content):
+    return [element("dt", case.say(name)), element("dd", content)]
+
+
+def money_tile(case, name, value):
+    unit = element("span", element("bdi", case.currency)) if case.currency else []
+    return tile(case, name, [case.amount(value), unit])

@@ -1,0 +1,206 @@
+"""The whole page, from the title to the command that checks it."""
+import os
+import re
+
+from .. import answers
+from ..certificates import read_prices, read_violation
+from ..election import read_election
+from . import amounts
+from .bars import bar
+from .case import Case, InputFile
+from .group import GroupFigures, money_tile, tile
+from .labels import cut, visible
+from .nodes import element, text_of
+from .prices import PriceFigures
+
+POLICY = "default-src 'none'; style-src 'unsafe-inline'; base-uri 'none'; form-action 'none'"
+PLAIN_WORD = re.compile(r"[A-Za-z0-9._/-]*")
+MODE = ("--stable", "--no-exhaustive", "--cover")
+
+
+class Audit:
+    """The files of a command `page`, what is found of them, and the line and the status that the program gives."""
+
+    def __init__(self, election, certificate, mode=(), outcome=None):
+        self.paths = {"election": election, "outcome": outcome, "certificate": certificate}
+        self.mode, self.said = set(mode), set()
+        self.election = answers.take("election", read_election, election)
+        self.funded = answers.take_outcome(self.election, outcome)
+        data = answers.take("certificate", bytes, certificate)
+        if answers.is_violation(data):
+            violation = answers.take("certificate", read_violation, certificate, self.election)
+            self.line, self.status = answers.verdict_on_violation(self.election, self.funded, violation)
+            self.found = GroupFigures(self.election, self.funded, violation)
+        else:
+            prices = answers.take("certificate", read_prices, certificate, self.election)
+            self.line, self.status = answers.verdict_on_prices(self.election, self.funded, prices, self.mode)
+            self.found = PriceFigures(self.election, self.funded, prices, self.mode)
+
+    def files(self):
+        given = {role: path for role, path in self.paths.items() if path is not None}
+        return [InputFile(role, os.path.basename(os.fsencode(path)), answers.load(path)) for role, path in given.items()]
+
+    def page(self, language):
+        """The page in a language."""
+        case = Case(language, self.election, self.funded, self.files())
+        page = element("page", element(
+            "html", head(case, self.found),
+            element("body", top(case), element("main", body(case, self.found)), footer(case, self)),
+            lang=language,
+        ))  # fmt: skip
+        self.said |= case.wording.said
+        return page
+
+
+def head(case, found):
+    return element(
+        "head",
+        element("meta", charset="utf-8"),
+        element("meta", http_equiv="Content-Security-Policy", content=POLICY),
+        element("meta", name="viewport", content="width=device-width, initial-scale=1"),
+        element("meta", name="generator", content="pbaudit"),
+        element("title", cut(title(case)), " \u2013 ", case.say(found.answer())),
+        element("style"),
+    )
+
+
+def title(case):
+    """What the election says that it is, or else the name of its file."""
+    return case.labels.fact("description") or visible(case.files[0].name)
+
+
+def top(case):
+    """What the vote was, where and when, as far as its file has that."""
+    facts = [
+        ("head.place", place(case)), ("head.dates", dates(case)), ("head.rule", fact(case, "rule")),
+        ("head.voters", [amounts.grouped(len(case.election.ballots))]), ("head.turnout", fact(case, "turnout")),
+        ("head.currency", fact(case, "currency")),
+    ]  # fmt: skip
+    return element(
+        "header",
+        element("p", case.say("head.kicker")),
+        element("h1", case.words_of_others(title(case))),
+        [tile(case, name, told) for name, told in facts if told],
+    )
+
+
+def fact(case, key):
+    return [case.words_of_others(case.labels.fact(key))] if case.labels.fact(key) else []
+
+
+def place(case):
+    known = [fact(case, key) for key in ("district", "unit", "country") if case.labels.fact(key)]
+    return [[", " if at else "", each] for at, each in enumerate(known)]
+
+
+def dates(case):
+    begin, end = case.labels.fact("date_begin"), case.labels.fact("date_end")
+    if begin and end and begin != end:
+        return case.filled("head.from_to", **{key: case.words_of_others(cut(each))
+                                             for key, each in (("begin", begin), ("end", end))})
+    return fact(case, "date_end") or fact(case, "date_begin")
+
+
+def body(case, found):
+    return [
+        element(
+            "section",
+            element("h2", case.say(found.answer())),
+            element("p", found.why(case)),
+            element("ul", found.asked_for(case)),
+            class_="answer" if found.is_good_news() else "answer bad",
+        ),
+        glance(case, found),
+        found.figures(case),
+        behind_figures(case, found),
+    ]
+
+
+def glance(case, found):
+    """How much of the limit is used, and by prices of the budgets."""
+    is_of_prices = isinstance(found, PriceFigures)
+    count, all_ = amounts.grouped(len(case.funded)), amounts.grouped(len(case.election.ids))
+    return element(
+        "section",
+        element("h2", case.say("glance.title")),
+        tile(case, "glance.funded", case.filled("glance.some_of_all", count=count, all=all_)),
+        tile(case, "head.voters", amounts.grouped(len(case.election.ballots))),
+        money_tile(case, "glance.limit", case.limit),
+        money_tile(case, "glance.voter_budget", found.claim.budget) if is_of_prices else [],
+        use(case, "limit", case.limit, case.cost_of(case.funded)),
+        use(case, "budgets", found.budgets, found.spent) if is_of_prices else [],
+    )
+
+
+def use(case, name, whole, used):
+    """How a whole is used, and what is left of it or goes beyond it."""
+    said = f"glance.of_the_{name}"
+    caption = case.filled(f"{said}.whole", **{name: case.money(whole)})
+    used_words = case.filled(f"{said}.used", amount=case.money(used))
+    is_over = used > whole
+    rest = case.filled(f"{said}.over" if is_over else f"{said}.left", amount=case.money(abs(whole - used)))
+    patch = element("span", class_="patch beyond" if is_over else "patch")
+    return [
+        element("p", caption),
+        bar(text_of([caption, ": ", used_words]), used, whole, is_over),
+        element("li", patch, used_words),
+        element("li", [] if is_over else element("span", class_="patch rest"), rest),
+    ]
+
+
+def behind_figures(case, found):
+    """What the answer doesn't say, what it lets one say, and the words of the page."""
+    explained = [
+        [element("dt", case.say(f"words.{word}.word")), element("dd", case.say(f"words.{word}.means"))]
+        for word in ("certificate", *found.words)
+    ]
+    return [
+        element("section", element("h2", case.say("not_said.title")), element("li", case.say(found.not_said())),
+                element("li", case.say("not_said.files"))),
+        element("section", element("h2", case.say("claims.title")),
+                element("p", case.say(found.may_be_said()), class_="claim"), element("p", case.say("claims.how"))),
+        element("section", element("h2", case.say("words.title")), explained),
+    ]  # fmt: skip
+
+
+def footer(case, audit):
+    """The files, and how to check the page."""
+    line = audit.line.decode().removesuffix("\n")
+    return element(
+        "footer",
+        element("h2", case.say("files.title")),
+        [file_facts(case, file) for file in case.files],
+        element("p", case.say("files.by_program"), element("br"), element("code", command(case, audit.found)),
+                element("br"), case.say("files.answers"), " ", element("code", line)),
+        element("p", case.say("files.by_browser")),
+        element("p", case.say("files.trust")),
+        element("p", case.filled("files.made_by", version=version())),
+    )  # fmt: skip
+
+
+def file_facts(case, file):
+    size = case.filled("files.bytes", len(file.data), count=amounts.grouped(len(file.data)))
+    name = case.words_of_others(visible(file.name), "named")
+    return tile(case, f"files.{file.role}", [name, ", ", size, element("br"), "SHA-256 ", element("code", file.sum)])
+
+
+def command(case, found):
+    """The command that gives the same answer."""
+    words = {file.role: case.words_of_others(shell_word(visible(file.name))) for file in case.files}
+    told = ["pbaudit explain ", words["election"], " ", words["certificate"]]
+    if "outcome" in words:
+        told += [" --outcome ", words["outcome"]]
+    return told + [" " + option for option in found.options()]
+
+
+def shell_word(name):
+    """A name of a file as a word of a shell. What begins with a dash would be an option."""
+    word = "./" + name if name.startswith("-") else name
+    return word if PLAIN_WORD.fullmatch(word) else "'" + word.replace("'", "'\\''") + "'"
+
+
+def version():
+    """The version that is stated at the top of the list of changes."""
+    changes = os.path.join(os.path.dirname(__file__), "..", "..", "..", "CHANGELOG.md")
+    with open(changes, encoding="utf-8") as file:
+        return re.search(r"^## \[([0-9.]+)\]", file.read(), re.MULTILINE)[1]
