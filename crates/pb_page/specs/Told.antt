@@ -1,5 +1,5 @@
 -- What a page tells: the answer, and amounts by their names.
-use Rattle.std.specs.Prelude.{◌==◌, ◌-◌, ◌+◌, ◌*◌, ◌/◌, ◌^◌, min, max, if◌then◌else◌, ℕ, ℤ, pos, int_lt, List, Bool, Option, Some, None, fold, slice_get, string_bytes, unsigned_abs}
+use Rattle.std.specs.Prelude.{◌==◌, ◌-◌, ◌+◌, ◌*◌, ◌^◌, min, max, if◌then◌else◌, ℕ, ℤ, pos, int_lt, List, Bool, Option, Some, None, fold, slice_get, string_bytes, unsigned_abs}
 use Rattle.std.specs.Int.{abs_diff}
 use Rattle.pb_certificate.specs.declared.violations.measure.Measure.{Measure}
 use Rattle.pb_certificate.specs.declared.violations.measure.Measure.TheVariants.{ByCost, ByCount}
