@@ -19,6 +19,7 @@ use Rattle.pb_reply.specs.declared.status.Status.{Status}
 use Rattle.pb_reply.specs.Certificates.{Certificate, OfPrices, OfViolation, StatesCertificate, certificate_status}
 use Rattle.pb_page.specs.Pieces.{Close, Headline, Line, Open, Piece, rendering}
 use Rattle.pb_page.specs.Rows.{ListsProjects}
+use Rattle.pb_page.specs.Shown.{ShowsLine}
 use Rattle.pb_page.specs.Sums.{HasInOrder, files_of, sums_of}
 use Rattle.pb_page.specs.Told.{shows_of}
 use Rattle.pb_page.specs.declared.language.Language.{Language}
@@ -28,21 +29,21 @@ use Rattle.pb_page.specs.declared.told.PriceFigures.{PriceFigures}
 use Rattle.pb_page.specs.declared.told.Told.{Told}
 use Rattle.pb_page.specs.declared.told.ViolationFigures.{ViolationFigures}
 
--- What a page tells of prices in a mode: the line that the program prints, the findings, and the figures of each
--- project.
+-- What a page tells of prices in a mode: the line that the program prints, as it is shown, the findings, and the
+-- figures of each project.
 pub record TellsPrices (m : Mode) (e : Instance) (w : List Bool) (p : Prices) (t : Told) : Type 0 where
   pub figures : PriceFigures
   pub found : t.found ≡ found.Prices figures
   pub mode : t.mode ≡ m
   pub verdict : verdict_of (first_told t.mode figures.findings) ≡ verdict_of (First m e w p)
-  pub line : string_bytes t.line ≡ price_line m.stable e (verdict_of (First m e w p))
+  pub line : ShowsLine (price_line m.stable e (verdict_of (First m e w p))) (string_bytes t.line)
   pub findings : figures.findings ≡ findings e w p
   pub margins : AreMargins e w p figures.margins
 
 -- what it tells of a group and its demand, by the measure that the certificate states: that line, and the figures
 pub record TellsGroup (e : Instance) (w : List Bool) (v : Measure × List ℕ × List ℕ) (l : List ℕ)
     (figures : ViolationFigures) : Type 0 where
-  pub line : l ≡ violation_line e (violation_verdict_of (FirstV (worth_by v.0 e) e w v.1 v.2))
+  pub line : ShowsLine (violation_line e (violation_verdict_of (FirstV (worth_by v.0 e) e w v.1 v.2))) l
   pub verdict : figures.verdict ≡ violation_verdict_of (FirstV (worth_by v.0 e) e w v.1 v.2)
   pub findings : figures.findings ≡ violation_findings (worth_by v.0 e) e w v.1 v.2
   pub measure : figures.violation.measure ≡ v.0

@@ -23,9 +23,11 @@ returns-clause-told c kind =
     (record {
       style = c.args.style;
       mode = c.args.mode;
-      line = c.in_ok-price_line.field-0;
+      line = c.in_ok-shown_line.field-0;
       found = Prices c.in_ok-figures.figures;
     })
     c.in_ok-figures.figures found.1 refl refl
+    (subst (λ (l : List ℕ). ShowsLine l (string_bytes c.in_ok-shown_line.field-0))
     (c.in_ok-price_line.ensures ∙ ap (price_line c.args.mode.stable c.args.election.now) c.verdict-verdict.ensures)
+    c.in_ok-shown_line.ensures)
     found.2 found.3 kind
