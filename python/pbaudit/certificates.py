@@ -231,7 +231,7 @@ def _rounded(town: Town, given: Given, stable: bool, denominator: Optional[int])
         _check_denominator(denominator, unit)
     exact = _exact_denominator(given)
     failed: Optional[CannotKeep] = None
-    denominators = [denominator] if denominator else list(_denominators(unit, exact))
+    denominators = [denominator] if denominator else list(_denominators(unit, exact, given.budget.denominator))
     # A finer denominator is found sooner than a repair.
     for repairs in (False, True):
         for tried in denominators:
@@ -243,7 +243,7 @@ def _rounded(town: Town, given: Given, stable: bool, denominator: Optional[int])
         # A corner of a linear program, where conditions are tight: take the simplest fraction near each amount.
         simple = _simplified(given)
         part = _exact_denominator(simple)
-        tried = MOST_DENOMINATOR + 1 if part is None else least_multiple((unit, part))
+        tried = MOST_DENOMINATOR + 1 if part is None else least_multiple((unit, part, simple.budget.denominator))
         if tried <= MOST_DENOMINATOR:
             try:
                 return _settled(Rounding(town, simple, tried, stable), True)
@@ -265,8 +265,8 @@ def _settled(rounding: Rounding, repairs: bool) -> Rounding:
 
 
 def _exact_denominator(given: Given) -> Optional[int]:
-    """The common denominator of the amounts, or None where it is more than a certificate has."""
-    common = given.budget.denominator
+    """The common denominator of the payments, or None where it is more than a certificate has."""
+    common = 1
     known: Set[float] = set()
     for amount in given.amounts:
         if isinstance(amount, int) or isinstance(amount, float) and amount in known:
@@ -280,11 +280,20 @@ def _exact_denominator(given: Given) -> Optional[int]:
     return common
 
 
-def _denominators(unit: int, exact: Optional[int]) -> Iterator[int]:
-    """The exact denominator where it fits, and then multiples of the unit, near round numbers and rising."""
+def _denominators(unit: int, exact: Optional[int], of_budget: int) -> Iterator[int]:
+    """The exact denominator where it fits, that of the payments with a finer one for the budget where only this has too
+    large a one, and then multiples of the unit, near round numbers and rising."""
     if exact is not None and exact % unit == 0:
-        yield exact
+        both = least_multiple((exact, of_budget))
+        yield both if both <= MOST_DENOMINATOR else _finer(exact)
     yield from sorted({min(-(-round_number // unit), MOST_DENOMINATOR // unit) * unit for round_number in DENOMINATORS})
+
+
+def _finer(denominator: int) -> int:
+    """The largest multiple by a power of ten that a certificate has."""
+    while denominator * 10 <= MOST_DENOMINATOR:
+        denominator *= 10
+    return denominator
 
 
 def _simplified(given: Given) -> Given:
