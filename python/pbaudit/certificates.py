@@ -311,15 +311,28 @@ def _simple(amount: Fraction, noise: Fraction) -> Fraction:
 
 
 def _certificate(rounding: Rounding, projects: Projects) -> PriceCertificate:
-    denominator, given, paid = rounding.denominator, rounding.given, rounding.paid
-    moved = Fraction(0)
-    if paid:
-        moves = (abs(numerator / denominator - amount) for numerator, amount in zip(paid, given.floats))
-        _, slot = max(zip(moves, range(len(paid))))
-        moved = abs(Fraction(paid[slot], denominator) - near(given.amounts[slot], "a payment"))
-    raised = Fraction(rounding.budget, denominator) - given.budget
+    denominator = rounding.denominator
+    moved, raised = _farthest(rounding), Fraction(rounding.budget, denominator) - rounding.given.budget
     file = price_file(denominator, rounding.budget, projects, _payers(rounding))
     return PriceCertificate(denominator, rounding.budget, moved, raised, file)
+
+
+def _farthest(rounding: Rounding) -> Fraction:
+    """The farthest that a payment moved, exactly. Floats tell which payments it may be."""
+    denominator, paid, given = rounding.denominator, rounding.paid, rounding.given
+    moves = array("d", (abs(numerator / denominator - amount) for numerator, amount in zip(paid, given.floats)))
+    # A quotient, an amount and their difference are off by less than this together.
+    error = max(max(given.floats, default=0.0), max(moves, default=0.0)) * 2.0**-50
+    least = max(moves, default=0.0) - 2 * error
+    # A number of parts of the denominator.
+    away, part_away = 0, 1
+    for numerator, amount, move in zip(paid, given.amounts, moves):
+        if move >= least:
+            whole, part = ratio(amount, "a payment")
+            moved = abs(numerator * part - whole * denominator)
+            if moved * part_away > away * part:
+                away, part_away = moved, part
+    return Fraction(away, part_away * denominator)
 
 
 def _payers(rounding: Rounding) -> Payers:

@@ -83,6 +83,27 @@ class Roundings(unittest.TestCase):
                         verdict = pbaudit.validate_price_system(instance, profile, funded, budget, payments, near=True)
                         self.assertEqual((str(verdict), verdict.moved or 0), ("supported priceable", 0))
 
+    def test_how_far_payments_moved(self):
+        """Exactly, also by less than floats tell apart, and with a farther move beside one that floats take for it."""
+        big, town = 10**11, Instance([Project("a", 3 * 10**11)], 3 * 10**11)
+        for tiny in (Fraction(1, 10**15), Fraction(1, 10**30), Fraction(-2, 10**40)):
+            payments = [{"a": big + tiny}, {"a": big - tiny}, {"a": Fraction(big)}]
+            made = price_certificate(town, [["a"]] * 3, ["a"], big + abs(tiny), payments, denominator=1)
+            self.assertEqual(self.moves(made, payments), [abs(tiny), abs(tiny), 0])
+            self.assertEqual(made.moved, abs(tiny))
+        for seed in range(40):
+            instance, profile, measure = an_election(seed)
+            shares = equal_shares(instance, profile, by=measure)
+            payments = [dict(mine) for mine in shares.payments]
+            made = price_certificate(instance, profile, shares.funded, shares.voter_budget, payments, exhaustive=False)
+            self.assertEqual(made.moved, max(self.moves(made, payments), default=0))
+
+    @staticmethod
+    def moves(made, payments):
+        paid = {(voter, name): Fraction(numerator, made.denominator) for voter, name, numerator in made.rows}
+        return [abs(paid.get((voter, name), 0) - amount)
+                for voter, mine in enumerate(payments, 1) for name, amount in mine.items()]
+
     def test_budgets_with_large_denominators(self):
         """Of many small price systems, none needs payments to move."""
         chance = random.Random("budgets")
