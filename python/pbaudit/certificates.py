@@ -231,7 +231,7 @@ def _rounded(town: Town, given: Given, stable: bool, denominator: Optional[int])
         _check_denominator(denominator, unit)
     exact = _exact_denominator(given)
     failed: Optional[CannotKeep] = None
-    denominators = [denominator] if denominator else list(_denominators(unit, exact))
+    denominators = [denominator] if denominator else list(_denominators(unit, exact, given.budget.denominator))
     # A finer denominator is found sooner than a repair.
     for repairs in (False, True):
         for tried in denominators:
@@ -243,7 +243,7 @@ def _rounded(town: Town, given: Given, stable: bool, denominator: Optional[int])
         # A corner of a linear program, where conditions are tight: take the simplest fraction near each amount.
         simple = _simplified(given)
         part = _exact_denominator(simple)
-        tried = MOST_DENOMINATOR + 1 if part is None else least_multiple((unit, part))
+        tried = MOST_DENOMINATOR + 1 if part is None else least_multiple((unit, part, simple.budget.denominator))
         if tried <= MOST_DENOMINATOR:
             try:
                 return _settled(Rounding(town, simple, tried, stable), True)
@@ -265,8 +265,8 @@ def _settled(rounding: Rounding, repairs: bool) -> Rounding:
 
 
 def _exact_denominator(given: Given) -> Optional[int]:
-    """The common denominator of the amounts, or None where it is more than a certificate has."""
-    common = given.budget.denominator
+    """The common denominator of the payments, or None where it is more than a certificate has."""
+    common = 1
     known: Set[float] = set()
     for amount in given.amounts:
         if isinstance(amount, int) or isinstance(amount, float) and amount in known:
@@ -280,11 +280,20 @@ def _exact_denominator(given: Given) -> Optional[int]:
     return common
 
 
-def _denominators(unit: int, exact: Optional[int]) -> Iterator[int]:
-    """The exact denominator where it fits, and then multiples of the unit, near round numbers and rising."""
+def _denominators(unit: int, exact: Optional[int], of_budget: int) -> Iterator[int]:
+    """The exact denominator where it fits, that of the payments with a finer one for the budget where only this has too
+    large a one, and then multiples of the unit, near round numbers and rising."""
     if exact is not None and exact % unit == 0:
-        yield exact
+        both = least_multiple((exact, of_budget))
+        yield both if both <= MOST_DENOMINATOR else _finer(exact)
     yield from sorted({min(-(-round_number // unit), MOST_DENOMINATOR // unit) * unit for round_number in DENOMINATORS})
+
+
+def _finer(denominator: int) -> int:
+    """The largest multiple by a power of ten that a certificate has."""
+    while denominator * 10 <= MOST_DENOMINATOR:
+        denominator *= 10
+    return denominator
 
 
 def _simplified(given: Given) -> Given:
@@ -302,15 +311,28 @@ def _simple(amount: Fraction, noise: Fraction) -> Fraction:
 
 
 def _certificate(rounding: Rounding, projects: Projects) -> PriceCertificate:
-    denominator, given, paid = rounding.denominator, rounding.given, rounding.paid
-    moved = Fraction(0)
-    if paid:
-        moves = (abs(numerator / denominator - amount) for numerator, amount in zip(paid, given.floats))
-        _, slot = max(zip(moves, range(len(paid))))
-        moved = abs(Fraction(paid[slot], denominator) - near(given.amounts[slot], "a payment"))
-    raised = Fraction(rounding.budget, denominator) - given.budget
+    denominator = rounding.denominator
+    moved, raised = _farthest(rounding), Fraction(rounding.budget, denominator) - rounding.given.budget
     file = price_file(denominator, rounding.budget, projects, _payers(rounding))
     return PriceCertificate(denominator, rounding.budget, moved, raised, file)
+
+
+def _farthest(rounding: Rounding) -> Fraction:
+    """The farthest that a payment moved, exactly. Floats tell which payments it may be."""
+    denominator, paid, given = rounding.denominator, rounding.paid, rounding.given
+    moves = array("d", (abs(numerator / denominator - amount) for numerator, amount in zip(paid, given.floats)))
+    # A quotient, an amount and their difference are off by less than this together.
+    error = max(max(given.floats, default=0.0), max(moves, default=0.0)) * 2.0**-50
+    least = max(moves, default=0.0) - 2 * error
+    # A number of parts of the denominator.
+    away, part_away = 0, 1
+    for numerator, amount, move in zip(paid, given.amounts, moves):
+        if move >= least:
+            whole, part = ratio(amount, "a payment")
+            moved = abs(numerator * part - whole * denominator)
+            if moved * part_away > away * part:
+                away, part_away = moved, part
+    return Fraction(away, part_away * denominator)
 
 
 def _payers(rounding: Rounding) -> Payers:

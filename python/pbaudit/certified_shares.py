@@ -4,10 +4,12 @@ import shlex
 import sys
 import time
 from dataclasses import dataclass
+from fractions import Fraction
 from typing import Iterator, List, Optional, Set
 
 from . import auditing
 from ._auditor import Question
+from .amounts import MILLION, money
 from .auditing import Explanation
 from .certificates import PriceCertificate, certified
 from .election_files import Election, election_of
@@ -42,7 +44,7 @@ class Certified:
         """What is told of it."""
         ids, shares = self.election.projects.ids, self.shares
         funded = {self.election.projects.place[name] for name in shares.funded}
-        spent = sum(self.election.costs[project] for project in funded)
+        spent = sum((self.election.costs[project] for project in funded), Fraction(0))
         yield f"{len(self.election.ballots)} voters, {len(ids)} projects, limit {_amount(self.election.limit)}"
         runs = f" after {shares.runs} runs" if shares.runs > 1 else ""
         yield f"voter budget {_amount(shares.voter_budget)}{runs}; {len(funded)} projects for {_amount(spent)}:"
@@ -140,9 +142,12 @@ def clear_progress() -> None:
         print("\r\033[K", end="", file=sys.stderr, flush=True)
 
 
-def _amount(amount: object) -> str:
-    number = float(amount)  # type: ignore[arg-type]
-    return f"{number:.12g}"
+def _amount(amount: Fraction) -> str:
+    """An exact amount: a decimal where it has at most six decimals, and else a whole number and a fraction."""
+    if (amount * MILLION).denominator == 1:
+        return money(amount, "the amount")
+    whole, rest = divmod(amount, 1)
+    return f"{whole} {rest}" if whole else str(rest)
 
 
 def _some(names: List[str]) -> str:

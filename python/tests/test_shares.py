@@ -223,6 +223,24 @@ class Commands(unittest.TestCase):
         instance = Instance([Project(*pair) for pair in zip(ids, election.costs)], election.limit)
         return instance, [[ids[at] for at in ballot] for ballot in election.ballots]
 
+    def test_amounts_are_told_exactly(self):
+        """A third of 13 is no decimal, and 6.5 and 2 are."""
+        town = self.room / "town.pb"
+        for limit, voters, told in ((13, 3, "4 1/3"), (13, 2, "6.5"), (1, 3, "1/3"), (6, 3, "2"), (0, 2, "0"),
+                                    (Fraction("0.000001"), 2, "1/2000000"), (Fraction("0.000002"), 2, "0.000001"),
+                                    (10**12 - 2, 7, "142857142856 6/7")):
+            town.write_bytes(pbaudit.write_election(Instance([Project("a", 10**12)], limit), [["a"]] * voters))
+            self.assertEqual(run(town).stdout.split("\n")[1], f"voter budget {told}; 0 projects for 0:")
+
+    def test_a_budget_that_no_denominator_has(self):
+        town = self.room / "town.pb"
+        instance = Instance([Project("a", 5000)], Fraction("1000.000001"))
+        town.write_bytes(pbaudit.write_election(instance, [["a"]] * 1999))
+        done = run(town, "-o", self.room / "t.prices.csv")
+        self.assertEqual((done.returncode, done.stderr), (0, ""))
+        self.assertIn("voter budget 1000000001/1999000000; 0 projects for 0:\n", done.stdout)
+        self.assertTrue(pbaudit.audit_prices(town, self.room / "t.prices.csv", self.room / "t.outcome.csv"))
+
     def test_names_are_shown_and_none_is_a_command(self):
         """Names that try to move a terminal's cursor, to begin a line or to be an option; and an output in ASCII."""
         odd = ["\u009b2Ja", "b\u202e", "\u2028c", "d" * 300, "\u00fc \u00a0e"]
