@@ -5,20 +5,21 @@ They are made exact by `price_certificate`'s own rounding, and audited.
 """
 from dataclasses import dataclass
 from fractions import Fraction
-from typing import Iterator, List, Optional, Tuple
+from typing import Iterator, Optional, Tuple
 
-from ..auditing import Verdict, audit_prices
-from ..certificates import DENOMINATORS, PriceCertificate, certified
+from ..auditing import audit_prices
+from ..certificates import DENOMINATORS, certified
 from ..rounding import CannotKeep
 from ..values import Payments, Projects
 from .clock import Clock
 from .helpers import Helper
-from .programme import NoPrices, OutOfTime, by_programme
+from .programme import NoPrices, OutOfTime, Unsolved, by_programme
+from .results import FoundPrices
 from .shares import Need, Problem, Shares, budgets, payments_of, unpaid
 from .water import by_water
 
 # Why no prices were found.
-NONE, TIME, ROUNDING, UNPAID = "none", "time", "rounding", "unpaid"
+NONE, TIME, UNSOLVED, ROUNDING, UNPAID = "none", "time", "unsolved", "rounding", "unpaid"
 
 
 @dataclass(frozen=True)
@@ -30,29 +31,6 @@ class Given:
     projects: Projects
     problem: Problem
     exhaustive: bool
-
-
-@dataclass(frozen=True)
-class FoundPrices:
-    """A price certificate that was found, with the auditor's verdict on it, which is a yes, and the mode in which that
-    was asked."""
-
-    certificate: PriceCertificate
-    verdict: Verdict
-    stable: bool
-    exhaustive: bool
-    cover: bool
-
-    @property
-    def file(self) -> bytes:
-        """The certificate as a file."""
-        return self.certificate.file
-
-    @property
-    def options(self) -> List[str]:
-        """The options by which `pbaudit prices` gives this verdict."""
-        options = [("--stable", self.stable), ("--no-exhaustive", not self.exhaustive), ("--cover", self.cover)]
-        return [option for option, is_on in options if is_on]
 
 
 def find_prices(given: Given, need: Need, solver: Helper, clock: Clock) -> Tuple[Optional[FoundPrices], str]:
@@ -69,6 +47,8 @@ def find_prices(given: Given, need: Need, solver: Helper, clock: Clock) -> Tuple
             return None, NONE
         except OutOfTime:
             return None, TIME
+        except Unsolved:
+            return None, UNSOLVED
         found = _exact(given, shares, need)
     return found, "" if found else ROUNDING
 
