@@ -1,8 +1,8 @@
 #!/usr/bin/env python3
 """Prints what each source file and each module of definitions is for: the first sentence of the comment at its head.
 
-usage: docs/files.py [NAME..]     of these crates, or of the folders python/pbaudit, python/pbaudit/finding and web, in the
-                           place of all
+usage: docs/files.py [NAME..]     of these crates, or of the folders python/pbaudit, python/pbaudit/finding and web,
+                                  in the place of all
 """
 import re
 import sys
