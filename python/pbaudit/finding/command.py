@@ -21,10 +21,10 @@ WHAT_IT_DOES = (
 )
 HOW_IT_ENDS = (
     "Exit statuses: 0 if a certificate was found; 1 if none was, which proves nothing; 2 if a file is refused; 3 if "
-    "the arguments aren't understood, or a file that could be written is there already; 4 if memory runs out, a file or "
-    "the answer can't be written, scipy isn't installed, or the auditor isn't found or can't be used. With --folder it "
-    "is 4, 2 or 1 where that is so of any election, in this order. Stopped by Ctrl+C, it writes what it has found, and "
-    "ends as if there were no more to find."
+    "the arguments aren't understood, or a file is there already that could be written; 4 if memory runs out, a file "
+    "or the answer can't be written, scipy isn't installed, or the auditor isn't found or can't be used. With --folder "
+    "it is 4, 2 or 1 where that is so of any election, in this order. Stopped by Ctrl+C, it writes what it has found, "
+    "and ends as if there were no more to find."
 )
 
 

@@ -33,24 +33,42 @@ class Given:
     exhaustive: bool
 
 
-def find_prices(given: Given, need: Need, solver: Helper, clock: Clock) -> Tuple[Optional[FoundPrices], str]:
-    """Prices of a form, or None and why none were found."""
+def find_prices(given: Given, stable: bool, covered: bool, solver: Helper,
+                clock: Clock) -> Tuple[Optional[FoundPrices], str]:
+    """Prices, with Cover where there are some, or None and why none were found. Where `covered`, those without Cover
+    don't count."""
     if unpaid(given.problem) is not None:
         return None, UNPAID
-    form = ("stable prices" if need.stable else "prices") + (" with Cover" if need.cover else "")
-    shares, failed = by_water(given.problem, need, clock, form)
-    found = None if shares is None else _exact(given, shares, need)
-    if found is None:
-        try:
-            shares = by_programme(given.problem, need, failed, solver, clock, form)
-        except NoPrices:
-            return None, NONE
-        except OutOfTime:
-            return None, TIME
-        except Unsolved:
-            return None, UNSOLVED
-        found = _exact(given, shares, need)
-    return found, "" if found else ROUNDING
+    try:
+        return _found(given, stable, covered, solver, clock)
+    except NoPrices:
+        return None, NONE
+    except OutOfTime:
+        return None, TIME
+    except Unsolved:
+        return None, UNSOLVED
+
+
+def _found(given: Given, stable: bool, covered: bool, solver: Helper,
+           clock: Clock) -> Tuple[Optional[FoundPrices], str]:
+    problem, with_cover, without = given.problem, Need(stable, True), Need(stable, False)
+    shares, failed = by_water(problem, with_cover, clock)
+    found = shares and _exact(given, shares, with_cover)
+    if found or covered:
+        found = found or _exact(given, by_programme(problem, with_cover, failed, solver, clock), with_cover)
+        return found, "" if found else ROUNDING
+    # Where there are none without Cover there are none with it.
+    shares, failed = by_water(problem, without, clock)
+    spare = shares and _exact(given, shares, without)
+    if not spare:
+        shares = by_programme(problem, without, failed, solver, clock)
+        found = _exact(given, shares, with_cover)
+        spare = None if found else _exact(given, shares, without)
+    try:
+        found = found or _exact(given, by_programme(problem, with_cover, failed, solver, clock), with_cover)
+    except (NoPrices, OutOfTime, Unsolved):
+        pass
+    return found or spare, "" if found or spare else ROUNDING
 
 
 def _exact(given: Given, shares: Shares, need: Need) -> Optional[FoundPrices]:

@@ -20,8 +20,12 @@ COVERED = 1e-6
 TOLERANCE = 1e-7
 # Of equal margins the one with the smaller budget is taken.
 PREFER = 1e-7
+# How many unfunded projects are looked at first.
+FIRST = 5
 # How much longer than it may HiGHS takes to give up.
 GRACE = 5.0
+# A programme of so many variables is solved at once, and so in this process.
+SMALL = 2000
 # What scipy says of a programme.
 SOLVED, LIMIT, INFEASIBLE = 0, 1, 2
 
@@ -122,12 +126,12 @@ def programme_of(problem: Problem, groups: Groups, seen: List[int], need: Need) 
     return made, paying, column
 
 
-def by_programme(problem: Problem, need: Need, seen: List[int], solver: Helper, clock: Clock, form: str) -> Shares:
-    """Prices by the programme, which first looks at these unfunded projects. Raises NoPrices, OutOfTime
+def by_programme(problem: Problem, need: Need, seen: List[int], solver: Helper, clock: Clock) -> Shares:
+    """Prices by the programme, which first looks at the first of these unfunded projects. Raises NoPrices, OutOfTime
     and Unsolved."""
-    seen = seen or problem.unfunded[:1]
+    seen = sorted(seen[:FIRST] or problem.unfunded[:1])
     while True:
-        clock.tell(f"{form}: linear programme over {len(seen)} of {len(problem.unfunded)} unfunded projects")
+        clock.tell(f"{need}: linear programme over {len(seen)} of {len(problem.unfunded)} unfunded projects")
         shares, budget, margin = _solved(problem, need, seen, solver, clock)
         if margin < -TOLERANCE:
             raise NoPrices
@@ -156,7 +160,10 @@ def _answer(programme: Programme, solver: Helper, clock: Clock) -> Any:
     if not seconds:
         raise OutOfTime
     try:
-        status, values = solver.call(solve, programme, seconds, seconds=seconds + GRACE, tick=clock.tick)
+        if len(programme.objective) <= SMALL:
+            status, values = solve(programme, seconds)
+        else:
+            status, values = solver.call(solve, programme, seconds, seconds=seconds + GRACE, tick=clock.tick)
     except Late:
         raise OutOfTime from None
     except (Lost, MemoryError):

@@ -13,7 +13,7 @@ from .groups import groups_of
 from .helpers import Helper
 from .prices import NONE, ROUNDING, TIME, UNSOLVED, Given, find_prices
 from .results import Found, FoundPrices, FoundViolation, Wanted
-from .shares import Need, problem_of, unpaid
+from .shares import problem_of, unpaid
 from .violations import MEASURES, Search, Searched
 
 # How many projects a sentence names.
@@ -78,16 +78,9 @@ class Seeker:
             return
         if not self.given.exhaustive:
             say(f"{self.bare.project} could be added within the limit, so that Exhaustive is left out.")
-        seconds, why = wanted.seconds * (2 / 3 if wanted.violation else 1), ""
-        for cover in (True,) if wanted.cover else (True, False):
-            # Where prices without Cover will do, they have half of the time.
-            clock = Clock(seconds if wanted.cover or not cover else seconds / 2, self._tell)
-            self.found.prices, why = find_prices(self.given, Need(wanted.stable, cover), solver, clock)
-            if self.found.prices:
-                say(_told(self.found.prices))
-                return
-            seconds -= clock.taken()
-        say(self._no_prices(why))
+        clock = Clock(wanted.seconds * (2 / 3 if wanted.violation else 1), self._tell)
+        self.found.prices, why = find_prices(self.given, wanted.stable, wanted.cover, solver, clock)
+        say(_told(self.found.prices) if self.found.prices else self._no_prices(why))
 
     def _no_prices(self, why: str) -> str:
         """What is said where no prices were found."""
