@@ -1,5 +1,5 @@
-"""The commands of the package: `python -m pbaudit page` writes a page about a certificate, and `equal-shares` certifies
-outcomes of the Method of Equal Shares."""
+"""The commands of the package: `python -m pbaudit page` writes a page about a certificate, `equal-shares` certifies
+outcomes of the Method of Equal Shares, and `find` looks for certificates of any outcome."""
 import argparse
 import errno
 import io
@@ -9,6 +9,7 @@ from typing import IO, List, NoReturn, Optional, Sequence
 
 from ._version import VERSION
 from .auditing import Refusal
+from .finding.command import Answer, add_to as add_find, answer, folder_answer
 from .pages import LANGUAGES, replaced, write_page
 from .rounding import CannotKeep
 from .shares import COMPLETIONS, MEASURES
@@ -59,6 +60,8 @@ def _parser(by_folder: bool) -> _Parser:
     commands = parser.add_subparsers(dest="command", required=True)
     _add_page(commands, by_folder)
     _add_equal_shares(commands)
+    find = add_find(commands, by_folder)
+    find.set_defaults(run=_find_in_folder if by_folder else _find, end_by_usage=find.error)
     return parser
 
 
@@ -173,6 +176,32 @@ def _equal_shares(given: argparse.Namespace) -> int:
     if check is not None:
         lines.append(f"check it by: {check}")
     return _told(lines, DIFFERS if made.is_own is False else 0)
+
+
+def _find(given: argparse.Namespace) -> int:
+    try:
+        found = answer(given)
+    except Refusal as refusal:
+        return _refused(refusal.printed, "\n".join(refusal.sentences()))
+    except OSError as unread:
+        return _refused(f"refused {_role(given, unread.filename)} 18 Read record 0", _reason(unread))
+    return _found(found)
+
+
+def _find_in_folder(given: argparse.Namespace) -> int:
+    if given.outcome is not None:
+        given.end_by_usage("--folder takes no --outcome: each election of the folder states its own")
+    try:
+        found = folder_answer(given)
+    except OSError as unlisted:
+        return _refused("refused folder 18 Read record 0", _reason(unlisted))
+    return _found(found)
+
+
+def _found(found: Answer) -> int:
+    """Tells what was found, and then what went wrong."""
+    status = _told(found.lines, found.status) if found.lines else found.status
+    return status if found.fault is None else _fault(found.fault)
 
 
 def _told(lines: List[str], status: int) -> int:
