@@ -33,7 +33,7 @@ use Rattle.pb_audit.proofs.Culprits.{among-projects, missing-name, prices_name_p
 use Rattle.pb_audit.proofs.Promises.{prices_promise, violation_promises}
 
 pub explained_promise : (m : Mode) → Promised (explained_rules m)
-explained_promise m e w d (OfPrices p) given = prices_promise m e w p
+explained_promise m e w d (OfPrices p) given = prices_promise m Certificate e w d p given.1
 explained_promise m e w d (OfViolation v) given = violation_promises e w v
 
 -- a certificate that is taken as prices, or as a violation, is one of either kind
@@ -98,11 +98,6 @@ pub missing_names_projects : (e : Instance) (s t : List ℕ) → IsSet 1 (projec
     → IfSome (slice_get (culprits_of_V2 e s t) 0) (λ q. IsProject e q.1)
 missing_names_projects e s t set =
     all-first (λ (q : ℕ × ℕ). IsProject e q.1) (culprits_of_V2 e s t) (missing-name e s t set)
-
--- the denominator of prices that are stated
-pub denominator-low : (e : Instance) (d : Delivery) (p : Prices) → StatesPrices Certificate e d (Ok p)
-    → 1 ≤ p.denominator
-denominator-low e d p given = grind arith
 
 -- the reply on the findings on prices is that on the prices
 pub findings_explain : (m : Mode) (e : Instance) (w : List Bool) (p : Prices) (f : Findings) → 1 ≤ p.denominator
