@@ -299,6 +299,10 @@ pub(crate) fn wording(sentence: Sentence) -> &'static str {
              justified representation (EJR).",
         Sentence::ClaimByCount => "This is so by counting: each project is worth 1.",
         Sentence::ClaimByCost => "This is so by cost: each project is worth what it costs.",
+        Sentence::ClaimLittle =>
+            "The budgets of all voters together are less than the limit, and whether a further \
+             project fits into it wasn’t asked.",
+        Sentence::ClaimLess => "The budgets of all voters together are less than the limit.",
         Sentence::ClaimNoViolation =>
             "This certificate shows no violation. It doesn’t show that there is none.",
         Sentence::ClaimHow =>

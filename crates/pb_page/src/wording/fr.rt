@@ -323,6 +323,11 @@ pub(crate) fn wording(sentence: Sentence) -> &'static str {
         Sentence::ClaimByCount => "Cela vaut si l’on compte les projets\u{a0}: chacun vaut 1.",
         Sentence::ClaimByCost =>
             "Cela vaut si l’on compte les coûts\u{a0}: chaque projet vaut ce qu’il coûte.",
+        Sentence::ClaimLittle =>
+            "Les budgets de tous les votants font ensemble moins que l’enveloppe, et on n’a pas \
+             demandé si un projet de plus y tient.",
+        Sentence::ClaimLess =>
+            "Les budgets de tous les votants font ensemble moins que l’enveloppe.",
         Sentence::ClaimNoViolation =>
             "Ce certificat ne montre pas de violation. Il ne montre pas qu’il n’y en a pas.",
         Sentence::ClaimHow =>

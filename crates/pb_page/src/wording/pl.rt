@@ -307,6 +307,10 @@ pub(crate) fn wording(sentence: Sentence) -> &'static str {
         Sentence::ClaimByCount => "Tak jest, gdy liczy się liczba projektów: każdy jest wart 1.",
         Sentence::ClaimByCost =>
             "Tak jest, gdy liczy się koszt: każdy projekt jest wart tyle, ile kosztuje.",
+        Sentence::ClaimLittle =>
+            "Budżety wszystkich głosujących dają razem mniej niż pula, a czy zmieściłby się w niej \
+             kolejny projekt, nie sprawdzano.",
+        Sentence::ClaimLess => "Budżety wszystkich głosujących dają razem mniej niż pula.",
         Sentence::ClaimNoViolation =>
             "Ten certyfikat nie wykazuje naruszenia. Nie wykazuje też, że go nie ma.",
         Sentence::ClaimHow =>

@@ -126,6 +126,21 @@ fn little_more_than_the_whole(rt: HostRuntime) -> Result<(), Fail> {
 }
 
 #[test]
+fn bar_that_is_little_too_long(rt: HostRuntime) -> Result<(), Fail> {
+    let alloc = rt.alloc();
+    let election =
+        "META\nkey;value\nbudget;1\nvote_type;approval\nPROJECTS\nproject_id;cost;selected\n\
+                    a;30000;0\nVOTES\nvoter_id;vote\n1;a\n";
+    // The line at the cost stands at three quarters.
+    for (left, is_cut) in [(40_000, false), (40_001, true)] {
+        let rows = format!(in alloc; "1\nvoter_budget,{left}\nvoter,project,payment\n")?;
+        let text = page_on(alloc, election, &rows)?;
+        assert!(rt; text.contains("<span class=\"cut\">") == is_cut, "{text}");
+    }
+    Ok(())
+}
+
+#[test]
 fn little_is_said_by_small_budgets(rt: HostRuntime) -> Result<(), Fail> {
     let alloc = rt.alloc();
     let open = Mode {
@@ -139,6 +154,9 @@ fn little_is_said_by_small_budgets(rt: HostRuntime) -> Result<(), Fail> {
     let files = (b"town.pb".as_slice(), election.as_str());
     let text = page_named(alloc, files, (b"p.csv", NO_MONEY), open)?;
     assert!(rt; text.contains(little), "{text}");
+    let claim =
+        "costs. The budgets of all voters together are less than the limit, and whether a further project fits into it wasn’t asked.</p>";
+    assert!(rt; text.contains(claim), "{text}");
     for (budget, cost, is_said) in [(3, "9", true), (4, "9", false)] {
         let poor = format!(in alloc;
             "META\nkey;value\nbudget;10\nvote_type;approval\nPROJECTS\nproject_id;cost;selected\n\
@@ -156,6 +174,10 @@ fn little_is_said_by_small_budgets(rt: HostRuntime) -> Result<(), Fail> {
             "But this yes says less than it could: the budgets of all voters come to 9 together",
         );
         assert!(rt; says_less == is_said, "{text}");
+        let claim = text.contains(
+            "costs. The budgets of all voters together are less than the limit.</p>",
+        );
+        assert!(rt; claim == is_said, "{text}");
         assert!(rt; !text.contains("says little"), "{text}");
     }
     Ok(())
