@@ -20,8 +20,13 @@ FACTS = {
     "num_votes": ["999"],
 }  # fmt: skip
 TOWNS = ["town.pb", "a town.pb", "it's.pb", "-town.pb", "ü.pb", "$(touch x).pb", "x;y.pb", "a" * 90 + ".pb", "--.pb", "q\".pb"]
-CLAIMS = ["claim.csv", "; touch PWNED #.csv", "'.csv", "-c.csv", "a_B-9.csv", "b" * 81 + ".csv", "`id`.csv"]
-OUTCOMES = ["outcome.csv", "out come.csv", "&.csv"]
+CLAIMS = [
+    "claim.csv", "; touch PWNED #.csv", "'.csv", "-c.csv", "a_B-9.csv", "b" * 81 + ".csv", "`id`.csv", "z" * 255,
+    "back\\slash.csv", "a\u202eb.csv", "no\u00a0break.csv", "a\nb.csv", "folder/town.pb", "folder/c.csv", "two  blanks.csv",
+]  # fmt: skip
+OUTCOMES = ["outcome.csv", "out come.csv", "&.csv", "folder/claim.csv", "\u200b.csv"]
+# Ids that a line of the program shows cut, or by numbers.
+ODD_IDS = [b"z" * 81, b"z" * 107, b"z" * 108, b"z" * 300, b"a\xe2\x80\xa8b", b"\xe2\x80\xaex", b"\xc3\xbc", b"a\\b", b"<i>"]
 MOST_AMOUNT = 10**12 * making.MILLION
 
 
@@ -72,6 +77,10 @@ def muddled(chance):
             town.costs[place] = chance.choice([0, 0, 1, making.MILLION, 10**9 * making.MILLION])
     if chance.random() < 0.3:
         town.funded ^= {place for place in range(len(town.ids)) if chance.random() < 0.3}
+    if chance.random() < 0.3:
+        for place in range(len(town.ids)):
+            odd = chance.choice(ODD_IDS)
+            town.ids[place] = town.ids[place] if odd in town.ids else odd
     if chance.random() < 0.6:
         coarser(chance, town)
     plain = chance.random() < 0.6
@@ -92,6 +101,19 @@ def close(chance):
     return Case(["prices", "town.pb", "claim.csv", *mode], files)
 
 
+def without_projects(chance):
+    """An election without projects, and prices or a group. There may be no voters either."""
+    voters = chance.randint(0, 2)
+    limit = chance.choice([0, 10 * making.MILLION])
+    town = making.Town([], [], limit, set(), [set() for _ in range(voters)])
+    files = {"town.pb": dressed(chance, town, True)}
+    if chance.random() < 0.5:
+        files["claim.csv"] = making.violation_file(chance, town, set(range(voters)), set(), True)
+        return Case(["violation", "town.pb", "claim.csv"], files)
+    files["claim.csv"] = making.prices_file(chance, town, making.Claim(3, chance.choice([0, 10, 100]), {}), True)
+    return Case(["prices", "town.pb", "claim.csv", *some_mode(chance)], files)
+
+
 def dressed_prices(chance):
     return a_price_check(chance, dressed)
 
@@ -100,7 +122,9 @@ def dressed_violation(chance):
     return a_violation_check(chance, dressed)
 
 
-KINDS = {dressed_prices: 3, close: 3, muddled: 4, dressed_violation: 4, a_price_check: 1, a_violation_check: 1}
+KINDS = {
+    dressed_prices: 6, close: 6, muddled: 8, dressed_violation: 8, a_price_check: 2, a_violation_check: 2, without_projects: 1,
+}  # fmt: skip
 DAMAGED = 0.1
 
 
