@@ -9,9 +9,10 @@ Every voter approves 8 projects and pays one amount for each of those that are f
 what is paid for it. An unfunded project costs as much as its supporters' budgets together. So the prices support the
 outcome in both forms, and every condition is gone through to its end. The group of the violation certificate is all
 supporters of the first project, who demand it, and by the outcome file nothing is funded. Less memory than that of Python
-itself, about 10 MB, is not told apart. With --peer the script bench/prices.py answers the same question beside 'prices'. With --plain the program
+itself, about 12 MB, is not told apart. With --peer the script bench/prices.py answers the same question beside 'prices'. With --plain the program
 PLAIN answers those of 'read' and 'violation' beside them: bench/plain/build FOLDER builds it from Rust as FOLDER/release/plain.
 """
+import argparse
 import os
 import random
 import sys
@@ -21,6 +22,29 @@ import time
 APPROVALS = 8
 PAYMENT, BUDGET = 100, 1000
 SIZES = [(1_000, 100), (10_000, 100), (100_000, 100), (100_000, 1_000)]
+
+
+def arguments(text, *names):
+    """What reads the arguments of a script, of which text tells; 'program' is one that can be run."""
+    words = argparse.ArgumentParser(description=text, formatter_class=argparse.RawDescriptionHelpFormatter)
+    for name in names:
+        words.add_argument(name, type=a_program if name == "program" else str)
+    return words
+
+
+def a_program(path):
+    if not (os.path.isfile(path) and os.access(path, os.X_OK)):
+        raise argparse.ArgumentTypeError(f"there is no program {path}")
+    return os.path.abspath(path)
+
+
+def sizes_of(words, given, usual):
+    """The pairs of voters and projects that were given, or else the usual ones."""
+    if not given:
+        return usual
+    if len(given) != 2 or given[0] < 1 or given[1] < APPROVALS:
+        words.error(f"VOTERS PROJECTS are two numbers, at least 1 and {APPROVALS}")
+    return [tuple(given)]
 
 
 def write_election(path, voters, projects):
@@ -98,17 +122,15 @@ def tell(program, command, out):
     print(f"  {min(it[0] for it in runs):7.2f} s {max(it[1] for it in runs) / 1000:7.1f} MB  {shown:54} {runs[0][2]}", flush=True)
 
 
-def main(words):
-    peer = "--peer" in words
-    plain = next((os.path.abspath(word[8:]) for word in words if word.startswith("--plain=")), None)
-    words = [word for word in words if word != "--peer" and not word.startswith("--plain=")]
-    if len(words) not in (1, 3):
-        sys.exit(__doc__)
-    program = os.path.abspath(words[0])
-    sizes = [tuple(int(word) for word in words[1:3])] if len(words) == 3 else SIZES
-    for voters, projects in sizes:
-        measure(program, voters, projects, peer, plain)
+def main():
+    words = arguments(__doc__, "program")
+    words.add_argument("size", nargs="*", type=int, metavar="VOTERS PROJECTS")
+    words.add_argument("--peer", action="store_true")
+    words.add_argument("--plain", type=a_program)
+    given = words.parse_args()
+    for voters, projects in sizes_of(words, given.size, SIZES):
+        measure(given.program, voters, projects, given.peer, given.plain)
 
 
 if __name__ == "__main__":
-    main(sys.argv[1:])
+    main()

@@ -74,10 +74,19 @@ def measure_size(voters):
     print(f"{time.perf_counter() - began:.1f} s for {voters} voters and {len(made.rows)} payments")
 
 
-if __name__ == "__main__":
-    asked = argparse.ArgumentParser(description=__doc__, formatter_class=argparse.RawDescriptionHelpFormatter)
-    asked.add_argument("--elections", type=int, default=320)
-    asked.add_argument("--voters", type=int, default=50_000)
-    given = asked.parse_args()
+def main():
+    words = argparse.ArgumentParser(description=__doc__, formatter_class=argparse.RawDescriptionHelpFormatter)
+    words.add_argument("--elections", type=int, default=320)
+    words.add_argument("--voters", type=int, default=50_000)
+    given = words.parse_args()
+    if given.elections < 0 or given.voters < 1000:
+        words.error("--elections is at least 0, and --voters at least 1000")
     measure_rule(given.elections)
     measure_size(given.voters)
+
+
+if __name__ == "__main__":
+    try:
+        main()
+    except ImportError as why:
+        sys.exit(f"the library or the program has to be built: {why}")

@@ -8,10 +8,9 @@ into the folder for temporary files (TMPDIR). The last column is how many times 
 plain one.
 """
 import os
-import sys
 import tempfile
 
-from bench import in_child, run
+from bench import arguments, in_child, run
 
 MOST_BYTES = 2**28
 HEAD = b"META\nkey;value\nbudget;1\nvote_type;approval\nPROJECTS\nproject_id;cost;selected\n"
@@ -147,6 +146,4 @@ def main(program):
 
 
 if __name__ == "__main__":
-    if len(sys.argv) != 2:
-        sys.exit(__doc__)
-    main(os.path.abspath(sys.argv[1]))
+    main(arguments(__doc__, "program").parse_args().program)

@@ -21,10 +21,11 @@ from fractions import Fraction
 TOP = os.path.dirname(os.path.dirname(os.path.abspath(__file__)))
 sys.path.insert(0, os.path.join(TOP, "python"))
 os.environ["PYTHONPATH"] = os.path.join(TOP, "python")
+import bench  # noqa: E402
 import pbaudit  # noqa: E402
 from pbaudit import Instance, Project  # noqa: E402
 
-APPROVALS, PAYMENT, BUDGET = 8, 100, 1000
+APPROVALS, PAYMENT, BUDGET = bench.APPROVALS, 100, 1000
 ELECTIONS = 500
 
 
@@ -32,7 +33,7 @@ def an_election(voters, projects):
     """An instance, a profile, and the funded projects, those of even number; what is left of the budgets is as much as
     the others cost."""
     chance = random.Random(1)
-    ballots = [chance.sample(range(projects), min(APPROVALS, projects)) for _ in range(voters)]
+    ballots = [chance.sample(range(projects), APPROVALS) for _ in range(voters)]
     supporters = [0] * projects
     for ballot in ballots:
         for project in ballot:
@@ -152,10 +153,17 @@ def measure_folder():
             measure("audit_folder, two workers of Dask", lambda: pbaudit.audit_folder(room, client.get_executor()))
 
 
-if __name__ == "__main__":
-    if len(sys.argv) not in (1, 3):
-        sys.exit(__doc__)
-    asked = [int(word) for word in sys.argv[1:]] or [100_000, 150]
-    measure_values(*asked)
-    measure_shares(*asked)
+def main():
+    words = bench.arguments(__doc__)
+    words.add_argument("size", nargs="*", type=int, metavar="VOTERS PROJECTS")
+    ((voters, projects),) = bench.sizes_of(words, words.parse_args().size, [(100_000, 150)])
+    measure_values(voters, projects)
+    measure_shares(voters, projects)
     measure_folder()
+
+
+if __name__ == "__main__":
+    try:
+        main()
+    except ImportError as why:
+        sys.exit(f"the library or the program has to be built: {why}")

@@ -7,7 +7,6 @@ files, best of three in turns, and the greatest memory of the page's process.
 PAGE is the pbaudit.html that ./pbaudit-web made. The elections are those of bench.py. What is timed of the page is its
 worker: to start it, to read the files into the module's memory, and to check them. The program reads the files as well.
 """
-import argparse
 import pathlib
 import subprocess
 import sys
@@ -96,12 +95,10 @@ def measure(page, program, voters, projects):
 
 
 def main():
-    words = argparse.ArgumentParser(description=__doc__, formatter_class=argparse.RawDescriptionHelpFormatter)
-    words.add_argument("page")
-    words.add_argument("program")
-    words.add_argument("size", nargs="*", type=int)
+    words = bench.arguments(__doc__, "page", "program")
+    words.add_argument("size", nargs="*", type=int, metavar="VOTERS PROJECTS")
     given = words.parse_args()
-    for voters, projects in [tuple(given.size)] if given.size else SIZES:
+    for voters, projects in bench.sizes_of(words, given.size, SIZES):
         measure(given.page, given.program, voters, projects)
 
 

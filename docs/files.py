@@ -4,6 +4,7 @@
 usage: docs/files.py [NAME..]     of these crates, or of the folders python/pbaudit and web, in the place of all
 """
 import re
+import signal
 import sys
 from pathlib import Path
 
@@ -34,6 +35,9 @@ def files(folder):
 
 
 def main():
+    if sys.argv[1:] == ["--help"]:
+        print(__doc__)
+        return 0
     crates = re.findall(r"^(\w+):", (TOP / "crates.txt").read_text(encoding="utf-8"), re.MULTILINE)
     for name in sys.argv[1:] or crates + FOLDERS:
         folder = TOP / name if name in FOLDERS else TOP / "crates" / name
@@ -47,4 +51,6 @@ def main():
 
 
 if __name__ == "__main__":
+    # Whoever reads the first lines alone, as head does, ends it.
+    signal.signal(signal.SIGPIPE, signal.SIG_DFL)
     sys.exit(main())

@@ -82,14 +82,14 @@ mkfifo "$work/pipe"
 for refused in missing.pb . sample.prices.csv; do
   line='refused election 18 Read record 0'
   [ -f "$refused" ] && line='refused election 2 NoMeta record 1'
-  for command in prices violation; do
+  for command in prices violation explain margins page; do
     ends 2 "$line" some "$command" "$refused" "$work/pipe"
     ends 2 "$line" some "$command" "$refused" "$work/pipe" --outcome "$work/pipe"
   done
   ends 2 "$line" some tidy "$refused" "$work/pipe"
   ends 2 "$line" some both "$refused" "$work/pipe" "$work/pipe" --outcome "$work/pipe"
 done
-for command in prices violation; do
+for command in prices violation explain margins page; do
   ends 2 'refused outcome 18 Read record 0' some "$command" sample.pb "$work/pipe" --outcome missing.csv
   ends 2 'refused outcome 21 BadHead record 1' some "$command" sample.pb "$work/pipe" --outcome sample.pb
 done

@@ -71,6 +71,8 @@ WAYS = [(PHONE, "light", "screen"), (PHONE, "dark", "screen"), (SCREEN, "light",
 PICTURED = (PHONE, SCREEN)
 # A page of more projects than these is opened in every third way, and isn't given to axe.
 MOST_ROWS = 100
+# The line of the program is cut behind so many characters.
+MOST_IN_A_LINE = 120
 # What is painted is looked at so much larger, and so far to both sides of an edge.
 SCALE, ASIDE = 3, 24
 # The line of a row of a table, on paper, in which the project's id stands.
@@ -196,7 +198,7 @@ def test_answer(browser, url, page):
     told = browser.ask("return document.querySelector('.answer h2').textContent")
     check(told == page.headline, f"the answer is {told}")
     line = browser.ask("return [...document.querySelectorAll('footer code')].pop().textContent")
-    check(line == page.line, f"the line is {line}")
+    check(line == shortened(shown(page.line), MOST_IN_A_LINE), f"the line is {line}")
     check(browser.ask("return document.documentElement.lang") == page.language, "the page is in another language")
 
 

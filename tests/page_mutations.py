@@ -72,7 +72,7 @@ DRAWN = [
     Mutation("a mark where the whole is the end", "over", BARS, '<span class="cut">',
              '<span class="mark"></span><span class="cut">'),
     styled("an order that isn't made", "stable", ORDERS, ".sorted tbody tr { order: 0 !important; }"),
-    Mutation("an order turned", "yes", ORDERS, "--cost:-64000;", "--cost:64000;"),
+    Mutation("an order turned", "yes", ORDERS, "--cost:1;", "--cost:99;"),
     styled("the first order reversed", "yes", ORDERS, ".sorted tbody { display: flex; flex-direction: column-reverse; }"),
     styled("faint text", "yes", CONTRAST, ":root { --soft: #8d9095; }"),
     styled("faint text in the dark", "yes", CONTRAST, ":root { --soft: #5a5e64; }", DARK),

@@ -152,8 +152,8 @@ def shown(text):
     return "".join(f"\\u{{{ord(c):x}}}" if unicodedata.category(c) in HIDDEN else c for c in text)
 
 
-def shortened(text):
-    return text if len(text) <= MOST_SHOWN else text[:MOST_SHOWN] + "\u2026"
+def shortened(text, most=MOST_SHOWN):
+    return text if len(text) <= most else text[:most] + "\u2026"
 
 
 def language_of(meta):

@@ -110,7 +110,6 @@ def metadata():
         "Author": author,
         "License": "MIT",
         "License-File": "LICENSE",
-        "Project-URL": f"Repository, {field('Repository')}",
         "Requires-Python": field("requires-python"),
         "Description-Content-Type": "text/markdown",
     }

@@ -2,6 +2,7 @@
 outcomes of the Method of Equal Shares."""
 import argparse
 import errno
+import io
 import os
 import sys
 from typing import IO, List, NoReturn, Optional, Sequence
@@ -11,6 +12,7 @@ from .auditing import Refusal
 from .pages import LANGUAGES, replaced, write_page
 from .rounding import CannotKeep
 from .shares import COMPLETIONS, MEASURES
+from .shown import shown, visible
 
 DIFFERS, REFUSED, USAGE, FAULT = 1, 2, 3, 4
 PAGE_USAGE = (
@@ -94,6 +96,9 @@ def _add_equal_shares(commands: "argparse._SubParsersAction[_Parser]") -> None:
 def main(words: Optional[Sequence[str]] = None) -> int:
     """Runs a command line, and answers its exit status."""
     words = sys.argv[1:] if words is None else words
+    if isinstance(sys.stdout, io.TextIOWrapper):
+        # As the program writes, whatever the terminal is said to read; a path may have bytes that are no letters.
+        sys.stdout.reconfigure(encoding="utf-8", errors="surrogateescape")
     given = _parser(by_folder=any(word.partition("=")[0] == "--folder" for word in words)).parse_args(words)
     try:
         status: int = given.run(given)
@@ -141,7 +146,7 @@ def _folder_pages(given: argparse.Namespace) -> int:
         if why.errno == errno.EILSEQ:
             return _refused("refused folder 18 Read record 0", str(why))
         return _fault(f"fault write: {_reason(why)}")
-    return _told(report.text.splitlines(), report.status)
+    return _told([report.text.rstrip("\n")], report.status)
 
 
 def _equal_shares(given: argparse.Namespace) -> int:
@@ -156,16 +161,17 @@ def _equal_shares(given: argparse.Namespace) -> int:
     except OSError as unread:
         return _refused("refused election 18 Read record 0", _reason(unread))
     except CannotKeep as why:
-        return _told([f"no certificate was found near the payments of the rule: {why}"], DIFFERS)
+        return _told([f"no certificate was found near the payments of the rule: {visible(str(why))}"], DIFFERS)
     finally:
         clear_progress()
     try:
         paths = [] if given.output is None else write_files(made, given.output)
     except OSError as unwritten:
         return _fault(f"fault write: {_reason(unwritten)}")
-    lines = [*made.lines(), *(f"written: {path}" for path in paths)]
-    if paths:
-        lines.append(f"check it by: {made.checked_by(given.election, *paths)}")
+    lines = [*made.lines(), *(f"written: {shown(path)}" for path in paths)]
+    check = made.checked_by(given.election, *paths) if paths else None
+    if check is not None:
+        lines.append(f"check it by: {check}")
     return _told(lines, DIFFERS if made.is_own is False else 0)
 
 

@@ -211,7 +211,7 @@ class _Program:
         _, _, told, folder = self._answer(question)
         line: Optional[int] = None
         sentences: List[str] = []
-        for each in told.decode("utf-8", "replace").splitlines():
+        for each in filter(None, told.decode("utf-8", "replace").split("\n")):
             named = re.fullmatch(rf"{re.escape(folder)}{os.sep}.*?(?::(\d+))?: (.*)", each)
             if named and not sentences and named[1]:
                 line = int(named[1])

@@ -1,5 +1,6 @@
 """Amounts as exact fractions, and how a file writes them."""
 import numbers
+import operator
 from decimal import Decimal
 from fractions import Fraction
 from math import gcd
@@ -61,13 +62,10 @@ def near(amount: object, what: str) -> Fraction:
 
 
 def ratio(amount: object, what: str) -> Tuple[int, int]:
-    """The numerator and the denominator of an amount of any kind, which needn't be in lowest terms."""
+    """The numerator and the denominator of an amount of any kind. They are Python's own numbers: those of others, also
+    within a Fraction, may have no room for a product. Those of a float needn't be in lowest terms."""
     if isinstance(amount, bool):
         raise TypeError(f"{what} is {amount!r}, not a number")
-    if isinstance(amount, int):
-        return amount, 1
-    if isinstance(amount, Fraction):
-        return amount.numerator, amount.denominator
     try:
         if isinstance(amount, float):
             return ratio_of_float(float(amount))
@@ -77,9 +75,19 @@ def ratio(amount: object, what: str) -> Tuple[int, int]:
             return Fraction(str(amount)).as_integer_ratio()
     except (ValueError, OverflowError):
         raise ValueError(f"{what} is {amount!r}, which isn't an amount") from None
-    if hasattr(amount, "numerator") and hasattr(amount, "denominator"):
-        return int(amount.numerator), int(amount.denominator)
-    raise TypeError(f"{what} is {amount!r}, not a number")
+    try:
+        numerator, denominator = own(getattr(amount, "numerator", None)), own(getattr(amount, "denominator", None))
+    except TypeError:
+        raise TypeError(f"{what} is {amount!r}, not a number") from None
+    if denominator < 1:
+        raise ValueError(f"{what} is {amount!r}, which isn't an amount")
+    common = gcd(numerator, denominator)
+    return numerator // common, denominator // common
+
+
+def own(number: Any) -> int:
+    """A whole number of any kind as Python's own. Raises TypeError for another number."""
+    return int(operator.index(number))
 
 
 def ratio_of_float(amount: float) -> Tuple[int, int]:

@@ -22,6 +22,8 @@ __all__ = [
     "MOST_BYTES", "Explanation", "File", "Finding", "ProjectMargins", "Refusal", "Summary", "Verdict", "answered",
     "audit_both", "audit_prices", "audit_violation", "bytes_of", "explain", "margins", "read", "tidy", "verdict",
 ]
+# The lines of a yes.
+_YES = ("supported priceable", "supported stable", "violation")
 # Longer bytes are no path.
 _LONGEST_PATH = 4096
 
@@ -49,7 +51,7 @@ class Refusal(ValueError):
     def sentences(self) -> List[str]:
         """The reason, sentence by sentence, each behind the file and the line that it is about."""
         sentences, line = [], self.line
-        for sentence in (self.reason or "").splitlines():
+        for sentence in self.reason.split("\n") if self.reason else ():
             other = re.match(r"line (\d+): ", sentence)
             at = other[1] if other else line
             sentences.append(f"{self.file}{'' if at is None else f':{at}'}: {sentence[other.end() if other else 0:]}")
@@ -168,13 +170,13 @@ def audit_prices(election: File, certificate: File, outcome: Optional[File] = No
     the election's own, the column `selected`. `stable` asks for S5 in place of C5; without `exhaustive` the condition
     Exhaustive is left out; `cover` adds Cover. Raises Refusal, OSError and MemoryError."""
     mode = Mode(stable, exhaustive, cover)
-    return _Asked("prices", election, certificate=certificate, outcome=outcome, mode=mode).verdict()
+    return _only_verdict(_Asked("prices", election, certificate=certificate, outcome=outcome, mode=mode))
 
 
 def audit_violation(election: File, certificate: File, outcome: Optional[File] = None) -> Verdict:
     """Whether the group and its demand are a violation of EJR, by the measure that the certificate states. The outcome
     is as for `audit_prices`. Raises Refusal, OSError and MemoryError."""
-    return _Asked("violation", election, certificate=certificate, outcome=outcome).verdict()
+    return _only_verdict(_Asked("violation", election, certificate=certificate, outcome=outcome))
 
 
 def audit_both(election: File, prices: File, violation: File, outcome: Optional[File] = None, *, stable: bool = False,
@@ -184,10 +186,8 @@ def audit_both(election: File, prices: File, violation: File, outcome: Optional[
     violation by counting. Raises Refusal, OSError and MemoryError."""
     mode = Mode(stable, exhaustive, cover)
     asked = _Asked("both", election, prices=prices, violation=violation, outcome=outcome, mode=mode)
-    first, second = asked.lines()
-    question = asked.question
-    return (_verdict(first, Question("prices", question.election, question.certificate, None, question.outcome, mode)),
-            _verdict(second, Question("violation", question.election, question.violation, None, question.outcome)))
+    of_prices, of_violation = asked.verdicts(*_lines_of(asked, 2))
+    return of_prices, of_violation
 
 
 def margins(election: File, certificate: File, outcome: Optional[File] = None) -> Tuple[ProjectMargins, ...]:
@@ -208,10 +208,11 @@ def explain(election: File, certificate: File, outcome: Optional[File] = None, *
     `audit_prices` or `audit_violation`. The outcome and the switches are as for `audit_prices`; a violation doesn't
     depend on the switches. Raises Refusal, OSError and MemoryError."""
     asked = _Asked("explain", election, certificate=certificate, outcome=outcome, mode=Mode(stable, exhaustive, cover))
-    line, _, *rows = asked.lines()
+    line, *rows = asked.lines()
+    found, = asked.verdicts(line)
     # Names stand in 12 columns and states in 11.
-    findings = tuple(Finding(row[:12].rstrip(), row[12:23].rstrip(), row[23:]) for row in rows)
-    return Explanation(_verdict(line, asked.question), findings, asked.text().decode("utf-8"))
+    findings = tuple(Finding(row[:12].rstrip(), row[12:23].rstrip(), row[23:]) for row in rows[1:])
+    return Explanation(found, findings, asked.text().decode("utf-8"))
 
 
 def tidy(election: File, certificate: File) -> bytes:
@@ -249,16 +250,39 @@ def _judge_ahead(election: File, outcome: Optional[File]) -> None:
 
 def verdict(question: Question) -> Verdict:
     """The verdict that answers a question on prices or on a violation."""
-    line = answered(question).decode("utf-8").rstrip("\n")
-    return _verdict(line, question)
+    status, text = answered(question)
+    found = _verdict(text.decode("utf-8").rstrip("\n"), question)
+    _check_status(status, [found])
+    return found
+
+
+def _only_verdict(asked: "_Asked") -> Verdict:
+    only, = asked.verdicts(*_lines_of(asked, 1))
+    return only
+
+
+def _lines_of(asked: "_Asked", number: int) -> List[str]:
+    """The lines of an answer that has so many. Raises RuntimeError for another."""
+    lines = asked.lines()
+    if len(lines) != number:
+        raise RuntimeError(f"pbaudit answers {asked.text().decode('utf-8')!r}")
+    return lines
 
 
 def _verdict(line: str, question: Question) -> Verdict:
+    if line in _YES:
+        return Verdict(True, line, _asked=question)
     failed = re.fullmatch(r"failed (\w+)(?: voter (\d+))?(?: project (.*))?", line)
     if not failed:
-        return Verdict(True, line, _asked=question)
+        raise RuntimeError(f"pbaudit answers {line!r}")
     condition, voter, project = failed.groups()
     return Verdict(False, line, condition, None if voter is None else int(voter), project, _asked=question)
+
+
+def _check_status(status: int, verdicts: List[Verdict]) -> None:
+    """Raises RuntimeError where the status isn't that of these verdicts."""
+    if status != (0 if all(verdicts) else 1):
+        raise RuntimeError(f"pbaudit answers {' and '.join(map(repr, map(str, verdicts)))} with status {status}")
 
 
 class _Asked:
@@ -272,28 +296,39 @@ class _Asked:
         data = {name: bytes_of(file) for name, file in self._given.items()}
         first, second = (*(data[name] for name in certificates), None, None)[:2]
         self.question = Question(command, data["election"], first, second, data.get("outcome"), mode, page)
-        self._answer: Optional[bytes] = None
+        self._answer: Optional[Tuple[int, bytes]] = None
 
-    def text(self) -> bytes:
-        """The answer. Raises Refusal where a file is refused."""
+    def answer(self) -> Tuple[int, bytes]:
+        """The status and the text. Raises Refusal where a file is refused."""
         if self._answer is None:
             self._answer = answered(self.question, self._given)
         return self._answer
 
+    def text(self) -> bytes:
+        return self.answer()[1]
+
     def lines(self) -> List[str]:
         return self.text().decode("utf-8").rstrip("\n").split("\n")
 
-    def verdict(self) -> Verdict:
-        return _verdict(self.lines()[0], self.question)
+    def verdicts(self, *lines: str) -> List[Verdict]:
+        """The verdicts by these lines of the answer, which go with its status."""
+        question, mode = self.question, self.question.mode
+        questions = [question]
+        if question.violation is not None:
+            questions = [Question("prices", question.election, question.certificate, None, question.outcome, mode),
+                         Question("violation", question.election, question.violation, None, question.outcome)]
+        verdicts = [_verdict(*each) for each in zip(lines, questions)]
+        _check_status(self.answer()[0], verdicts)
+        return verdicts
 
 
-def answered(question: Question, given: Optional[Dict[str, File]] = None) -> bytes:
-    """The text that answers a question. Raises Refusal where a file is refused, with the name of the one that was
-    given."""
+def answered(question: Question, given: Optional[Dict[str, File]] = None) -> Tuple[int, bytes]:
+    """The status, 0 or 1, and the text that answer a question. Raises Refusal where a file is refused, with the name of
+    the one that was given."""
     status, text = ask(question)
     if status == 2:
         raise _refusal(question, text.decode("utf-8").rstrip("\n"), given or {})
-    return text
+    return status, text
 
 
 def _refusal(question: Question, printed: str, given: Dict[str, File]) -> Refusal:

@@ -1,13 +1,13 @@
 """Price certificates from a solver's floats, or from the fractions of a rule."""
-import operator
 from array import array
 from dataclasses import dataclass, field
-from decimal import Decimal
 from fractions import Fraction
 from functools import cached_property
 from typing import Any, Dict, Iterable, Iterator, List, Optional, Sequence, Set, Tuple
 
-from .amounts import MOST_DENOMINATOR, MOST_NUMERATOR, NearAmount, common_denominator, least_multiple, near, ratio
+from .amounts import (
+    MOST_DENOMINATOR, MOST_NUMERATOR, NearAmount, common_denominator, least_multiple, near, own, ratio,
+)
 from .auditing import audit_prices
 from .files import Path, checked_path, write_to
 from .records import records
@@ -95,7 +95,7 @@ def certified(town: Town, projects: Projects, voter_budget: Optional[NearAmount]
 def _whole(denominator: object) -> int:
     if isinstance(denominator, bool) or not hasattr(denominator, "__index__"):
         raise TypeError(f"the denominator is {denominator!r}, not a whole number")
-    return operator.index(denominator)
+    return own(denominator)
 
 
 def _check_outcome(town: Town, exhaustive: bool) -> None:
@@ -136,16 +136,15 @@ def _given(town: Town, projects: Projects, voter_budget: Optional[NearAmount], p
 def _amounts_by_slot(town: Town, projects: Projects, payments: Payments,
                      noise: Fraction) -> Tuple[List[Any], "array[float]"]:
     """What is paid in each slot, as it was given and as a float. More than noise in a wrong place is a CannotKeep."""
-    is_plain = all(issubclass(kind, (int, float, Fraction, Decimal)) and kind is not bool for kind in payments.kinds)
     amounts: List[Any] = []
     floats = array("d")
     for voter, function in enumerate(payments.functions):
         what = f"voter {voter + 1} pays for"
         places = projects.once(projects.places(function, what), what)
-        mine: Dict[int, Any] = dict(zip(places, function.values()))
+        mine: Dict[int, Any] = dict(zip(places, payments.own(voter + 1, function)))
         slots = town.slots_of(voter)
         expected = town.project_of[slots.start:slots.stop]
-        if not is_plain or not _is_in_place(mine, expected):
+        if not _is_in_place(mine, expected):
             mine = _without_noise(town, voter, mine, noise)
         amounts += [mine.get(project, 0) for project in expected]
         floats.extend(map(float, amounts[slots.start:]))

@@ -1,4 +1,5 @@
 """The command `equal-shares`: an outcome of the Method of Equal Shares with a certificate, and what of it holds."""
+import os
 import shlex
 import sys
 import time
@@ -12,6 +13,7 @@ from .certificates import PriceCertificate, certified
 from .election_files import Election, election_of
 from .files import bytes_of, write_to
 from .shares import EqualShares, Progress, Rule, result
+from .shown import is_hidden, shown, visible
 from .town import Town
 from .values import Payments
 from .writing import write_outcome
@@ -44,15 +46,20 @@ class Certified:
         yield f"{len(self.election.ballots)} voters, {len(ids)} projects, limit {_amount(self.election.limit)}"
         runs = f" after {shares.runs} runs" if shares.runs > 1 else ""
         yield f"voter budget {_amount(shares.voter_budget)}{runs}; {len(funded)} projects for {_amount(spent)}:"
-        yield "  " + " ".join(shares.funded)
+        yield "  " + " ".join(map(shown, shares.funded))
         yield self._compared(funded)
         yield f"certificate over the denominator {self.certificate.denominator}, as it was audited:"
         for name in ("plain", "stable", "Exhaustive", "Cover"):
             yield f"  {name:<12}{self._holds(name)}"
 
-    def checked_by(self, election: str, certificate: str, outcome: Optional[str] = None) -> str:
-        """The command by which anybody checks what was written."""
-        more = [] if outcome is None else ["--outcome", outcome]
+    def checked_by(self, election: str, certificate: str, outcome: Optional[str] = None) -> Optional[str]:
+        """The command by which anybody checks what was written, or none where a path has letters that aren't seen."""
+        paths = [election, certificate, *([] if outcome is None else [outcome])]
+        if any(map(is_hidden, "".join(paths))):
+            return None
+        # None is taken for an option.
+        election, certificate, *others = (os.path.join(".", path) if path.startswith("-") else path for path in paths)
+        more = [word for other in others for word in ("--outcome", other)]
         if self._holds("Exhaustive") != "holds":
             more.append("--no-exhaustive")
         return shlex.join(["pbaudit", "prices", election, certificate, *more])
@@ -71,7 +78,7 @@ class Certified:
         explanation = self.stable if name == "stable" else self.plain
         found = [finding for finding in explanation.findings if finding.name in ASKED.get(name, (name,))]
         failing = [finding for finding in found if finding.state != "holds"]
-        told = (f"{'' if each.name == name else each.name + ' '}fails: {each.sentence}" for each in failing)
+        told = (f"{'' if each.name == name else each.name + ' '}fails: {visible(each.sentence)}" for each in failing)
         return "holds" if found and not failing else "; ".join(told)
 
 
@@ -139,4 +146,4 @@ def _amount(amount: object) -> str:
 
 
 def _some(names: List[str]) -> str:
-    return ", ".join(names[:SHOWN]) + (f" and {len(names) - SHOWN} others" if len(names) > SHOWN else "")
+    return ", ".join(map(shown, names[:SHOWN])) + (f" and {len(names) - SHOWN} others" if len(names) > SHOWN else "")

@@ -137,7 +137,7 @@ def _title(page: bytes) -> str:
 
 def _index(sections: List[str], report: FolderReport, language: str) -> str:
     title = _TITLES[language]
-    total = html.escape(report.text.splitlines()[-1])
+    total = html.escape(report.text.rstrip("\n").split("\n")[-1])
     return (f'<!DOCTYPE html>\n<html lang="{language}"><head><meta charset="utf-8">'
             f'<meta http-equiv="Content-Security-Policy" content="{_POLICY}">'
             f'<meta name="viewport" content="width=device-width, initial-scale=1">{GENERATOR.decode()}'

@@ -6,6 +6,7 @@ import os
 import re
 import subprocess
 import sys
+import uuid
 from concurrent.futures import BrokenExecutor, Executor, Future, ThreadPoolExecutor
 from dataclasses import asdict, dataclass
 from functools import partial
@@ -13,6 +14,7 @@ from typing import Callable, Dict, Iterator, List, Optional, Sequence, Tuple
 
 from ._auditor import Mode, Question, ask
 from .files import MOST_BYTES, Path
+from .shown import visible
 
 # The ending of a file that was audited, its line, and its status.
 Line = Tuple[str, str, int]
@@ -90,9 +92,10 @@ def _text_of(path: Path) -> str:
     return text
 
 
-def audit_entries(entries: Sequence[Entry], attempt: int) -> List[List[Line]]:
-    """What is found of each of some entries. This is what a worker does. The number of the attempt has no part in it:
-    Dask takes a task with the same arguments for the same task, and would answer that it was lost without trying."""
+def audit_entries(entries: Sequence[Entry], attempt: str) -> List[List[Line]]:
+    """What is found of each of some entries. This is what a worker does. The attempt, which no other call of
+    `audit_folder` has, has no part in it: Dask takes a task with the same arguments for the same task, and would answer
+    what it answered, or that it was lost, without trying."""
     return [audit_entry(entry) for entry in entries]
 
 
@@ -170,13 +173,14 @@ def _check_name(folder: str, name: str) -> None:
 def _spread(executor: Executor, entries: List[Entry]) -> Found:
     """What is found of each entry by an executor. What is lost thrice isn't in it."""
     found: Found = {}
-    is_broken = _by_executor(executor, list(_tasks(entries)), 1, found)
+    call = uuid.uuid4().hex
+    is_broken = _by_executor(executor, list(_tasks(entries)), f"{call}/1", found)
     for attempt in range(2, MOST_LOSSES + 1):
         left = [entry for entry in entries if entry not in found]
         if left and is_broken:
             _alone(left, found)
         elif left:
-            is_broken = _by_executor(executor, [[entry] for entry in left], attempt, found)
+            is_broken = _by_executor(executor, [[entry] for entry in left], f"{call}/{attempt}", found)
     return found
 
 
@@ -193,7 +197,7 @@ def _tasks(entries: List[Entry]) -> Iterator[List[Entry]]:
         yield task
 
 
-def _by_executor(executor: Executor, tasks: List[List[Entry]], attempt: int, found: Found) -> bool:
+def _by_executor(executor: Executor, tasks: List[List[Entry]], attempt: str, found: Found) -> bool:
     """Audits entries by an executor. Whether it was broken by that."""
     futures: "List[Tuple[List[Entry], Future[List[List[Line]]]]]" = []
     is_broken = False
@@ -217,7 +221,7 @@ def _by_executor(executor: Executor, tasks: List[List[Entry]], attempt: int, fou
 
 def _named(task: List[Entry]) -> str:
     more = f" and {len(task) - 1} elections after it" if len(task) > 1 else ""
-    return f"{task[0].name}.pb{more}"
+    return f"{visible(task[0].name)}.pb{more}"
 
 
 def _alone(entries: List[Entry], found: Found) -> None:

@@ -14,12 +14,13 @@ from collections.abc import Mapping as AnyMapping, Set as AnySet
 from decimal import Decimal
 from fractions import Fraction
 from functools import lru_cache
-from operator import attrgetter
+from numbers import Rational
+from operator import attrgetter, index
 from typing import (
     Any, Collection, Dict, Iterable, Iterator, List, Mapping, Optional, Protocol, Sequence, Set, Tuple, Union,
 )
 
-from .amounts import Amount, NearAmount, exact_cost, exact_price, ratio
+from .amounts import Amount, NearAmount, exact_cost, exact_price, near, ratio
 from .elections import Instance
 from .matrices import PaymentRows, ballots_in, is_matrix
 
@@ -130,6 +131,11 @@ class Ballots:
         return self.places[self._ends[voter - 1] if voter else 0:self._ends[voter]]
 
 
+# What makes a number rational; and numbers of Python that hold no others.
+_PARTS = attrgetter("numerator"), attrgetter("denominator")
+_OWN = (int, float, Decimal)
+
+
 class Payments:
     """What voters pay, as it was given: for each voter a mapping from projects to amounts."""
 
@@ -147,12 +153,13 @@ class Payments:
                 raise TypeError(f"the payment function of voter {voter} is {reprlib.repr(function)}, not a mapping "
                                 "from projects to amounts")
             self.kinds.update(map(type, function.values()))
-        self._is_whole, self._is_rational = self.kinds <= {int}, self.kinds <= {int, Fraction}
+        self._is_whole, self._is_own = self.kinds <= {int}, self.kinds <= {int, float, Decimal}
+        self._is_rational = all(issubclass(kind, Rational) and not issubclass(kind, bool) for kind in self.kinds)
         self._is_exact = self.kinds <= {int, Fraction, Decimal}
 
     def check_exact(self) -> None:
         """Raises TypeError where an amount is a float or no number, and ValueError where one is no amount."""
-        for voter, function in enumerate(self.functions, 1) if not self._is_exact else ():
+        for voter, function in enumerate(self.functions, 1) if not (self._is_rational or self._is_exact) else ():
             for project, amount in function.items():
                 exact_price(amount, _what(voter, project))
 
@@ -162,31 +169,44 @@ class Payments:
             return
         seen: Set[int] = set()
         for voter, function in enumerate(self.functions, 1):
-            if self._is_rational:
-                found = set(map(attrgetter("denominator"), function.values()))
-            else:
-                found = {denominator for _, denominator in self.ratios(voter, function)}
+            found = {denominator for _, denominator in self.ratios(voter, function)}
             yield from found - seen
             if len(seen) < 2**16:
                 seen |= found
 
-    def ratios(self, voter: int, function: NearPaymentFunction) -> Iterable[Any]:
-        """A numerator and a denominator of each amount of a voter."""
+    def ratios(self, voter: int, function: NearPaymentFunction) -> Sequence[Tuple[int, int]]:
+        """A numerator and a denominator of each amount of a voter, as Python's own numbers."""
         values = function.values()
-        if self._is_rational:
-            return zip(map(attrgetter("numerator"), values), map(attrgetter("denominator"), values))
         try:
-            if self._is_exact:
+            if self._is_rational:
+                numerators, denominators = (list(map(index, map(part, values))) for part in _PARTS)
+                if min(denominators, default=1) > 0:
+                    return list(zip(numerators, denominators))
+            elif self._is_exact:
                 return [amount.as_integer_ratio() for amount in values]  # type: ignore[union-attr]
-        except (ValueError, OverflowError):
+        except (TypeError, ValueError, OverflowError):
             pass
         return [ratio(amount, _what(voter, project)) for project, amount in function.items()]
+
+    def own(self, voter: int, function: NearPaymentFunction) -> Collection[NearAmount]:
+        """The amounts of a voter as numbers of Python and of its library, which are exact."""
+        if self._is_own:
+            return function.values()
+        return [amount if _is_own(amount) else near(amount, _what(voter, project))
+                for project, amount in function.items()]
 
     def numerators(self, voter: int, function: NearPaymentFunction, denominator: int) -> List[int]:
         """The amounts of a voter as numerators over a common denominator."""
         if self._is_whole:
             return [amount * denominator for amount in function.values()]  # type: ignore[misc, operator]
         return [numerator * (denominator // part) for numerator, part in self.ratios(voter, function)]
+
+
+def _is_own(amount: object) -> bool:
+    """Whether an amount is a number of Python or of its library that holds no number of others."""
+    if type(amount) is Fraction:
+        return type(amount.numerator) is int is type(amount.denominator)
+    return type(amount) in _OWN
 
 
 def _what(voter: int, project: AnyProject) -> str:

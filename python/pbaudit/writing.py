@@ -5,11 +5,10 @@ refused by a ValueError with the reason, and a value of another kind than is wan
 by a TypeError. Values are taken by their shape, as values.py says.
 """
 import io
-import operator
 from fractions import Fraction
 from typing import Collection, Iterable, List, Mapping, Optional, Sequence, Tuple
 
-from .amounts import MOST_DENOMINATOR, MOST_NUMERATOR, Amount, exact_price, least_multiple, money
+from .amounts import MOST_DENOMINATOR, MOST_NUMERATOR, Amount, exact_price, least_multiple, money, own
 from .files import MOST_BYTES, Path, write_to
 from .values import (
     AnyInstance, AnyProject, Ballots, PaymentFunction, Payments, Profile, Projects, ballots_of, funded_of, ids_of,
@@ -173,7 +172,7 @@ class _Lines:
 def _whole(voter: object) -> int:
     try:
         if not isinstance(voter, bool):
-            return operator.index(voter)  # type: ignore[arg-type]
+            return own(voter)
     except TypeError:
         pass
     raise TypeError(f"the group names voter {voter!r}, which isn't a whole number")

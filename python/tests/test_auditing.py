@@ -262,6 +262,35 @@ class Audits(unittest.TestCase):
             self.assertEqual((caught.exception.line, caught.exception.reason), (None, None))
             self.assertEqual(str(caught.exception), "refused election 2 NoMeta record 1")
 
+    def test_a_sentence_ends_at_a_line_feed_alone(self):
+        """So that an id in it forges no line."""
+        odd = "'x\u2028a.pb:9: y\u2029\u0085z\r\x1c\x0b\x0c'"
+        refusal = Refusal("refused election 9 DuplicateProject record 5", "a.pb", 5, f"one {odd}\nline 7: other {odd}")
+        self.assertEqual(refusal.sentences(), [f"a.pb:5: one {odd}", f"a.pb:7: other {odd}"])
+        program, room = _auditor._Program("pbaudit"), "/tmp/pbaudit-room"
+        told = f"{room}/election.pb:5: one {odd}\n{room}/election.pb:7: other {odd}\n".encode()
+        with mock.patch.object(program, "_answer", lambda question: (2, b"", told, room)):
+            found = program.hint(_auditor.Question("read", b""), _auditor.Place("election", 9, 5))
+        self.assertEqual((found.line, found.sentences), (5, f"one {odd}\nline 7: other {odd}"))
+
+    def test_an_answer_that_is_none(self):
+        """A line that isn't one of a yes or a no, and one that doesn't go with its status."""
+        sample, prices, claim = b"", b"pb-prices,1\n", b"pb-violation,1\n"
+        yes, no = "supported priceable", "failed C3 project b"
+        for status, told, ask in (
+            *((status, told, lambda: pbaudit.audit_prices(sample, prices))
+              for status, told in ((1, yes), (0, no), (0, ""), (0, "supported"), (0, f"x {yes}"), (1, "fail"), (0, "fault"))),
+            *((status, told, lambda: pbaudit.audit_violation(sample, claim))
+              for status, told in ((1, "violation"), (0, "failed V4"), (1, ""), (0, "violations"))),
+            *((status, told, lambda: pbaudit.explain(sample, prices)) for status, told in ((1, yes), (0, no), (0, "ok"))),
+            *((status, told, lambda: pbaudit.audit_both(sample, prices, claim)) for status, told in (
+                (1, f"{yes}\nviolation"), (0, f"{yes}\nfailed V4"), (0, f"{no}\nviolation"), (0, f"{yes}\n{no} x\ny"))),
+        ):
+            answering = mock.Mock(ask=mock.Mock(return_value=(status, f"{told}\n".encode())))
+            with self.subTest(status=status, told=told), mock.patch.object(_auditor, "_found", answering):
+                with self.assertRaisesRegex(RuntimeError, "^pbaudit answers "):
+                    ask()
+
     def test_bytes_that_look_like_a_path(self):
         prices = EXAMPLES / "sample.prices.csv"
         for name, ask in (("election", lambda: pbaudit.audit_prices(b"e.pb", prices)),

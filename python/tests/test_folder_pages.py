@@ -144,6 +144,24 @@ class FolderPages(unittest.TestCase):
             page = f"{name}.prices.html"
             self.assertEqual((self.folder / page).read_bytes(), (self.out / page).read_bytes())
 
+    def test_lines_end_at_line_feeds_alone(self):
+        """Other ends of lines in an id, and an output of another encoding: what is printed is what the program prints."""
+        for at, end in enumerate(("\u2028", "\u2029", "\u0085", "\u00fc\U0001f600")):
+            name = f"x{end}total 9 elections 9 yes 0 no 0 refused"
+            town = pbaudit.Instance([pbaudit.Project(name, 1)], 5)
+            (self.folder / f"t{at}.pb").write_bytes(pbaudit.write_election(town, [[name]], []))
+            (self.folder / f"t{at}.prices.csv").write_bytes(pbaudit.write_prices(1, [{}]))
+        told = subprocess.run([PROGRAM, "folder", self.folder], capture_output=True, check=False)
+        self.assertEqual(told.stdout.count(b"failed Exhaustive project x"), 4)
+        command = [sys.executable, "-m", "pbaudit", "page", "--folder", self.folder, "-o", self.out]
+        for encoding in ("utf-8", "ascii", "latin-1", "utf-16"):
+            given = {**os.environ, "PYTHONIOENCODING": encoding}
+            done = subprocess.run(command, capture_output=True, env=given, check=False)
+            self.assertEqual((done.returncode, done.stdout, done.stderr), (told.returncode, told.stdout, b""))
+        index = (self.out / "index.html").read_text(encoding="utf-8")
+        *_, last = told.stdout.decode().rstrip("\n").split("\n")
+        self.assertIn(f'<footer><code lang="en">{last}</code></footer>', index)
+
     def test_the_command(self):
         def run(*words):
             command = [sys.executable, "-m", "pbaudit", "page", *map(str, words)]

@@ -212,6 +212,26 @@ class Folders(unittest.TestCase):
             self.assertEqual(pbaudit.audit_folder(self.room, client.get_executor()), self.wanted())
 
     @HAS_DASK
+    def test_a_file_that_is_changed_between_two_calls(self):
+        """To one of the same length, while the cluster still has the answer of the first call."""
+        class Keeping(Executor):
+            def __init__(self, executor):
+                self.executor, self.futures = executor, []
+
+            def submit(self, *words):
+                self.futures.append(self.executor.submit(*words))
+                return self.futures[-1]
+
+        prices = (EXAMPLES / "sample.prices.csv").read_bytes()
+        with cluster() as client:
+            executor = Keeping(client.get_executor())
+            for changed, line in ((prices, "supported priceable"), (prices.replace(b"1,a,2", b"1,a,1"), "failed C3 project a")):
+                self.write("a.prices.csv", changed)
+                report = pbaudit.audit_folder(self.room, executor)
+                self.assertIn(f"\na.prices.csv: {line}\n", report.text)
+                self.assertEqual(report, self.wanted())
+
+    @HAS_DASK
     def test_by_a_dask_cluster_whose_workers_are_killed(self):
         """One while it works. Dask gives its tasks to another where it may, and else they are lost."""
         for failures in (0, 3):
@@ -234,6 +254,10 @@ class Folders(unittest.TestCase):
                 self.assertEqual(report, self.wanted())
                 self.assertTrue(os.path.isdir(mark))
                 self.assertEqual([call.args[1] for call in warning.call_args_list].count("b.pb"), losses)
+
+    def test_a_name_forges_no_line_of_a_log(self):
+        entries = [folders.Entry("", "a\u2028WARNING\u009bb", (), 1, folders.Mode())] * 2
+        self.assertEqual(folders._named(entries), "a\\u{2028}WARNING\\u{9b}b.pb and 1 elections after it")
 
     def test_small_elections_share_a_task(self):
         """In their order, and a large one has a task to itself."""

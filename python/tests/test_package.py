@@ -93,6 +93,10 @@ class Notebooks(unittest.TestCase):
         for shown in (pbaudit.audit_prices(*files, **modes), pbaudit.explain(*files, **modes)):
             framed = re.fullmatch(r'<iframe sandbox="" style="[^"]*" srcdoc="([^"]*)"></iframe>', shown._repr_html_())
             self.assertEqual(html.unescape(framed[1]), wanted)
+        both = pbaudit.audit_both(files[0], files[1], EXAMPLES / "district.violation.csv", files[2], **modes)
+        alone = pbaudit.audit_violation(files[0], EXAMPLES / "district.violation.csv", files[2])
+        self.assertEqual([each._repr_html_() for each in both], [shown._repr_html_(), alone._repr_html_()])
+        self.assertNotEqual(both[0]._repr_html_(), both[1]._repr_html_())
         verdict = pbaudit.audit_violation(EXAMPLES / "district.pb", EXAMPLES / "district.violation.csv")
         self.assertIn("V4", verdict._repr_html_())
         again = pickle.loads(pickle.dumps(verdict))

@@ -1,5 +1,6 @@
 """The Method of Equal Shares, beside a plain one by fractions, and its command."""
 import io
+import os
 import pathlib
 import shlex
 import subprocess
@@ -16,6 +17,7 @@ from test_certificates import an_election
 
 REPOSITORY = pathlib.Path(__file__).resolve().parents[2]
 EXAMPLES = REPOSITORY / "examples"
+PROGRAM = REPOSITORY / "crates" / "pbaudit" / "out" / "pbaudit"
 
 
 def plain_shares(instance, profile, by, budget):
@@ -220,6 +222,32 @@ class Commands(unittest.TestCase):
         ids = election.projects.ids
         instance = Instance([Project(*pair) for pair in zip(ids, election.costs)], election.limit)
         return instance, [[ids[at] for at in ballot] for ballot in election.ballots]
+
+    def test_names_are_shown_and_none_is_a_command(self):
+        """Names that try to move a terminal's cursor, to begin a line or to be an option; and an output in ASCII."""
+        odd = ["\u009b2Ja", "b\u202e", "\u2028c", "d" * 300, "\u00fc \u00a0e"]
+        projects = [*(Project(name, 1) for name in odd), Project("\u202ez", Fraction(9, 10))]
+        ballot = [project.name for project in projects]
+        town = pbaudit.write_election(Instance(projects, 5), [ballot, ballot], [])
+        shown = ["\\u{9b}2Ja", "b\\u{202e}", "\\u{2028}c", "d" * 80 + "\u2026", "\u00fc \\u{a0}e"]
+        for name, has_command in (("-x.pb", True), ("$(touch PWNED) ' \" ; #.pb", True), ("a\u009b2J.pb", False)):
+            (self.room / name).write_bytes(town)
+            for encoding in ("utf-8", "ascii"):
+                words = [sys.executable, "-m", "pbaudit", "equal-shares", f"--output={name}.prices.csv", "--", name]
+                done = subprocess.run(words, capture_output=True, cwd=self.room, check=False,
+                                      env={**os.environ, "PYTHONIOENCODING": encoding})
+                self.assertEqual((done.returncode, done.stderr), (1, b""))
+                lines = done.stdout.decode().split("\n")
+                self.assertEqual(lines[2], "  " + " ".join(shown))
+                self.assertIn("S5 fails: project \\u{202e}z costs", done.stdout.decode())
+                self.assertFalse(any(letter in done.stdout.decode() for letter in "\u009b\u202e\u2028\u00a0"))
+                checks = [line for line in lines if line.startswith("check it by: ")]
+                self.assertEqual(len(checks), 1 if has_command else 0)
+                for check in checks:
+                    script = f"pbaudit() {{ {shlex.quote(str(PROGRAM))} \"$@\"; }}; {check[len('check it by: '):]}"
+                    told = subprocess.run(["sh", "-c", script], capture_output=True, cwd=self.room, check=False)
+                    self.assertEqual((told.returncode, told.stdout), (0, b"supported priceable\n"), told.stderr)
+        self.assertFalse((self.room / "PWNED").exists())
 
     def test_how_it_ends_otherwise(self):
         torn = self.room / "torn.pb"

@@ -21,15 +21,15 @@ use Rattle.pb_price.proofs.Told.{tell-first}
 use Rattle.pb_explain.specs.PriceTable.{NameProjects, ShowsProject, price_table}
 use Rattle.pb_reply.specs.Replies.{Reply, with_input}
 use Rattle.pb_audit.specs.Answers.{verdict_reply}
-use Rattle.pb_audit.specs.Explained.{OfPrices, OfViolation, StatesCertificate, explained_prices, explained_reply, explained_rules, explained_violation, is_violation, with_table}
+use Rattle.pb_audit.specs.Explained.{explained_prices, explained_reply, explained_rules, explained_violation, with_table}
+use Rattle.pb_reply.specs.Certificates.{OfPrices, OfViolation, StatesCertificate, is_violation}
 use Rattle.pb_reply.specs.Inputs.{Stated, StatesPrices, StatesViolation}
-use Rattle.pb_reply.specs.Named.{PricesNameProject}
 use Rattle.pb_audit.specs.Inside.Certificates.{AnswersCertificate, IfTold, Promised}
 use Rattle.pb_reply.specs.Inside.Taking.{settled}
 use Rattle.pb_reply.specs.declared.input.InputName.TheVariants.{Certificate}
 use Rattle.pb_reply.specs.declared.input.Stop.{Stop}
 use Rattle.pb_audit.proofs.Audits.{lines_told}
-use Rattle.pb_audit.proofs.Culprits.{among-projects, missing-name, prices_name_projects, projects-are, unapproved-name}
+use Rattle.pb_reply.proofs.Culprits.{among-projects, missing-name, projects-are, unapproved-name}
 use Rattle.pb_audit.proofs.Promises.{prices_promise, violation_promises}
 
 pub explained_promise : (m : Mode) → Promised (explained_rules m)
@@ -99,17 +99,8 @@ pub missing_names_projects : (e : Instance) (s t : List ℕ) → IsSet 1 (projec
 missing_names_projects e s t set =
     all-first (λ (q : ℕ × ℕ). IsProject e q.1) (culprits_of_V2 e s t) (missing-name e s t set)
 
--- the denominator of prices that are stated
-pub denominator-low : (e : Instance) (d : Delivery) (p : Prices) → StatesPrices Certificate e d (Ok p)
-    → 1 ≤ p.denominator
-denominator-low e d p given = grind arith
-
 -- the reply on the findings on prices is that on the prices
 pub findings_explain : (m : Mode) (e : Instance) (w : List Bool) (p : Prices) (f : Findings) → 1 ≤ p.denominator
     → f ≡ findings e w p
     → with_table (price_table m e f) (verdict_reply m e (verdict_of (first_told m f))) ≡ explained_prices m e w p
 findings_explain m e w p f low is = grind (arith, tell-first)
-
-pub told_names_project : (m : Mode) (e : Instance) (w : List Bool) (p : Prices) (f : Findings) → 1 ≤ p.denominator
-    → f ≡ findings e w p → PricesNameProject e (verdict_of (first_told m f))
-told_names_project m e w p f low is = grind (arith, prices_name_projects, tell-first)

@@ -6,7 +6,7 @@ use Rattle.pb_records.specs.Loading.{Delivery}
 use Rattle.pb_certificate.specs.Prices.{Prices}
 use Rattle.pb_price.specs.declared.Mode.{Mode}
 use Rattle.pb_reply.specs.Replies.{Answer, Reply, answer_of, refused, with_input, TellsReply}
-use Rattle.pb_audit.specs.Answers.{AnswersAudit, AnswersElection, AnswersPrices, AnswersTidy, AnswersViolation, AuditRules, FilesState, audit_reply, price_rules, read_reply, tidy_answer, violation_rules}
+use Rattle.pb_audit.specs.Answers.{AnswersAudit, AnswersElection, AnswersPrices, AnswersTidy, AnswersViolation, AuditRules, audit_reply, price_rules, read_reply, tidy_answer, violation_rules}
 use Rattle.pb_audit.specs.Both.{AnswersBoth, Both, GroupAndDemand, StatesBoth, both_rules}
 use Rattle.pb_reply.specs.Inputs.{Stated, StatesElection, StatesOutcome, StatesPrices, audited}
 use Rattle.pb_audit.specs.Margins.{AnswersMargins, margin_rules}

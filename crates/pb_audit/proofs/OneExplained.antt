@@ -6,7 +6,8 @@ use Rattle.pb_records.specs.Loading.{Delivery}
 use Rattle.pb_certificate.specs.Prices.{Prices}
 use Rattle.pb_price.specs.declared.Mode.{Mode}
 use Rattle.pb_audit.specs.Both.{GroupAndDemand}
-use Rattle.pb_audit.specs.Explained.{AnswersExplained, Certificate, OfPrices, OfViolation, StatesCertificate, explained_rules, is_violation}
+use Rattle.pb_audit.specs.Explained.{AnswersExplained, explained_rules}
+use Rattle.pb_reply.specs.Certificates.{Certificate, OfPrices, OfViolation, StatesCertificate, is_violation}
 use Rattle.pb_reply.specs.Inputs.{Stated, StatesPrices, StatesViolation}
 use Rattle.pb_audit.specs.OneAnswer.{JustOne}
 use Rattle.pb_reply.specs.declared.input.InputName.TheVariants as name

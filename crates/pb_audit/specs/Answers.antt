@@ -13,7 +13,7 @@ use Rattle.pb_price.specs.First.{First, verdict_of}
 use Rattle.pb_price.specs.declared.Mode.{Mode}
 use Rattle.pb_price.specs.declared.Verdict.{Verdict}
 use Rattle.pb_reply.specs.Replies.{Answer, Reply, answer_of, price_status, refused, violation_status, with_input}
-use Rattle.pb_reply.specs.Inputs.{Stated, StatesElection, StatesFile, StatesOutcome, StatesPrices, StatesViolation, audited, in_memory}
+use Rattle.pb_reply.specs.Inputs.{FilesState, Stated, StatesElection, StatesPrices, StatesViolation, audited, in_memory}
 use Rattle.pb_reply.specs.Lines.{notes, price_line, read_line, violation_line}
 use Rattle.pb_audit.specs.Promises.{PricesPromise, ViolationPromises}
 use Rattle.pb_reply.specs.declared.input.InputName.TheVariants as name
@@ -78,15 +78,6 @@ pub record AnswersTidy (election certificate : Delivery) (answer : Answer Status
   pub election_states : StatesElection election e
   pub certificate_states : IfOk e (λ instance. StatesPrices name.Certificate instance certificate p)
   pub out : answer ≡ tidy_answer e p
-
--- What an election, an outcome file where one is given, and a certificate of a kind state. Each counts where those
--- before it are accepted.
-pub record FilesState {A : Type 0} (states : Instance → Delivery → Stated A → Type 0) (election : Delivery)
-    (outcome : Option Delivery) (certificate : Delivery)
-    (e : Stated Instance) (o : Option (Stated (List Bool))) (c : Stated A) : Type 0 where
-  pub election_states : StatesElection election e
-  pub outcome_states : IfOk e (λ instance. StatesFile (StatesOutcome instance) outcome o)
-  pub certificate_states : IfOk e (λ instance. IfOk (audited instance o) (λ w. states instance certificate c))
 
 -- where all are accepted, this holds of the election, the outcome and the certificate
 abbrev pub OfAccepted : {A : Type 0} → (Instance → List Bool → A → Type 0) → Stated Instance

@@ -1,12 +1,9 @@
 -- What `explain` answers: the line of the verdict, an empty line, and a table of what each condition or test comes to.
-use Rattle.std.specs.Prelude.{◌≡◌, ◌⊎◌, Bool, true, false, ℕ, List, [], ◌∷◌, ◌++◌, Option, Ok, Err}
+use Rattle.std.specs.Prelude.{Bool, ℕ, List, [], ◌∷◌, ◌++◌, Option}
 use Rattle.std.specs.Option.{option_map}
 use Rattle.pb_records.specs.Loading.{Delivery}
-use Rattle.pb_records.specs.Loading as delivery
 use Rattle.pb_election.specs.Instance.{Instance}
-use Rattle.pb_certificate.specs.Faults.{certificate_records}
 use Rattle.pb_certificate.specs.Prices.{Prices}
-use Rattle.pb_certificate.specs.Violations.Text.{begins_violation}
 use Rattle.pb_certificate.specs.declared.violations.measure.Measure.{Measure}
 use Rattle.pb_cohesion.specs.Satisfactions.{worth_by}
 use Rattle.pb_cohesion.specs.ViolationFindings.{violation_findings}
@@ -17,30 +14,11 @@ use Rattle.pb_explain.specs.ViolationTable.{violation_table}
 use Rattle.pb_records.specs.Records.{Text}
 use Rattle.pb_audit.specs.Answers.{AnswersAudit, AuditRules, price_reply, violation_reply}
 use Rattle.pb_reply.specs.Replies.{Reply}
-use Rattle.pb_reply.specs.Inputs.{Stated, StatesPrices, StatesViolation, in_memory}
+use Rattle.pb_reply.specs.Certificates.{Certificate, OfPrices, OfViolation, StatesCertificate}
+use Rattle.pb_reply.specs.Inputs.{in_memory}
 use Rattle.pb_audit.specs.Promises.{PricesPromise, ViolationPromises}
 use Rattle.pb_audit.specs.Readers.{AuditReadings, ReadsAudit}
-use Rattle.pb_reply.specs.declared.input.InputName.TheVariants as name
 use Rattle.pb_reply.specs.declared.status.Status.{Status}
-
--- what a certificate of either kind states: prices, or the measure, the group and the demand of a violation
-pub data Certificate : Type 0 where
-  OfPrices : Prices → Certificate
-  OfViolation : Measure × List ℕ × List ℕ → Certificate
-
--- whether a certificate is taken as that of a violation: its first record that isn't blank says so
-abbrev pub is_violation : Delivery → Bool
-is_violation (delivery.Bytes bytes) = begins_violation (certificate_records bytes)
-is_violation delivery.Read = false
-is_violation delivery.TooLong = false
-
--- a certificate of either kind for an election
-abbrev pub StatesCertificate : Instance → Delivery → Stated Certificate → Type 0
-StatesCertificate e d (Ok (OfPrices p)) = (is_violation d ≡ false) × StatesPrices name.Certificate e d (Ok p)
-StatesCertificate e d (Ok (OfViolation v)) = (is_violation d ≡ true) × StatesViolation name.Certificate e d (Ok v)
-StatesCertificate e d (Err r) =
-    ((is_violation d ≡ false) × StatesPrices name.Certificate e d (Err r))
-    ⊎ ((is_violation d ≡ true) × StatesViolation name.Certificate e d (Err r))
 
 -- a reply with an empty line and a table below it
 abbrev pub with_table : List Text → Reply → Reply

@@ -1,7 +1,8 @@
 //! Explaining verdicts: what each condition on prices, or each test of a violation, comes to.
 ghost use Rattle.std.specs.Prelude.{◌≡◌, ◌≤◌, ◌^◌, IfOk, IfSome, option_copied};
 ghost use Rattle.pb_audit.specs.Answers.{verdict_reply};
-ghost use Rattle.pb_audit.specs.Explained.{AnswersExplainedFiles, Certificate, ReadsExplained, explained_prices, explained_rules, explained_violation, is_violation, with_table};
+ghost use Rattle.pb_audit.specs.Explained.{AnswersExplainedFiles, ReadsExplained, explained_prices, explained_rules, explained_violation, with_table};
+ghost use Rattle.pb_reply.specs.Certificates.{Certificate, is_violation};
 ghost use Rattle.pb_reply.specs.Inputs.{StatesPrices, StatesViolation};
 ghost use Rattle.pb_reply.specs.Inside.Loaded.{lent};
 ghost use Rattle.pb_reply.specs.Named.{PricesNameProject};
@@ -175,7 +176,7 @@ fn violation_on(
 }
 
 /// The verdict on a group and its demand, and the table of the tests.
-#[tactic(auto, using(crate::proofs::Culprits::violation_names_projects))]
+#[tactic(auto, using(pb_reply::proofs::Culprits::violation_names_projects))]
 fn tests_reply(
     alloc: Global,
     election: &Election,

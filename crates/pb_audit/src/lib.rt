@@ -1,5 +1,4 @@
-//! The auditor: what each command answers, over files in memory and over readers, the report on a folder, and what
-//! words ask for.
+//! The auditor: what each command answers, over files in memory and over readers, and the report on a folder.
 #![tactic(auto)]
 
 mod auditing;
@@ -23,7 +22,6 @@ pub use explain::{explained_reply, run_explain};
 pub use folder::{Entry, folder_text};
 pub use folder_report::FolderReport;
 pub use margins::{margins_answer, run_margins};
-pub use pb_command::{Inputs, Task, UsageFault, task_of};
 pub use pb_reply::{Answer, Fault, InputFault, InputName, InputRefusal, Loaded, Reply, Status};
 pub use prices::{prices_reply, run_prices};
 pub use read::{read_reply, run_read};

@@ -102,7 +102,7 @@ pub(crate) fn verdict_reply(
 }
 
 /// The verdict on the prices that a certificate states, as the input of this name.
-#[tactic(auto, using(crate::proofs::Culprits::prices_name_projects))]
+#[tactic(auto, using(pb_reply::proofs::Culprits::prices_name_projects))]
 pub(crate) fn price_verdict(
     alloc: Global,
     election: &Election,

@@ -89,7 +89,7 @@ impl Audit for ViolationAudit {
 }
 
 /// The line of the verdict on a group and its demand.
-#[tactic(auto, using(crate::proofs::Culprits::violation_names_projects))]
+#[tactic(auto, using(pb_reply::proofs::Culprits::violation_names_projects))]
 pub(crate) fn group_reply(
     alloc: Global,
     election: &Election,

@@ -5,9 +5,9 @@ use Rattle.std.specs.List.{AllByRecursion}
 use Rattle.std.proofs.lemmas.Bool.{cases_Bool, cases_lt}
 use Rattle.std.proofs.lemmas.List.Elements.{recursion_from_All}
 use Rattle.std.proofs.lemmas.List.Sums.{sum_by-cons}
-use Rattle.std.proofs.Math.Nat.{lt_of_mul-lt-mul_left, mul-le-mul_right, mul-lt-mul_of_pos_left, mul_assoc, mul_comm, mul_left_comm}
-use Rattle.pb_records.proofs.Each.{all-both, all-every, all-weaker}
-use Rattle.pb_election.specs.Instance.{Approves, Instance, IsProject, IsVoter, all_projects, approves, cost_of, cost_of_all, projects, voters}
+use Rattle.std.proofs.Math.Nat.{lt_of_mul-lt-mul_left, mul-le-mul_right, mul-lt-mul_of_pos_left, mul_assoc, mul_left_comm}
+use Rattle.pb_records.proofs.Each.{all-both, all-weaker}
+use Rattle.pb_election.specs.Instance.{Approves, Instance, IsProject, IsVoter, all_projects, approves, cost_of_all, projects, voters}
 use Rattle.pb_certificate.specs.Prices.{Prices}
 use Rattle.pb_cohesion.specs.Amounts.{beta, cost, paid, pays, spent, top}
 use Rattle.pb_election.specs.Outcome.{has}
@@ -15,11 +15,11 @@ use Rattle.pb_cohesion.specs.Outcome.{IsFunded, IsUnfunded}
 use Rattle.pb_cohesion.specs.Conditions.{C1, C3, C4, Cover, S5}
 use Rattle.pb_cohesion.specs.Groups.{AreProjects, IsGroup, Violates, gets, sat}
 use Rattle.pb_cohesion.specs.Satisfactions.{by_count}
-use Rattle.pb_cohesion.proofs.Sums.{all-among, among, at, range-le, range-same, sum-add, sum-const, sum-exchange, sum-filter, sum-le, sum-mul, sum-same, sum-set, where_passes}
+use Rattle.pb_cohesion.proofs.Sums.{all-among, among, at, range-le, range-same, sum-add, sum-const, sum-exchange, sum-filter, sum-le, sum-mul, sum-set, where_passes}
 use Rattle.pb_cohesion.proofs.Sets.{largest-at, set-all, set-le-range}
 use Rattle.pb_cohesion.proofs.Plain.{left_ℕ}
 use Rattle.pb_cohesion.proofs.Stable.{group-offers, most_ℕ}
-use Rattle.pb_cohesion.proofs.Reaches.{pays-none, pays-wasted}
+use Rattle.pb_cohesion.proofs.Reaches.{costs-in-grains, pays-none, pays-wasted}
 
 -- the funded part of a set, and the rest
 abbrev pub funded_part : List Bool → List ℕ → List ℕ
@@ -232,10 +232,7 @@ pub stable_has_no_violation : (e : Instance) (w : List Bool) (p : Prices) (s t :
     → S5 e w p → Cover e p
     → IsGroup e s → AreProjects e t → Violates by_count e w s t → ⊥
 stable_has_no_violation e w p s t approved paid_for none_wasted stable cover group projects_t v =
-    let costs : sum_by (cost e p) t ≡ cost_of_all e t * p.denominator =
-    sum-same (cost e p) (λ j. p.denominator * cost_of e j) t
-    (all-every (λ j. cost e p j ≡ p.denominator * cost_of e j) t (λ j. mul_comm (cost_of e j) p.denominator))
-    ∙ sum-mul p.denominator (cost_of e) t ∙ mul_comm p.denominator (cost_of_all e t) in
+    let costs : sum_by (cost e p) t ≡ cost_of_all e t * p.denominator = costs-in-grains e p t in
     let rich : cost_of_all e t * p.denominator < length s * beta p =
     cohesive-rich (voters e) (cost_of_all e t) p.denominator (beta p) e.limit (length s)
     (not-empty s v.cohesive.not_empty) v.cohesive.large cover in

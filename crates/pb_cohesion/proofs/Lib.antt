@@ -5,6 +5,7 @@ pub mod Plain
 pub mod Stable
 pub mod Reaches
 pub mod Justified
+pub mod Shares
 pub mod Culprits
 pub mod Verdicts
 pub mod Ballots

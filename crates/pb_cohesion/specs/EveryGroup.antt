@@ -1,11 +1,11 @@
 -- What the conditions promise of every group of voters.
 use Rattle.std.specs.Prelude.{◌<◌, ◌≤◌, ◌*◌, ◌+◌, ℕ, pos, ◌≤ℤ◌, ◌<ℤ◌, All, Any, Bool, List, length, sum_by}
-use Rattle.pb_election.specs.Instance.{Approves, Instance, supporters}
+use Rattle.pb_election.specs.Instance.{Approves, Instance, cost_of, cost_of_all, supporters, voters}
 use Rattle.pb_certificate.specs.Prices.{Prices}
-use Rattle.pb_cohesion.specs.Amounts.{beta, cost, left}
+use Rattle.pb_cohesion.specs.Amounts.{beta, budget_limit, cost, left}
 use Rattle.pb_cohesion.specs.Conditions.{sum_ℤ}
 use Rattle.pb_cohesion.specs.Satisfactions.{by_count}
-use Rattle.pb_cohesion.specs.Groups.{AreProjects, Blocks, IsGroup, IsGroupWithin, Violates, gets, reach}
+use Rattle.pb_cohesion.specs.Groups.{AreProjects, Blocks, Cohesive, IsGroup, IsGroupWithin, PassesOver, Violates, funded_for, gets, reach}
 use Rattle.pb_cohesion.specs.Outcome.{IsUnfunded}
 
 -- no group of supporters of an unfunded project has more left than it costs
@@ -30,6 +30,31 @@ SupportersBlock e w p c = (x : ℕ → ℕ) × Blocks e w p (supporters e c) c x
 abbrev pub BudgetsAreWithinReach : Instance → List Bool → Prices → Type 0
 BudgetsAreWithinReach e w p = (s : List ℕ) (c : ℕ) → IsUnfunded e w c → IsGroupWithin e s c
     → length s * beta p ≤ cost e p c + sum_by (cost e p) (reach e w s)
+
+-- the voter budgets of all voters together are at least the limit; Cover says that they are more
+abbrev pub BudgetsReachTheLimit : Instance → Prices → Type 0
+BudgetsReachTheLimit e p = budget_limit e p ≤ voters e * beta p
+
+-- the share of a group of supporters of an unfunded project in the limit is at most what this project costs and what was
+-- funded for the group together
+abbrev pub SharesAreWithinReach : Instance → List Bool → Type 0
+SharesAreWithinReach e w = (s : List ℕ) (c : ℕ) → IsUnfunded e w c → IsGroupWithin e s c
+    → length s * e.limit ≤ voters e * (cost_of e c + funded_for e w s)
+
+-- PJR+ up to any project: the share of a group that is not empty is less than that
+abbrev pub NoGroupIsPassedOver : Instance → List Bool → Type 0
+NoGroupIsPassedOver e w = (s : List ℕ) (c : ℕ) → PassesOver e w s c → ⊥
+
+-- what a cohesive group demands costs at most what any unfunded project of it costs and what was funded for the group
+-- together
+abbrev pub DemandsAreWithinReach : Instance → List Bool → Type 0
+DemandsAreWithinReach e w = (s t : List ℕ) → IsGroup e s → Cohesive e s t
+    → All (λ c. IsUnfunded e w c → cost_of_all e t ≤ cost_of e c + funded_for e w s) t
+
+-- PJR up to any project: it costs less than that
+abbrev pub NoDemandIsPassedOver : Instance → List Bool → Type 0
+NoDemandIsPassedOver e w = (s t : List ℕ) → IsGroup e s → Cohesive e s t
+    → All (λ c. IsUnfunded e w c → cost_of_all e t < cost_of e c + funded_for e w s) t
 
 -- each group gets its share: where its budgets come to more than some projects cost that all members approve, some
 -- member approves at least as many funded projects

@@ -7,7 +7,7 @@ ghost use Rattle.pb_election.specs.Text.{IsElection};
 ghost use Rattle.pb_certificate.specs.Prices.{Prices};
 ghost use Rattle.pb_cohesion.specs.Amounts.{paid, spent};
 ghost use Rattle.pb_cohesion.specs.Conditions.{C1, C2, C3, C4, C5, Cover, Exhaustive, S5, culprits_of_C1, culprits_of_C2, culprits_of_C3, culprits_of_C4, culprits_of_C5, culprits_of_Exhaustive, culprits_of_S5, most_of};
-ghost use Rattle.pb_cohesion.specs.EveryGroup.{BudgetsAreWithinReach, GroupsGetTheirShare, NoGroupHasMoreLeft, NoViolationByCounting, NothingBlocks, SupportersBlock, SupportersHaveMoreLeft};
+ghost use Rattle.pb_cohesion.specs.EveryGroup.{BudgetsAreWithinReach, BudgetsReachTheLimit, DemandsAreWithinReach, GroupsGetTheirShare, NoDemandIsPassedOver, NoGroupHasMoreLeft, NoGroupIsPassedOver, NoViolationByCounting, NothingBlocks, SharesAreWithinReach, SupportersBlock, SupportersHaveMoreLeft};
 ghost use Rattle.pb_cohesion.specs.FirstV.{FirstV};
 ghost use Rattle.pb_cohesion.specs.Groups.{Offer, Violates};
 ghost use Rattle.pb_cohesion.specs.Outcome.{total};
@@ -54,6 +54,22 @@ pub fn stable_where_nothing_blocks()
 /// at most its cost and that of the group's reach.
 pub fn budgets_within_reach()
     ensures { (e : Instance) (w : List Bool) (p : Prices) → C1 e p → C3 e w p → C4 e w p → ((C2 e p × C5 e w p) ⊎ S5 e w p) → BudgetsAreWithinReach e w p }
+{}
+
+/// No group is passed over: under C1, C3 and C4, and either C2 and C5 or S5, where the budgets of all voters together
+/// are at least the limit, the share of a group of supporters of an unfunded project is at most what this project costs
+/// and what was funded for the group together. Where they are more than the limit the share is less, which is PJR+ up to
+/// any project, by cost.
+pub fn shares_within_reach()
+    ensures reached { (e : Instance) (w : List Bool) (p : Prices) → 1 ≤ p.denominator → C1 e p → C3 e w p → C4 e w p → ((C2 e p × C5 e w p) ⊎ S5 e w p) → BudgetsReachTheLimit e p → SharesAreWithinReach e w }
+    ensures covered { (e : Instance) (w : List Bool) (p : Prices) → C1 e p → C3 e w p → C4 e w p → ((C2 e p × C5 e w p) ⊎ S5 e w p) → Cover e p → NoGroupIsPassedOver e w }
+{}
+
+/// So no demand is passed over: what a cohesive group demands costs at most what any unfunded project of it costs and
+/// what was funded for the group together, and less where no group is passed over: PJR up to any project, by cost.
+pub fn demands_within_reach()
+    ensures reached { (e : Instance) (w : List Bool) → SharesAreWithinReach e w → DemandsAreWithinReach e w }
+    ensures covered { (e : Instance) (w : List Bool) → NoGroupIsPassedOver e w → NoDemandIsPassedOver e w }
 {}
 
 /// Stable prices are fair: under C1, C3, C4 and S5, where the budgets of a group come to more than what a set of

@@ -10,7 +10,7 @@ use Rattle.pb_reply.specs.Inside.Taking.{AuditsOutcome, IfTaken, settled}
 use Rattle.pb_reply.specs.declared.input.Stop.{Stop}
 use Rattle.pb_reply.specs.declared.input.Stop.TheVariants as stop
 use Rattle.pb_reply.specs.declared.status.Status.{Status}
-use Rattle.pb_audit.specs.Explained.{Certificate, OfPrices, OfViolation, StatesCertificate, explained_reply}
+use Rattle.pb_reply.specs.Certificates.{Certificate, OfPrices, OfViolation, StatesCertificate, certificate_status}
 use Rattle.pb_page.specs.Answers.{AnswersPage, IsPage, PageOnOutcome, Tells}
 use Rattle.pb_page.specs.Sums.{files_of, sums_of}
 use Rattle.pb_page.specs.Taken.{RendersTold, TellsCertificate}
@@ -74,7 +74,7 @@ stopped-at-certificate m l election outcome certificate e w stop.Memory given ta
 
 -- the status of what is told is that of `explain`
 told-status : (m : Mode) (e : Instance) (w : List Bool) (c : Certificate) (t : Told) → Tells m e w c t
-    → status_of t.mode t.found ≡ (explained_reply m e w c).status
+    → status_of t.mode t.found ≡ certificate_status m e w c
 told-status m e w (OfPrices p) t tells =
     ap (λ (f : CertificateFigures). status_of t.mode f) tells.found ∙ ap price_status tells.verdict
 told-status m e w (OfViolation v) t tells =

@@ -1,5 +1,5 @@
 -- What is told of a certificate.
-use Rattle.std.proofs.Common.{◌≡◌, ◌∙◌, ◌≤◌, ◌+◌, ◌++◌, ℕ, Bool, false, List, [], ◌∷◌, ap, arith, sym, map, suc}
+use Rattle.std.proofs.Common.{◌≡◌, ◌∙◌, ◌≤◌, ◌+◌, ◌++◌, ℕ, Bool, false, List, [], ◌∷◌, ap, arith, subst, sym, map, suc}
 use Rattle.std.specs.Prelude.{Ok, string_bytes}
 use Rattle.std.specs.List.{range_with_len}
 use Rattle.std.proofs.lemmas.List.{map-append}
@@ -17,8 +17,9 @@ use Rattle.pb_price.proofs.Told.{tell-first}
 use Rattle.pb_reply.specs.Inputs.{StatesPrices}
 use Rattle.pb_reply.specs.Lines.{price_line}
 use Rattle.pb_reply.specs.declared.input.InputName.TheVariants as name
-use Rattle.pb_audit.specs.Explained.{OfPrices, is_violation}
-use Rattle.pb_audit.proofs.Explained.{denominator-low}
+use Rattle.pb_reply.specs.Certificates.{OfPrices, is_violation}
+use Rattle.pb_reply.proofs.Culprits.{denominator-low}
+use Rattle.pb_page.specs.Shown.{ShowsLine}
 use Rattle.pb_page.specs.Taken.{TellsCertificate}
 use Rattle.pb_page.specs.declared.told.CertificateFigures.TheVariants as found
 use Rattle.pb_page.specs.declared.told.PriceFigures.{PriceFigures}
@@ -46,7 +47,7 @@ told-verdict m e w p f low is =
 
 pub tells-prices : (m : Mode) (e : Instance) (w : List Bool) (d : Delivery) (p : Prices) (t : Told) (f : PriceFigures)
     → StatesPrices name.Certificate e d (Ok p) → t.found ≡ found.Prices f → t.mode ≡ m
-    → string_bytes t.line ≡ price_line m.stable e (verdict_of (first_told m f.findings))
+    → ShowsLine (price_line m.stable e (verdict_of (first_told m f.findings))) (string_bytes t.line)
     → f.findings ≡ findings e w p → AreMargins e w p f.margins → is_violation d ≡ false
     → TellsCertificate m e w d (Ok t)
 tells-prices m e w d p t f states is mode line finds margins kind =
@@ -59,7 +60,7 @@ tells-prices m e w d p t f states is mode line finds margins kind =
         found = is;
         mode = mode;
         verdict = ap (λ (x : Mode). verdict_of (first_told x f.findings)) mode ∙ same;
-        line = line ∙ ap (price_line m.stable e) same;
+        line = subst (λ (l : List ℕ). ShowsLine l (string_bytes t.line)) (ap (price_line m.stable e) same) line;
         findings = finds;
         margins = margins;
       },

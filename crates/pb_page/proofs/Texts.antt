@@ -1,11 +1,11 @@
 -- Nothing of a text becomes markup.
-use Rattle.std.proofs.Common.{◌≡◌, ◌∙◌, ℕ, ◌+◌, ◌++◌, List, [], ◌∷◌, All, Bool, true, false, ap, refl, sym, arith, length, flat_map}
+use Rattle.std.proofs.Common.{◌≡◌, ◌∙◌, ℕ, ◌+◌, ◌++◌, List, [], ◌∷◌, All, Bool, true, false, ap, refl, sym, arith, length, flat_map, zero, suc}
 use Rattle.std.specs.Prelude.{◌==◌, ◌||◌, if◌then◌else◌, codes, filter, fold, map}
 use Rattle.std.proofs.lemmas.Bool.{ne_eqb}
 use Rattle.std.proofs.lemmas.List.{length-append}
 use Rattle.std.proofs.lemmas.List.Elements.{All-head, All-tail, filter-append}
 use Rattle.pb_page.specs.Escapes.{IsPlain, escape, escaped, is_ampersand, is_special}
-use Rattle.pb_page.specs.Pieces.{Piece, Open, Words, Amount, Headline, Line, Close, Shows, Written, attribute, begin_tag, blank, blank_value, end_tag, innermost, is_markup, others, rendering, start, write}
+use Rattle.pb_page.specs.Pieces.{Piece, Open, Words, Amount, Headline, Line, Close, Shows, Written, attribute, begin_tag, blank, blank_value, close_innermost, end_tag, ended, innermost, is_markup, others, rendering, start, write}
 use Rattle.pb_page.specs.Names.{is_void, opening, tag_name}
 use Rattle.pb_page.specs.declared.tag.Name.{Name}
 use Rattle.pb_page.specs.declared.tag.Tag.{Tag}
@@ -101,10 +101,26 @@ same-text s t Close a b o x =
     text-closed (is-none a.opened) a b o x
     ∙ ap (λ (c : Bool). filter is_markup (closed c b).text) (ap is-none o)
 
+-- and behind that the ends of as many elements
+same-ends : (s t : Shows) (n : ℕ) (a b : Written) → a.opened ≡ b.opened
+    → filter is_markup a.text ≡ filter is_markup b.text
+    → ((close_innermost n a).opened ≡ (close_innermost n b).opened)
+    × (filter is_markup (close_innermost n a).text ≡ filter is_markup (close_innermost n b).text)
+unfolding close_innermost
+same-ends s t zero a b o x = (o, x)
+same-ends s t (suc n) a b o x =
+    let before = same-ends s t n a b o x in (
+      same-opened s t Close (close_innermost n a) (close_innermost n b) before.0,
+      same-text s t Close (close_innermost n a) (close_innermost n b) before.0 before.1,
+    )
+
 same-written : (s t : Shows) (pieces : List Piece) (a b : Written) → a.opened ≡ b.opened
     → filter is_markup a.text ≡ filter is_markup b.text
-    → filter is_markup (fold (write s) a pieces).text ≡ filter is_markup (fold (write t) b (map blank pieces)).text
-same-written s t [] a b o x = x
+    → filter is_markup (ended (fold (write s) a pieces)).text
+    ≡ filter is_markup (ended (fold (write t) b (map blank pieces))).text
+same-written s t [] a b o x =
+    (same-ends s t (length a.opened) a b o x).1
+    ∙ ap (λ (n : ℕ). filter is_markup (close_innermost n b).text) (ap length o)
 same-written s t (p ∷ pieces) a b o x =
     same-written s t pieces (write s a p) (write t b (blank p)) (same-opened s t p a b o) (same-text s t p a b o x)
 

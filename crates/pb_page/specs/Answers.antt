@@ -12,14 +12,14 @@ use Rattle.pb_price.specs.First.{First, verdict_of}
 use Rattle.pb_price.specs.Margins.{AreMargins}
 use Rattle.pb_price.specs.Told.{first_told}
 use Rattle.pb_price.specs.declared.Mode.{Mode}
-use Rattle.pb_reply.specs.Inputs.{Stated, audited}
+use Rattle.pb_reply.specs.Inputs.{FilesState, Stated, audited}
 use Rattle.pb_reply.specs.Lines.{price_line, violation_line}
 use Rattle.pb_reply.specs.Replies.{Answer, answer_of, refused}
 use Rattle.pb_reply.specs.declared.status.Status.{Status}
-use Rattle.pb_audit.specs.Answers.{FilesState}
-use Rattle.pb_audit.specs.Explained.{Certificate, OfPrices, OfViolation, StatesCertificate, explained_reply}
+use Rattle.pb_reply.specs.Certificates.{Certificate, OfPrices, OfViolation, StatesCertificate, certificate_status}
 use Rattle.pb_page.specs.Pieces.{Close, Headline, Line, Open, Piece, rendering}
 use Rattle.pb_page.specs.Rows.{ListsProjects}
+use Rattle.pb_page.specs.Shown.{ShowsLine}
 use Rattle.pb_page.specs.Sums.{HasInOrder, files_of, sums_of}
 use Rattle.pb_page.specs.Told.{shows_of}
 use Rattle.pb_page.specs.declared.language.Language.{Language}
@@ -29,21 +29,21 @@ use Rattle.pb_page.specs.declared.told.PriceFigures.{PriceFigures}
 use Rattle.pb_page.specs.declared.told.Told.{Told}
 use Rattle.pb_page.specs.declared.told.ViolationFigures.{ViolationFigures}
 
--- What a page tells of prices in a mode: the line that the program prints, the findings, and the figures of each
--- project.
+-- What a page tells of prices in a mode: the line that the program prints, as it is shown, the findings, and the
+-- figures of each project.
 pub record TellsPrices (m : Mode) (e : Instance) (w : List Bool) (p : Prices) (t : Told) : Type 0 where
   pub figures : PriceFigures
   pub found : t.found ≡ found.Prices figures
   pub mode : t.mode ≡ m
   pub verdict : verdict_of (first_told t.mode figures.findings) ≡ verdict_of (First m e w p)
-  pub line : string_bytes t.line ≡ price_line m.stable e (verdict_of (First m e w p))
+  pub line : ShowsLine (price_line m.stable e (verdict_of (First m e w p))) (string_bytes t.line)
   pub findings : figures.findings ≡ findings e w p
   pub margins : AreMargins e w p figures.margins
 
 -- what it tells of a group and its demand, by the measure that the certificate states: that line, and the figures
 pub record TellsGroup (e : Instance) (w : List Bool) (v : Measure × List ℕ × List ℕ) (l : List ℕ)
     (figures : ViolationFigures) : Type 0 where
-  pub line : l ≡ violation_line e (violation_verdict_of (FirstV (worth_by v.0 e) e w v.1 v.2))
+  pub line : ShowsLine (violation_line e (violation_verdict_of (FirstV (worth_by v.0 e) e w v.1 v.2))) l
   pub verdict : figures.verdict ≡ violation_verdict_of (FirstV (worth_by v.0 e) e w v.1 v.2)
   pub findings : figures.findings ≡ violation_findings (worth_by v.0 e) e w v.1 v.2
   pub measure : figures.violation.measure ≡ v.0
@@ -73,7 +73,7 @@ pub record HasAnswer (pieces : List Piece) : Type 0 where
   pub is : pieces ≡ front ++ (headline_box ++ (middle ++ (line_box ++ back)))
 
 -- The page about a certificate, in a language: what the pieces show is what is told, the sums are those of these files,
--- the projects stand in their orders, and the status is that of `explain`.
+-- the projects stand in their orders, and the status is that of the audit.
 pub record IsPage (m : Mode) (language : Language) (files : List Delivery) (e : Instance) (w : List Bool)
     (c : Certificate) (a : Answer Status) : Type 0 where
   pub told : Told
@@ -84,7 +84,7 @@ pub record IsPage (m : Mode) (language : Language) (files : List Delivery) (e : 
   pub sums : HasInOrder (sums_of files) pieces
   pub projects : ListsProjects told.mode told.found pieces
   pub text : a.text ≡ rendering (shows_of told) pieces
-  pub status : a.status ≡ (explained_reply m e w c).status
+  pub status : a.status ≡ certificate_status m e w c
 
 -- the page, or the line of the first input that is refused
 abbrev pub PageOnCertificate : Mode → Language → List Delivery → Instance → List Bool → Stated Certificate

@@ -14,7 +14,7 @@ english NoViolation = encode_utf8_all (codes "This certificate doesn’t prove u
 
 abbrev pub polish : Headline → List ℕ
 polish Supported = encode_utf8_all (codes "Ceny uzasadniają ten wynik")
-polish SupportedStable = encode_utf8_all (codes "Ceny uzasadniają ten wynik w postaci stabilnej")
+polish SupportedStable = encode_utf8_all (codes "Ceny uzasadniają ten wynik w wersji stabilnej")
 polish NotSupported = encode_utf8_all (codes "Ceny nie uzasadniają tego wyniku")
 polish Violation = encode_utf8_all (codes "Tę grupę potraktowano gorzej, niż na to zasługuje")
 polish NoViolation = encode_utf8_all (codes "Ten certyfikat nie dowodzi niesprawiedliwego potraktowania")

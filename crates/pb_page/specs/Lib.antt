@@ -9,6 +9,7 @@ pub mod PieceList
 pub mod Pieces
 pub mod Ranking
 pub mod Rows
+pub mod Shown
 pub mod Sums
 pub mod Taken
 pub mod Told

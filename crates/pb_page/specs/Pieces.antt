@@ -1,5 +1,5 @@
 -- What a page is made of, and how it is written.
-use Rattle.std.specs.Prelude.{◌==◌, ◌||◌, if◌then◌else◌, ℕ, Bool, List, [], ◌∷◌, ◌++◌, ◌-◌, codes, fold, length, map, slice_index_or, take}
+use Rattle.std.specs.Prelude.{◌==◌, ◌||◌, if◌then◌else◌, ℕ, Bool, List, [], ◌∷◌, ◌++◌, ◌-◌, zero, suc, codes, fold, length, map, slice_index_or, take}
 use Rattle.std.specs.List.{flat_map}
 use Rattle.pb_page.specs.Escapes.{escaped}
 use Rattle.pb_page.specs.Names.{is_void, opening, tag_name}
@@ -75,9 +75,18 @@ write s w Close = close w
 abbrev pub start : Written
 start = record { text = codes "<!DOCTYPE html>\n"; opened = [] }
 
--- The text of a page. Tags nest: each end is that of the element that began last.
+-- the ends of the n innermost elements
+unfoldable pub close_innermost : ℕ → Written → Written
+close_innermost zero w = w
+close_innermost (suc n) w = close (close_innermost n w)
+
+-- and of all that have not ended
+abbrev pub ended : Written → Written
+ended w = close_innermost (length w.opened) w
+
+-- The text of a page. Tags nest: each end is that of the element that began last, and none is left open at its end.
 abbrev pub rendering : Shows → List Piece → List ℕ
-rendering s pieces = (fold (write s) start pieces).text
+rendering s pieces = (ended (fold (write s) start pieces)).text
 
 -- a byte that means something in markup
 abbrev pub is_markup : ℕ → Bool

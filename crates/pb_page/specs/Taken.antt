@@ -12,7 +12,7 @@ use Rattle.pb_reply.specs.Inside.Loaded.{lent}
 use Rattle.pb_reply.specs.Replies.{Answer}
 use Rattle.pb_reply.specs.declared.status.Status.{Status}
 use Rattle.pb_reply.specs.declared.input.InputName.TheVariants as name
-use Rattle.pb_audit.specs.Explained.{Certificate, StatesCertificate}
+use Rattle.pb_reply.specs.Certificates.{Certificate, StatesCertificate}
 use Rattle.pb_page.specs.Answers.{HasAnswer, Tells}
 use Rattle.pb_page.specs.Pieces.{Piece, rendering}
 use Rattle.pb_page.specs.Rows.{ListsProjects}

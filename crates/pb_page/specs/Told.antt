@@ -1,5 +1,5 @@
 -- What a page tells: the answer, and amounts by their names.
-use Rattle.std.specs.Prelude.{◌==◌, ◌-◌, ◌+◌, ◌*◌, ◌/◌, ◌^◌, min, max, if◌then◌else◌, ℕ, ℤ, pos, int_lt, List, Bool, Option, Some, None, fold, slice_get, string_bytes, unsigned_abs}
+use Rattle.std.specs.Prelude.{◌==◌, ◌-◌, ◌+◌, ◌*◌, ◌^◌, min, max, if◌then◌else◌, ℕ, ℤ, pos, int_lt, List, Bool, Option, Some, None, fold, slice_get, string_bytes, unsigned_abs}
 use Rattle.std.specs.Int.{abs_diff}
 use Rattle.pb_certificate.specs.declared.violations.measure.Measure.{Measure}
 use Rattle.pb_certificate.specs.declared.violations.measure.Measure.TheVariants.{ByCost, ByCount}
@@ -113,27 +113,35 @@ price_amount p figure.ShareOff = nothing
 price_amount p figure.Gets = nothing
 price_amount p figure.Worth = nothing
 
--- the group's share of the limit
+-- On a violation a millionth of the currency has as many grains as there are voters, or one where there are none. So
+-- what falls to a group is a whole number of them.
+abbrev pub grains_of : ViolationFigures → ℕ → ℕ
+grains_of v millionths = capped (millionths * max v.voters 1)
+
+abbrev pub grains_of_violation : ViolationFigures → ℕ
+grains_of_violation v = 10 ^ 6 * max v.voters 1
+
+-- the group's share of the limit: the limit by the number of voters, for each of its members
 abbrev pub share : ViolationFigures → ℕ
-share v = v.limit * v.findings.members / max v.voters 1
+share v = v.limit * v.findings.members
 
 -- what projects are worth, where that is an amount
 abbrev pub amount_by : Measure → ℕ → Balance
-amount_by ByCost projects = of projects
-amount_by ByCount projects = nothing
+amount_by ByCost grains = of grains
+amount_by ByCount grains = nothing
 
 abbrev pub worth : ViolationFigures → ℕ → Balance
-worth v projects = amount_by v.violation.measure projects
+worth v projects = amount_by v.violation.measure (grains_of v projects)
 
 -- the amounts of a violation
 abbrev pub violation_amount : ViolationFigures → Figure → Balance
-violation_amount v figure.Limit = of v.limit
-violation_amount v figure.Funded = of v.funded
-violation_amount v figure.Remains = of (abs_diff v.limit v.funded)
-violation_amount v (figure.Cost j) = amount_in of (at v.costs.items j)
-violation_amount v figure.Demand = of v.findings.cost
+violation_amount v figure.Limit = of (grains_of v v.limit)
+violation_amount v figure.Funded = of (grains_of v v.funded)
+violation_amount v figure.Remains = of (grains_of v (abs_diff v.limit v.funded))
+violation_amount v (figure.Cost j) = amount_in (λ cost. of (grains_of v cost)) (at v.costs.items j)
+violation_amount v figure.Demand = of (grains_of v v.findings.cost)
 violation_amount v figure.Share = of (share v)
-violation_amount v figure.ShareOff = of (abs_diff v.findings.cost (share v))
+violation_amount v figure.ShareOff = of (abs_diff (grains_of v v.findings.cost) (share v))
 violation_amount v figure.Gets = worth v v.findings.gets
 violation_amount v figure.Worth = worth v v.findings.demanded
 violation_amount v _ = nothing
@@ -145,7 +153,7 @@ amount_of (found.Violation v) f = violation_amount v f
 -- how many grains one unit of the currency has
 abbrev pub grains_per_unit : CertificateFigures → ℕ
 grains_per_unit (found.Prices p) = p.findings.grains_per_unit
-grains_per_unit (found.Violation v) = 10 ^ 6
+grains_per_unit (found.Violation v) = grains_of_violation v
 
 -- what the pieces of a page show by it
 abbrev pub shows_of : Told → Shows

@@ -1,16 +1,19 @@
 //! Amounts as they are shown.
-ghost use Rattle.std.specs.Prelude.{◌≡◌, ◌<◌, ◌^◌, ◌++◌, OnOk, decimal, string_bytes};
+ghost use Rattle.std.specs.Prelude.{◌≡◌, ◌<◌, ◌≤◌, ◌^◌, ◌++◌, OnOk, decimal, string_bytes};
 ghost use Rattle.pb_page.specs.Amounts as spec;
 
 use crate::language::Language;
 use itoa::Buffer;
 use std::alloc::AllocError;
 
+// A grain is at least the 2^64th part of a unit, so that one of these decimals isn't 0.
+const MOST_PLACES: u32 = 20;
+
 /// How amounts are shown: with so many decimals, and the sign of the language before them.
 #[derive(Clone, Copy)]
 pub(crate) struct Style {
     pub(crate) language: Language,
-    /// At most 6.
+    /// How many are usual, at most 6.
     pub(crate) decimals: u32,
 }
 
@@ -50,7 +53,8 @@ impl Balance {
 }
 
 /// Adds an amount, where one unit of the currency has so many grains. One that has more decimals than are shown is cut,
-/// and ends with an ellipsis.
+/// and ends with an ellipsis. One of less than a unit that isn't nothing has at least as many decimals as it takes for
+/// its first digit that isn't 0.
 pub(crate) fn push_amount(
     text: &mut String,
     style: Style,
@@ -63,25 +67,65 @@ pub(crate) fn push_amount(
         text.push_str("\u{2212}")?;
     }
     let unit = u128::from(grains_per_unit.max(1));
-    push_grouped(text, amount.grains / unit)?;
-    push_decimals(text, style, unit, amount.grains % unit)
+    let whole = amount.grains / unit;
+    let rest = amount.grains % unit;
+    push_grouped(text, whole)?;
+    push_decimals(
+        text,
+        style.language,
+        count_of_places(style.decimals, unit, whole, rest),
+        unit,
+        rest,
+    )
 }
 
-// Adds the part of an amount that is less than a unit.
+// How many decimals an amount has, where so many are usual.
+fn count_of_places(usual: u32, unit: u128, whole: u128, rest: u128) -> u32
+    requires rest { rest < unit }
+    requires unit { unit < 2 ^ 64 }
+    ensures { result ≡ spec.count_of_places usual unit whole rest }
+{
+    if whole == 0 && rest != 0 {
+        usual.max(first_place(MOST_PLACES, unit, rest))
+    } else {
+        usual
+    }
+}
+
+// Which of the decimals of less than a unit, so many at most, is the first that isn't 0.
+#[tactic(auto, unfolding(crate::specs::Amounts::first_place))]
+fn first_place(most: u32, unit: u128, grains: u128) -> u32
+    requires rest { grains < unit }
+    requires unit { unit < 2 ^ 64 }
+    ensures place { result ≡ spec.first_place most unit grains }
+    ensures most { result ≤ most }
+{
+    if most == 0 {
+        return 0;
+    }
+    let next = grains * 10;
+    if next >= unit {
+        return 1;
+    }
+    1 + first_place(most - 1, unit, next)
+}
+
+// Adds the part of an amount that is less than a unit, with so many decimals.
 fn push_decimals(
     text: &mut String,
-    style: Style,
+    language: Language,
+    count: u32,
     unit: u128,
     grains: u128,
 ) -> Result<(), AllocError>
     requires rest { grains < unit }
     requires unit { unit < 2 ^ 64 }
-    ensures { OnOk result (string_bytes text.new ≡ string_bytes text.old ++ spec.decimals style unit grains) }
+    ensures { OnOk result (string_bytes text.new ≡ string_bytes text.old ++ spec.decimals language count unit grains) }
 {
-    if style.decimals > 0 {
-        text.push_str(style.language.decimal_sign())?;
+    if count > 0 {
+        text.push_str(language.decimal_sign())?;
     }
-    push_places(text, style.decimals, unit, grains)
+    push_places(text, count, unit, grains)
 }
 
 // Adds the first decimals of less than a unit.

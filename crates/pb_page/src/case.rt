@@ -2,6 +2,7 @@
 use crate::amounts::{Balance, push_amount};
 use crate::labels::Labels;
 use crate::saying::Words;
+use crate::sentence::Sentence;
 use crate::told::Told;
 use pb_election::{Election, Outcome};
 use std::alloc::AllocError;
@@ -34,6 +35,8 @@ pub(crate) struct Files {
 #[derive(Drop)]
 pub(crate) struct InputFile {
     pub(crate) name: String,
+    /// Whether that is its name byte for byte.
+    pub(crate) is_exact: bool,
     /// How many bytes it has.
     pub(crate) length: usize,
     /// Its SHA-256, as 64 hexadecimal digits.
@@ -47,6 +50,15 @@ impl Case<'_> {
             && j != 0
             && j <= self.election.projects()
             && self.outcome.has(j)
+    }
+
+    /// What is said of all projects, or that there are none.
+    pub(crate) fn or_no_projects(&self, sentence: Sentence) -> Sentence {
+        if self.election.projects() == 0 {
+            Sentence::NoProjects
+        } else {
+            sentence
+        }
     }
 
     /// The text of an amount, for where no piece of the page can stand, as in an attribute.

@@ -183,8 +183,10 @@ pub(crate) fn input_file(alloc: Global, given: PageFile<'_>) -> Result<InputFile
         File::Bytes(bytes) => bytes,
         File::Unread | File::TooLong => &[],
     };
+    let name = visible(alloc, given.name)?;
     Ok(InputFile {
-        name: visible(alloc, given.name)?,
+        is_exact: name.as_bytes() == given.name,
+        name,
         length: bytes.len(),
         sum: sum_of(alloc, bytes)?,
     })

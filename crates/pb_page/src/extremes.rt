@@ -13,7 +13,8 @@ const GRAINS: u128 = 1_000_000;
 /// The payments that break C1 and C2 by most. Amounts are in grains.
 #[derive(Clone, Copy, Debug, PartialEq, Eq)]
 pub(crate) struct Extremes {
-    /// The largest payment for a project that its voter doesn't approve, the first of several.
+    /// The largest payment for a project that its voter doesn't approve; of several that of the lowest voter, and there
+    /// for the lowest project.
     pub(crate) unapproved: Option<Payment>,
     /// The voter that spends most, the lowest of several.
     pub(crate) spender: Option<Spender>,
@@ -104,13 +105,26 @@ impl Pass {
             };
         }
         self.at_hand.grains = self.at_hand.grains.saturating_add(grains);
-        let most = self.extremes.unapproved.map_or(0, |payment| payment.grains);
-        if grains > most && !election.approves(row.voter, row.project) {
-            self.extremes.unapproved = Some(Payment {
-                voter: row.voter,
-                project: row.project,
-                grains,
-            });
+        let payment = Payment {
+            voter: row.voter,
+            project: row.project,
+            grains,
+        };
+        if self.is_more(payment) && !election.approves(row.voter, row.project) {
+            self.extremes.unapproved = Some(payment);
+        }
+    }
+
+    // Whether a payment is more than the largest so far, or as much and of a lower voter, or of that one for a lower
+    // project.
+    fn is_more(&self, payment: Payment) -> bool {
+        match self.extremes.unapproved {
+            None => payment.grains > 0,
+            Some(most) if payment.grains == most.grains => {
+                payment.voter < most.voter
+                    || (payment.voter == most.voter && payment.project < most.project)
+            }
+            Some(most) => payment.grains > most.grains,
         }
     }
 

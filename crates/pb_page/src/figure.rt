@@ -39,7 +39,7 @@ pub enum Figure {
     AmountOff(Compared),
     /// What the demanded projects cost together.
     Demand,
-    /// The group's share of the limit, cut to millionths.
+    /// The group's share of the limit.
     Share,
     /// By how much the cost of the demand is over or under the share, without a sign.
     ShareOff,

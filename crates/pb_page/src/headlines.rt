@@ -34,7 +34,7 @@ fn polish(headline: Headline) -> &'static str
 {
     match headline {
         Headline::Supported => "Ceny uzasadniają ten wynik",
-        Headline::SupportedStable => "Ceny uzasadniają ten wynik w postaci stabilnej",
+        Headline::SupportedStable => "Ceny uzasadniają ten wynik w wersji stabilnej",
         Headline::NotSupported => "Ceny nie uzasadniają tego wyniku",
         Headline::Violation => "Tę grupę potraktowano gorzej, niż na to zasługuje",
         Headline::NoViolation => "Ten certyfikat nie dowodzi niesprawiedliwego potraktowania",

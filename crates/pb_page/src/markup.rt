@@ -151,7 +151,7 @@ impl Page {
         self.pieces.append(&mut other.pieces)
     }
 
-    /// The text of the page, which tells this.
+    /// The text of the page, which tells this. Elements that have begun and not ended end behind the last piece.
     pub(crate) fn into_text(self, told: &Told) -> Result<Vec<u8>, AllocError>
         ensures { IfOk result (λ text. text.items ≡ rendering (shows_of told.now) self) }
     {
@@ -159,6 +159,7 @@ impl Page {
         for piece in &self.pieces {
             writing.push(piece, told)?;
         }
+        writing.end_all()?;
         Ok(writing.text)
     }
 }
@@ -223,6 +224,17 @@ impl Writing {
             return Ok(());
         };
         push_end_tag(&mut self.text, tag)
+    }
+
+    // Ends all elements that have begun and not ended.
+    #[tactic(auto, unfolding(crate::specs::Pieces::close_innermost))]
+    fn end_all(&mut self) -> Result<(), AllocError>
+        ensures { OnOk result (self.new ≡ spec.ended self.old) }
+    {
+        for _ in 0..self.open.len() {
+            self.end()?;
+        }
+        Ok(())
     }
 
     fn push_figure(&mut self, figure: Figure, told: &Told) -> Result<(), AllocError>

@@ -1,9 +1,17 @@
 //! What files say, as it stands on the page: isolated from the words around it, cut where it is long, and marked with
 //! its language where that is known.
+ghost use Rattle.std.specs.List.{list_all};
+ghost use Rattle.std.specs.Prelude.{◌≡◌, IfOk, string_bytes};
+ghost use Rattle.pb_page.specs.Shown as spec;
+ghost use Rattle.pb_page.specs.Shown.{ShowsLine};
+
 use crate::attributes::Attributes;
 use crate::case::Case;
 use crate::labels::Labels;
 use crate::markup::Page;
+use crate::saying::Fillings;
+use crate::sentence::Sentence;
+use crate::shown::visible;
 use crate::tag::{Name, Tag};
 use std::alloc::{AllocError, Global};
 
@@ -13,6 +21,9 @@ const MOST_SHOWN: usize = 80;
 const MOST_IN_TITLE: usize = 2_000;
 
 const MOST_OF_A_CURRENCY: usize = 12;
+
+// The line that the program prints is cut behind so many.
+const MOST_IN_A_LINE: usize = 120;
 
 /// Adds what a file says, as it is shown. Where it is long it is cut, with the whole under the pointer.
 pub(crate) fn push_label(
@@ -90,18 +101,59 @@ fn cut(alloc: Global, text: &str, most: usize) -> Result<String, AllocError> {
     Ok(shown)
 }
 
+/// The line that the program prints, as it is shown: with what can't be seen made visible, and cut where it is long.
+pub(crate) fn shown_line(alloc: Global, line: &str) -> Result<String, AllocError>
+    ensures { IfOk result (λ shown. ShowsLine line.now (string_bytes shown)) }
+{
+    if is_plain_line(line) {
+        return String::from_str(alloc, line);
+    }
+    cut(alloc, &visible(alloc, line.as_bytes())?, MOST_IN_A_LINE)
+}
+
+// Whether a line is short, and has no character that can't be seen.
+fn is_plain_line(line: &str) -> bool
+    ensures { result ≡ spec.is_plain_line line.now }
+{
+    line.len() <= MOST_IN_A_LINE && are_visible(line.as_bytes())
+}
+
+fn are_visible(bytes: &[u8]) -> bool
+    ensures { result ≡ list_all spec.is_visible_byte bytes.now }
+{
+    for b in bytes {
+        if !is_visible_byte(*b) {
+            return false;
+        }
+    }
+    true
+}
+
+// Of ASCII, or of a letter from U+00C0 to U+027F.
+fn is_visible_byte(b: u8) -> bool
+    ensures { result ≡ spec.is_visible_byte b }
+{
+    matches!(b, 32..=126 | 128..=191 | 195..=201)
+}
+
 impl Case<'_> {
+    /// A voter, by its number and where its ballot stands.
+    pub(crate) fn voter(&self, i: u32) -> Result<String, AllocError> {
+        let fillings = Fillings::none(self.words.alloc).and_number("voter", u64::from(i))?;
+        self.said(Sentence::VoterRow, &fillings)
+    }
+
     /// The id of a project, which is numbered from 1, as it is shown.
     pub(crate) fn id(&self, j: u32) -> Result<String, AllocError> {
         if j == 0 || j > self.election.projects() {
             return Ok(String::new(self.words.alloc));
         }
-        crate::shown::visible(self.words.alloc, self.election.id(j).as_bytes())
+        visible(self.words.alloc, self.election.id(j).as_bytes())
     }
 
     /// A project by its id, and its name where it has one.
     pub(crate) fn project(&self, j: u32) -> Result<String, AllocError> {
-        let mut text = shortened(self.words.alloc, &self.id(j)?)?;
+        let mut text = self.id(j)?;
         let name = self.labels.name(j);
         if !name.is_empty() {
             text.push_str(" \u{b7} ")?;

@@ -72,12 +72,53 @@ fn rank_funded(
     Ok(())
 }
 
-// What the supporters of a project miss to its cost.
-fn missing(project: &ProjectMargins, stable: bool) -> i128
+/// What the supporters of a project miss to its cost.
+pub(crate) fn missing(project: &ProjectMargins, stable: bool) -> i128
     ensures { result ≡ spec.missing stable project.now }
 {
     let cost = project.cost.min(i128::MAX as u128) as i128;
     cost.saturating_sub(has(project, stable))
+}
+
+/// What some projects may be put in order by, the largest first.
+#[derive(Clone, Copy, Debug, PartialEq, Eq)]
+pub(crate) enum Size {
+    Cost,
+    Supporters,
+}
+
+impl Size {
+    fn of(self, project: &ProjectMargins) -> u128 {
+        match self {
+            Size::Cost => project.cost,
+            Size::Supporters => u128::from(project.supporters),
+        }
+    }
+}
+
+/// The places, from 1, of those of these projects that are ranked by their numbers, where they are put in order by
+/// another size; of two that are alike the one that is ranked first is first. Those that aren't ranked have 0.
+pub(crate) fn places_by(
+    alloc: Global,
+    projects: &[ProjectMargins],
+    ranked: &[(i128, usize)],
+    size: Size,
+) -> Result<Vec<usize>, AllocError> {
+    let mut order = Vec::new(alloc);
+    for (rank, one) in ranked.iter().enumerate() {
+        let k = one.1.saturating_sub(1);
+        if let Some(project) = projects.get(k) {
+            order.push((u128::MAX - size.of(project), rank, k))?;
+        }
+    }
+    order.sort_unstable();
+    let mut places = vec![in alloc; 0; projects.len()]?;
+    for (before, one) in order.iter().enumerate() {
+        if let Some(place) = places.get_mut(one.2) {
+            *place = before + 1;
+        }
+    }
+    Ok(places)
 }
 
 /// What the supporters of a project have left together, or in the stable form can offer.

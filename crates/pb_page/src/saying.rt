@@ -111,8 +111,8 @@ impl Case<'_> {
         match content {
             None => Ok(()),
             Some(Content::Text(filling)) => text.push_str(filling),
-            Some(Content::Label(label)) => text.push_str(label),
-            Some(Content::Plain(label)) => text.push_str(label),
+            Some(Content::Label(label)) => text.push_str(&shortened(self.words.alloc, label)?),
+            Some(Content::Plain(label)) => text.push_str(&shortened(self.words.alloc, label)?),
             Some(Content::Money(figure)) => self.push_money_text(
                 text,
                 self.told.amount_of(*figure),
@@ -172,15 +172,15 @@ impl Fillings {
         self.with(slot, Content::Text(text))
     }
 
-    /// These fillings and one more, what a file says, which is cut behind 80 characters.
+    /// These fillings and one more, what a file says, which is shown cut where it is long.
     pub(crate) fn and_label(self, slot: &str, label: &str) -> Result<Fillings, AllocError> {
-        let label = shortened(self.alloc, label)?;
+        let label = String::from_str(self.alloc, label)?;
         self.with(slot, Content::Label(label))
     }
 
     /// These fillings and one more, what a file says, without a frame.
     pub(crate) fn and_plain_label(self, slot: &str, label: &str) -> Result<Fillings, AllocError> {
-        let label = shortened(self.alloc, label)?;
+        let label = String::from_str(self.alloc, label)?;
         self.with(slot, Content::Plain(label))
     }
 

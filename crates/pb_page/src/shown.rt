@@ -26,16 +26,3 @@ fn push_visible(alloc: Global, text: &mut String, c: char) -> Result<(), AllocEr
 fn is_hidden(c: char) -> bool {
     matches!(c as u32, 0..=0x1f | 0x7f..=0x9f | 0xad | 0x61c | 0x200b..=0x200f | 0x2028..=0x202e | 0x2060..=0x206f | 0xfeff)
 }
-
-/// A text of at most so many characters: the text itself, or its front and an ellipsis.
-pub(crate) fn shortened(alloc: Global, text: &str, most: usize) -> Result<String, AllocError> {
-    let mut front = String::new(alloc);
-    for (count, c) in text.chars().enumerate() {
-        if count >= most {
-            front.push('\u{2026}')?;
-            break;
-        }
-        front.push(c)?;
-    }
-    Ok(front)
-}

@@ -56,8 +56,11 @@ dd { margin: 0; }
   font-size: clamp(1.6rem, 1.2rem + 1.8vw, 2.3rem); margin: 0 0 .5rem; color: var(--good);
 }
 .bad h2 { color: var(--bad); }
+.neither { border-top-color: var(--edge); }
+.neither h2 { color: var(--ink); }
 .answer p { max-width: 46rem; }
 .why { font-size: 1.15rem; }
+.caution { border-left: .25rem solid var(--bad); padding-left: .9rem; }
 .asked {
   margin: 1rem 0 0; padding: .8rem 0 0; border-top: 1px solid var(--line); list-style: none;
   max-width: none; font-size: .95rem; color: var(--soft);
@@ -161,7 +164,7 @@ thead .number { white-space: normal; }
 code {
   font-family: ui-monospace, SFMono-Regular, Menlo, Consolas, Liberation Mono, DejaVu Sans Mono,
     monospace;
-  font-size: .88em;
+  font-size: .88em; white-space: pre-wrap;
 }
 .bar, .bar *, .patch {
   print-color-adjust: exact; -webkit-print-color-adjust: exact; forced-color-adjust: none;
@@ -218,7 +221,7 @@ h2, h2 + p, h3, thead, dt { break-after: avoid; }
   th, td, .verdict { font-size: 9.5pt; }
   th:first-child { width: 28%; }
   th:last-child, td:last-child { padding-right: 0; width: 32%; }
-  thead th { vertical-align: bottom; font-size: 8.5pt; }
+  thead th { vertical-align: bottom; font-size: 8.5pt; hyphens: auto; }
   .number { text-align: right; white-space: normal; min-width: 0; }
 }
 ";

@@ -61,7 +61,7 @@ pub enum Name {
     Href,
     /// A share of a whole, as CSS sees it: the value is a number, and is written as the property `--share`.
     Share,
-    /// The numbers by which CSS orders rows: the value is the first and is written as the property `--cost`, and behind
+    /// The places by which CSS orders rows: the value is the first and is written as the property `--cost`, and behind
     /// it may stand others, each with its property.
     Order,
     Role,

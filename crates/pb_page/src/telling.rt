@@ -5,13 +5,14 @@ ghost use Rattle.pb_election.specs.Outcome.{OutcomeFits};
 ghost use Rattle.pb_certificate.specs.Violations.{ClaimFits};
 ghost use Rattle.pb_reply.specs.Inside.Loaded.{lent};
 ghost use Rattle.pb_reply.specs.Inside.Taking.{IfTaken};
-ghost use Rattle.pb_audit.specs.Explained.{is_violation};
+ghost use Rattle.pb_reply.specs.Certificates.{is_violation};
 ghost use Rattle.pb_page.specs.Answers.{TellsGroup};
 ghost use Rattle.pb_page.specs.Taken.{FindsFigures, TellsCertificate};
 ghost use Rattle.pb_page.specs.Told as spec;
 
 use crate::amounts::Style;
 use crate::extremes::extremes_of;
+use crate::naming::shown_line;
 use crate::told::{CertificateFigures, PriceFigures, Told, ViolationFigures};
 use pb_certificate::{Violation, is_violation};
 use pb_cohesion::violation_findings;
@@ -71,7 +72,7 @@ fn prices_told(
     Ok(Told {
         style,
         mode,
-        line: price_line(alloc, election, verdict, mode.stable)?,
+        line: shown_line(alloc, &price_line(alloc, election, verdict, mode.stable)?)?,
         found: CertificateFigures::Prices(figures),
     })
 }
@@ -138,7 +139,7 @@ fn group_told(
     let measure = violation.satisfaction();
     let findings = violation_findings(election, outcome, &violation, &measure);
     let verdict = findings.verdict(election);
-    let line = violation_line(alloc, election, verdict)?;
+    let line = shown_line(alloc, &violation_line(alloc, election, verdict)?)?;
     let figures = ViolationFigures {
         verdict,
         violation,

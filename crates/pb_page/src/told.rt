@@ -17,7 +17,7 @@ use pb_price::{Finding, Findings, Margins, Mode, ProjectMargins, Verdict};
 pub(crate) struct Told {
     pub(crate) style: Style,
     pub(crate) mode: Mode,
-    /// The line that the program prints.
+    /// The line that the program prints, as it is shown.
     pub(crate) line: String,
     pub(crate) found: CertificateFigures,
 }
@@ -37,7 +37,7 @@ pub(crate) struct PriceFigures {
     pub(crate) extremes: Extremes,
 }
 
-/// What was found of a violation. Amounts are in millionths of the currency.
+/// What was found of a violation. Amounts are in millionths of the currency, but figures in grains, which are finer.
 #[derive(Drop)]
 pub(crate) struct ViolationFigures {
     pub(crate) verdict: ViolationVerdict,
@@ -86,7 +86,7 @@ impl Told {
     {
         match &self.found {
             CertificateFigures::Prices(figures) => figures.findings.grains_per_unit,
-            CertificateFigures::Violation(_) => 1_000_000,
+            CertificateFigures::Violation(figures) => figures.grains_per_unit(),
         }
     }
 
@@ -292,27 +292,50 @@ impl ViolationFigures {
         ensures { result ≡ spec.violation_amount self.now figure }
     {
         match figure {
-            Figure::Limit => Balance::of(u128::from(self.limit)),
-            Figure::Funded => Balance::of(self.funded),
-            Figure::Remains => Balance::of(u128::from(self.limit).abs_diff(self.funded)),
+            Figure::Limit => self.in_grains(u128::from(self.limit)),
+            Figure::Funded => self.in_grains(self.funded),
+            Figure::Remains => self.in_grains(u128::from(self.limit).abs_diff(self.funded)),
             Figure::Cost(j) => self.cost(j),
-            Figure::Demand => Balance::of(self.findings.cost),
+            Figure::Demand => self.in_grains(self.findings.cost),
             Figure::Share => Balance::of(self.share()),
-            Figure::ShareOff => Balance::of(self.findings.cost.abs_diff(self.share())),
+            Figure::ShareOff => Balance::of(
+                self.grains_of(self.findings.cost).abs_diff(self.share()),
+            ),
             Figure::Gets => self.worth(self.findings.gets),
             Figure::Worth => self.worth(self.findings.demanded),
             _ => Balance::NOTHING,
         }
     }
 
+    // How many grains one unit of the currency has: a millionth has one for each voter, so that the share of a group has
+    // a whole number of them.
+    fn grains_per_unit(&self) -> u64
+        ensures { result ≡ spec.grains_of_violation self.now }
+    {
+        1_000_000 * u64::from(self.voters.max(1))
+    }
+
+    // Millionths in grains.
+    fn grains_of(&self, millionths: u128) -> u128
+        ensures { result ≡ spec.grains_of self.now millionths }
+    {
+        millionths.saturating_mul(u128::from(self.voters.max(1)))
+    }
+
+    fn in_grains(&self, millionths: u128) -> Balance
+        ensures { result ≡ of (spec.grains_of self.now millionths) }
+    {
+        Balance::of(self.grains_of(millionths))
+    }
+
     fn cost(&self, j: u32) -> Balance
-        ensures { result ≡ amount_in of (spec.at (self.now).costs.items j) }
+        ensures { result ≡ amount_in (λ cost. of (spec.grains_of self.now cost)) (spec.at (self.now).costs.items j) }
     {
         if j == 0 {
             return Balance::NOTHING;
         }
         match self.costs.get(j as usize - 1) {
-            Some(cost) => Balance::of(u128::from(*cost)),
+            Some(cost) => self.in_grains(u128::from(*cost)),
             None => Balance::NOTHING,
         }
     }
@@ -322,22 +345,20 @@ impl ViolationFigures {
         ensures { result ≡ spec.worth self.now projects }
     {
         match self.violation.satisfaction() {
-            Measure::ByCost => Balance::of(projects),
+            Measure::ByCost => self.in_grains(projects),
             Measure::ByCount => Balance::NOTHING,
         }
     }
 
     /// Whether the group's share of the limit covers what it demands.
     pub(crate) fn is_large_enough(&self) -> bool {
-        let share = u128::from(self.limit) * u128::from(self.findings.members);
-        self.findings.cost.saturating_mul(u128::from(self.voters)) <= share
+        self.findings.cost.saturating_mul(u128::from(self.voters)) <= self.share()
     }
 
-    // The group's share of the limit.
+    // The group's share of the limit, in grains.
     fn share(&self) -> u128
         ensures { result ≡ spec.share self.now }
     {
-        let all = u128::from(self.limit) * u128::from(self.findings.members);
-        all / u128::from(self.voters.max(1))
+        u128::from(self.limit) * u128::from(self.findings.members)
     }
 }

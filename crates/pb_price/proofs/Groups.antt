@@ -1,13 +1,15 @@
 -- What a verdict says of every group of supporters.
-use Rattle.std.proofs.Common.{◌≡◌, ℕ, Bool, true, false, List, refl, sym, ◌∙◌, ap, arith}
+use Rattle.std.proofs.Common.{◌≡◌, ◌≤◌, ℕ, Bool, true, false, List, refl, sym, ◌∙◌, ap, arith}
 use Rattle.std.specs.Prelude.{Ok, Option, Result, Some, None}
 use Rattle.std.proofs.lemmas.Bool.{cases_Bool}
 use Rattle.pb_election.specs.Instance.{Instance}
 use Rattle.pb_certificate.specs.Prices.{Prices}
-use Rattle.pb_cohesion.specs.EveryGroup.{BudgetsAreWithinReach, GroupsGetTheirShare, NoGroupHasMoreLeft, NoViolationByCounting, NothingBlocks, SupportersBlock, SupportersHaveMoreLeft}
+use Rattle.pb_cohesion.specs.Conditions.{Cover}
+use Rattle.pb_cohesion.specs.EveryGroup.{BudgetsAreWithinReach, BudgetsReachTheLimit, GroupsGetTheirShare, NoGroupHasMoreLeft, NoGroupIsPassedOver, NoViolationByCounting, NothingBlocks, SharesAreWithinReach, SupportersBlock, SupportersHaveMoreLeft}
 use Rattle.pb_cohesion.proofs.Justified.{stable_has_no_violation, stable_is_fair}
 use Rattle.pb_cohesion.proofs.Plain as plain
 use Rattle.pb_cohesion.proofs.Reaches.{within_reach}
+use Rattle.pb_cohesion.proofs.Shares.{demands_reach, no_demand_passed_over, none_passed_over, shares_reach}
 use Rattle.pb_cohesion.proofs.Stable as stable
 use Rattle.pb_price.proofs.FirstFalse.{first-false, is-less, supports-iff}
 use Rattle.pb_price.specs.Answers.{IsVerdictOn}
@@ -48,6 +50,14 @@ pub budgets : (m : Mode) (e : Instance) (w : List Bool) (p : Prices) → First m
     → BudgetsAreWithinReach e w p
 budgets m e w p none s c unfunded group = grind (arith, supports-iff, cases_Bool, within_reach)
 
+pub shares : (m : Mode) (e : Instance) (w : List Bool) (p : Prices) → 1 ≤ p.denominator → First m e w p ≡ None
+    → BudgetsReachTheLimit e p → SharesAreWithinReach e w
+shares m e w p low none reached s c unfunded group = grind (arith, supports-iff, cases_Bool, shares_reach)
+
+pub passes-nobody-over : (m : Mode) (e : Instance) (w : List Bool) (p : Prices) → First m e w p ≡ None → Cover e p
+    → NoGroupIsPassedOver e w
+passes-nobody-over m e w p none cover s c passed = grind (arith, supports-iff, cases_Bool, none_passed_over)
+
 pub fair : (m : Mode) (e : Instance) (w : List Bool) (p : Prices) → First m e w p ≡ None → m.stable ≡ true
     → GroupsGetTheirShare e w p
 fair m e w p none is_stable s t group projects approve rich =
@@ -72,9 +82,9 @@ failed-some None f h = cc
 failed-some (Some g) f h = let same : g ≡ f = cc in ap Some same
 
 -- the verdict by the first failure, with what it says of every group
-pub on-prices : (m : Mode) (e : Instance) (w : List Bool) (p : Prices) (v : Verdict) → v ≡ verdict_of (First m e w p)
-    → IsVerdictOn m e w p v
-on-prices m e w p v is = record {
+pub on-prices : (m : Mode) (e : Instance) (w : List Bool) (p : Prices) (v : Verdict) → 1 ≤ p.denominator
+    → v ≡ verdict_of (First m e w p) → IsVerdictOn m e w p v
+on-prices m e w p v low is = record {
   first = is;
   supported = (λ h. (supports-iff m e w p).0 (none h), λ s. is ∙ ap verdict_of ((supports-iff m e w p).1 s));
   plain_yes = λ h plain'. plain-yes m e w p (none h) plain';
@@ -82,6 +92,10 @@ on-prices m e w p v is = record {
   stable_yes = λ h stable'. stable-yes m e w p (none h) stable';
   stable_no = λ c h. stable-no m e w p c (failed-some (First m e w p) (failure.S5 c) (sym is ∙ h));
   any_yes = λ h. budgets m e w p (none h);
+  share_yes = λ h reached. shares m e w p low (none h) reached;
+  pjr_plus_yes = λ h cover. passes-nobody-over m e w p (none h) cover;
+  demand_yes = λ h reached. demands_reach e w (shares m e w p low (none h) reached);
+  pjr_yes = λ h cover. no_demand_passed_over e w (passes-nobody-over m e w p (none h) cover);
   fair_yes = λ h stable'. fair m e w p (none h) stable';
   covered_yes = λ h stable' cover'. no-violation m e w p (none h) stable' cover';
 }

@@ -4,7 +4,8 @@ use Rattle.pb_election.specs.Instance.{Instance, approvals, projects, voters}
 use Rattle.pb_records.specs.Cells.{nonblank}
 use Rattle.pb_certificate.specs.Faults.{certificate_records}
 use Rattle.pb_certificate.specs.Prices.{Prices}
-use Rattle.pb_cohesion.specs.EveryGroup.{BudgetsAreWithinReach, GroupsGetTheirShare, NoGroupHasMoreLeft, NoViolationByCounting, NothingBlocks, SupportersBlock, SupportersHaveMoreLeft}
+use Rattle.pb_cohesion.specs.Conditions.{Cover}
+use Rattle.pb_cohesion.specs.EveryGroup.{BudgetsAreWithinReach, BudgetsReachTheLimit, DemandsAreWithinReach, GroupsGetTheirShare, NoDemandIsPassedOver, NoGroupHasMoreLeft, NoGroupIsPassedOver, NoViolationByCounting, NothingBlocks, SharesAreWithinReach, SupportersBlock, SupportersHaveMoreLeft}
 use Rattle.pb_price.specs.First.{First, verdict_of}
 use Rattle.pb_price.specs.Supports.{Supports}
 use Rattle.pb_price.specs.declared.Failure.TheVariants as failure
@@ -26,6 +27,11 @@ pub record IsVerdictOn (m : Mode) (e : Instance) (w : List Bool) (p : Prices) (v
   pub covered_yes : v ≡ verdict.Supported → IsTrue m.stable → IsTrue m.cover → NoViolationByCounting e w
   -- what a yes in either form says
   pub any_yes : v ≡ verdict.Supported → BudgetsAreWithinReach e w p
+  -- and where the budgets of all voters together are at least the limit, or more
+  pub share_yes : v ≡ verdict.Supported → BudgetsReachTheLimit e p → SharesAreWithinReach e w
+  pub pjr_plus_yes : v ≡ verdict.Supported → Cover e p → NoGroupIsPassedOver e w
+  pub demand_yes : v ≡ verdict.Supported → BudgetsReachTheLimit e p → DemandsAreWithinReach e w
+  pub pjr_yes : v ≡ verdict.Supported → Cover e p → NoDemandIsPassedOver e w
 
 -- how many rows of payments a certificate has: its records that are not blank, but for the four of the head
 abbrev pub row_count : List ℕ → ℕ

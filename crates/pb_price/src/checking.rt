@@ -7,7 +7,8 @@ ghost use Rattle.pb_certificate.specs.Faults.{Refuses, certificate_records, no_m
 ghost use Rattle.pb_certificate.specs.Prices as spec;
 ghost use Rattle.pb_certificate.specs.Prices.Text.{IsPriceText};
 ghost use Rattle.pb_certificate.specs.Prices.{PricesFit, most_denominator};
-ghost use Rattle.pb_cohesion.specs.EveryGroup.{BudgetsAreWithinReach, GroupsGetTheirShare, NoGroupHasMoreLeft, NoViolationByCounting, NothingBlocks, SupportersBlock, SupportersHaveMoreLeft};
+ghost use Rattle.pb_cohesion.specs.Conditions.{Cover};
+ghost use Rattle.pb_cohesion.specs.EveryGroup.{BudgetsAreWithinReach, BudgetsReachTheLimit, DemandsAreWithinReach, GroupsGetTheirShare, NoDemandIsPassedOver, NoGroupHasMoreLeft, NoGroupIsPassedOver, NoViolationByCounting, NothingBlocks, SharesAreWithinReach, SupportersBlock, SupportersHaveMoreLeft};
 ghost use Rattle.pb_price.specs.Answers.{AreStepsOf, IsVerdictOn, row_count};
 ghost use Rattle.pb_price.specs.Supports.{Supports};
 ghost use Rattle.pb_price.specs.First.{First, verdict_of};
@@ -51,6 +52,13 @@ pub fn check(
 
     // What a yes in either form says.
     ensures any_yes { result ≡ Ok Verdict.Supported → BudgetsAreWithinReach election.now (outcome.now).marks prices.now }
+
+    // What it says of shares of the limit and of demands, where the budgets of all voters together are at least the
+    // limit, and, as with Cover, where they are more.
+    ensures share_yes { result ≡ Ok Verdict.Supported → BudgetsReachTheLimit election.now prices.now → SharesAreWithinReach election.now (outcome.now).marks }
+    ensures pjr_plus_yes { result ≡ Ok Verdict.Supported → Cover election.now prices.now → NoGroupIsPassedOver election.now (outcome.now).marks }
+    ensures demand_yes { result ≡ Ok Verdict.Supported → BudgetsReachTheLimit election.now prices.now → DemandsAreWithinReach election.now (outcome.now).marks }
+    ensures pjr_yes { result ≡ Ok Verdict.Supported → Cover election.now prices.now → NoDemandIsPassedOver election.now (outcome.now).marks }
 {
     let budget = payment_grains(prices.budget());
     let mut tally = Tally::new(alloc, election, budget)?;

@@ -1,5 +1,5 @@
 -- What the inputs state, by what is delivered of them.
-use Rattle.std.specs.Prelude.{◌≡◌, ◌^◌, nat_lt, if◌then◌else◌, Bool, ℕ, List, length, Option, Some, None, Result, Ok, Err}
+use Rattle.std.specs.Prelude.{◌≡◌, ◌^◌, nat_lt, if◌then◌else◌, Bool, ℕ, List, length, IfOk, Option, Some, None, Result, Ok, Err}
 use Rattle.pb_records.specs.FirstFault.{Form}
 use Rattle.pb_election.specs.Instance.{Instance}
 use Rattle.pb_election.specs.Text.{IsTextOf}
@@ -100,3 +100,12 @@ StatesFile states _ _ = ⊥
 abbrev pub InTurn : {A : Type 0} → Stated A → (A → Type 0) → Type 0 → Type 0
 InTurn (Ok a) accepted refused = accepted a
 InTurn (Err r) accepted refused = refused
+
+-- What an election, an outcome file where one is given, and a certificate of a kind state. Each counts where those
+-- before it are accepted.
+pub record FilesState {A : Type 0} (states : Instance → Delivery → Stated A → Type 0) (election : Delivery)
+    (outcome : Option Delivery) (certificate : Delivery)
+    (e : Stated Instance) (o : Option (Stated (List Bool))) (c : Stated A) : Type 0 where
+  pub election_states : StatesElection election e
+  pub outcome_states : IfOk e (λ instance. StatesFile (StatesOutcome instance) outcome o)
+  pub certificate_states : IfOk e (λ instance. IfOk (audited instance o) (λ w. states instance certificate c))

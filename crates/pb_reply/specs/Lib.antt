@@ -1,6 +1,7 @@
 pub mod Lines
 pub mod Named
 pub mod Inputs
+pub mod Certificates
 pub mod Replies
 pub mod Readings
 pub mod Writing

@@ -2,7 +2,8 @@
 ghost use Rattle.std.specs.Prelude.{◌≡◌};
 ghost use Rattle.pb_run.specs.Endings.{HasStatus, WritesNothingUnlessHelp};
 
-use pb_audit::{Fault, FolderStatus, Status, UsageFault};
+use pb_audit::{Fault, FolderStatus, Status};
+use pb_command::UsageFault;
 use pb_election::{Output, put};
 use std::io::Write;
 

@@ -2,7 +2,7 @@
 use crate::file::FileReader;
 use crate::watched::WatchedReader;
 use pb_audit::{
-    Fault, Inputs, Status, run_both, run_explain, run_margins, run_prices, run_read, run_tidy,
+    Fault, Status, run_both, run_explain, run_margins, run_prices, run_read, run_tidy,
     run_violation,
 };
 use pb_election::{Input, Sink};

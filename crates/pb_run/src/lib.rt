@@ -18,6 +18,7 @@ mod words;
 pub use end::End;
 pub use folder::report;
 pub use listing::{ListFault, Listing};
+pub use pb_command::{Inputs, Task, UsageFault, task_of};
 pub use progress::Progress;
 pub use whole_run::run;
 pub use words::{without_words, words_of};

@@ -1,7 +1,7 @@
 //! A run from its words to its exit status.
 use crate::end::End;
 use crate::task::run_task;
-use pb_audit::task_of;
+use pb_command::task_of;
 use std::io::{IsTerminal, Read, Write};
 
 /// Does what the words ask for, and gives the exit status. Standard input, output and error are `input`, `out` and

@@ -1,6 +1,7 @@
 //! The answer box.
 use crate::case::Case;
 use crate::condition::Condition;
+use crate::figure::Figure;
 use crate::markup::Page;
 use crate::parts::asked::push_asked;
 use crate::parts::found::push_found;
@@ -21,15 +22,17 @@ pub(crate) fn open_answer(page: &mut Page, case: &Case<'_>) -> Result<(), AllocE
 /// Adds the reason and what was asked, and ends the box.
 pub(crate) fn close_answer(page: &mut Page, case: &Case<'_>) -> Result<(), AllocError> {
     push_reason(page, case)?;
+    push_caution(page, case)?;
     push_asked(page, case)?;
     page.close()
 }
 
-// A supported outcome is good news, and a violation isn't.
+// A supported outcome is good news, and a violation isn't. That a certificate proves no violation is neither.
 fn class_of(headline: Headline) -> &'static str {
     match headline {
-        Headline::Supported | Headline::SupportedStable | Headline::NoViolation => "answer",
+        Headline::Supported | Headline::SupportedStable => "answer",
         Headline::NotSupported | Headline::Violation => "answer bad",
+        Headline::NoViolation => "answer neither",
     }
 }
 
@@ -42,6 +45,27 @@ fn push_reason(page: &mut Page, case: &Case<'_>) -> Result<(), AllocError> {
         Headline::NotSupported | Headline::NoViolation => push_failure(page, case)?,
     }
     page.close()
+}
+
+// Adds how little a yes says where the budgets of all voters together are less than the limit.
+fn push_caution(page: &mut Page, case: &Case<'_>) -> Result<(), AllocError> {
+    let CertificateFigures::Prices(figures) = &case.told.found else {
+        return Ok(());
+    };
+    let mode = case.told.mode;
+    let findings = &figures.findings;
+    if findings.verdict(mode) != Verdict::Supported || findings.budgets >= findings.limit {
+        return Ok(());
+    }
+    let sentence = if mode.exhaustive {
+        Sentence::SaysLess
+    } else {
+        Sentence::SaysLittle
+    };
+    let fillings = Fillings::none(case.words.alloc)
+        .and_money("budgets", Figure::Budgets)?
+        .and_money("limit", Figure::Limit)?;
+    case.say_in(page, Tag::P, "caution", sentence, &fillings)
 }
 
 fn push_plain(page: &mut Page, case: &Case<'_>, sentence: Sentence) -> Result<(), AllocError> {

@@ -27,6 +27,17 @@ pub(crate) enum Look {
     Over,
 }
 
+impl Look {
+    /// Of a part of a whole.
+    pub(crate) fn of_part(part: u128, whole: u128) -> Look {
+        if part > whole {
+            Look::Beyond
+        } else {
+            Look::Part
+        }
+    }
+}
+
 /// A part of a whole, where the whole is so many hundredths of a percent of the width. Where there is no whole, a part
 /// that isn't nothing is longer than the bar.
 pub(crate) fn length_of(part: u128, whole: u128, width_of_whole: u32) -> u32 {
@@ -54,7 +65,7 @@ pub(crate) fn push_bar(
     if look == Look::Against || look == Look::Over {
         page.element_class(Tag::Span, "mark", "")?;
     }
-    if length > WIDTH {
+    if length > WIDTH || look == Look::Beyond {
         page.element_class(Tag::Span, "cut", "\u{bb}")?;
     }
     page.close()
@@ -74,9 +85,9 @@ fn push_part(alloc: Global, page: &mut Page, length: u32) -> Result<(), AllocErr
     page.close()
 }
 
-/// A length as a part of the whole width, in percent, or in words where it is longer.
-pub(crate) fn part_in_words(words: Words, length: u32) -> Result<String, AllocError> {
-    if length > WIDTH {
+/// A length as a part of the whole width, in percent, or in words where it is of more than the whole.
+pub(crate) fn part_in_words(words: Words, look: Look, length: u32) -> Result<String, AllocError> {
+    if look == Look::Beyond {
         return String::from_str(words.alloc, words.say(Sentence::MoreThanWhole));
     }
     let mut text = percent(words.alloc, length, words.language.decimal_sign())?;

@@ -6,6 +6,7 @@ use crate::parts::asked::fails_as_stable_alone;
 use crate::sentence::Sentence;
 use crate::tag::Tag;
 use crate::told::{CertificateFigures, Headline, PriceFigures};
+use pb_certificate::Measure;
 use pb_price::Verdict;
 use std::alloc::AllocError;
 
@@ -39,9 +40,28 @@ fn not_said(case: &Case<'_>) -> Sentence {
 fn push_claim(page: &mut Page, case: &Case<'_>) -> Result<(), AllocError> {
     page.open(Tag::Section)?;
     page.element(Tag::H2, case.words.say(Sentence::Claim))?;
-    page.element_class(Tag::P, "claim", case.words.say(claim(case)))?;
+    page.open_class(Tag::P, "claim")?;
+    page.text(case.words.say(claim(case)))?;
+    push_measure(page, case)?;
+    page.close()?;
     page.element(Tag::P, case.words.say(Sentence::ClaimHow))?;
     page.close()
+}
+
+// Adds by which measure there is a violation, where there is one.
+fn push_measure(page: &mut Page, case: &Case<'_>) -> Result<(), AllocError> {
+    let CertificateFigures::Violation(figures) = &case.told.found else {
+        return Ok(());
+    };
+    if case.told.headline() != Headline::Violation {
+        return Ok(());
+    }
+    page.text(" ")?;
+    let sentence = match figures.violation.satisfaction() {
+        Measure::ByCount => Sentence::ClaimByCount,
+        Measure::ByCost => Sentence::ClaimByCost,
+    };
+    page.text(case.words.say(sentence))
 }
 
 fn claim(case: &Case<'_>) -> Sentence {

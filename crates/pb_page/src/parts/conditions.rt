@@ -33,7 +33,13 @@ fn push_condition(
 ) -> Result<(), AllocError> {
     let state = condition.state(case.told.mode, &figures.findings);
     page.open(Tag::Li)?;
-    push_name(page, case, condition.name(), condition.letter(), state)?;
+    push_name(
+        page,
+        case,
+        condition.name(),
+        condition.letter(),
+        (state, words_of(state)),
+    )?;
     page.open(Tag::Div)?;
     page.open(Tag::P)?;
     push_found(page, case, figures, condition)?;
@@ -44,20 +50,21 @@ fn push_condition(
     page.close()
 }
 
-/// Adds the name of a condition or a test, its name in the lines of the program, and what became of it.
+/// Adds the name of a condition or a test, its name in the lines of the program, and what became of it, with the words
+/// for that.
 pub(crate) fn push_name(
     page: &mut Page,
     case: &Case<'_>,
     name: Sentence,
     letter: &str,
-    state: State,
+    (state, words): (State, Sentence),
 ) -> Result<(), AllocError> {
     page.open(Tag::Div)?;
     page.element(Tag::H3, case.words.say(name))?;
     page.element_class(Tag::Div, "letter", letter)?;
     page.open_class(Tag::Span, class_of(state))?;
     page.text(sign_of(state))?;
-    page.text(case.words.say(words_of(state)))?;
+    page.text(case.words.say(words))?;
     page.close()?;
     page.close()
 }

@@ -4,17 +4,19 @@ ghost use Rattle.pb_page.specs.Sums.{HasInOrder};
 ghost use Rattle.pb_page.specs.Taken as spec;
 ghost use Rattle.pb_page.specs.Taken.{sums_shown};
 
-use crate::case::{Case, InputFile};
+use crate::case::{Case, Files, InputFile};
 use crate::markup::Page;
 use crate::naming::push_label;
 use crate::saying::Fillings;
 use crate::sentence::Sentence;
 use crate::tag::Tag;
 use crate::told::CertificateFigures;
-use pb_price::Mode;
-use std::alloc::AllocError;
+use std::alloc::{AllocError, Global};
 
 const VERSION: &str = "0.1.0";
+
+// No file system has longer names, in bytes.
+const MOST_IN_A_WORD: usize = 255;
 
 /// Adds the files with their sizes and sums, and how to check the page, up to the line that the program prints.
 pub(crate) fn push_files(page: &mut Page, case: &Case<'_>) -> Result<(), AllocError>
@@ -98,49 +100,106 @@ fn facts_of(case: &Case<'_>, role: Sentence, file: &InputFile) -> Result<Page, A
 fn checks(case: &Case<'_>) -> Result<Page, AllocError> {
     let mut page = Page::new(case.words.alloc);
     page.open(Tag::P)?;
-    page.text(case.words.say(Sentence::CheckProgram))?;
-    page.open(Tag::Br)?;
-    page.open(Tag::Code)?;
-    push_command(&mut page, case)?;
-    page.close()?;
+    if fits_a_command(&case.files) {
+        push_command(&mut page, case)?;
+    } else {
+        push_without_command(&mut page, case)?;
+    }
     page.open(Tag::Br)?;
     page.text(case.words.say(Sentence::CheckAnswer))?;
     page.text(" ")?;
     Ok(page)
 }
 
-// Adds the command that gives the same answer.
-fn push_command(page: &mut Page, case: &Case<'_>) -> Result<(), AllocError> {
-    page.text("pbaudit explain ")?;
-    push_word(page, case, &case.files.election)?;
-    page.text(" ")?;
-    push_word(page, case, &case.files.certificate)?;
-    if let Some(outcome) = &case.files.outcome {
-        page.text(" --outcome ")?;
-        push_word(page, case, outcome)?;
+// Whether the files can be named in a command that gives the same answer. Their names stand there whole or not at all.
+fn fits_a_command(files: &Files) -> bool {
+    let (election, certificate) = (&files.election, &files.certificate);
+    if !is_word(election)
+        || !is_word(certificate)
+        || base_name(election) == base_name(certificate)
+    {
+        return false;
     }
-    match case.told.found {
-        CertificateFigures::Prices(_) => push_options(page, case.told.mode),
-        CertificateFigures::Violation(_) => Ok(()),
+    match &files.outcome {
+        Some(outcome) => {
+            is_word(outcome)
+                && base_name(outcome) != base_name(election)
+                && base_name(outcome) != base_name(certificate)
+        }
+        None => true,
     }
 }
 
-fn push_options(page: &mut Page, mode: Mode) -> Result<(), AllocError> {
+// Whether the name of a file, without its folders, can be a word of a command.
+fn is_word(file: &InputFile) -> bool {
+    let name = base_name(file);
+    file.is_exact
+        && !name.is_empty()
+        && name.chars().nth(MOST_IN_A_WORD).is_none()
+        && name.chars().all(is_kept)
+}
+
+// Whether each shell reads a character within quotes as itself, and browsers copy it so. Some shells read a backslash
+// there otherwise, and spaces that aren't ASCII are copied as others.
+fn is_kept(c: char) -> bool {
+    c == ' ' || (c != '\\' && !c.is_whitespace())
+}
+
+// Adds the command that gives the same answer.
+fn push_command(page: &mut Page, case: &Case<'_>) -> Result<(), AllocError> {
+    let alloc = case.words.alloc;
+    page.text(case.words.say(Sentence::CheckProgram))?;
+    page.open(Tag::Br)?;
+    page.open(Tag::Code)?;
+    page.text("pbaudit explain ")?;
+    push_word(alloc, page, &case.files.election)?;
+    page.text(" ")?;
+    push_word(alloc, page, &case.files.certificate)?;
+    if let Some(outcome) = &case.files.outcome {
+        page.text(" --outcome ")?;
+        push_word(alloc, page, outcome)?;
+    }
+    page.text(&options(case)?)?;
+    page.close()
+}
+
+// Adds which files to give to the program, and the options, where their names are no words of a command.
+fn push_without_command(page: &mut Page, case: &Case<'_>) -> Result<(), AllocError> {
+    page.text(case.words.say(Sentence::CheckByHand))?;
+    let mut given = String::new(case.words.alloc);
+    if case.files.outcome.is_some() {
+        given.push_str(" --outcome")?;
+    }
+    given.push_str(&options(case)?)?;
+    if given.is_empty() {
+        return Ok(());
+    }
+    page.text(" ")?;
+    let fillings = Fillings::none(case.words.alloc).and("options", given.trim_start())?;
+    case.say(page, Sentence::CheckOptions, &fillings)
+}
+
+// The options that ask for what was asked, each behind a blank.
+fn options(case: &Case<'_>) -> Result<String, AllocError> {
+    let mut options = String::new(case.words.alloc);
+    if let CertificateFigures::Violation(_) = case.told.found {
+        return Ok(options);
+    }
+    let mode = case.told.mode;
     if mode.stable {
-        page.text(" --stable")?;
+        options.push_str(" --stable")?;
     }
     if !mode.exhaustive {
-        page.text(" --no-exhaustive")?;
+        options.push_str(" --no-exhaustive")?;
     }
     if mode.cover {
-        page.text(" --cover")?;
+        options.push_str(" --cover")?;
     }
-    Ok(())
+    Ok(options)
 }
 
 // Adds the name of a file as a word of a command: in quotes, unless it has plain letters alone.
-fn push_word(page: &mut Page, case: &Case<'_>, file: &InputFile) -> Result<(), AllocError> {
-    let alloc = case.words.alloc;
+fn push_word(alloc: Global, page: &mut Page, file: &InputFile) -> Result<(), AllocError> {
     let mut word = String::new(alloc);
     let name = base_name(file);
     // What begins with a dash is an option.
@@ -149,10 +208,10 @@ fn push_word(page: &mut Page, case: &Case<'_>, file: &InputFile) -> Result<(), A
     }
     word.push_str(name)?;
     if word.chars().all(is_plain) {
-        return push_label(page, case, "", &word);
+        return page.element(Tag::Bdi, &word);
     }
     let quoted = word.replace(alloc, '\'', "'\\''")?;
-    push_label(page, case, "", &format!(in alloc; "'{quoted}'")?)
+    page.element(Tag::Bdi, &format!(in alloc; "'{quoted}'")?)
 }
 
 // The name of a file without its folders.

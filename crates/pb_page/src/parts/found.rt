@@ -50,7 +50,7 @@ fn push_exhaustive(
     figures: &PriceFigures,
 ) -> Result<(), AllocError> {
     if !Condition::Feasible.holds(&figures.findings) {
-        return push_feasible(page, case, figures);
+        return page.text(case.words.say(Sentence::NothingFits));
     }
     let sentence = if Condition::Exhaustive.holds(&figures.findings) {
         Sentence::FoundExhaustive
@@ -78,7 +78,7 @@ fn push_c1(page: &mut Page, case: &Case<'_>, figures: &PriceFigures) -> Result<(
         return case.say(page, Sentence::FoundC1, &none);
     };
     let fillings = none
-        .and_number("voter", u64::from(voter))?
+        .and("voter", &case.voter(voter)?)?
         .and_label("project", &case.project(project)?)?;
     case.say(page, Sentence::BrokenC1, &fillings)
 }
@@ -94,7 +94,7 @@ fn push_c2(page: &mut Page, case: &Case<'_>, figures: &PriceFigures) -> Result<(
         Sentence::BrokenC2
     };
     let fillings = none
-        .and_number("voter", u64::from(shown.at))?
+        .and("voter", &case.voter(shown.at)?)?
         .and_money("spent", Figure::Amount(Compared::C2))?
         .and_money("budget", Figure::Bound(Compared::C2))?;
     case.say(page, sentence, &fillings)
@@ -133,7 +133,7 @@ fn push_s5(page: &mut Page, case: &Case<'_>, figures: &PriceFigures) -> Result<(
 }
 
 // Adds a sentence on the project that a finding shows, with the two sums that are compared there. Where there is none,
-// every project is funded.
+// every project is funded, or there are no projects.
 fn push_compared(
     page: &mut Page,
     case: &Case<'_>,
@@ -143,7 +143,7 @@ fn push_compared(
 ) -> Result<(), AllocError> {
     let none = Fillings::none(case.words.alloc);
     let Some(shown) = figures.finding(of).shown else {
-        return case.say(page, Sentence::AllFunded, &none);
+        return case.say(page, case.or_no_projects(Sentence::AllFunded), &none);
     };
     let fillings = none
         .and_label("project", &case.project(shown.at)?)?

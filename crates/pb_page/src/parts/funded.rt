@@ -3,7 +3,7 @@ ghost use Rattle.std.specs.Prelude.{IfOk, map};
 ghost use Rattle.pb_page.specs.InOrder.{HasParts};
 ghost use Rattle.pb_page.specs.Rows.{ListsFunded, amount_piece, funded_amount};
 
-use crate::amounts::Balance;
+use crate::amounts::{Balance, push_amount};
 use crate::case::Case;
 use crate::figure::Figure;
 use crate::markup::Page;
@@ -11,7 +11,6 @@ use crate::parts::bars::{Look, WIDTH, length_of, part_in_words, push_bar};
 use crate::parts::rows::{
     Column, ColumnKind, MOST_ROWS, begin_cell, begin_row, begin_table, behind_rows, narrow,
 };
-use crate::parts::unfunded::order_of;
 use crate::ranking::wrongly_paid_first;
 use crate::saying::{Fillings, grouped};
 use crate::sentence::Sentence;
@@ -51,6 +50,9 @@ const PART: Column = Column {
     kind: ColumnKind::Bar,
 };
 
+// What a millionth comes to for each of a million supporters has so many decimals more than six.
+const MOST_MORE_DECIMALS: u32 = 12;
+
 /// The projects that were funded: first those that aren't paid for exactly, the largest difference first, and then the
 /// dearest first.
 pub(crate) fn funded(case: &Case<'_>, figures: &PriceFigures) -> Result<Page, AllocError>
@@ -71,7 +73,10 @@ fn up_to_rows(case: &Case<'_>, count: usize) -> Result<Page, AllocError> {
     page.open(Tag::Section)?;
     page.element(Tag::H2, case.words.say(Sentence::Funded))?;
     if count == 0 {
-        page.element(Tag::P, case.words.say(Sentence::NoneFunded))?;
+        page.element(
+            Tag::P,
+            case.words.say(case.or_no_projects(Sentence::NoneFunded)),
+        )?;
         return Ok(page);
     }
     page.element(Tag::P, case.words.say(Sentence::HowFunded))?;
@@ -100,10 +105,10 @@ fn rows(
 // The row of a project up to its cost. There is nothing for one that isn't there.
 fn up_to_cost(case: &Case<'_>, figures: &PriceFigures, j: u32) -> Result<Page, AllocError> {
     let mut page = Page::new(case.words.alloc);
-    let Some(project) = figures.project(j) else {
+    if figures.project(j).is_none() {
         return Ok(page);
-    };
-    begin_row(&mut page, case, j, order_of(case, project))?;
+    }
+    begin_row(&mut page, case, j, None)?;
     begin_cell(&mut page, case, COST)?;
     Ok(page)
 }
@@ -128,23 +133,36 @@ fn behind_cost(case: &Case<'_>, figures: &PriceFigures, j: u32) -> Result<Page, 
     Ok(page)
 }
 
-// What a project costs for each supporter; a dash where it has none.
+// What a project costs for each supporter, rounded to as many decimals as amounts have here, or to more where that would
+// be nothing; a dash where it has none.
 fn cost_per_supporter(case: &Case<'_>, project: &ProjectMargins) -> Result<String, AllocError> {
+    let alloc = case.words.alloc;
     if project.supporters == 0 {
-        return String::from_str(case.words.alloc, "\u{2013}");
+        return String::from_str(alloc, "\u{2013}");
     }
-    let each = rounded(case, project.cost / u128::from(project.supporters));
-    case.amount_text(Balance::of(each))
+    let supporters = u128::from(project.supporters);
+    let whole = supporters.saturating_mul(u128::from(case.told.grains_per_unit().max(1)));
+    let mut steps: u64 = 1;
+    for _ in 0..case.told.style.decimals {
+        steps = steps.saturating_mul(10);
+    }
+    let mut each = rounded(project.cost, whole, steps);
+    for _ in 0..MOST_MORE_DECIMALS {
+        if each != 0 || project.cost == 0 {
+            break;
+        }
+        steps = steps.saturating_mul(10);
+        each = rounded(project.cost, whole, steps);
+    }
+    let mut text = String::new(alloc);
+    push_amount(&mut text, case.told.style, steps, Balance::of(each))?;
+    Ok(text)
 }
 
-// An amount that was divided, to as many decimals as amounts have here.
-fn rounded(case: &Case<'_>, grains: u128) -> u128 {
-    let mut step = u128::from(case.told.grains_per_unit());
-    for _ in 0..case.told.style.decimals {
-        step /= 10;
-    }
-    let step = step.max(1);
-    (grains.saturating_add(step / 2) / step).saturating_mul(step)
+// A part of a whole in so many steps of it, half a step up.
+fn rounded(part: u128, whole: u128, steps: u64) -> u128 {
+    let twice = part.saturating_mul(2).saturating_mul(u128::from(steps));
+    twice.saturating_add(whole) / whole.saturating_mul(2).max(1)
 }
 
 // Adds the bar of the part of the limit, the part in percent, and whether the project is paid for exactly.
@@ -157,14 +175,10 @@ fn push_part(
     let alloc = case.words.alloc;
     let limit = case.told.amount_of(Figure::Limit).grains;
     let length = length_of(project.cost, limit, WIDTH);
-    let look = if length > WIDTH {
-        Look::Beyond
-    } else {
-        Look::Part
-    };
+    let look = Look::of_part(project.cost, limit);
     push_bar(alloc, page, look, &part_label(case, j)?, length)?;
     page.open_class(Tag::Span, "note")?;
-    page.text(&part_in_words(case.words, length)?)?;
+    page.text(&part_in_words(case.words, look, length)?)?;
     page.text(" \u{b7} ")?;
     page.close()?;
     push_payment(page, case, j, project)

@@ -145,11 +145,7 @@ fn push_use(page: &mut Page, case: &Case<'_>, shown: Use) -> Result<(), AllocErr
     )?;
     let whole = case.told.amount_of(shown.whole).grains;
     let used = case.told.amount_of(shown.used).grains;
-    let look = if used > whole {
-        Look::Beyond
-    } else {
-        Look::Part
-    };
+    let look = Look::of_part(used, whole);
     push_bar(alloc, page, look, &label, length_of(used, whole, WIDTH))?;
     push_keys(page, case, shown, look)?;
     page.close()

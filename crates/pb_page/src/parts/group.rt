@@ -5,8 +5,7 @@ use crate::markup::Page;
 use crate::parts::bars::{Look, MARK, WIDTH, length_of, part_in_words, push_bar};
 use crate::parts::glance::{begin_tile, end_tile, push_money_tile};
 use crate::parts::rows::{
-    Column, ColumnKind, MOST_ROWS, Order, begin_cell, begin_row, begin_table, end_table,
-    push_left_out,
+    Column, ColumnKind, MOST_ROWS, begin_cell, begin_row, begin_table, end_table, push_left_out,
 };
 use crate::saying::Fillings;
 use crate::sentence::Sentence;
@@ -133,7 +132,7 @@ fn gets_label(case: &Case<'_>, figures: &ViolationFigures) -> Result<String, All
     match figures.findings.satisfied.first {
         None => case.said(Sentence::FoundV4, &fillings),
         Some(voter) => {
-            let fillings = fillings.and_number("voter", u64::from(voter))?;
+            let fillings = fillings.and("voter", &case.voter(voter)?)?;
             case.said(Sentence::BrokenV4, &fillings)
         }
     }
@@ -147,7 +146,7 @@ fn push_gets_caption(
     let Some(voter) = figures.findings.satisfied.first else {
         return page.element(Tag::P, case.words.say(Sentence::BarGets));
     };
-    let fillings = Fillings::none(case.words.alloc).and_number("voter", u64::from(voter))?;
+    let fillings = Fillings::none(case.words.alloc).and("voter", &case.voter(voter)?)?;
     page.open(Tag::P)?;
     case.say(page, Sentence::BarEnough, &fillings)?;
     page.close()
@@ -200,11 +199,7 @@ pub(crate) fn push_demand(
 
 fn push_row(page: &mut Page, case: &Case<'_>, j: u32) -> Result<(), AllocError> {
     let alloc = case.words.alloc;
-    let as_in_file = Order {
-        cost: 0,
-        supporters: 0,
-    };
-    begin_row(page, case, j, as_in_file)?;
+    begin_row(page, case, j, None)?;
     begin_cell(page, case, COST)?;
     page.figure(Figure::Cost(j))?;
     page.close()?;
@@ -215,13 +210,9 @@ fn push_row(page: &mut Page, case: &Case<'_>, j: u32) -> Result<(), AllocError> 
     let cost = case.told.amount_of(Figure::Cost(j)).grains;
     let share = case.told.amount_of(Figure::Share).grains;
     let length = length_of(cost, share, WIDTH);
-    let look = if length > WIDTH {
-        Look::Beyond
-    } else {
-        Look::Part
-    };
+    let look = Look::of_part(cost, share);
     push_bar(alloc, page, look, &part_label(case, j)?, length)?;
-    let part = part_in_words(case.words, length)?;
+    let part = part_in_words(case.words, look, length)?;
     page.element_class(Tag::Span, "verdict", &part)?;
     page.close()?;
     page.close()

@@ -79,7 +79,7 @@ fn push_payment(
         return case.say(page, Sentence::PaymentHere, &fillings);
     }
     let fillings = fillings
-        .and_number("voter", u64::from(payment.voter))?
+        .and("voter", &case.voter(payment.voter)?)?
         .and_label("project", &case.project(payment.project)?)?;
     case.say(page, Sentence::PaymentAt, &fillings)
 }
@@ -97,7 +97,7 @@ fn push_spender(
         return case.say(page, Sentence::SpenderHere, &none);
     }
     let fillings = none
-        .and_number("voter", u64::from(spender.voter))?
+        .and("voter", &case.voter(spender.voter)?)?
         .and_grains("spent", spender.grains)?
         .and_money("budget", Figure::VoterBudget)?;
     case.say(page, Sentence::FoundC2, &fillings)

@@ -40,11 +40,11 @@ impl ColumnKind {
     }
 }
 
-/// The numbers by which a row is put in another order: what comes first has the least.
+/// The places of a row in the other orders, from 1.
 #[derive(Clone, Copy)]
 pub(crate) struct Order {
-    pub(crate) cost: u32,
-    pub(crate) supporters: u32,
+    pub(crate) cost: usize,
+    pub(crate) supporters: usize,
 }
 
 /// Begins a table with a name for who can't see it, and its heads.
@@ -102,29 +102,29 @@ fn push_head_words(page: &mut Page, case: &Case<'_>, column: Column) -> Result<(
     Ok(())
 }
 
-/// Begins the row of a project, with its name and its id.
+/// Begins the row of a project, with its name and its id, and where the table has other orders with its places in them.
 pub(crate) fn begin_row(
     page: &mut Page,
     case: &Case<'_>,
     j: u32,
-    order: Order,
+    order: Option<Order>,
 ) -> Result<(), AllocError> {
     let alloc = case.words.alloc;
-    let row = Attributes::of(alloc, Name::Role, "row")?.and(
-        Name::Order,
-        &order_text(case, order)?,
-    )?;
+    let mut row = Attributes::of(alloc, Name::Role, "row")?;
+    if let Some(order) = order {
+        row = row.and(Name::Order, &order_text(case, order)?)?;
+    }
     page.open_with(Tag::Tr, row)?;
     page.open_with(Tag::Th, Attributes::of(alloc, Name::Role, "rowheader")?)?;
     push_project(page, case, j)?;
     page.close()
 }
 
-// The first number, and the other with its property.
+// The first place, and the other with its property.
 fn order_text(case: &Case<'_>, order: Order) -> Result<String, AllocError> {
     let cost = order.cost;
     let supporters = order.supporters;
-    format!(in case.words.alloc; "-{cost};--supporters:-{supporters}")
+    format!(in case.words.alloc; "{cost};--supporters:{supporters}")
 }
 
 fn push_project(page: &mut Page, case: &Case<'_>, j: u32) -> Result<(), AllocError> {

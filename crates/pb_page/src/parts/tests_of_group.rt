@@ -105,7 +105,13 @@ fn push_test(
 ) -> Result<(), AllocError> {
     let state = State::of(test.holds(figures));
     page.open(Tag::Li)?;
-    push_name(page, case, test.name(), test.letter(), state)?;
+    push_name(
+        page,
+        case,
+        test.name(),
+        test.letter(),
+        (state, words_of(state)),
+    )?;
     page.open(Tag::Div)?;
     page.open(Tag::P)?;
     push_found(page, case, figures, test)?;
@@ -113,6 +119,13 @@ fn push_test(
     page.element_class(Tag::P, "soft", case.words.say(test.asks()))?;
     page.close()?;
     page.close()
+}
+
+fn words_of(state: State) -> Sentence {
+    match state {
+        State::Fails => Sentence::TestFails,
+        State::Holds | State::NotAsked => Sentence::TestHolds,
+    }
 }
 
 // Adds what a test comes to.
@@ -149,7 +162,7 @@ fn push_v2(page: &mut Page, case: &Case<'_>, figures: &ViolationFigures) -> Resu
         return case.say(page, Sentence::FoundV2, &none);
     };
     let fillings = none
-        .and_number("voter", u64::from(voter))?
+        .and("voter", &case.voter(voter)?)?
         .and_label("project", &case.project(project)?)?;
     case.say(page, Sentence::BrokenV2, &fillings)?;
     let sentence = Sentence::AtApprovals(case.words.plural(unapproved.count));
@@ -157,6 +170,9 @@ fn push_v2(page: &mut Page, case: &Case<'_>, figures: &ViolationFigures) -> Resu
 }
 
 fn push_v3(page: &mut Page, case: &Case<'_>, figures: &ViolationFigures) -> Result<(), AllocError> {
+    if figures.voters == 0 {
+        return page.text(case.words.say(Sentence::NoVoters));
+    }
     let sentence = if Test::V3.holds(figures) {
         Sentence::FoundV3
     } else {
@@ -171,7 +187,7 @@ fn push_v4(page: &mut Page, case: &Case<'_>, figures: &ViolationFigures) -> Resu
     let Some(voter) = satisfied.first else {
         return case.say(page, Sentence::FoundV4, &fillings);
     };
-    let fillings = fillings.and_number("voter", u64::from(voter))?;
+    let fillings = fillings.and("voter", &case.voter(voter)?)?;
     case.say(page, Sentence::BrokenV4, &fillings)?;
     let count = u64::from(satisfied.count);
     push_count(

@@ -12,16 +12,13 @@ use crate::parts::bars::{Look, MARK, length_of, push_bar};
 use crate::parts::rows::{
     Column, ColumnKind, MOST_ROWS, Order, begin_cell, begin_row, begin_table, behind_rows, narrow,
 };
-use crate::ranking::{closest_first, has};
+use crate::ranking::{Size, closest_first, has, missing, places_by};
 use crate::saying::{Fillings, grouped};
 use crate::sentence::Sentence;
 use crate::tag::{Name, Tag};
 use crate::told::PriceFigures;
 use pb_price::ProjectMargins;
-use std::alloc::AllocError;
-
-// Amounts above this, in whole units, are as good as this for the order of rows.
-const MOST_FOR_ORDER: u128 = 2_000_000_000;
+use std::alloc::{AllocError, Global};
 
 const COST: Column = Column {
     head: Sentence::Cost,
@@ -43,16 +40,47 @@ const PROJECT: Column = Column {
     kind: ColumnKind::Words,
 };
 
+// The places of all unfunded projects, by their numbers, in the orders that can be chosen.
+#[derive(Drop)]
+struct Places {
+    cost: Vec<usize>,
+    supporters: Vec<usize>,
+}
+
+impl Places {
+    // Of these projects, of which the unfunded ones are ranked.
+    fn of(
+        alloc: Global,
+        projects: &[ProjectMargins],
+        ranked: &[(i128, usize)],
+    ) -> Result<Places, AllocError> {
+        Ok(Places {
+            cost: places_by(alloc, projects, ranked, Size::Cost)?,
+            supporters: places_by(alloc, projects, ranked, Size::Supporters)?,
+        })
+    }
+
+    // The places of a project, which is numbered from 1.
+    fn at(&self, j: u32) -> Order {
+        let k = (j as usize).saturating_sub(1);
+        Order {
+            cost: self.cost.get(k).copied().unwrap_or(0),
+            supporters: self.supporters.get(k).copied().unwrap_or(0),
+        }
+    }
+}
+
 /// The projects that weren't funded, those closest to breaking the condition first.
 pub(crate) fn unfunded(case: &Case<'_>, figures: &PriceFigures) -> Result<Page, AllocError>
     ensures { IfOk result (ListsUnfunded (case.now).told.mode.stable (figures.now).margins.projects.items) }
 {
     let stable = case.told.mode.stable;
     let mut ranked = closest_first(case.words.alloc, &figures.margins.projects, stable)?;
+    let places = Places::of(case.words.alloc, &figures.margins.projects, &ranked)?;
     let count = ranked.len();
     ranked.truncate(MOST_ROWS);
     let mut page = up_to_rows(case, count)?;
-    page.append(rows(case, figures, &ranked)?)?;
+    page.append(rows(case, figures, &places, &ranked)?)?;
     page.append(behind_rows(case, count)?)?;
     Ok(page)
 }
@@ -63,7 +91,10 @@ fn up_to_rows(case: &Case<'_>, count: usize) -> Result<Page, AllocError> {
     page.open_class(Tag::Section, "sorted")?;
     page.element(Tag::H2, case.words.say(Sentence::Unfunded))?;
     if count == 0 {
-        page.element(Tag::P, case.words.say(Sentence::AllFunded))?;
+        page.element(
+            Tag::P,
+            case.words.say(case.or_no_projects(Sentence::AllFunded)),
+        )?;
         return Ok(page);
     }
     let how = if case.told.mode.stable {
@@ -73,6 +104,7 @@ fn up_to_rows(case: &Case<'_>, count: usize) -> Result<Page, AllocError> {
     };
     page.element(Tag::P, case.words.say(how))?;
     push_orders(&mut page, case)?;
+    push_only_closest(&mut page, case, count)?;
     let columns = [PROJECT, COST, SUPPORTERS, has_column(case), AGAINST_COST];
     begin_table(&mut page, case, Sentence::Unfunded, "projects", &columns)?;
     Ok(page)
@@ -82,6 +114,7 @@ fn up_to_rows(case: &Case<'_>, count: usize) -> Result<Page, AllocError> {
 fn rows(
     case: &Case<'_>,
     figures: &PriceFigures,
+    places: &Places,
     ranked: &[(i128, usize)],
 ) -> Result<Page, AllocError>
     ensures { IfOk result (HasParts amount_piece (map (unfunded_amount (case.now).told.mode.stable) ranked.now)) }
@@ -89,7 +122,7 @@ fn rows(
     let mut page = Page::new(case.words.alloc);
     for one in ranked {
         let j = narrow(one.1);
-        page.append(up_to_amount(case, figures, j)?)?;
+        page.append(up_to_amount(case, figures, places, j)?)?;
         page.figure(has_figure(case, j))?;
         page.append(behind_amount(case, figures, j)?)?;
     }
@@ -118,6 +151,15 @@ fn push_orders(page: &mut Page, case: &Case<'_>) -> Result<(), AllocError> {
     page.close()
 }
 
+// Says that an order is one of the rows that stand here, where others are left out.
+fn push_only_closest(page: &mut Page, case: &Case<'_>, count: usize) -> Result<(), AllocError> {
+    if count <= MOST_ROWS {
+        return Ok(());
+    }
+    let fillings = Fillings::none(case.words.alloc).and_number("count", MOST_ROWS as u64)?;
+    case.say_in(page, Tag::P, "note", Sentence::OnlyClosest, &fillings)
+}
+
 fn push_choice(
     page: &mut Page,
     case: &Case<'_>,
@@ -136,23 +178,18 @@ fn push_choice(
     page.close()
 }
 
-/// The numbers by which the row of a project is put in another order.
-pub(crate) fn order_of(case: &Case<'_>, project: &ProjectMargins) -> Order {
-    let unit = u128::from(case.told.grains_per_unit().max(1));
-    let cost = (project.cost / unit).min(MOST_FOR_ORDER);
-    Order {
-        cost: u32::try_from(cost).unwrap_or(u32::MAX),
-        supporters: project.supporters,
-    }
-}
-
 // The row of a project up to what its supporters have left or can offer. There is nothing for one that isn't there.
-fn up_to_amount(case: &Case<'_>, figures: &PriceFigures, j: u32) -> Result<Page, AllocError> {
+fn up_to_amount(
+    case: &Case<'_>,
+    figures: &PriceFigures,
+    places: &Places,
+    j: u32,
+) -> Result<Page, AllocError> {
     let mut page = Page::new(case.words.alloc);
     let Some(project) = figures.project(j) else {
         return Ok(page);
     };
-    begin_row(&mut page, case, j, order_of(case, project))?;
+    begin_row(&mut page, case, j, Some(places.at(j)))?;
     begin_cell(&mut page, case, COST)?;
     page.figure(Figure::Cost(j))?;
     page.close()?;
@@ -195,18 +232,20 @@ fn push_against(
     project: &ProjectMargins,
 ) -> Result<(), AllocError> {
     let alloc = case.words.alloc;
-    let has = u128::try_from(has(project, case.told.mode.stable)).unwrap_or(0);
-    let is_over = has > project.cost;
-    let look = if is_over { Look::Over } else { Look::Against };
-    let label = bar_label(case, j)?;
-    push_bar(
-        alloc,
-        page,
-        look,
-        &label,
-        length_of(has, project.cost, MARK),
-    )?;
-    push_distance(page, case, j, is_over, has == project.cost)?;
+    let stable = case.told.mode.stable;
+    let missing = missing(project, stable);
+    let look = if missing < 0 {
+        Look::Over
+    } else {
+        Look::Against
+    };
+    let length = length_of(
+        u128::try_from(has(project, stable)).unwrap_or(0),
+        project.cost,
+        MARK,
+    );
+    push_bar(alloc, page, look, &bar_label(case, j)?, length)?;
+    push_distance(page, case, j, missing)?;
     if project.paid != 0 {
         let fillings = Fillings::none(alloc).and_money("paid", Figure::Paid(j))?;
         case.say_in(
@@ -233,15 +272,16 @@ fn bar_label(case: &Case<'_>, j: u32) -> Result<String, AllocError> {
     case.said(sentence, &fillings)
 }
 
+// Adds how far what the supporters have is from the cost, of which they miss so much, or have so much more if that is
+// negative.
 fn push_distance(
     page: &mut Page,
     case: &Case<'_>,
     j: u32,
-    is_over: bool,
-    is_equal: bool,
+    missing: i128,
 ) -> Result<(), AllocError> {
     let none = Fillings::none(case.words.alloc);
-    if is_equal {
+    if missing == 0 {
         return case.say_in(page, Tag::Span, "verdict", Sentence::JustTheCost, &none);
     }
     let off = if case.told.mode.stable {
@@ -250,7 +290,7 @@ fn push_distance(
         Figure::LeftOff(j)
     };
     let fillings = none.and_money("amount", off)?;
-    if !is_over {
+    if missing > 0 {
         return case.say_in(page, Tag::Span, "verdict", Sentence::UnderBy, &fillings);
     }
     page.open_class(Tag::Span, "verdict fails")?;

@@ -13,32 +13,42 @@ pub(crate) fn wording(sentence: Sentence) -> &'static str {
         Sentence::Turnout => "Beteiligung",
         Sentence::Currency => "Beträge in",
         Sentence::WhySupported =>
-            "Jedes geförderte Projekt wird genau bezahlt, und zwar von Abstimmenden, die dafür \
-             sind, aus gleich großen Budgets. Bei keinem anderen Projekt haben die Unterstützenden \
-             zusammen mehr übrig, als es kostet.",
+            "Die Kosten jedes geförderten Projekts sind auf den Cent genau gedeckt, und zwar von \
+             Abstimmenden, die dafür sind, aus gleich großen Budgets. Bei keinem anderen Projekt \
+             haben die Unterstützenden zusammen mehr übrig, als es kostet.",
         Sentence::WhyStable =>
-            "Jedes geförderte Projekt wird genau bezahlt, und zwar von Abstimmenden, die dafür \
-             sind, aus gleich großen Budgets. Bei keinem anderen Projekt könnten die \
-             Unterstützenden mehr bieten, als es kostet, auch nicht, wenn alle dafür auf ein \
-             gefördertes Projekt verzichten.",
+            "Die Kosten jedes geförderten Projekts sind auf den Cent genau gedeckt, und zwar von \
+             Abstimmenden, die dafür sind, aus gleich großen Budgets. Bei keinem anderen Projekt \
+             könnten die Unterstützenden mehr bieten, als es kostet, auch nicht, wenn alle dafür \
+             auf ein gefördertes Projekt verzichten.",
         Sentence::WhyViolation =>
-            "Alle Mitglieder sind für die Projekte, die sie verlangt, und ihr Anteil am \
-             Gesamtbudget würde dafür reichen. Doch von den geförderten Projekten hat jedes \
-             Mitglied weniger, als die verlangten wert sind.",
+            "Alle Mitglieder der Gruppe haben für die verlangten Projekte gestimmt, und der Anteil \
+             der Gruppe am Gesamtbudget würde dafür reichen. Doch von den geförderten Projekten \
+             bekommt jedes Mitglied weniger, als die verlangten wert sind.",
+        Sentence::SaysLittle =>
+            "Doch dieses Ja sagt wenig: Die Budgets aller Abstimmenden ergeben zusammen {budgets}, \
+             und das ist weniger als das Gesamtbudget von {limit}. Jede Gruppe kann also weniger \
+             ausgeben als ihren Anteil am Gesamtbudget, und ob ein weiteres Projekt hineinpasst, \
+             wurde nicht geprüft.",
+        Sentence::SaysLess =>
+            "Doch dieses Ja sagt weniger, als es könnte: Die Budgets aller Abstimmenden ergeben \
+             zusammen {budgets}, und das ist weniger als das Gesamtbudget von {limit}. Jede Gruppe \
+             kann also weniger ausgeben als ihren Anteil am Gesamtbudget.",
         Sentence::AskedPlain =>
-            "Gefragt ist in der einfachen Form: Könnte eine Gruppe ein anderes Projekt aus dem \
-             bezahlen, was sie übrig hat?",
+            "Geprüft wurde die einfache Form: Haben die Unterstützenden eines anderen Projekts \
+             zusammen mehr übrig, als es kostet?",
         Sentence::AskedStable =>
-            "Gefragt ist in der stabilen Form: Könnte eine Gruppe ein anderes Projekt bezahlen, \
-             wenn jedes Mitglied dafür auch auf ein gefördertes verzichten darf?",
+            "Geprüft wurde die stabile Form: Könnten die Unterstützenden eines anderen Projekts \
+             zusammen mehr bieten, als es kostet, wenn alle dafür auch auf ein gefördertes \
+             verzichten dürfen?",
         Sentence::AskedExhaustive =>
-            "Außerdem gefragt: Passt ein weiteres Projekt ins Gesamtbudget?",
+            "Außerdem geprüft: Passt ein weiteres Projekt ins Gesamtbudget?",
         Sentence::UnaskedExhaustive =>
-            "Nicht gefragt: Passt ein weiteres Projekt ins Gesamtbudget?",
+            "Nicht geprüft: Passt ein weiteres Projekt ins Gesamtbudget?",
         Sentence::AskedCover =>
-            "Außerdem gefragt: Ergeben die Budgets aller Abstimmenden mehr als das Gesamtbudget?",
+            "Außerdem geprüft: Ergeben die Budgets aller Abstimmenden mehr als das Gesamtbudget?",
         Sentence::UnaskedCover =>
-            "Nicht gefragt: Ergeben die Budgets aller Abstimmenden mehr als das Gesamtbudget?",
+            "Nicht geprüft: Ergeben die Budgets aller Abstimmenden mehr als das Gesamtbudget?",
         Sentence::AskedByCount => "Gezählt wird nach Projekten: Jedes ist 1 wert.",
         Sentence::AskedByCost => "Gezählt wird nach Kosten: Jedes Projekt ist wert, was es kostet.",
         Sentence::StableToo =>
@@ -70,6 +80,7 @@ pub(crate) fn wording(sentence: Sentence) -> &'static str {
         Sentence::PaymentAt => "Die größte leistet Person {voter} für Projekt {project}: {amount}.",
         Sentence::PaymentHere => "Die größte ist die hier genannte: {amount}.",
         Sentence::SpenderHere => "Mehr gibt keine andere Person aus.",
+        Sentence::VoterRow => "{voter} (Zeile {voter} von VOTES)",
         Sentence::OverBy => "um {amount} darüber",
         Sentence::UnderBy => "um {amount} darunter",
         Sentence::JustTheCost => "genau die Kosten",
@@ -90,18 +101,21 @@ pub(crate) fn wording(sentence: Sentence) -> &'static str {
         Sentence::Funded => "Projekte, die gefördert werden",
         Sentence::AllFunded => "Alle Projekte werden gefördert.",
         Sentence::NoneFunded => "Kein Projekt wird gefördert.",
+        Sentence::NoProjects => "Bei dieser Abstimmung gibt es keine Projekte.",
         Sentence::HowUnfunded =>
-            "Der Balken ist, was die Unterstützenden eines Projekts zusammen übrig haben, und der \
-             Strich, was es kostet. Ein Balken über den Strich hinaus verletzt die Bedingung.",
+            "Der Balken zeigt, was die Unterstützenden eines Projekts zusammen übrig haben, und \
+             der Strich, was es kostet. Ein Balken über den Strich hinaus verletzt die Bedingung.",
         Sentence::HowUnfundedStable =>
-            "Der Balken ist, was die Unterstützenden eines Projekts zusammen bieten könnten, und \
+            "Der Balken zeigt, was die Unterstützenden eines Projekts zusammen bieten könnten, und \
              der Strich, was es kostet. Ein Balken über den Strich hinaus verletzt die Bedingung.",
         Sentence::HowFunded =>
-            "Der Balken ist der Teil des Gesamtbudgets, den ein Projekt braucht.",
+            "Der Balken zeigt den Teil des Gesamtbudgets, den ein Projekt braucht.",
         Sentence::Order => "Reihenfolge",
         Sentence::OrderClosest => "knappste zuerst",
         Sentence::OrderDearest => "teuerste zuerst",
         Sentence::OrderSupporters => "meiste Unterstützende zuerst",
+        Sentence::OnlyClosest =>
+            "Hier stehen nur die {count} knappsten Projekte, gleich welche Reihenfolge Sie wählen.",
         Sentence::Project => "Projekt",
         Sentence::ProjectId => "Projekt {id}",
         Sentence::Cost => "Kosten",
@@ -109,10 +123,10 @@ pub(crate) fn wording(sentence: Sentence) -> &'static str {
         Sentence::HaveLeft => "Sie haben übrig",
         Sentence::CanOffer => "Sie könnten bieten",
         Sentence::AgainstCost => "Gemessen an den Kosten",
-        Sentence::CostPerSupporter => "Kosten je Unterstützende",
+        Sentence::CostPerSupporter => "Kosten pro unterstützender Person",
         Sentence::PartOfLimit => "Teil des Gesamtbudgets",
         Sentence::MoreThanWhole => "mehr als das Ganze",
-        Sentence::PaidExactly => "genau bezahlt",
+        Sentence::PaidExactly => "auf den Cent genau gedeckt",
         Sentence::PaidOver => "{paid} bezahlt, um {amount} zu viel",
         Sentence::PaidUnder => "{paid} bezahlt, um {amount} zu wenig",
         Sentence::PaidInVain => "{paid} vergeblich bezahlt",
@@ -130,14 +144,14 @@ pub(crate) fn wording(sentence: Sentence) -> &'static str {
         Sentence::GroupShare => "Ihr Anteil am Gesamtbudget",
         Sentence::DemandCost => "Kosten des Verlangten",
         Sentence::BarShare =>
-            "Der Anteil der Gruppe am Gesamtbudget; der Strich ist, was die verlangten Projekte \
+            "Der Anteil der Gruppe am Gesamtbudget; der Strich zeigt, was die verlangten Projekte \
              kosten.",
         Sentence::BarGets =>
-            "Das meiste, was ein Mitglied von den geförderten Projekten hat; der Strich ist der \
-             Wert der verlangten.",
+            "Das meiste, was ein Mitglied von den geförderten Projekten bekommt; der Strich zeigt \
+             den Wert der verlangten.",
         Sentence::BarEnough =>
-            "Was Person {voter} von den geförderten Projekten hat; der Strich ist der Wert der \
-             verlangten.",
+            "Was Person {voter} von den geförderten Projekten bekommt; der Strich zeigt den Wert \
+             der verlangten.",
         Sentence::AmountOfAmount => "{amount} gegenüber {bound}",
         Sentence::Demand => "Was die Gruppe verlangt",
         Sentence::NoDemand => "Die Gruppe verlangt nichts.",
@@ -149,20 +163,22 @@ pub(crate) fn wording(sentence: Sentence) -> &'static str {
         Sentence::Tests => "Die Prüfungen im Einzelnen",
         Sentence::Holds => "erfüllt",
         Sentence::Fails => "verletzt",
-        Sentence::NotAsked => "nicht gefragt",
+        Sentence::NotAsked => "nicht geprüft",
+        Sentence::TestHolds => "erfüllt",
+        Sentence::TestFails => "nicht erfüllt",
         Sentence::NameFeasible => "Im Gesamtbudget",
         Sentence::NameExhaustive => "Nichts mehr bezahlbar",
         Sentence::NameCover => "Budgets über dem Gesamtbudget",
         Sentence::NameC1 => "Nur für Unterstütztes bezahlt",
         Sentence::NameC2 => "Im Budget jeder Person",
-        Sentence::NameC3 => "Genau bezahlt",
+        Sentence::NameC3 => "Auf den Cent genau gedeckt",
         Sentence::NameC4 => "Nichts vergeblich bezahlt",
-        Sentence::NameC5 => "Keine Gruppe könnte mehr bezahlen",
+        Sentence::NameC5 => "Unterstützende haben nicht mehr übrig als die Kosten",
         Sentence::NameS5 => "Keine Gruppe hätte lieber ein anderes Projekt",
         Sentence::NameV1 => "Die Gruppe hat Mitglieder",
         Sentence::NameV2 => "Alle Mitglieder wollen dasselbe",
         Sentence::NameV3 => "Die Gruppe ist groß genug",
-        Sentence::NameV4 => "Niemand darin hat so viel",
+        Sentence::NameV4 => "Kein Mitglied bekommt so viel",
         Sentence::AsksFeasible =>
             "Die geförderten Projekte dürfen zusammen nicht mehr kosten als das Gesamtbudget. \
              Mehr, als da ist, kann niemand versprechen.",
@@ -196,19 +212,22 @@ pub(crate) fn wording(sentence: Sentence) -> &'static str {
             "Der Anteil der Gruppe am Gesamtbudget, nach der Zahl ihrer Mitglieder, deckt, was sie \
              verlangt. Mehr, als ihr zusteht, darf sie nicht verlangen.",
         Sentence::AsksV4 =>
-            "Jedes Mitglied hat von den geförderten Projekten weniger, als die verlangten wert \
-             sind. Eine Gruppe, in der jemand so viel hat, wurde gehört.",
+            "Jedes Mitglied bekommt von den geförderten Projekten weniger, als die verlangten wert \
+             sind. Eine Gruppe, in der jemand so viel oder mehr bekommt, wurde gehört.",
         Sentence::FoundFeasible =>
             "Die geförderten Projekte kosten zusammen {total}; das Gesamtbudget ist {limit}.",
         Sentence::BrokenFeasible =>
             "Die geförderten Projekte kosten zusammen {total}, und das ist mehr als das \
              Gesamtbudget von {limit}.",
         Sentence::FoundExhaustive =>
-            "Vom Gesamtbudget sind {left} übrig. Das billigste nicht geförderte Projekt, \
+            "Vom Gesamtbudget bleibt ein Rest von {left}. Das billigste nicht geförderte Projekt, \
              {project}, kostet {cost}.",
+        Sentence::NothingFits =>
+            "Die geförderten Projekte allein kosten mehr als das Gesamtbudget, also passt kein \
+             anderes hinein.",
         Sentence::BrokenExhaustive =>
-            "Vom Gesamtbudget sind {left} übrig, und Projekt {project} würde noch hineinpassen: Es \
-             kostet {cost}.",
+            "Vom Gesamtbudget bleibt ein Rest von {left}, und Projekt {project} würde noch \
+             hineinpassen: Es kostet {cost}.",
         Sentence::FoundCover =>
             "Die Budgets aller Abstimmenden ergeben zusammen {budgets}; das Gesamtbudget ist \
              {limit}.",
@@ -224,11 +243,13 @@ pub(crate) fn wording(sentence: Sentence) -> &'static str {
         Sentence::BrokenC2 =>
             "Person {voter} gibt {spent} aus, und das ist mehr als das Budget von {budget}.",
         Sentence::NoVoters => "Es gibt keine Abstimmenden.",
-        Sentence::FoundC3 => "Jedes geförderte Projekt wird genau bezahlt.",
-        Sentence::BrokenC3 => "Projekt {project} kostet {cost}, und dafür werden {paid} bezahlt.",
+        Sentence::FoundC3 =>
+            "Die Kosten jedes geförderten Projekts sind auf den Cent genau gedeckt.",
+        Sentence::BrokenC3 =>
+            "Projekt {project} kostet {cost}, und der dafür bezahlte Betrag ist {paid}.",
         Sentence::FoundC4 => "Für nicht geförderte Projekte wird nichts bezahlt.",
         Sentence::BrokenC4 =>
-            "Projekt {project} wird nicht gefördert, und dafür werden {paid} bezahlt.",
+            "Projekt {project} wird nicht gefördert, und der dafür bezahlte Betrag ist {paid}.",
         Sentence::FoundC5 =>
             "Am nächsten kommt Projekt {project}: Seine Unterstützenden haben zusammen {left} \
              übrig, und es kostet {cost}.",
@@ -240,8 +261,8 @@ pub(crate) fn wording(sentence: Sentence) -> &'static str {
              bieten, und es kostet {cost}.",
         Sentence::BrokenS5 =>
             "Die Unterstützenden von Projekt {project} könnten zusammen {offer} bieten, jede \
-             Person aus dem, was sie übrig hat, oder durch Verzicht auf ein gefördertes Projekt. \
-             Das ist mehr als seine Kosten von {cost}.",
+             Person das, was sie übrig hat, oder ihre größte Zahlung für ein Projekt. Das ist mehr \
+             als seine Kosten von {cost}.",
         Sentence::FoundV1 => "Mitglieder der Gruppe: {members}. Abstimmende insgesamt: {voters}.",
         Sentence::BrokenV1 => "Die Gruppe hat keine Mitglieder.",
         Sentence::FoundV2 => "Jedes Mitglied ist für jedes verlangte Projekt.",
@@ -255,12 +276,12 @@ pub(crate) fn wording(sentence: Sentence) -> &'static str {
             "Der Anteil der Gruppe am Gesamtbudget ist nur {share}, und die verlangten Projekte \
              kosten zusammen {cost}.",
         Sentence::FoundV4 =>
-            "Kein Mitglied hat von den geförderten Projekten mehr als {gets}; die verlangten sind \
-             zusammen {demanded} wert.",
+            "Kein Mitglied bekommt von den geförderten Projekten mehr als {gets}; die verlangten \
+             sind zusammen {demanded} wert.",
         Sentence::BrokenV4 =>
-            "Person {voter} gehört zur Gruppe und hat von den geförderten Projekten {gets}; die \
-             verlangten sind zusammen {demanded} wert.",
-        Sentence::NotSaid => "Was das nicht heißt",
+            "Person {voter} gehört zur Gruppe und bekommt von den geförderten Projekten {gets}, \
+             also so viel, wie die verlangten zusammen wert sind ({demanded}), oder mehr.",
+        Sentence::NotSaid => "Was daraus nicht folgt",
         Sentence::NotSaidOthers =>
             "Ob andere Projekte ebenso gerecht gewesen wären. Oft lassen sich mehrere Ergebnisse \
              stützen.",
@@ -279,37 +300,42 @@ pub(crate) fn wording(sentence: Sentence) -> &'static str {
              Prüfsummen mit den veröffentlichten.",
         Sentence::Claim => "Was Sie öffentlich sagen können",
         Sentence::ClaimSupported =>
-            "Es gibt Preise, die dieses Ergebnis stützen: Jedes geförderte Projekt wird von \
-             Abstimmenden, die dafür sind, aus gleich großen Budgets genau bezahlt, und keine \
-             Gruppe von Unterstützenden hat mehr übrig, als ein anderes Projekt kostet.",
+            "Es gibt Preise, die dieses Ergebnis stützen: Die Kosten jedes geförderten Projekts \
+             sind von Abstimmenden, die dafür sind, aus gleich großen Budgets auf den Cent genau \
+             gedeckt, und keine Gruppe von Unterstützenden hat mehr übrig, als ein anderes Projekt \
+             kostet.",
         Sentence::ClaimStable =>
-            "Es gibt stabile Preise, die dieses Ergebnis stützen: Jedes geförderte Projekt wird \
-             von Abstimmenden, die dafür sind, aus gleich großen Budgets genau bezahlt, und keine \
-             Gruppe würde lieber für ein anderes Projekt zahlen.",
+            "Es gibt stabile Preise, die dieses Ergebnis stützen: Die Kosten jedes geförderten \
+             Projekts sind von Abstimmenden, die dafür sind, aus gleich großen Budgets auf den \
+             Cent genau gedeckt, und keine Gruppe würde lieber für ein anderes Projekt zahlen.",
         Sentence::ClaimNotSupported =>
             "Diese Zahlungen stützen das Ergebnis nicht. Mehr lässt sich nicht sagen: Andere \
              können es stützen.",
         Sentence::ClaimPlain =>
             "Diese Preise stützen dieses Ergebnis in der einfachen Form, aber nicht in der \
-             stabilen: Jedes geförderte Projekt wird von Abstimmenden, die dafür sind, aus gleich \
-             großen Budgets genau bezahlt, und keine Gruppe von Unterstützenden hat mehr übrig, \
-             als ein anderes Projekt kostet.",
-        Sentence::ClaimOutcome => "Das Ergebnis verletzt eine Bedingung, gleich welche Zahlungen.",
+             stabilen: Die Kosten jedes geförderten Projekts sind von Abstimmenden, die dafür \
+             sind, aus gleich großen Budgets auf den Cent genau gedeckt, und keine Gruppe von \
+             Unterstützenden hat mehr übrig, als ein anderes Projekt kostet.",
+        Sentence::ClaimOutcome =>
+            "Das Ergebnis verletzt eine Bedingung, unabhängig von den Zahlungen.",
         Sentence::ClaimViolation =>
             "Das Ergebnis behandelt eine Gruppe von Abstimmenden schlechter, als ihr zusteht: Es \
-             verfehlt die erweiterte gerechtfertigte Vertretung (EJR).",
+             verletzt Extended Justified Representation (EJR).",
+        Sentence::ClaimByCount => "Das gilt, wenn nach Projekten gezählt wird: Jedes ist 1 wert.",
+        Sentence::ClaimByCost =>
+            "Das gilt, wenn nach Kosten gezählt wird: Jedes Projekt ist wert, was es kostet.",
         Sentence::ClaimNoViolation =>
             "Dieses Zertifikat zeigt keine Verletzung. Es zeigt nicht, dass es keine gibt.",
         Sentence::ClaimHow =>
             "Nennen Sie die Dateien mit ihren Prüfsummen, damit es jeder nachprüfen kann.",
-        Sentence::Words => "Wörter auf dieser Seite",
+        Sentence::Words => "Begriffe auf dieser Seite",
         Sentence::WordCertificate => "Zertifikat",
         Sentence::MeansCertificate =>
             "Eine Datei, die die Gründe einer Antwort so nennt, dass sie jeder nachprüfen kann.",
         Sentence::WordPrices => "Preise",
         Sentence::MeansPrices =>
             "Ein gleich großes Budget für alle, und was jede Person für jedes Projekt zahlt. \
-             Niemand zahlt wirklich: So lässt sich sagen, wer was trägt.",
+             Niemand zahlt wirklich: So lässt sich sagen, wer welche Kosten trägt.",
         Sentence::WordSupporter => "Unterstützende",
         Sentence::MeansSupporter => "Alle, auf deren Stimmzettel das Projekt steht.",
         Sentence::WordLeftover => "Übrig",
@@ -330,6 +356,11 @@ pub(crate) fn wording(sentence: Sentence) -> &'static str {
         Sentence::Bytes(Plural::One) => "{count} Byte",
         Sentence::Bytes(Plural::Few | Plural::Many) => "{count} Bytes",
         Sentence::CheckProgram => "Mit dem Programm pbaudit:",
+        Sentence::CheckByHand =>
+            "Mit dem Programm pbaudit: Geben Sie diese Dateien seinem Befehl explain. Er steht \
+             hier nicht ausgeschrieben, weil der Name einer Datei zu lang ist, Zeichen hat, die \
+             ein Befehl nicht zeigen kann, oder auch der einer anderen ist.",
+        Sentence::CheckOptions => "Seine Optionen: {options}.",
         Sentence::CheckAnswer => "Es antwortet:",
         Sentence::CheckBrowser =>
             "Im Browser: Öffnen Sie pbaudit.html, und geben Sie der Seite diese Dateien. Sie verlassen \

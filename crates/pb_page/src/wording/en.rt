@@ -23,11 +23,20 @@ pub(crate) fn wording(sentence: Sentence) -> &'static str {
             "All its members approve the projects that it demands, and its share of the limit \
              would pay for them. Yet from the funded projects each member gets less than the \
              demanded ones are worth.",
+        Sentence::SaysLittle =>
+            "But this yes says little: the budgets of all voters come to {budgets} together, which \
+             is less than the limit of {limit}. So each group has less to spend than its share of \
+             the limit, and whether a further project fits into the limit wasn’t asked.",
+        Sentence::SaysLess =>
+            "But this yes says less than it could: the budgets of all voters come to {budgets} \
+             together, which is less than the limit of {limit}. So each group has less to spend \
+             than its share of the limit.",
         Sentence::AskedPlain =>
-            "Asked in the plain form: could a group pay for another project from what it has left?",
+            "Asked in the plain form: do the supporters of another project have more left together \
+             than it costs?",
         Sentence::AskedStable =>
-            "Asked in the stable form: could a group pay for another project if each member may \
-             also give up a funded one for it?",
+            "Asked in the stable form: could the supporters of another project offer more together \
+             than it costs, if each may also give up a funded one for it?",
         Sentence::AskedExhaustive => "Also asked: does a further project fit into the limit?",
         Sentence::UnaskedExhaustive => "Not asked: does a further project fit into the limit?",
         Sentence::AskedCover =>
@@ -65,6 +74,7 @@ pub(crate) fn wording(sentence: Sentence) -> &'static str {
         Sentence::PaymentAt => "The largest is by voter {voter} for project {project}: {amount}.",
         Sentence::PaymentHere => "The largest is the one named here: {amount}.",
         Sentence::SpenderHere => "No other voter spends more.",
+        Sentence::VoterRow => "{voter} (row {voter} of VOTES)",
         Sentence::OverBy => "over by {amount}",
         Sentence::UnderBy => "under by {amount}",
         Sentence::JustTheCost => "exactly the cost",
@@ -85,6 +95,7 @@ pub(crate) fn wording(sentence: Sentence) -> &'static str {
         Sentence::Funded => "Projects that were funded",
         Sentence::AllFunded => "Every project was funded.",
         Sentence::NoneFunded => "No project was funded.",
+        Sentence::NoProjects => "The election has no projects.",
         Sentence::HowUnfunded =>
             "The bar is what the supporters of a project have left together, and the line is what \
              the project costs. A bar that passes the line breaks the condition.",
@@ -96,6 +107,8 @@ pub(crate) fn wording(sentence: Sentence) -> &'static str {
         Sentence::OrderClosest => "closest first",
         Sentence::OrderDearest => "dearest first",
         Sentence::OrderSupporters => "most supporters first",
+        Sentence::OnlyClosest =>
+            "Only the {count} closest projects stand here, whichever order you choose.",
         Sentence::Project => "Project",
         Sentence::ProjectId => "project {id}",
         Sentence::Cost => "Cost",
@@ -143,6 +156,8 @@ pub(crate) fn wording(sentence: Sentence) -> &'static str {
         Sentence::Holds => "holds",
         Sentence::Fails => "fails",
         Sentence::NotAsked => "not asked",
+        Sentence::TestHolds => "holds",
+        Sentence::TestFails => "fails",
         Sentence::NameFeasible => "Within the limit",
         Sentence::NameExhaustive => "Nothing left affordable",
         Sentence::NameCover => "Budgets beyond the limit",
@@ -150,7 +165,7 @@ pub(crate) fn wording(sentence: Sentence) -> &'static str {
         Sentence::NameC2 => "Within each voter’s budget",
         Sentence::NameC3 => "Paid for exactly",
         Sentence::NameC4 => "Nothing paid in vain",
-        Sentence::NameC5 => "No group could pay for more",
+        Sentence::NameC5 => "Supporters have no more left than the cost",
         Sentence::NameS5 => "No group would rather have another project",
         Sentence::NameV1 => "The group has members",
         Sentence::NameV2 => "All members want the same",
@@ -189,7 +204,7 @@ pub(crate) fn wording(sentence: Sentence) -> &'static str {
              may ask for no more than its due.",
         Sentence::AsksV4 =>
             "Each member gets less from the funded projects than the demanded ones are worth. A \
-             group in which one member gets as much was heard.",
+             group in which one member gets as much or more was heard.",
         Sentence::FoundFeasible =>
             "The funded projects cost {total} together; the limit is {limit}.",
         Sentence::BrokenFeasible =>
@@ -197,6 +212,8 @@ pub(crate) fn wording(sentence: Sentence) -> &'static str {
         Sentence::FoundExhaustive =>
             "{left} of the limit is left. The cheapest project that wasn’t funded, {project}, \
              costs {cost}.",
+        Sentence::NothingFits =>
+            "The funded projects alone cost more than the limit, so no other one fits.",
         Sentence::BrokenExhaustive =>
             "{left} of the limit is left, and project {project} would still fit: it costs {cost}.",
         Sentence::FoundCover =>
@@ -225,8 +242,8 @@ pub(crate) fn wording(sentence: Sentence) -> &'static str {
             "Project {project} comes closest: its supporters could offer {offer} together, and it \
              costs {cost}.",
         Sentence::BrokenS5 =>
-            "The supporters of project {project} could offer {offer} together, each from what is \
-             left or by giving up a funded project. That is more than its cost of {cost}.",
+            "The supporters of project {project} could offer {offer} together, each what is left \
+             or the largest payment for one project. That is more than its cost of {cost}.",
         Sentence::FoundV1 => "Members of the group: {members}. Voters in all: {voters}.",
         Sentence::BrokenV1 => "The group has no members.",
         Sentence::FoundV2 => "Each member approves each demanded project.",
@@ -243,8 +260,8 @@ pub(crate) fn wording(sentence: Sentence) -> &'static str {
             "No member gets more than {gets} from the funded projects; the demanded ones are worth \
              {demanded} together.",
         Sentence::BrokenV4 =>
-            "Voter {voter} is in the group and gets {gets} from the funded projects; the demanded \
-             ones are worth {demanded} together.",
+            "Voter {voter} is in the group and gets {gets} from the funded projects, as much as \
+             the demanded ones are worth together ({demanded}) or more.",
         Sentence::NotSaid => "What this doesn’t say",
         Sentence::NotSaidOthers =>
             "Whether other projects would have been as fair. Several outcomes can be supported.",
@@ -280,6 +297,8 @@ pub(crate) fn wording(sentence: Sentence) -> &'static str {
         Sentence::ClaimViolation =>
             "The outcome treats a group of voters worse than it deserves: it fails extended \
              justified representation (EJR).",
+        Sentence::ClaimByCount => "This is so by counting: each project is worth 1.",
+        Sentence::ClaimByCost => "This is so by cost: each project is worth what it costs.",
         Sentence::ClaimNoViolation =>
             "This certificate shows no violation. It doesn’t show that there is none.",
         Sentence::ClaimHow =>
@@ -313,6 +332,11 @@ pub(crate) fn wording(sentence: Sentence) -> &'static str {
         Sentence::Bytes(Plural::One) => "{count} byte",
         Sentence::Bytes(Plural::Few | Plural::Many) => "{count} bytes",
         Sentence::CheckProgram => "By the program pbaudit:",
+        Sentence::CheckByHand =>
+            "By the program pbaudit: give these files to its command explain. It isn’t written out \
+             here, because the name of one of them is too long, has characters that a command \
+             can’t show, or is that of another.",
+        Sentence::CheckOptions => "Its options: {options}.",
         Sentence::CheckAnswer => "It answers:",
         Sentence::CheckBrowser =>
             "In a browser: open pbaudit.html and give it these files. They don’t leave your computer.",

@@ -24,12 +24,21 @@ pub(crate) fn wording(sentence: Sentence) -> &'static str {
             "Tous ses membres approuvent les projets qu’il demande, et sa part de l’enveloppe \
              suffirait à les payer. Pourtant, ce que chaque membre obtient grâce aux projets \
              financés vaut moins que les projets demandés.",
+        Sentence::SaysLittle =>
+            "Mais ce oui dit peu\u{a0}: les budgets de tous les votants font ensemble {budgets}, \
+             moins que l’enveloppe de {limit}. Chaque groupe a donc moins à dépenser que sa part \
+             de l’enveloppe, et on n’a pas demandé si un projet de plus y tient.",
+        Sentence::SaysLess =>
+            "Mais ce oui dit moins qu’il ne pourrait\u{a0}: les budgets de tous les votants font \
+             ensemble {budgets}, moins que l’enveloppe de {limit}. Chaque groupe a donc moins à \
+             dépenser que sa part de l’enveloppe.",
         Sentence::AskedPlain =>
-            "Question posée sous la forme simple\u{a0}: un groupe pourrait-il payer un autre \
-             projet avec ce qui lui reste\u{202f}?",
+            "Question posée sous la forme simple\u{a0}: reste-t-il ensemble aux soutiens d’un \
+             autre projet plus que son coût\u{202f}?",
         Sentence::AskedStable =>
-            "Question posée sous la forme stable\u{a0}: un groupe pourrait-il payer un autre \
-             projet si chacun peut aussi renoncer pour lui à un projet financé\u{202f}?",
+            "Question posée sous la forme stable\u{a0}: les soutiens d’un autre projet \
+             pourraient-ils offrir ensemble plus que son coût, si chacun peut aussi renoncer pour \
+             lui à un projet financé\u{202f}?",
         Sentence::AskedExhaustive =>
             "Autre question\u{a0}: un projet de plus tient-il dans l’enveloppe\u{202f}?",
         Sentence::UnaskedExhaustive =>
@@ -75,6 +84,7 @@ pub(crate) fn wording(sentence: Sentence) -> &'static str {
             "Le plus grand est celui du votant {voter} pour le projet {project}\u{a0}: {amount}.",
         Sentence::PaymentHere => "Le plus grand est celui qui est nommé ici\u{a0}: {amount}.",
         Sentence::SpenderHere => "Aucun autre votant ne dépense plus.",
+        Sentence::VoterRow => "{voter} (ligne {voter} de VOTES)",
         Sentence::OverBy => "{amount} de plus",
         Sentence::UnderBy => "{amount} de moins",
         Sentence::JustTheCost => "exactement le coût",
@@ -88,13 +98,14 @@ pub(crate) fn wording(sentence: Sentence) -> &'static str {
         Sentence::LimitLeft => "{amount} de reste",
         Sentence::LimitOver => "{amount} au-delà de l’enveloppe",
         Sentence::OfTheBudgets => "Budgets de tous les votants, {budgets} au total",
-        Sentence::BudgetsSpent => "{amount} dépensés",
+        Sentence::BudgetsSpent => "{amount} de dépenses",
         Sentence::BudgetsLeft => "{amount} de reste",
         Sentence::BudgetsOver => "{amount} au-delà des budgets",
         Sentence::Unfunded => "Projets non financés",
         Sentence::Funded => "Projets financés",
         Sentence::AllFunded => "Tous les projets sont financés.",
         Sentence::NoneFunded => "Aucun projet n’est financé.",
+        Sentence::NoProjects => "Le vote n’a pas de projets.",
         Sentence::HowUnfunded =>
             "La barre est ce qui reste ensemble aux soutiens d’un projet, et le trait ce que le \
              projet coûte. Une barre qui dépasse le trait viole la condition.",
@@ -106,6 +117,8 @@ pub(crate) fn wording(sentence: Sentence) -> &'static str {
         Sentence::OrderClosest => "les plus proches d’abord",
         Sentence::OrderDearest => "les plus chers d’abord",
         Sentence::OrderSupporters => "les plus soutenus d’abord",
+        Sentence::OnlyClosest =>
+            "Seuls les {count} projets les plus proches figurent ici, quel que soit l’ordre choisi.",
         Sentence::Project => "Projet",
         Sentence::ProjectId => "projet {id}",
         Sentence::Cost => "Coût",
@@ -117,9 +130,9 @@ pub(crate) fn wording(sentence: Sentence) -> &'static str {
         Sentence::PartOfLimit => "Part de l’enveloppe",
         Sentence::MoreThanWhole => "plus que la totalité",
         Sentence::PaidExactly => "payé exactement",
-        Sentence::PaidOver => "{paid} payés, soit {amount} de trop",
-        Sentence::PaidUnder => "{paid} payés, soit {amount} de moins",
-        Sentence::PaidInVain => "{paid} payés en vain",
+        Sentence::PaidOver => "payé {paid}, soit {amount} de trop",
+        Sentence::PaidUnder => "payé {paid}, soit {amount} de moins",
+        Sentence::PaidInVain => "payé {paid} en vain",
         Sentence::LabelLeft =>
             "{project}\u{a0}: il reste {amount} aux soutiens, et le coût est de {cost}",
         Sentence::LabelOffer =>
@@ -154,6 +167,8 @@ pub(crate) fn wording(sentence: Sentence) -> &'static str {
         Sentence::Holds => "respectée",
         Sentence::Fails => "violée",
         Sentence::NotAsked => "non demandée",
+        Sentence::TestHolds => "respecté",
+        Sentence::TestFails => "violé",
         Sentence::NameFeasible => "Dans l’enveloppe",
         Sentence::NameExhaustive => "Plus rien d’abordable",
         Sentence::NameCover => "Budgets au-delà de l’enveloppe",
@@ -161,7 +176,7 @@ pub(crate) fn wording(sentence: Sentence) -> &'static str {
         Sentence::NameC2 => "Dans le budget de chaque votant",
         Sentence::NameC3 => "Payés exactement",
         Sentence::NameC4 => "Rien n’est payé en vain",
-        Sentence::NameC5 => "Aucun groupe ne pourrait payer plus",
+        Sentence::NameC5 => "Aux soutiens il ne reste pas plus que le coût",
         Sentence::NameS5 => "Aucun groupe ne préférerait un autre projet",
         Sentence::NameV1 => "Le groupe a des membres",
         Sentence::NameV2 => "Tous les membres veulent la même chose",
@@ -200,7 +215,7 @@ pub(crate) fn wording(sentence: Sentence) -> &'static str {
              demande. Il ne peut demander plus que son dû.",
         Sentence::AsksV4 =>
             "Ce que chaque membre obtient grâce aux projets financés vaut moins que les projets \
-             demandés. Un groupe où quelqu’un obtient autant a été entendu.",
+             demandés. Un groupe où quelqu’un obtient autant ou plus a été entendu.",
         Sentence::FoundFeasible =>
             "Les projets financés coûtent ensemble {total}\u{202f}; l’enveloppe est de {limit}.",
         Sentence::BrokenFeasible =>
@@ -208,6 +223,9 @@ pub(crate) fn wording(sentence: Sentence) -> &'static str {
         Sentence::FoundExhaustive =>
             "Il reste {left} de l’enveloppe. Le projet non financé le moins cher, {project}, coûte \
              {cost}.",
+        Sentence::NothingFits =>
+            "Les projets financés coûtent à eux seuls plus que l’enveloppe, si bien qu’aucun autre \
+             n’y tient.",
         Sentence::BrokenExhaustive =>
             "Il reste {left} de l’enveloppe, et le projet {project} y tiendrait encore\u{a0}: il \
              coûte {cost}.",
@@ -226,10 +244,11 @@ pub(crate) fn wording(sentence: Sentence) -> &'static str {
             "Le votant {voter} dépense {spent}, ce qui dépasse le budget de {budget}.",
         Sentence::NoVoters => "Il n’y a pas de votants.",
         Sentence::FoundC3 => "Chaque projet financé est payé exactement.",
-        Sentence::BrokenC3 => "Le projet {project} coûte {cost}, et {paid} sont payés pour lui.",
+        Sentence::BrokenC3 =>
+            "Le projet {project} coûte {cost}, et le montant payé pour lui est de {paid}.",
         Sentence::FoundC4 => "Rien n’est payé pour un projet non financé.",
         Sentence::BrokenC4 =>
-            "Le projet {project} n’est pas financé, et {paid} sont payés pour lui.",
+            "Le projet {project} n’est pas financé, et le montant payé pour lui est de {paid}.",
         Sentence::FoundC5 =>
             "Le projet {project} est le plus proche\u{a0}: il reste ensemble {left} à ses \
              soutiens, et il coûte {cost}.",
@@ -240,8 +259,9 @@ pub(crate) fn wording(sentence: Sentence) -> &'static str {
             "Le projet {project} est le plus proche\u{a0}: ses soutiens pourraient offrir ensemble \
              {offer}, et il coûte {cost}.",
         Sentence::BrokenS5 =>
-            "Les soutiens du projet {project} pourraient offrir ensemble {offer}, chacun sur ce \
-             qui lui reste ou en renonçant à un projet financé. C’est plus que son coût de {cost}.",
+            "Les soutiens du projet {project} pourraient offrir ensemble {offer}, chacun ce qui \
+             lui reste ou son plus grand paiement pour un projet. C’est plus que son coût de \
+             {cost}.",
         Sentence::FoundV1 =>
             "Membres du groupe\u{a0}: {members}. Votants au total\u{a0}: {voters}.",
         Sentence::BrokenV1 => "Le groupe n’a pas de membres.",
@@ -300,6 +320,9 @@ pub(crate) fn wording(sentence: Sentence) -> &'static str {
         Sentence::ClaimViolation =>
             "Le résultat traite un groupe de votants moins bien qu’il ne le mérite\u{a0}: il ne \
              respecte pas la représentation justifiée étendue (EJR).",
+        Sentence::ClaimByCount => "Cela vaut si l’on compte les projets\u{a0}: chacun vaut 1.",
+        Sentence::ClaimByCost =>
+            "Cela vaut si l’on compte les coûts\u{a0}: chaque projet vaut ce qu’il coûte.",
         Sentence::ClaimNoViolation =>
             "Ce certificat ne montre pas de violation. Il ne montre pas qu’il n’y en a pas.",
         Sentence::ClaimHow =>
@@ -333,6 +356,11 @@ pub(crate) fn wording(sentence: Sentence) -> &'static str {
         Sentence::Bytes(Plural::One) => "{count} octet",
         Sentence::Bytes(Plural::Few | Plural::Many) => "{count} octets",
         Sentence::CheckProgram => "Avec le programme pbaudit\u{a0}:",
+        Sentence::CheckByHand =>
+            "Avec le programme pbaudit\u{a0}: donnez ces fichiers à sa commande explain. Elle \
+             n’est pas écrite ici en entier, car le nom de l’un d’eux est trop long, a des \
+             caractères qu’une commande ne peut montrer, ou est aussi celui d’un autre.",
+        Sentence::CheckOptions => "Ses options\u{a0}: {options}.",
         Sentence::CheckAnswer => "Il répond\u{a0}:",
         Sentence::CheckBrowser =>
             "Dans un navigateur\u{a0}: ouvrez pbaudit.html et donnez-lui ces fichiers. Ils ne \

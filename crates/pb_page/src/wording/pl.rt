@@ -13,46 +13,54 @@ pub(crate) fn wording(sentence: Sentence) -> &'static str {
         Sentence::Turnout => "Frekwencja",
         Sentence::Currency => "Kwoty w",
         Sentence::WhySupported =>
-            "Każdy wybrany projekt jest dokładnie opłacony przez głosujących, którzy go popierają, \
-             z równych budżetów. Zwolennikom żadnego innego projektu nie zostało łącznie więcej, \
-             niż on kosztuje.",
+            "Każdy wybrany projekt jest opłacony co do grosza przez głosujących, którzy go \
+             popierają, z równych budżetów. Zwolennikom żadnego innego projektu nie zostało \
+             łącznie więcej, niż on kosztuje.",
         Sentence::WhyStable =>
-            "Każdy wybrany projekt jest dokładnie opłacony przez głosujących, którzy go popierają, \
-             z równych budżetów. Zwolennicy żadnego innego projektu nie mogliby zaoferować więcej, \
-             niż on kosztuje, nawet gdyby każdy zrezygnował dla niego z jednego wybranego \
-             projektu.",
+            "Każdy wybrany projekt jest opłacony co do grosza przez głosujących, którzy go \
+             popierają, z równych budżetów. Zwolennicy żadnego innego projektu nie mogliby \
+             zaoferować więcej, niż on kosztuje, nawet gdyby każdy zrezygnował dla niego z jednego \
+             wybranego projektu.",
         Sentence::WhyViolation =>
-            "Wszyscy jej członkowie popierają projekty, których grupa żąda, a jej część puli by na \
-             nie wystarczyła. Mimo to każdy członek dostaje z wybranych projektów mniej, niż warte \
-             są żądane.",
+            "Wszyscy jej członkowie popierają projekty, których grupa żąda, a przypadająca jej \
+             część puli wystarczyłaby na nie. Mimo to każdy członek dostaje z wybranych projektów \
+             mniej, niż warte są żądane.",
+        Sentence::SaysLittle =>
+            "Ta odpowiedź mówi jednak niewiele: budżety wszystkich głosujących dają razem \
+             {budgets}, a to mniej niż pula {limit}. Każda grupa może więc wydać mniej, niż wynosi \
+             jej część puli, a czy w puli zmieściłby się kolejny projekt, nie sprawdzano.",
+        Sentence::SaysLess =>
+            "Ta odpowiedź mówi jednak mniej, niż mogłaby: budżety wszystkich głosujących dają \
+             razem {budgets}, a to mniej niż pula {limit}. Każda grupa może więc wydać mniej, niż \
+             wynosi jej część puli.",
         Sentence::AskedPlain =>
-            "Pytanie w postaci zwykłej: czy jakąś grupę stać na inny projekt z tego, co jej \
-             zostało?",
+            "Sprawdzono w wersji podstawowej: czy zwolennikom innego projektu zostało łącznie \
+             więcej, niż on kosztuje?",
         Sentence::AskedStable =>
-            "Pytanie w postaci stabilnej: czy jakąś grupę stać na inny projekt, jeśli każdy może \
-             też zrezygnować dla niego z jednego wybranego?",
-        Sentence::AskedExhaustive =>
-            "Pytanie dodatkowe: czy w puli zmieściłby się kolejny projekt?",
-        Sentence::UnaskedExhaustive => "Nie pytano, czy w puli zmieściłby się kolejny projekt.",
+            "Sprawdzono w wersji stabilnej: czy zwolennicy innego projektu mogliby łącznie \
+             zaoferować więcej, niż on kosztuje, jeśli każdy może też zrezygnować dla niego z \
+             jednego wybranego?",
+        Sentence::AskedExhaustive => "Sprawdzono też: czy w puli zmieściłby się kolejny projekt?",
+        Sentence::UnaskedExhaustive => "Nie sprawdzano, czy w puli zmieściłby się kolejny projekt.",
         Sentence::AskedCover =>
-            "Pytanie dodatkowe: czy budżety wszystkich głosujących dają razem więcej niż pula?",
+            "Sprawdzono też: czy budżety wszystkich głosujących dają razem więcej niż pula?",
         Sentence::UnaskedCover =>
-            "Nie pytano, czy budżety wszystkich głosujących dają razem więcej niż pula.",
+            "Nie sprawdzano, czy budżety wszystkich głosujących dają razem więcej niż pula.",
         Sentence::AskedByCount => "Liczy się liczba projektów: każdy jest wart 1.",
         Sentence::AskedByCost => "Liczy się koszt: każdy projekt jest wart tyle, ile kosztuje.",
         Sentence::StableToo =>
-            "W postaci stabilnej, która wymaga więcej, odpowiedź też byłaby twierdząca.",
+            "W wersji stabilnej, która wymaga więcej, odpowiedź też byłaby twierdząca.",
         Sentence::NotStable(Plural::One) =>
-            "W postaci stabilnej, która wymaga więcej, odpowiedź byłaby przecząca: dla {count} \
+            "W wersji stabilnej, która wymaga więcej, odpowiedź byłaby przecząca: dla {count} \
              projektu zwolennicy mogliby zaoferować więcej, niż on kosztuje.",
         Sentence::NotStable(Plural::Few) =>
-            "W postaci stabilnej, która wymaga więcej, odpowiedź byłaby przecząca: dla {count} \
+            "W wersji stabilnej, która wymaga więcej, odpowiedź byłaby przecząca: dla {count} \
              projektów zwolennicy mogliby zaoferować więcej, niż projekt kosztuje.",
         Sentence::NotStable(Plural::Many) =>
-            "W postaci stabilnej, która wymaga więcej, odpowiedź byłaby przecząca: dla {count} \
+            "W wersji stabilnej, która wymaga więcej, odpowiedź byłaby przecząca: dla {count} \
              projektów zwolennicy mogliby zaoferować więcej, niż projekt kosztuje.",
         Sentence::PlainHolds =>
-            "Postać zwykła, która wymaga mniej, jest spełniona: w niej odpowiedź byłaby \
+            "Wersja podstawowa, która wymaga mniej, jest spełniona: w niej odpowiedź byłaby \
              twierdząca.",
         Sentence::AtProjects(Plural::One) => "Dotyczy to {count} projektu.",
         Sentence::AtProjects(Plural::Few) => "Dotyczy to {count} projektów.",
@@ -76,6 +84,7 @@ pub(crate) fn wording(sentence: Sentence) -> &'static str {
             "Największą, za projekt {project}, wnosi głosujący {voter}: {amount}.",
         Sentence::PaymentHere => "Największa to ta, którą tu wymieniono: {amount}.",
         Sentence::SpenderHere => "Żaden inny głosujący nie wydaje więcej.",
+        Sentence::VoterRow => "{voter} (wiersz {voter} w VOTES)",
         Sentence::OverBy => "o {amount} więcej",
         Sentence::UnderBy => "o {amount} mniej",
         Sentence::JustTheCost => "dokładnie tyle, ile kosztuje",
@@ -96,6 +105,7 @@ pub(crate) fn wording(sentence: Sentence) -> &'static str {
         Sentence::Funded => "Wybrane projekty",
         Sentence::AllFunded => "Wybrano wszystkie projekty.",
         Sentence::NoneFunded => "Nie wybrano żadnego projektu.",
+        Sentence::NoProjects => "W tym głosowaniu nie ma projektów.",
         Sentence::HowUnfunded =>
             "Pasek to kwota, która łącznie została zwolennikom projektu, a kreska to jego koszt. \
              Pasek, który sięga za kreskę, łamie warunek.",
@@ -107,6 +117,8 @@ pub(crate) fn wording(sentence: Sentence) -> &'static str {
         Sentence::OrderClosest => "najbliższe najpierw",
         Sentence::OrderDearest => "najdroższe najpierw",
         Sentence::OrderSupporters => "najwięcej zwolenników najpierw",
+        Sentence::OnlyClosest =>
+            "Widać tu tylko {count} najbliższych projektów, bez względu na wybraną kolejność.",
         Sentence::Project => "Projekt",
         Sentence::ProjectId => "projekt {id}",
         Sentence::Cost => "Koszt",
@@ -117,7 +129,7 @@ pub(crate) fn wording(sentence: Sentence) -> &'static str {
         Sentence::CostPerSupporter => "Koszt na zwolennika",
         Sentence::PartOfLimit => "Część puli",
         Sentence::MoreThanWhole => "więcej niż całość",
-        Sentence::PaidExactly => "opłacony dokładnie",
+        Sentence::PaidExactly => "opłacony co do grosza",
         Sentence::PaidOver => "zapłacono {paid}, o {amount} za dużo",
         Sentence::PaidUnder => "zapłacono {paid}, o {amount} za mało",
         Sentence::PaidInVain => "{paid} zapłacono na próżno",
@@ -137,7 +149,8 @@ pub(crate) fn wording(sentence: Sentence) -> &'static str {
         Sentence::DemandCost => "Koszt tego, czego żąda",
         Sentence::BarShare => "Część puli należna grupie; kreska to koszt żądanych projektów.",
         Sentence::BarGets =>
-            "Najwięcej, co członek dostaje z wybranych projektów; kreska to wartość żądanych.",
+            "Najwięcej, ile dostaje członek grupy z wybranych projektów; kreska to wartość \
+             żądanych.",
         Sentence::BarEnough =>
             "To, co głosujący {voter} dostaje z wybranych projektów; kreska to wartość żądanych.",
         Sentence::AmountOfAmount => "{amount} wobec {bound}",
@@ -148,18 +161,20 @@ pub(crate) fn wording(sentence: Sentence) -> &'static str {
         Sentence::IsUnfunded => "niewybrany",
         Sentence::PartOfShare => "Część tego, co należy się grupie",
         Sentence::Conditions => "Warunki po kolei",
-        Sentence::Tests => "Sprawdziany po kolei",
+        Sentence::Tests => "Kryteria po kolei",
         Sentence::Holds => "spełniony",
         Sentence::Fails => "niespełniony",
-        Sentence::NotAsked => "nie pytano",
+        Sentence::NotAsked => "nie sprawdzano",
+        Sentence::TestHolds => "spełnione",
+        Sentence::TestFails => "niespełnione",
         Sentence::NameFeasible => "W granicach puli",
         Sentence::NameExhaustive => "Na nic więcej nie wystarcza",
         Sentence::NameCover => "Budżety większe niż pula",
         Sentence::NameC1 => "Płacone tylko za popierane projekty",
         Sentence::NameC2 => "W granicach budżetu każdego głosującego",
-        Sentence::NameC3 => "Opłacone dokładnie",
+        Sentence::NameC3 => "Opłacone co do grosza",
         Sentence::NameC4 => "Nic nie zapłacono na próżno",
-        Sentence::NameC5 => "Żadnej grupy nie stać na więcej",
+        Sentence::NameC5 => "Zwolennikom nie zostało więcej niż koszt",
         Sentence::NameS5 => "Żadna grupa nie wolałaby innego projektu",
         Sentence::NameV1 => "Grupa ma członków",
         Sentence::NameV2 => "Wszyscy chcą tego samego",
@@ -182,14 +197,15 @@ pub(crate) fn wording(sentence: Sentence) -> &'static str {
              Każdy liczy się tyle samo.",
         Sentence::AsksC3 =>
             "Ci, którzy popierają wybrany projekt, pokrywają razem cały jego koszt i nic ponad to.",
-        Sentence::AsksC4 => "Płatności za niewybrany projekt zużywałyby głos wyborców na darmo.",
+        Sentence::AsksC4 =>
+            "Płatności za niewybrany projekt zużywałyby na darmo głos tych, którzy za niego płacą.",
         Sentence::AsksC5 =>
             "Zwolennikom projektu, którego nie wybrano, nie może zostać łącznie więcej, niż on \
-             kosztuje. Inaczej mogli za niego zapłacić, a zostali pominięci.",
+             kosztuje. W przeciwnym razie mogliby za niego zapłacić, a zostali pominięci.",
         Sentence::AsksS5 =>
-            "Zwolennicy projektu, którego nie wybrano, nie mogą móc zaoferować więcej, niż on \
-             kosztuje: każdy z tego, co mu zostało, albo rezygnując z jednego wybranego projektu. \
-             Inaczej woleliby właśnie jego.",
+            "Zwolennicy projektu, którego nie wybrano, nie powinni być w stanie zaoferować więcej, \
+             niż on kosztuje: każdy z tego, co mu zostało, albo rezygnując z jednego wybranego \
+             projektu. W przeciwnym razie woleliby właśnie jego.",
         Sentence::AsksV1 => "Bez członków nikt nie jest źle traktowany.",
         Sentence::AsksV2 => "Grupa może żądać tylko tego, czego chcą wszyscy jej członkowie.",
         Sentence::AsksV3 =>
@@ -197,12 +213,15 @@ pub(crate) fn wording(sentence: Sentence) -> &'static str {
              Grupa może żądać tylko tego, co jej się należy.",
         Sentence::AsksV4 =>
             "Każdy członek dostaje z wybranych projektów mniej, niż warte są żądane. Grupę, w \
-             której ktoś dostaje tyle, wysłuchano.",
+             której ktoś dostaje tyle lub więcej, wysłuchano.",
         Sentence::FoundFeasible => "Wybrane projekty kosztują razem {total}; pula to {limit}.",
         Sentence::BrokenFeasible =>
             "Wybrane projekty kosztują razem {total}, a to więcej niż pula {limit}.",
         Sentence::FoundExhaustive =>
             "Z puli zostało {left}. Najtańszy niewybrany projekt, {project}, kosztuje {cost}.",
+        Sentence::NothingFits =>
+            "Same wybrane projekty kosztują więcej niż pula, więc żaden inny się w niej nie \
+             zmieści.",
         Sentence::BrokenExhaustive =>
             "Z puli zostało {left} i zmieściłby się jeszcze projekt {project}: kosztuje {cost}.",
         Sentence::FoundCover =>
@@ -218,7 +237,7 @@ pub(crate) fn wording(sentence: Sentence) -> &'static str {
         Sentence::FoundC2 => "Najwięcej wydaje głosujący {voter}: {spent} z budżetu {budget}.",
         Sentence::BrokenC2 => "Głosujący {voter} wydaje {spent}, a to więcej niż budżet {budget}.",
         Sentence::NoVoters => "Nie ma głosujących.",
-        Sentence::FoundC3 => "Każdy wybrany projekt jest opłacony dokładnie.",
+        Sentence::FoundC3 => "Każdy wybrany projekt jest opłacony co do grosza.",
         Sentence::BrokenC3 => "Projekt {project} kosztuje {cost}, a zapłacono za niego {paid}.",
         Sentence::FoundC4 => "Za niewybrane projekty nic się nie płaci.",
         Sentence::BrokenC4 => "Projektu {project} nie wybrano, a zapłacono za niego {paid}.",
@@ -232,8 +251,9 @@ pub(crate) fn wording(sentence: Sentence) -> &'static str {
             "Najbliżej jest projekt {project}: jego zwolennicy mogliby łącznie zaoferować {offer}, \
              a kosztuje {cost}.",
         Sentence::BrokenS5 =>
-            "Zwolennicy projektu {project} mogliby łącznie zaoferować {offer}, każdy z tego, co mu \
-             zostało, albo rezygnując z wybranego projektu. To więcej niż jego koszt {cost}.",
+            "Zwolennicy projektu {project} mogliby łącznie zaoferować {offer}, każdy to, co mu \
+             zostało, albo swoją największą płatność za jeden projekt. To więcej niż jego koszt \
+             {cost}.",
         Sentence::FoundV1 => "Członkowie grupy: {members}. Wszyscy głosujący: {voters}.",
         Sentence::BrokenV1 => "Grupa nie ma członków.",
         Sentence::FoundV2 => "Każdy członek popiera każdy żądany projekt.",
@@ -248,8 +268,8 @@ pub(crate) fn wording(sentence: Sentence) -> &'static str {
             "Żaden członek nie dostaje z wybranych projektów więcej niż {gets}; żądane warte są \
              razem {demanded}.",
         Sentence::BrokenV4 =>
-            "Głosujący {voter} należy do grupy i dostaje z wybranych projektów {gets}; żądane \
-             warte są razem {demanded}.",
+            "Głosujący {voter} należy do grupy i dostaje z wybranych projektów {gets}, czyli tyle, \
+             ile razem warte są żądane ({demanded}), lub więcej.",
         Sentence::NotSaid => "Czego to nie mówi",
         Sentence::NotSaidOthers =>
             "Czy inne projekty byłyby równie sprawiedliwe. Uzasadnić można nieraz kilka wyników.",
@@ -266,24 +286,27 @@ pub(crate) fn wording(sentence: Sentence) -> &'static str {
             "Czy to te pliki, które ogłosiła gmina. Porównaj ich sumy kontrolne z ogłoszonymi.",
         Sentence::Claim => "Co można powiedzieć publicznie",
         Sentence::ClaimSupported =>
-            "Istnieją ceny, które uzasadniają ten wynik: każdy wybrany projekt dokładnie opłacają \
-             głosujący, którzy go popierają, z równych budżetów, i żadnej grupie zwolenników nie \
-             zostało więcej, niż kosztuje inny projekt.",
+            "Istnieją ceny, które uzasadniają ten wynik: każdy wybrany projekt opłacają co do \
+             grosza głosujący, którzy go popierają, z równych budżetów, i żadnej grupie \
+             zwolenników nie zostało więcej, niż kosztuje inny projekt.",
         Sentence::ClaimStable =>
-            "Istnieją stabilne ceny, które uzasadniają ten wynik: każdy wybrany projekt dokładnie \
-             opłacają głosujący, którzy go popierają, z równych budżetów, i żadna grupa nie \
+            "Istnieją stabilne ceny, które uzasadniają ten wynik: każdy wybrany projekt opłacają \
+             co do grosza głosujący, którzy go popierają, z równych budżetów, i żadna grupa nie \
              wolałaby zapłacić za inny projekt.",
         Sentence::ClaimNotSupported =>
             "Te płatności nie uzasadniają wyniku. Więcej powiedzieć nie można: inne mogą go \
              uzasadniać.",
         Sentence::ClaimPlain =>
-            "Te ceny uzasadniają ten wynik w postaci zwykłej, ale nie w stabilnej: każdy wybrany \
-             projekt dokładnie opłacają głosujący, którzy go popierają, z równych budżetów, i \
-             żadnej grupie zwolenników nie zostało więcej, niż kosztuje inny projekt.",
+            "Te ceny uzasadniają ten wynik w wersji podstawowej, ale nie w stabilnej: każdy \
+             wybrany projekt opłacają co do grosza głosujący, którzy go popierają, z równych \
+             budżetów, i żadnej grupie zwolenników nie zostało więcej, niż kosztuje inny projekt.",
         Sentence::ClaimOutcome => "Wynik łamie warunek, bez względu na płatności.",
         Sentence::ClaimViolation =>
             "Wynik traktuje grupę głosujących gorzej, niż na to zasługuje: nie zapewnia \
              rozszerzonej uzasadnionej reprezentacji (EJR).",
+        Sentence::ClaimByCount => "Tak jest, gdy liczy się liczba projektów: każdy jest wart 1.",
+        Sentence::ClaimByCost =>
+            "Tak jest, gdy liczy się koszt: każdy projekt jest wart tyle, ile kosztuje.",
         Sentence::ClaimNoViolation =>
             "Ten certyfikat nie wykazuje naruszenia. Nie wykazuje też, że go nie ma.",
         Sentence::ClaimHow =>
@@ -295,7 +318,7 @@ pub(crate) fn wording(sentence: Sentence) -> &'static str {
         Sentence::WordPrices => "Ceny",
         Sentence::MeansPrices =>
             "Równy budżet dla każdego głosującego oraz to, ile każdy płaci za każdy projekt. Nikt \
-             naprawdę nie płaci: to sposób, by powiedzieć, kto co dźwiga.",
+             naprawdę nie płaci: to sposób, by powiedzieć, kto ponosi jaki koszt.",
         Sentence::WordSupporter => "Zwolennik",
         Sentence::MeansSupporter => "Głosujący, na którego karcie jest ten projekt.",
         Sentence::WordLeftover => "Co zostało",
@@ -310,17 +333,22 @@ pub(crate) fn wording(sentence: Sentence) -> &'static str {
         Sentence::WordDemand => "Żądanie",
         Sentence::MeansDemand => "Projekty, o które certyfikat upomina się w imieniu grupy.",
         Sentence::Files => "Pliki i jak to sprawdzić",
-        Sentence::ElectionFile => "Wybory",
+        Sentence::ElectionFile => "Głosowanie",
         Sentence::OutcomeFile => "Wynik",
         Sentence::CertificateFile => "Certyfikat",
         Sentence::Bytes(Plural::One) => "{count} bajt",
         Sentence::Bytes(Plural::Few) => "{count} bajty",
         Sentence::Bytes(Plural::Many) => "{count} bajtów",
         Sentence::CheckProgram => "Programem pbaudit:",
+        Sentence::CheckByHand =>
+            "Programem pbaudit: te pliki należy podać jego poleceniu explain. Nie zapisano go tu w \
+             całości, bo nazwa któregoś pliku jest za długa, ma znaki, których polecenie nie może \
+             pokazać, albo jest też nazwą innego.",
+        Sentence::CheckOptions => "Jego opcje: {options}.",
         Sentence::CheckAnswer => "Odpowiedź:",
         Sentence::CheckBrowser =>
-            "W przeglądarce: otwórz pbaudit.html i podaj te pliki stronie. Nie opuszczą Twojego \
-             komputera.",
+            "W przeglądarce: wystarczy otworzyć pbaudit.html i podać te pliki stronie. Nie \
+             opuszczą komputera.",
         Sentence::Trust =>
             "Kto zmieni tę stronę, może wpisać w nią wszystko. Ufaj plikom i programowi, nie \
              stronie.",

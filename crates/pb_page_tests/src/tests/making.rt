@@ -5,6 +5,28 @@ use pb_reply::{File, Status};
 use std::alloc::Global;
 use std::test::Fail;
 
+/// The text of the page in English on an election and a certificate of these names.
+pub(super) fn page_named(
+    alloc: Global,
+    election: (&[u8], &str),
+    certificate: (&[u8], &str),
+    mode: Mode,
+) -> Result<String, Fail> {
+    let files = PageFiles {
+        election: PageFile {
+            name: election.0,
+            file: File::in_memory(election.1.as_bytes()),
+        },
+        outcome: None,
+        certificate: PageFile {
+            name: certificate.0,
+            file: File::in_memory(certificate.1.as_bytes()),
+        },
+    };
+    let answer = page_answer(alloc, files, mode, Language::English)?;
+    Ok(String::from_utf8_lossy(alloc, &answer.text)?)
+}
+
 /// The page on an election and a certificate of these names, and how it ends.
 pub(super) fn page<'a>(
     alloc: Global,

@@ -48,6 +48,26 @@ fn bytes_that_are_no_text_are_replaced(rt: HostRuntime) -> Result<(), Fail> {
 }
 
 #[test]
+fn long_name_in_a_sentence_is_whole_under_the_pointer(rt: HostRuntime) -> Result<(), Fail> {
+    let alloc = rt.alloc();
+    let name = "n".repeat(alloc, 500)?;
+    let election = ELECTION.replace(alloc, "Pool", &name)?;
+    let (text, _) = page(
+        alloc,
+        election.as_bytes(),
+        PRICES.as_bytes(),
+        PLAIN,
+        Language::English,
+    )?;
+    let shown = "n".repeat(alloc, 76)?;
+    let label = format!(in alloc;
+        "<bdi class=\"named\" title=\"c \u{b7} {name}\">c \u{b7} {shown}\u{2026}</bdi>, costs 9"
+    )?;
+    assert!(rt; text.contains(&label), "{text}");
+    Ok(())
+}
+
+#[test]
 fn names_in_the_command_are_no_options(rt: HostRuntime) -> Result<(), Fail> {
     let files = PageFiles {
         election: PageFile {

@@ -52,14 +52,32 @@ fn largest_payment_is_another(rt: HostRuntime) -> Result<(), Fail> {
     let rows = "1,a,2\n1,c,1\n2,b,5\n2,a,1\n3,a,3\n3,b,2\n";
     let text = said_of(rt.alloc(), ELECTION, rows, PLAIN)?;
     let said =
-        "Voter 1 pays for project <bdi class=\"named\">c \u{b7} Pool</bdi>, which isn’t on this voter’s ballot. \
-                There are 3 such payments. The largest is by voter 2 for project \
+        "Voter 1 (row 1 of VOTES) pays for project <bdi class=\"named\">c \u{b7} Pool</bdi>, which isn’t on this voter’s ballot. \
+                There are 3 such payments. The largest is by voter 2 (row 2 of VOTES) for project \
                 <bdi class=\"named\">b \u{b7} Library</bdi>: 5.";
     assert!(rt; text.contains(said), "{text}");
     assert!(rt;
         text.contains("This is so for 2 voters. No other voter spends more."),
         "{text}"
     );
+    Ok(())
+}
+
+#[test]
+fn of_equal_payments_the_named_one_is_the_largest(rt: HostRuntime) -> Result<(), Fail> {
+    let text = said_of(rt.alloc(), ELECTION, "2,c,5\n2,b,5\n3,a,5\n", PLAIN)?;
+    let said = "There are 3 such payments. The largest is the one named here: 5.";
+    assert!(rt; text.contains(said), "{text}");
+    Ok(())
+}
+
+#[test]
+fn nothing_fits_where_the_limit_is_passed(rt: HostRuntime) -> Result<(), Fail> {
+    let alloc = rt.alloc();
+    let election = ELECTION.replace(alloc, "budget;10", "budget;9")?;
+    let text = said_of(alloc, &election, "1,a,2\n1,b,2\n2,a,4\n3,b,2\n", PLAIN)?;
+    let said = "<p>The funded projects alone cost more than the limit, so no other one fits.</p>";
+    assert!(rt; text.contains(said), "{text}");
     Ok(())
 }
 
@@ -71,7 +89,7 @@ fn largest_spender_is_another(rt: HostRuntime) -> Result<(), Fail> {
         text.contains("There are 2 such payments. The largest is the one named here: 5."),
         "{text}"
     );
-    let said = "This is so for 3 voters. Voter 3 spends most: 7 of a budget of 4.";
+    let said = "This is so for 3 voters. Voter 3 (row 3 of VOTES) spends most: 7 of a budget of 4.";
     assert!(rt; text.contains(said), "{text}");
     Ok(())
 }
@@ -79,10 +97,13 @@ fn largest_spender_is_another(rt: HostRuntime) -> Result<(), Fail> {
 #[test]
 fn one_place_has_no_largest(rt: HostRuntime) -> Result<(), Fail> {
     let text = said_of(rt.alloc(), ELECTION, "1,a,2\n1,b,2\n2,b,4\n3,b,2\n", PLAIN)?;
-    assert!(rt; text.contains("Voter 2 pays for project"), "{text}");
+    assert!(rt;
+        text.contains("Voter 2 (row 2 of VOTES) pays for project"),
+        "{text}"
+    );
     assert!(rt; !text.contains("The largest is"), "{text}");
     assert!(rt;
-        text.contains("Voter 1 spends most: 4 of a budget of 4."),
+        text.contains("Voter 1 (row 1 of VOTES) spends most: 4 of a budget of 4."),
         "{text}"
     );
     Ok(())

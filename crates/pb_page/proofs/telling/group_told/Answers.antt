@@ -1,5 +1,5 @@
 use Rattle.pb_cohesion.specs.Satisfactions.{worth_by}
-use Rattle.pb_audit.proofs.Culprits.{violation_names_projects}
+use Rattle.pb_reply.proofs.Culprits.{violation_names_projects}
 use Rattle.pb_page.proofs.telling.group_told.Goals as goal
 
 pub violation_line-requires : goal.violation_line-requires

@@ -3,7 +3,7 @@ use Rattle.pb_price.specs.declared.Verdict.{Verdict}
 use Rattle.pb_reply.specs.Inside.Loaded.{lent}
 use Rattle.pb_reply.specs.Lines.{price_line}
 use Rattle.pb_reply.specs.Named.{PricesNameProject}
-use Rattle.pb_audit.proofs.Explained.{denominator-low, told_names_project}
+use Rattle.pb_reply.proofs.Culprits.{denominator-low, told_names_project}
 use Rattle.pb_page.specs.declared.told.CertificateFigures.TheVariants.{Prices}
 use Rattle.pb_page.proofs.Tells.{tells-prices}
 use Rattle.pb_page.proofs.telling.prices_told.Goals as goal
@@ -23,9 +23,11 @@ returns-clause-told c kind =
     (record {
       style = c.args.style;
       mode = c.args.mode;
-      line = c.in_ok-price_line.field-0;
+      line = c.in_ok-shown_line.field-0;
       found = Prices c.in_ok-figures.figures;
     })
     c.in_ok-figures.figures found.1 refl refl
+    (subst (λ (l : List ℕ). ShowsLine l (string_bytes c.in_ok-shown_line.field-0))
     (c.in_ok-price_line.ensures ∙ ap (price_line c.args.mode.stable c.args.election.now) c.verdict-verdict.ensures)
+    c.in_ok-shown_line.ensures)
     found.2 found.3 kind

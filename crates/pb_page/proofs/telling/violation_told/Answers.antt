@@ -1,5 +1,5 @@
 use Rattle.std.proofs.Common.{refl}
-use Rattle.pb_audit.specs.Explained.{OfViolation}
+use Rattle.pb_reply.specs.Certificates.{OfViolation}
 use Rattle.pb_page.proofs.telling.violation_told.Goals as goal
 
 pub returns-clause-told : goal.returns-clause-told

@@ -24,7 +24,7 @@ returns c =
     let on : IsVerdictOn c.args.mode c.args.election.now c.args.outcome.now.marks c.args.prices.now
     c.judge-checked.result.verdict =
     on-prices c.args.mode c.args.election.now c.args.outcome.now.marks c.args.prices.now c.judge-checked.result.verdict
-    (c.judge-checked.ensures.verdict c.args.prices.now (sym c.denominator.ensures.value) tally) in
+    (c.denominator.ensures.sound.denominator.0) (c.judge-checked.ensures.verdict c.args.prices.now (sym c.denominator.ensures.value) tally) in
     record {
       first = on.first;
       supported = on.supported;
@@ -33,6 +33,10 @@ returns c =
       stable_yes = λ h. on.stable_yes (same-answer _ _ h);
       stable_no = λ project h. on.stable_no project (same-answer _ _ h);
       any_yes = λ h. on.any_yes (same-answer _ _ h);
+      share_yes = λ h. on.share_yes (same-answer _ _ h);
+      pjr_plus_yes = λ h. on.pjr_plus_yes (same-answer _ _ h);
+      demand_yes = λ h. on.demand_yes (same-answer _ _ h);
+      pjr_yes = λ h. on.pjr_yes (same-answer _ _ h);
       fair_yes = λ h. on.fair_yes (same-answer _ _ h);
       covered_yes = λ h. on.covered_yes (same-answer _ _ h);
     }

@@ -1,4 +1,4 @@
-use Rattle.std.proofs.Common.{sym, subst, arith}
+use Rattle.std.proofs.Common.{◌≤◌, sym, subst, arith}
 use Rattle.pb_certificate.specs.Faults.{certificate_records}
 use Rattle.pb_price.specs.Answers.{AreStepsOf, row_count}
 use Rattle.pb_price.proofs.Certificates.{of-any, only-memory}
@@ -12,7 +12,7 @@ pub returns : goal.returns
 returns c =
     let t = c.in_ok-taken.ensures.taken in
     let on = on-prices c.args.mode c.args.election.now c.args.outcome.now.marks t.prices c.judge.result.verdict
-    (c.judge.ensures.verdict t.prices t.denominator t.tally) in
+    (subst (λ d. 1 ≤ d) (sym t.denominator) t.low) (c.judge.ensures.verdict t.prices t.denominator t.tally) in
     record {
       found = (t.prices, t.text, on);
       steps = subst (AreStepsOf c.args.election.now (row_count c.args.bytes.now)) (sym c.judge.ensures.steps) t.steps;

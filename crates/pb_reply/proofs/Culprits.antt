@@ -1,6 +1,6 @@
 -- The projects that verdicts name are those of the election.
-use Rattle.std.proofs.Common.{◌≡◌, ℕ, Bool, List, [], ◌∷◌, length, if◌then◌else◌, arith}
-use Rattle.std.specs.Prelude.{◌==◌, nat_lt, ◌*◌, IfSome, Option, Some, None, filter, map}
+use Rattle.std.proofs.Common.{◌≡◌, ◌≤◌, ℕ, Bool, List, [], ◌∷◌, length, if◌then◌else◌, arith}
+use Rattle.std.specs.Prelude.{◌==◌, nat_lt, ◌*◌, IfSome, Ok, Option, Some, None, filter, map}
 use Rattle.std.specs.List.{AllByRecursion}
 use Rattle.pb_records.proofs.Each.{all-append, all-every, all-filter, all-first, all-flat_map, all-if, all-map, all-range}
 use Rattle.pb_election.specs.Instance.{Instance, IsProject, IsSet, all_projects, cost_of_all, projects, voters}
@@ -13,12 +13,19 @@ use Rattle.pb_cohesion.specs.declared.ViolationFailure.TheVariants as violation_
 use Rattle.pb_cohesion.specs.declared.ViolationVerdict.{ViolationVerdict}
 use Rattle.pb_cohesion.proofs.Sets.{set-all}
 use Rattle.pb_price.specs.First.{First, failures_of, failures_of_budgets, failures_of_outcome, failures_of_payments, failures_of_supporters, verdict_of}
+use Rattle.pb_price.specs.Findings.{findings}
+use Rattle.pb_price.specs.Told.{first_told}
 use Rattle.pb_price.specs.declared.Failure.{Failure}
 use Rattle.pb_price.specs.declared.Failure.TheVariants as failure
+use Rattle.pb_price.specs.declared.Findings.{Findings}
 use Rattle.pb_price.specs.declared.Mode.{Mode}
 use Rattle.pb_price.specs.declared.Verdict.{Verdict}
+use Rattle.pb_price.proofs.Told.{tell-first}
+use Rattle.pb_records.specs.Loading.{Delivery}
+use Rattle.pb_reply.specs.Inputs.{StatesPrices}
 use Rattle.pb_reply.specs.Lines.{price_failed, violation_failed}
 use Rattle.pb_reply.specs.Named.{NamesProject, PricesNameProject, ViolationNamesProject}
+use Rattle.pb_reply.specs.declared.input.InputName.TheVariants.{Certificate}
 
 -- projects
 pub projects-are : (e : Instance) → AllByRecursion (IsProject e) (all_projects e)
@@ -110,3 +117,13 @@ first-demanded e (Some f) h = h
 pub violation_names_projects : (worth : ℕ → ℕ) (e : Instance) (w : List Bool) (s t : List ℕ) (v : ViolationVerdict)
     → v ≡ violation_verdict_of (FirstV worth e w s t) → IsSet 1 (projects e) t → ViolationNamesProject e v
 violation_names_projects worth e w s t v is set = grind (arith, first-demanded, all-first, violation-names)
+
+-- the denominator of prices that are stated
+pub denominator-low : (e : Instance) (d : Delivery) (p : Prices) → StatesPrices Certificate e d (Ok p)
+    → 1 ≤ p.denominator
+denominator-low e d p given = grind arith
+
+-- the verdict that the findings on prices tell names a project of the election, if any
+pub told_names_project : (m : Mode) (e : Instance) (w : List Bool) (p : Prices) (f : Findings) → 1 ≤ p.denominator
+    → f ≡ findings e w p → PricesNameProject e (verdict_of (first_told m f))
+told_names_project m e w p f low is = grind (arith, prices_name_projects, tell-first)

@@ -1,0 +1,162 @@
+"""The linear programme for prices: which payments keep C5 or S5 by the largest margin.
+
+Voters whose ballots have the same funded projects, and the same of the unfunded ones that are looked at, pay the same.
+Unfunded projects are looked at once they are violated. That the programme finds nothing is no proof that there is
+nothing: it computes in floats.
+"""
+from dataclasses import dataclass
+from typing import Any, List, Optional, Tuple
+
+from .clock import Clock
+from .groups import Groups
+from .helpers import Helper, Late
+from .needs import needed
+from .shares import Need, Problem, Shares, excesses
+
+np, sparse = needed("numpy"), needed("scipy.sparse")
+
+# How far the budgets have to be over the limit for Cover, where a voter's share of it is 1.
+COVERED = 1e-6
+TOLERANCE = 1e-7
+# Of equal margins the one with the smaller budget is taken.
+PREFER = 1e-7
+# How much longer than it may HiGHS takes to give up.
+GRACE = 5.0
+
+
+class NoPrices(Exception):
+    """The programme says that there are no prices."""
+
+
+class OutOfTime(Exception):
+    """There was too little time."""
+
+
+@dataclass(frozen=True)
+class Programme:
+    """Minimise `objective` by `rows @ x <= most` and `equal @ x == sums`, each x from `low` to `high`."""
+
+    objective: Any
+    rows: Any
+    most: Any
+    equal: Any
+    sums: Any
+    low: Any
+    high: Any
+
+
+class Entries:
+    """The entries of a matrix that is put together."""
+
+    def __init__(self) -> None:
+        self._rows: List[Any] = []
+        self._columns: List[Any] = []
+        self._values: List[Any] = []
+
+    def add(self, rows: Any, columns: Any, values: Any) -> None:
+        """Adds entries, one for each row; a column or a value may be the same for all."""
+        rows = np.asarray(rows)
+        self._rows.append(rows)
+        self._columns.append(np.broadcast_to(columns, rows.shape))
+        self._values.append(np.broadcast_to(np.asarray(values, float), rows.shape))
+
+    def matrix(self, rows: int, columns: int) -> Any:
+        parts = (np.concatenate(part) for part in (self._values, self._rows, self._columns))
+        values, at, column = parts
+        return sparse.csr_matrix((values, (at, column)), shape=(rows, columns))
+
+
+class Variables:
+    """Where the variables stand: the voter budget, the margin, what groups pay, what they have left, and for the stable
+    form what they can offer. Amounts are those of all voters of a group together."""
+
+    BUDGET, MARGIN = 0, 1
+
+    def __init__(self, groups: Groups, paying: Any, stable: bool):
+        self.payments = 2 + np.arange(len(paying))
+        self.left = 2 + len(paying) + np.arange(len(groups))
+        self.offers = self.left + len(groups) if stable else self.left
+        self.count = 2 + len(paying) + len(groups) * (2 if stable else 1)
+
+
+def programme_of(problem: Problem, groups: Groups, seen: List[int], need: Need) -> Tuple[Programme, Any, Any]:
+    """The programme over merged groups, whose columns are the funded projects and then those that are looked at; and
+    the groups and the columns of payments."""
+    funded = len(problem.funded)
+    pairs = groups.approvals[:, :funded].tocoo()
+    paying, column = pairs.row.astype(np.int64), pairs.col.astype(np.int64)
+    at = Variables(groups, paying, need.stable)
+    every = np.arange(len(groups))
+    equal = Entries()
+    # C2: a group's budgets are what it pays and what it has left.
+    equal.add(every, at.BUDGET, groups.sizes)
+    equal.add(paying, at.payments, -1)
+    equal.add(every, at.left, -1)
+    # C3: what is paid for a funded project is its cost.
+    equal.add(len(groups) + column, at.payments, 1)
+    sums = np.concatenate([np.zeros(len(groups)), problem.costs[problem.funded]])
+    # C5 or S5, with a margin that is a part of the cost.
+    rows, costs = Entries(), problem.costs[seen]
+    approving = groups.approvals[:, funded:].tocoo()
+    rows.add(approving.col, at.offers[approving.row], 1)
+    rows.add(np.arange(len(seen)), at.MARGIN, costs)
+    most, count = costs, len(seen)
+    if need.stable:
+        rows.add(count + every, at.left, 1)
+        rows.add(count + every, at.offers, -1)
+        paid = count + len(groups) + np.arange(len(paying))
+        rows.add(paid, at.payments, 1)
+        rows.add(paid, at.offers[paying], -1)
+        most, count = np.concatenate([costs, np.zeros(len(groups) + len(paying))]), count + len(groups) + len(paying)
+    low, high, objective = np.zeros(at.count), np.full(at.count, np.inf), np.zeros(at.count)
+    low[at.BUDGET] = problem.share + COVERED if need.cover else 0.0
+    low[at.MARGIN], high[at.MARGIN] = -np.inf, 1.0
+    objective[at.MARGIN], objective[at.BUDGET] = -1.0, PREFER
+    made = Programme(objective, rows.matrix(count, at.count), most, equal.matrix(len(sums), at.count), sums, low, high)
+    return made, paying, column
+
+
+def by_programme(problem: Problem, need: Need, seen: List[int], solver: Helper, clock: Clock, form: str) -> Shares:
+    """Prices by the programme, which first looks at these unfunded projects. Raises NoPrices and OutOfTime."""
+    seen = seen or problem.unfunded[:1]
+    while True:
+        clock.tell(f"{form}: linear programme over {len(seen)} of {len(problem.unfunded)} unfunded projects")
+        shares, budget, margin = _solved(problem, need, seen, solver, clock)
+        if margin < -TOLERANCE:
+            raise NoPrices
+        over = excesses(problem, shares, budget, need.stable) + max(margin, 0.0) * problem.costs[problem.unfunded]
+        room = TOLERANCE * (1 + problem.costs[problem.unfunded])
+        worst = [(-float(by), project) for project, by, most in zip(problem.unfunded, over, room)
+                 if by > most and project not in seen]
+        if not worst:
+            return shares
+        seen = sorted({*seen, *(project for _, project in sorted(worst)[:max(5, len(problem.unfunded) // 8)])})
+
+
+def _solved(problem: Problem, need: Need, seen: List[int], solver: Helper, clock: Clock) -> Tuple[Shares, float, float]:
+    """What the programme over some unfunded projects comes to: payments, the voter budget, and the margin."""
+    groups = problem.groups.merged([*problem.funded, *seen])
+    programme, paying, column = programme_of(problem, groups, seen, need)
+    seconds = clock.left()
+    try:
+        answer = solver.call(solve, programme, seconds, seconds=seconds + GRACE, tick=clock.tick) if seconds else None
+    except Late:
+        answer = None
+    if answer is None:
+        raise OutOfTime
+    if not len(answer):
+        raise NoPrices
+    amounts = np.maximum(answer[2:2 + len(paying)], 0.0) / groups.sizes[paying]
+    funded = np.array(problem.funded, np.int64)
+    return Shares(groups, paying, funded[column], amounts), float(answer[0]), float(answer[1])
+
+
+def solve(programme: Programme, seconds: float) -> Optional[Any]:
+    """Solves a programme by HiGHS: the values of the variables, none where there are none, and None where time ran
+    out."""
+    found = needed("scipy.optimize").linprog(
+        programme.objective, A_ub=programme.rows, b_ub=programme.most, A_eq=programme.equal, b_eq=programme.sums,
+        bounds=np.column_stack([programme.low, programme.high]), method="highs", options={"time_limit": seconds})
+    if found.status == 0:
+        return found.x
+    return np.zeros(0) if found.status == 2 else None

@@ -1,0 +1,37 @@
+"""The files that a search writes: `NAME.prices.csv`, and `NAME.violation.csv`; where there is a violation by each
+measure, the one by cost is `NAME.cost.violation.csv`."""
+import os
+from typing import List, Tuple
+
+from .search import Found
+
+PRICES, VIOLATION, BY_COST = ".prices.csv", ".violation.csv", ".cost.violation.csv"
+
+
+def stem_of(election: str, folder: str) -> str:
+    """The paths of what is found begin with this."""
+    name = os.path.basename(election)
+    return os.path.join(folder, name[:-3] if name.endswith(".pb") and name != ".pb" else name)
+
+
+def endings(prices: bool, violation: bool) -> List[str]:
+    """How the names of the files end that may be written."""
+    return [PRICES] * prices + [VIOLATION, BY_COST] * violation
+
+
+def files_of(found: Found) -> List[Tuple[str, bytes]]:
+    """The files of what was found, each with the ending of its name; prices first."""
+    files = [] if found.prices is None else [(PRICES, found.prices.file)]
+    return files + list(zip((VIOLATION, BY_COST), (violation.file for violation in found.violations)))
+
+
+def write_new(path: str, data: bytes, replace: bool) -> None:
+    """Writes a file, over another only if that is to be replaced. One that can't be written whole isn't left. Raises
+    OSError."""
+    with open(path, "wb" if replace else "xb") as file:
+        try:
+            file.write(data)
+            file.flush()
+        except OSError:
+            os.unlink(path)
+            raise
