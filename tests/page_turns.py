@@ -133,7 +133,8 @@ FIGURES = [
     Turn("another spender",
          (findings, "spends_most", instead(lambda found: min(found.claim.election.voters, key=found.claim.spends)))),
     Turn("voters counted from 0", (Case, "voter", asked(lambda self, voter: (self, voter - 1)))),
-    Turn("no word on an election without projects", (Case, "none_funded", instead(lambda self: self.say("funded.none")))),
+    Turn("no word on an election without projects",
+         (Case, "none_funded", instead(lambda self: self.say("funded.none")))),
     Turn("nothing on other places", (findings, "places", instead(lambda case, figures, name: []))),
     Turn("costs without decimals", (Case, "cost", answers(Fraction.__floor__))),
 ]
@@ -145,7 +146,8 @@ SHOWN = [
     Turn("two decimals always", (amounts, "decimals_for", instead(lambda amounts: 2))),
     Turn("one decimal alone", (amounts, "decimals_for", instead(lambda all_: max(map(amounts.places, all_))))),
     Turn("nothing for a little", (amounts, "first_place", instead(lambda amount: 0))),
-    Turn("the cost per supporter cut", (amounts, "rounded", instead(lambda *given: amounts.shown(*given).rstrip(amounts.CUT)))),
+    Turn("the cost per supporter cut",
+         (amounts, "rounded", instead(lambda *given: amounts.shown(*given).rstrip(amounts.CUT)))),
     Turn("percents rounded",
          (amounts, "length", asked(lambda part, whole, width: (part + Fraction(whole, 2 * width), whole, width)))),
     Turn("marks elsewhere", (amounts, "MARK", instead(8_000))),
@@ -174,12 +176,12 @@ NAMES = [
 ]
 ROWS = [
     Turn("the furthest first", (projects, "closest_first", answers(lambda projects: projects[::-1]))),
-    Turn("funded projects as in the file", (projects, "wrongly_paid_first", instead(lambda found: found.claim.funded()))),
+    Turn("funded projects as in the file",
+         (projects, "wrongly_paid_first", instead(lambda found: found.claim.funded()))),
     Turn("two orders exchanged", (projects, "places_in_orders", answers(lambda places: {
         project: place.translate(str.maketrans("cs", "sc")) for project, place in places.items()}))),
     Turn("the cheapest first", (Case, "supporters", lambda old: lambda self, project: -old(self, project))),
-    Turn("cells exchanged",
-         (tables, "row", asked(lambda case, columns, project, places, *cells: (case, columns, project, places, *cells[::-1])))),
+    Turn("cells exchanged", (tables, "row", asked(lambda *given: (*given[:4], *given[:3:-1])))),
     Turn("cells without heads", (tables, "cell", instead(lambda case, column, told: element("td", told, role="cell")))),
     Turn("nothing paid in vain", (prices.SummedClaim, "paid", instead(lambda self, project: 0))),
     Turn("each project paid exactly", (projects, "payment", asked(lambda case, paid, cost: (case, cost, cost)))),

@@ -24,8 +24,8 @@ def grouped(number):
 
 
 def shown(amount, decimals, language):
-    """An amount with so many decimals; where it has more, it is cut and ends in an ellipsis. One of less than a unit has
-    at least as many as it takes for its first digit that isn't 0."""
+    """An amount with so many decimals; where it has more, it is cut and ends in an ellipsis. One of less than a unit
+    has at least as many as it takes for its first digit that isn't 0."""
     decimals = max(decimals, first_place(abs(amount)))
     whole, rest = divmod(abs(amount) * 10**decimals, 1)
     digits = f"{int(whole):0{decimals + 1}}"

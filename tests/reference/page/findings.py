@@ -111,11 +111,12 @@ def places(case, figures, name):
 def largest_payment(case, figures, name):
     """The largest of the payments that aren't approved, and of several the first that fails."""
     claim = figures.claim
-    pair = max(figures.culprits["C1"], key=lambda pair: claim.pays(*pair))
-    amount = case.money(claim.pays(*pair))
-    if pair == figures.culprits["C1"][0]:
+    voter, project = max(figures.culprits["C1"], key=lambda pair: claim.pays(*pair))
+    amount = case.money(claim.pays(voter, project))
+    if (voter, project) == figures.culprits["C1"][0]:
         return case.filled("places.payment.here", amount=amount)
-    return case.filled("places.payment.elsewhere", amount=amount, voter=case.voter(pair[0]), project=case.project(pair[1]))
+    named = {"voter": case.voter(voter), "project": case.project(project)}
+    return case.filled("places.payment.elsewhere", amount=amount, **named)
 
 
 def largest_spender(case, figures, name):

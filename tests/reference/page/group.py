@@ -45,7 +45,7 @@ class GroupFigures:
         """What may be said in public, as meanings: of a violation also by which measure it is one."""
         if self.failed:
             return ["claims.violation.no"]
-        return ["claims.violation.yes", "claims.violation.by_cost" if self.violation.by_cost else "claims.violation.by_count"]
+        return ["claims.violation.yes", "claims.violation.by_" + ("cost" if self.violation.by_cost else "count")]
 
     def options(self):
         return []

@@ -37,8 +37,8 @@ class Audit:
             self.found = PriceFigures(self.election, self.funded, prices, self.mode)
 
     def files(self):
-        given = {role: path for role, path in self.paths.items() if path is not None}
-        return [InputFile(role, os.path.basename(os.fsencode(path)), answers.load(path)) for role, path in given.items()]
+        given = [(role, os.fsencode(path)) for role, path in self.paths.items() if path is not None]
+        return [InputFile(role, os.path.basename(path), answers.load(path)) for role, path in given]
 
     def page(self, language):
         """The page in a language."""
@@ -190,8 +190,8 @@ def file_facts(case, file):
 
 
 def by_program(case, found):
-    """The command that gives the same answer, with whole names; or where a name isn't one for a command, what to give to
-    it."""
+    """The command that gives the same answer, with whole names; or where a name isn't one for a command, what to give
+    to it."""
     names = [file.name for file in case.files]
     if all(map(is_word, names)) and len(set(names)) == len(names):
         return [case.say("files.by_program"), element("br"), element("code", command(case, found))]
