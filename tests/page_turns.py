@@ -54,6 +54,7 @@ def asked(change):
 EXCHANGED = [
     exchanged("claims.violation.by_count", "claims.violation.by_cost"),
     exchanged("caution.little", "caution.less"),
+    exchanged("claims.caution.little", "claims.caution.less"),
     exchanged("state.holds", "state.test_holds"),
     exchanged("state.test_holds", "state.test_fails"),
     exchanged("claims.violation.yes", "claims.violation.no"),
@@ -107,9 +108,8 @@ STATES = [
     Turn("good and bad news of prices exchanged", (PriceFigures, "news", answers(lambda news: "" if news else "bad"))),
     Turn("no violation as good news", (GroupFigures, "news", answers(lambda news: "" if news == "neither" else news))),
     Turn("no caution", (PriceFigures, "caution", instead(lambda self, case: []))),
-    Turn("a caution where all is covered", (PriceFigures, "caution", lambda old: lambda self, case: element(
-        "p", case.filled("caution.less", budgets=case.money(self.budgets), limit=case.money(case.limit)),
-        class_="caution") if not self.failed else [])),
+    Turn("a caution where the budgets come to the limit",
+         (PriceFigures, "says_little", instead(lambda self: None if self.failed else "caution.less"))),
     Turn("the plain form isn't told apart", (PriceFigures, "fails_as_stable_alone", instead(lambda self: False))),
     Turn("the outcome is never to blame", (PriceFigures, "fails_by_outcome", instead(lambda self: False))),
     Turn("the outcome is always to blame", (PriceFigures, "fails_by_outcome", instead(lambda self: True))),

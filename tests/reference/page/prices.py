@@ -96,12 +96,16 @@ class PriceFigures:
             return comes_to(case, self, self.failed)
         return [case.say("why.prices.yes_stable" if self.form() == "stable" else "why.prices.yes")]
 
+    def says_little(self):
+        """That a yes says little, where the budgets of all voters together are less than the limit: a meaning."""
+        if self.failed or self.budgets >= self.claim.limit:
+            return None
+        return "caution.little" if "--no-exhaustive" in self.mode else "caution.less"
+
     def caution(self, case):
-        """That a yes says little, where the budgets of all voters together are less than the limit."""
-        if self.failed or self.budgets >= case.limit:
+        if not self.says_little():
             return []
-        said = "caution.little" if "--no-exhaustive" in self.mode else "caution.less"
-        words = case.filled(said, budgets=case.money(self.budgets), limit=case.money(case.limit))
+        words = case.filled(self.says_little(), budgets=case.money(self.budgets), limit=case.money(case.limit))
         return element("p", words, class_="caution")
 
     def asked_for(self, case):
@@ -144,7 +148,8 @@ class PriceFigures:
     def may_be_said(self):
         """What may be said in public, as meanings."""
         if not self.failed:
-            return ["claims.prices.yes_stable" if self.form() == "stable" else "claims.prices.yes"]
+            yes = "claims.prices.yes_stable" if self.form() == "stable" else "claims.prices.yes"
+            return [yes, f"claims.{self.says_little()}"] if self.says_little() else [yes]
         if self.fails_by_outcome():
             return ["claims.prices.no_by_outcome"]
         return ["claims.prices.plain_alone" if self.fails_as_stable_alone() else "claims.prices.no_by_payments"]
