@@ -1,9 +1,11 @@
-"""Cases for the page about a certificate: elections with names and facts that others wrote, and figures of all sizes."""
+"""Cases for pages about certificates: elections with names and facts that others wrote, and figures of all sizes."""
+import pathlib
 import random
 
 import making
 from cases import Case, a_price_check, a_violation_check, random_case, some_mode, some_outcome
 
+EXAMPLES = pathlib.Path(__file__).resolve().parent.parent / "examples"
 # What may stand in META and in the column 'name': markup, quotes, marks that turn what follows, and long words.
 WORDS = [
     "Park", "Sprachcafé für Neuzugezogene", "Plac zabaw „Pod Lipą”", "Radbügel; 24 Stück", "a", "<b>bold</b>", "&lt;",
@@ -12,43 +14,66 @@ WORDS = [
     "line\nbreak", "''", "« guillemets »", "x" * 79 + "\u202e",
 ]  # fmt: skip
 FACTS = {
-    "description": WORDS,
+    "description": WORDS, "unit": ["Warszawa", *WORDS], "district": ["Mitte", *WORDS],
     "country": ["Poland", "Polska", "Germany", "Austria", "Österreich", "France", "UK", "Brazil", "Italy", "Nowhere"],
-    "unit": ["Warszawa", *WORDS], "district": ["Mitte", *WORDS], "language": ["pl", "de", "fr", "en", "nl", "xx", "PL"],
-    "rule": ["greedy", "equalshares", *WORDS], "currency": ["PLN", "EUR", "zł", "$", "<b>", "z" * 12, "z" * 13, "\u202ex"],
-    "date_begin": ["2026", "02.03.2026", "z" * 81], "date_end": ["2026", "22.03.2026"], "turnout": ["4711", "12 %"],
-    "num_votes": ["999"],
+    "language": ["pl", "de", "fr", "en", "nl", "xx", "PL"], "rule": ["greedy", "equalshares", *WORDS],
+    "currency": ["PLN", "EUR", "zł", "$", "<b>", "z" * 12, "z" * 13, "\u202ex"], "turnout": ["4711", "12 %"],
+    "date_begin": ["2026", "02.03.2026", "z" * 81], "date_end": ["2026", "22.03.2026"], "num_votes": ["999"],
 }  # fmt: skip
-TOWNS = ["town.pb", "a town.pb", "it's.pb", "-town.pb", "ü.pb", "$(touch x).pb", "x;y.pb", "a" * 90 + ".pb", "--.pb", "q\".pb"]
-CLAIMS = ["claim.csv", "; touch PWNED #.csv", "'.csv", "-c.csv", "a_B-9.csv", "b" * 81 + ".csv", "`id`.csv"]
-OUTCOMES = ["outcome.csv", "out come.csv", "&.csv"]
-MOST_AMOUNT = 10**12 * making.MILLION
+COLUMNS = [b"project_id", b"cost", b"selected", b"name"]
+# Names of files: some need quotes in a command, and some can't stand in one.
+TOWNS = [
+    "town.pb", "a town.pb", "it's.pb", "-town.pb", "ü.pb", "$(touch x).pb", "x;y.pb", "a" * 90 + ".pb", "--.pb", "q\".pb",
+]  # fmt: skip
+CLAIMS = [
+    "claim.csv", "; touch PWNED #.csv", "'.csv", "-c.csv", "a_B-9.csv", "b" * 81 + ".csv", "`id`.csv", "z" * 255,
+    "back\\slash.csv", "a\u202eb.csv", "no\u00a0break.csv", "a\nb.csv", "folder/town.pb", "folder/c.csv", "two  blanks",
+]  # fmt: skip
+OUTCOMES = ["outcome.csv", "out come.csv", "&.csv", "folder/claim.csv", "\u200b.csv"]
+# Ids that a line of the program shows cut, or by numbers.
+ODD_IDS = [
+    b"z" * 81, b"z" * 107, b"z" * 108, b"z" * 300, b"a\xe2\x80\xa8b", b"\xe2\x80\xaex", b"\xc3\xbc", b"a\\b", b"<i>",
+]  # fmt: skip
 
 
 def dressed(chance, town, plain):
     """An election as a file with facts, and with names of its projects."""
-    facts = [[key, chance.choice(FACTS[key])] for key in FACTS if chance.random() < 0.4]
-    if facts and chance.random() < 0.2:
-        key, _ = chance.choice(facts)
-        facts += [[key.upper(), chance.choice(FACTS[key])]] if key != "num_votes" else []
-    columns = [b"project_id", b"cost", b"selected", b"name"]
+    columns = list(COLUMNS)
     if chance.random() < 0.3:
         columns.insert(chance.randrange(5), chance.choice([b"name", b"Name", b"category"]))
-    town.limit = min(MOST_AMOUNT, town.limit)
-    meta = [[b"budget", making.amount(chance, town.limit, plain)], [b"vote_type", b"approval"]]
-    meta += [[making.any_case(chance, key.encode(), plain), value.encode()] for key, value in facts]
-    chance.shuffle(meta)
-    records = [[b"META"], [b"key", b"value"], *meta, [b"PROJECTS"], columns]
-    for place, project_id in enumerate(town.ids):
-        cells = {b"project_id": project_id, b"cost": making.amount(chance, town.costs[place], plain),
-                 b"selected": making.mark(chance, place in town.funded, plain)}
-        names = [cells.get(each) or (chance.choice(WORDS).encode() if chance.random() < 0.8 else b"") for each in columns]
-        records.append(making.shortened(chance, names, plain))
+    records = [[b"META"], [b"key", b"value"], *facts(chance, town, plain), [b"PROJECTS"], columns]
+    for place in range(len(town.ids)):
+        row = [cell_of(chance, town, place, column, plain) for column in columns]
+        records.append(making.shortened(chance, row, plain))
     records += [[b"VOTES"], [b"voter_id", b"vote"]]
     for voter, ballot in enumerate(town.ballots):
         named = [town.ids[place] for place in sorted(ballot)]
         records.append([b"%d" % (7000 - voter), making.vote(chance, named, plain)])
     return making.join(chance, records, b";", plain)
+
+
+def facts(chance, town, plain):
+    """The rows of META, a few of them twice, where the first counts."""
+    told = [[key, chance.choice(FACTS[key])] for key in FACTS if chance.random() < 0.4]
+    if told and chance.random() < 0.2:
+        key, _ = chance.choice(told)
+        told += [[key.upper(), chance.choice(FACTS[key])]] if key != "num_votes" else []
+    limit = min(making.MOST_COST, town.limit)
+    rows = [[b"budget", making.amount(chance, limit, plain)], [b"vote_type", b"approval"]]
+    rows += [[making.any_case(chance, key.encode(), plain), value.encode()] for key, value in told]
+    chance.shuffle(rows)
+    return rows
+
+
+def cell_of(chance, town, place, column, plain):
+    """What stands in a column for a project."""
+    if column == b"project_id":
+        return town.ids[place]
+    if column == b"cost":
+        return making.amount(chance, town.costs[place], plain)
+    if column == b"selected":
+        return making.mark(chance, place in town.funded, plain)
+    return chance.choice(WORDS).encode() if chance.random() < 0.8 else b""
 
 
 def coarser(chance, town):
@@ -59,10 +84,8 @@ def coarser(chance, town):
     town.limit = -(-town.limit // unit) * unit
 
 
-def muddled(chance):
-    """Prices with many things changed, so that conditions fail at several places, and by much."""
-    mode = some_mode(chance)
-    town, claim = making.supported(chance, chance.random() < 0.5)
+def muddle(chance, town, claim):
+    """Changes many things, so that conditions fail at several places, and by much."""
     if chance.random() < 0.4:
         claim.budget //= chance.choice([2, 3, 10, 10**6])
     for _ in range(chance.choice([0, 2, 5, 9])):
@@ -72,13 +95,21 @@ def muddled(chance):
             town.costs[place] = chance.choice([0, 0, 1, making.MILLION, 10**9 * making.MILLION])
     if chance.random() < 0.3:
         town.funded ^= {place for place in range(len(town.ids)) if chance.random() < 0.3}
+    if chance.random() < 0.3:
+        for place in range(len(town.ids)):
+            odd = chance.choice(ODD_IDS)
+            town.ids[place] = town.ids[place] if odd in town.ids else odd
     if chance.random() < 0.6:
         coarser(chance, town)
+
+
+def muddled(chance):
+    mode = some_mode(chance)
+    town, claim = making.supported(chance, chance.random() < 0.5)
+    muddle(chance, town, claim)
     plain = chance.random() < 0.6
     words, files = some_outcome(chance, town, plain)
-    files["town.pb"] = dressed(chance, town, plain)
-    files["claim.csv"] = making.prices_file(chance, town, claim, plain)
-    return Case(["prices", "town.pb", "claim.csv", *mode, *words], files)
+    return of_prices(chance, town, claim, plain, mode + words, files)
 
 
 def close(chance):
@@ -87,9 +118,23 @@ def close(chance):
     town, claim = making.supported(chance, "--stable" in mode and chance.random() < 0.3)
     if chance.random() < 0.6:
         making.cheaper(chance, town, claim, 1)
-    plain = chance.random() < 0.6
-    files = {"town.pb": dressed(chance, town, plain), "claim.csv": making.prices_file(chance, town, claim, plain)}
-    return Case(["prices", "town.pb", "claim.csv", *mode], files)
+    return of_prices(chance, town, claim, chance.random() < 0.6, mode)
+
+
+def of_prices(chance, town, claim, plain, options=(), files=()):
+    made = {"town.pb": dressed(chance, town, plain), "claim.csv": making.prices_file(chance, town, claim, plain)}
+    return Case(["prices", "town.pb", "claim.csv", *options], {**made, **dict(files)})
+
+
+def without_projects(chance):
+    """An election without projects, and prices or a group. There may be no voters either."""
+    voters, limit = chance.randint(0, 2), chance.choice([0, 10 * making.MILLION])
+    town = making.Town([], [], limit, set(), [set() for _ in range(voters)])
+    if chance.random() < 0.5:
+        claim = making.Claim(3, chance.choice([0, 10, 100]), {})
+        return of_prices(chance, town, claim, True, some_mode(chance))
+    claim = making.violation_file(chance, town, set(range(voters)), set(), True)
+    return Case(["violation", "town.pb", "claim.csv"], {"town.pb": dressed(chance, town, True), "claim.csv": claim})
 
 
 def dressed_prices(chance):
@@ -100,7 +145,11 @@ def dressed_violation(chance):
     return a_violation_check(chance, dressed)
 
 
-KINDS = {dressed_prices: 3, close: 3, muddled: 4, dressed_violation: 4, a_price_check: 1, a_violation_check: 1}
+# How often each kind is made, and how often a file of it is damaged.
+KINDS = {
+    dressed_prices: 6, close: 6, muddled: 8, dressed_violation: 8, a_price_check: 2, a_violation_check: 2,
+    without_projects: 1,
+}  # fmt: skip
 DAMAGED = 0.1
 
 
@@ -112,7 +161,9 @@ def page_case(seed, number):
 
 def renamed(chance, case, name):
     """The case as one of `page`, its files under other names. The options of prices are ignored for a violation."""
-    named = {"town.pb": chance.choice(TOWNS), "claim.csv": chance.choice(CLAIMS), "outcome.csv": chance.choice(OUTCOMES)}
+    named = {
+        "town.pb": chance.choice(TOWNS), "claim.csv": chance.choice(CLAIMS), "outcome.csv": chance.choice(OUTCOMES),
+    }  # fmt: skip
     options = case.words[3:] + (some_mode(chance) if case.words[0] == "violation" else [])
     # What stands behind "--" is no option, as "-town.pb".
     words = ["page", *(named.get(word, word) for word in options), "--", named["town.pb"], named["claim.csv"]]
@@ -124,16 +175,14 @@ def of_rows(count, funded):
     ids = [b"%d" % number for number in range(count)]
     costs = [(number * 7919 % 1009) * making.MILLION for number in range(count)]
     town = making.Town(ids, costs, sum(costs), set(range(count)) if funded else set(), [set(range(count)), {0, 1}])
-    chance = random.Random(count)
-    claim = making.prices_file(chance, town, making.Claim(3, 100, {(0, 5): 7}), True)
-    return Case(["prices", "town.pb", "claim.csv"], {"town.pb": dressed(chance, town, True), "claim.csv": claim})
+    return of_prices(random.Random(count), town, making.Claim(3, 100, {(0, 5): 7}), True)
 
 
 def of_demand(count):
     """A case of a group that demands so many projects."""
-    case, chance = of_rows(count, False), random.Random(count)
+    case = of_rows(count, False)
     town = making.Town([b"%d" % number for number in range(count)], [], 0, set(), [])
-    case.files["claim.csv"] = making.violation_file(chance, town, {0}, set(range(count)), True)
+    case.files["claim.csv"] = making.violation_file(random.Random(count), town, {0}, set(range(count)), True)
     return Case(["violation", "town.pb", "claim.csv"], case.files)
 
 
@@ -142,20 +191,23 @@ def of_offers(count):
     ids = [b"%d" % number for number in range(count + 1)]
     costs = [10 * making.MILLION] + [5 * making.MILLION] * count
     town = making.Town(ids, costs, costs[0], {0}, [set(range(count + 1))])
-    chance = random.Random(count)
-    claim = making.prices_file(chance, town, making.Claim(1, 10, {(0, 0): 10}), True)
-    return Case(["prices", "town.pb", "claim.csv"], {"town.pb": dressed(chance, town, True), "claim.csv": claim})
+    return of_prices(random.Random(count), town, making.Claim(1, 10, {(0, 0): 10}), True)
 
 
 def fixed_cases():
-    """What chance doesn't meet: tables that are cut, files that aren't there, and sizes of one byte and of none."""
+    """What chance doesn't meet: tables that are cut, numbers of projects of which Polish speaks in its own way, the
+    examples, and files that aren't there or say nothing."""
     made = [of_rows(1001, False), of_rows(1003, True), of_rows(1000, False), of_rows(1005, True), of_demand(1001)]
     made += [of_offers(1), of_offers(3), of_offers(5)]
     for number, case in enumerate(made):
         yield renamed(random.Random(number), case, f"rows {number}")
-    small = a_price_check(random.Random(5), dressed).files["town.pb"]
-    for name, data in (("none", b""), ("a byte", b"x"), ("missing", None)):
-        files = {"town.pb": small} if data is None else {"town.pb": small, "claim.csv": data}
-        yield Case(["page", "town.pb", "claim.csv"], files, name=name)
+    for words in (["district.prices.csv", "--stable"], ["district.violation.csv"], ["district.stable.prices.csv"]):
+        names = ["district.pb", words[0]]
+        files = {name: (EXAMPLES / name).read_bytes() for name in names}
+        yield Case(["page", *words[1:], *names], files, name=f"example {words[0]}")
+    town = a_price_check(random.Random(5), dressed).files["town.pb"]
+    for name, files in (("none", {"claim.csv": b""}), ("a byte", {"claim.csv": b"x"}), ("no claim", {})):
+        yield Case(["page", "town.pb", "claim.csv"], {"town.pb": town, **files}, name=name)
     yield Case(["page", "town.pb", "claim.csv"], {}, name="nothing")
-    yield Case(["page", "--outcome", "o.csv", "town.pb", "claim.csv"], {"town.pb": small, "claim.csv": b""}, name="no outcome")
+    files = {"town.pb": town, "claim.csv": b""}
+    yield Case(["page", "--outcome", "o.csv", "town.pb", "claim.csv"], files, name="no outcome")

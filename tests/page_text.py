@@ -84,9 +84,16 @@ def difference(wanted, found):
         return None
     shortest = min(map(len, texts))
     at = next((at for at in range(shortest) if texts[0][at] != texts[1][at]), shortest)
-    ends = [f"{pieces[at][1]}, at {pieces[at][0].strip()}" if at < len(pieces) else "the end" for pieces in (wanted, found)]
-    before = "  ".join(str(text) for text in texts[0][max(0, at - AROUND):at])
-    return f"piece {at}, behind {before}\n  wanted: {ends[0]}\n  found:  {ends[1]}"
+    before = "  ".join(map(str, texts[0][max(0, at - AROUND):at]))
+    return f"piece {at}, behind {before}\n  wanted: {piece_at(wanted, at)}\n  found:  {piece_at(found, at)}"
+
+
+def piece_at(pieces, at):
+    """A piece with its place, or that there is none."""
+    if at == len(pieces):
+        return "the end"
+    place, piece = pieces[at]
+    return f"{piece}, at {place.strip()}"
 
 
 def faults_of(program, case, room, wanted, language):
@@ -187,8 +194,8 @@ def main():
         print(f"{count:6} {kind}")
     missing = list(never_said(said)) if given.cases >= 500 else []
     slipped = [turn.what for turn, is_seen in zip(TURNS, caught) if not is_seen]
-    for told, what in ((missing, "sentences that never came"), (slipped, "turned references that no page differs from")):
-        print(f"{what}: {', '.join(told) or 'none'}")
+    print(f"sentences that never came: {', '.join(missing) or 'none'}")
+    print(f"turned references that no page differs from: {', '.join(slipped) or 'none'}")
     passed, failed = passed + len(TURNS) - len(slipped) + (not missing), failed + len(slipped) + bool(missing)
     print(f"{passed} passed, {failed} failed")
     return 1 if failed else 0

@@ -3,7 +3,7 @@ import contextlib
 import unittest.mock
 from fractions import Fraction
 
-from reference.page import amounts, bars, labels, prices, states, tables, whole, wording
+from reference.page import amounts, bars, findings, labels, prices, projects, states, tables, whole, wording
 from reference.page import case as case_of_page
 from reference.page.case import Case, InputFile
 from reference.page.group import GroupFigures
@@ -52,6 +52,11 @@ def asked(change):
 
 
 EXCHANGED = [
+    exchanged("claims.violation.by_count", "claims.violation.by_cost"),
+    exchanged("caution.little", "caution.less"),
+    exchanged("claims.caution.little", "claims.caution.less"),
+    exchanged("state.holds", "state.test_holds"),
+    exchanged("state.test_holds", "state.test_fails"),
     exchanged("claims.violation.yes", "claims.violation.no"),
     exchanged("claims.prices.yes", "claims.prices.yes_stable"),
     exchanged("claims.prices.yes", "claims.prices.no_by_payments"),
@@ -100,8 +105,11 @@ STATES = [
          (PriceFigures, "state", instead(lambda self, name: "fails" if self.culprits[name] else "holds"))),
     Turn("signs exchanged", (states, "SIGNS", lambda old: {**old, "holds": old["fails"], "fails": old["holds"]})),
     Turn("a badge that fails looks good", (states, "CLASSES", lambda old: {**old, "fails": "state"})),
-    Turn("good and bad news of prices exchanged", (PriceFigures, "is_good_news", answers(lambda good: not good))),
-    Turn("good and bad news of groups exchanged", (GroupFigures, "is_good_news", answers(lambda good: not good))),
+    Turn("good and bad news of prices exchanged", (PriceFigures, "news", answers(lambda news: "" if news else "bad"))),
+    Turn("no violation as good news", (GroupFigures, "news", answers(lambda news: "" if news == "neither" else news))),
+    Turn("no caution", (PriceFigures, "caution", instead(lambda self, case: []))),
+    Turn("a caution where the budgets come to the limit",
+         (PriceFigures, "says_little", instead(lambda self: None if self.failed else "caution.less"))),
     Turn("the plain form isn't told apart", (PriceFigures, "fails_as_stable_alone", instead(lambda self: False))),
     Turn("the outcome is never to blame", (PriceFigures, "fails_by_outcome", instead(lambda self: False))),
     Turn("the outcome is always to blame", (PriceFigures, "fails_by_outcome", instead(lambda self: True))),
@@ -115,17 +123,19 @@ FIGURES = [
     Turn("the whole limit for the share",
          (GroupFigures, "share_of_limit", instead(lambda self: Fraction(self.election.limit, 10**6)))),
     Turn("leftovers and offers exchanged",
-         (prices, "sums_of", asked(lambda figures, name: (figures, "S5" if name == "C5" else "C5")))),
+         (findings, "sums_of", asked(lambda figures, name: (figures, "S5" if name == "C5" else "C5")))),
     Turn("leftovers where offers are asked",
          (PriceFigures, "has", instead(lambda self, project: self.claim.left_of_supporters(project)))),
     Turn("too much as if it were within the limit",
-         (prices, "said_of_feasible", asked(lambda case, found, _: (case, found, "comes_to.Feasible.holds")))),
+         (findings, "said_of_feasible", asked(lambda case, found, _: (case, found, "comes_to.Feasible.holds")))),
     Turn("the first place that fails isn't named",
-         (prices, "first_project", instead(lambda figures, name, otherwise: otherwise))),
+         (findings, "first_project", instead(lambda figures, name, otherwise: otherwise))),
     Turn("another spender",
-         (prices, "spends_most", instead(lambda found: min(found.claim.election.voters, key=found.claim.spends)))),
-    Turn("voters counted from 0", (prices, "voter_words", asked(lambda voter, *rest: (voter - 1, *rest)))),
-    Turn("nothing on other places", (prices, "places", instead(lambda case, figures, name: []))),
+         (findings, "spends_most", instead(lambda found: min(found.claim.election.voters, key=found.claim.spends)))),
+    Turn("voters counted from 0", (Case, "voter", asked(lambda self, voter: (self, voter - 1)))),
+    Turn("no word on an election without projects",
+         (Case, "none_funded", instead(lambda self: self.say("funded.none")))),
+    Turn("nothing on other places", (findings, "places", instead(lambda case, figures, name: []))),
     Turn("costs without decimals", (Case, "cost", answers(Fraction.__floor__))),
 ]
 SHOWN = [
@@ -135,17 +145,16 @@ SHOWN = [
     Turn("points for commas", (amounts, "POINT", lambda old: {language: "." for language in old})),
     Turn("two decimals always", (amounts, "decimals_for", instead(lambda amounts: 2))),
     Turn("one decimal alone", (amounts, "decimals_for", instead(lambda all_: max(map(amounts.places, all_))))),
+    Turn("nothing for a little", (amounts, "first_place", instead(lambda amount: 0))),
     Turn("the cost per supporter cut",
-         (amounts, "rounded", instead(lambda amount, places, *_: Fraction(int(amount * 10**places), 10**places)))),
+         (amounts, "rounded", instead(lambda *given: amounts.shown(*given).rstrip(amounts.CUT)))),
     Turn("percents rounded",
-         (amounts, "length", lambda old: lambda part, whole, width=amounts.WIDTH:
-          old(part + Fraction(whole, 2 * width), whole, width))),
-    Turn("marks at the end", (amounts, "MARK", instead(amounts.WIDTH))),
+         (amounts, "length", asked(lambda part, whole, width: (part + Fraction(whole, 2 * width), whole, width)))),
+    Turn("marks elsewhere", (amounts, "MARK", instead(8_000))),
     Turn("stripes where a bar ends at its mark",
-         (prices, "bar_against", asked(lambda label, amount, bound, _: (label, amount, bound, amount >= bound)))),
-    Turn("no stripes", (bars, "drawn", asked(lambda label, length, has_mark, _: (label, length, has_mark, False)))),
+         (projects, "bar_against", asked(lambda label, amount, bound, _: (label, amount, bound, amount >= bound)))),
+    Turn("no stripes", (bars, "drawn", asked(lambda *given: (*given[:-1], False)))),
     Turn("bars without labels", (bars, "drawn", asked(lambda label, *rest: ("", *rest)))),
-    Turn("bars without marks", (bars, "drawn", asked(lambda label, length, _, is_over: (label, length, False, is_over)))),
     Turn("amounts without currency", (Case, "money", instead(lambda self, value: [self.amount(value)]))),
     Turn("columns without currency", (Case, "unit", instead(lambda self: []))),
     Turn("two forms in Polish", (wording, "form_for", asked(lambda language, count: ("en", count)))),
@@ -166,14 +175,16 @@ NAMES = [
     Turn("the file for the title", (whole, "title", instead(lambda case: labels.visible(case.files[0].name)))),
 ]
 ROWS = [
-    Turn("the furthest first", (prices, "closest_first", answers(lambda projects: projects[::-1]))),
-    Turn("funded projects as in the file", (prices, "wrongly_paid_first", instead(lambda found: found.claim.funded()))),
-    Turn("two orders exchanged", (prices, "order_by", asked(lambda cost, supporters: (supporters, cost)))),
-    Turn("cells exchanged",
-         (tables, "row", asked(lambda case, columns, project, order, *cells: (case, columns, project, order, *cells[::-1])))),
+    Turn("the furthest first", (projects, "closest_first", answers(lambda projects: projects[::-1]))),
+    Turn("funded projects as in the file",
+         (projects, "wrongly_paid_first", instead(lambda found: found.claim.funded()))),
+    Turn("two orders exchanged", (projects, "places_in_orders", answers(lambda places: {
+        project: place.translate(str.maketrans("cs", "sc")) for project, place in places.items()}))),
+    Turn("the cheapest first", (Case, "supporters", lambda old: lambda self, project: -old(self, project))),
+    Turn("cells exchanged", (tables, "row", asked(lambda *given: (*given[:4], *given[:3:-1])))),
     Turn("cells without heads", (tables, "cell", instead(lambda case, column, told: element("td", told, role="cell")))),
     Turn("nothing paid in vain", (prices.SummedClaim, "paid", instead(lambda self, project: 0))),
-    Turn("each project paid exactly", (prices, "payment", asked(lambda case, paid, cost: (case, cost, cost)))),
+    Turn("each project paid exactly", (projects, "payment", asked(lambda case, paid, cost: (case, cost, cost)))),
 ]
 CHECKED = [
     Turn("the command without options", (PriceFigures, "options", instead(lambda self: []))),
@@ -184,6 +195,9 @@ CHECKED = [
     Turn("another line", (whole, "footer", asked(lambda case, audit: (
         case, unittest.mock.Mock(line=b"supported\n", found=audit.found))))),
     Turn("another version", (whole, "version", instead(lambda: "0.0.0"))),
+    Turn("commands for all names", (whole, "is_word", instead(lambda name: True))),
+    Turn("no commands", (whole, "is_word", instead(lambda name: False))),
+    Turn("a line with all that it has", (whole, "shown_line", instead(lambda line: line.decode().rstrip("\n")))),
     Turn("words in another order", (GroupFigures, "words", instead(("demand", "share")))),
 ]
 TURNS = EXCHANGED + STATES + FIGURES + SHOWN + NAMES + ROWS + CHECKED

@@ -1,4 +1,5 @@
 """How amounts, numbers and parts of a whole are shown."""
+import itertools
 from fractions import Fraction
 
 MINUS, THOUSANDS, CUT, PERCENT, NO_BREAK = "\u2212", "\u202f", "\u2026", "\u00a0%", "\u00a0"
@@ -23,7 +24,9 @@ def grouped(number):
 
 
 def shown(amount, decimals, language):
-    """An amount with so many decimals; where it has more, it is cut and ends in an ellipsis."""
+    """An amount with so many decimals; where it has more, it is cut and ends in an ellipsis. One of less than a unit
+    has at least as many as it takes for its first digit that isn't 0."""
+    decimals = max(decimals, first_place(abs(amount)))
     whole, rest = divmod(abs(amount) * 10**decimals, 1)
     digits = f"{int(whole):0{decimals + 1}}"
     units, fraction = (digits[:-decimals], digits[-decimals:]) if decimals else (digits, "")
@@ -31,20 +34,27 @@ def shown(amount, decimals, language):
     return (MINUS if amount < 0 else "") + text + (CUT if rest else "")
 
 
-def rounded(amount, decimals, denominator):
-    """The amount with so many decimals that is nearest; of two the larger."""
-    step = denominator * 10 ** (6 - decimals)
-    return Fraction((int(amount * denominator * 10**6) + step // 2) // step, 10**decimals)
-
-
-def length(part, whole, width_of_whole=WIDTH):
-    """How long a bar is, cut to hundredths of a percent of its width; None where it is longer than that."""
-    if part <= 0:
+def first_place(amount):
+    """Which decimal of less than a unit is the first that isn't 0; of nothing, and of a unit or more, there is none."""
+    if amount == 0:
         return 0
-    if whole == 0:
-        return None
-    hundredths = int(Fraction(part) * width_of_whole / whole)
-    return hundredths if hundredths <= WIDTH else None
+    return next(place for place in itertools.count() if amount * 10**place >= 1)
+
+
+def rounded(amount, decimals, language):
+    """The amount with so many decimals that is nearest, of two the larger; with more where that would be nothing."""
+    while True:
+        nearest = Fraction(int(amount * 10**decimals + Fraction(1, 2)), 10**decimals)
+        if nearest or not amount:
+            return shown(nearest, decimals, language)
+        decimals += 1
+
+
+def length(part, whole, width_of_whole):
+    """How long a bar is, in hundredths of a percent of its room, cut; not longer than that."""
+    if part <= 0 or part * width_of_whole >= whole * WIDTH:
+        return WIDTH if part > 0 else 0
+    return int(Fraction(part) * width_of_whole / whole)
 
 
 def percent(hundredths, point):

@@ -44,10 +44,23 @@ class Case:
     def filled(self, meaning, number=None, /, **fillings):
         return self.wording.filled(meaning, number, **fillings)
 
+    def voter(self, voter):
+        """A voter in a sentence, by its row."""
+        return self.filled("projects.voter", voter=amounts.grouped(voter))
+
+    def none_unfunded(self):
+        return self.say("unfunded.none" if self.election.ids else "projects.none")
+
+    def none_funded(self):
+        return self.say("funded.none" if self.election.ids else "projects.none")
+
     # Amounts.
 
     def cost(self, project):
         return Fraction(self.election.costs[project], MILLION)
+
+    def supporters(self, project):
+        return len(self.election.supporters(project))
 
     def cost_of(self, projects):
         return sum(map(self.cost, projects), Fraction(0))
@@ -77,7 +90,7 @@ class Case:
 
     def framed(self, text):
         """What a file says, in a sentence."""
-        return self.words_of_others(cut(text), "named")
+        return self.words_of_others(text, "named")
 
     def id(self, project):
         return visible(self.election.id(project))
@@ -85,7 +98,7 @@ class Case:
     def project(self, project):
         """A project in a sentence: its id, and its name where it has one."""
         name = self.labels.name(project)
-        return self.framed(cut(self.id(project)) + (f" \u00b7 {name}" if name else ""))
+        return self.framed(self.id(project) + (f" \u00b7 {name}" if name else ""))
 
     def project_name(self, project):
         """A project where it stands alone: its name, or else its id."""

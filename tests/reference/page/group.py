@@ -5,9 +5,9 @@ from .. import violations
 from . import amounts
 from .bars import bar, bar_against, part_in_words
 from .nodes import element
-from .prices import part_label, voter_words
+from .projects import part_label
 from .states import condition_item
-from .tables import BAR, MONEY, WORDS, order_by, table
+from .tables import BAR, MONEY, WORDS, table
 
 MILLION = 10**6
 
@@ -28,20 +28,24 @@ class GroupFigures:
         self.share = self.share_of_limit()
 
     def share_of_limit(self):
-        """The group's share of the limit, cut to millionths."""
-        return Fraction(self.election.limit * self.members // max(self.voters, 1), MILLION)
+        """The group's share of the limit, by its number of voters."""
+        return Fraction(self.election.limit * self.members, MILLION * max(self.voters, 1))
 
     def answer(self):
         return "answer.violation.no" if self.failed else "answer.violation.yes"
 
-    def is_good_news(self):
-        return self.failed is not None
+    def news(self):
+        """What kind of news the answer is: a class. That no violation is proved is neither good nor bad."""
+        return "neither" if self.failed else "bad"
 
     def not_said(self):
         return "not_said.violation.no" if self.failed else "not_said.violation.yes"
 
     def may_be_said(self):
-        return "claims.violation.no" if self.failed else "claims.violation.yes"
+        """What may be said in public, as meanings: of a violation also by which measure it is one."""
+        if self.failed:
+            return ["claims.violation.no"]
+        return ["claims.violation.yes", "claims.violation.by_" + ("cost" if self.violation.by_cost else "count")]
 
     def options(self):
         return []
@@ -67,17 +71,25 @@ class GroupFigures:
         """What projects are worth: an amount, or a number of projects."""
         return case.money(Fraction(worth, MILLION)) if self.violation.by_cost else [amounts.grouped(worth)]
 
+    def state(self, name):
+        return "fails" if self.culprits[name] else "holds"
+
     # The parts of the page.
 
     def why(self, case):
         return self.comes_to(case, self.failed) if self.failed else [case.say("why.violation.yes")]
 
+    def caution(self, case):
+        return []
+
     def asked_for(self, case):
         return element("li", case.say("asked.measure." + ("cost" if self.violation.by_cost else "count")))
 
     def figures(self, case):
-        listed = [condition_item(case, name, "fails" if culprits else "holds", self.comes_to(case, name))
-                  for name, culprits in self.culprits.items()]
+        listed = [
+            condition_item(case, name, self.state(name), f"state.test_{self.state(name)}", self.comes_to(case, name))
+            for name in self.culprits
+        ]
         return [
             element("section", element("h2", case.say("group.title")), self.tiles(case),
                     self.bar_of_share(case), self.bar_of_gets(case)),
@@ -106,7 +118,7 @@ class GroupFigures:
         if self.enough() is None:
             caption = [case.say("group.bar_of_gets.most")]
         else:
-            caption = case.filled("group.bar_of_gets.enough", voter=voter_words(self.enough()))
+            caption = case.filled("group.bar_of_gets.enough", voter=case.voter(self.enough()))
         gets, demanded = self.worth(case, self.gets()), self.worth(case, self.demanded())
         return [
             element("p", caption),
@@ -118,7 +130,7 @@ class GroupFigures:
         figures = {"gets": self.worth(case, self.gets()), "demanded": self.worth(case, self.demanded())}
         if self.enough() is None:
             return case.wording.label("comes_to.V4.holds", **figures)
-        return case.wording.label("comes_to.V4.fails", voter=voter_words(self.enough()), **figures)
+        return case.wording.label("comes_to.V4.fails", voter=case.voter(self.enough()), **figures)
 
     def demand_table(self, case):
         if not self.demand:
@@ -129,12 +141,11 @@ class GroupFigures:
     def demand_row(self, case, project):
         state = case.say("demand.funded" if project in self.funded else "demand.unfunded")
         cost = case.cost(project)
-        is_over = amounts.length(cost, self.share) is None
         part = [
-            bar(part_label(case, project, self.share), cost, self.share, is_over),
+            bar(part_label(case, project, self.share), cost, self.share),
             element("span", part_in_words(case, cost, self.share), class_="verdict"),
         ]
-        return project, order_by(0, 0), case.amount(cost), state, part
+        return project, None, case.amount(cost), state, part
 
     def comes_to(self, case, name):
         """What a test comes to; and at how many places it fails, where these are several."""
@@ -149,13 +160,15 @@ class GroupFigures:
         if not self.culprits["V2"]:
             return [case.say(meaning)]
         voter, project = self.culprits["V2"][0]
-        return case.filled(meaning, voter=voter_words(voter), project=case.project(project))
+        return case.filled(meaning, voter=case.voter(voter), project=case.project(project))
 
     def said_of_v3(self, case, meaning):
+        if not self.voters:
+            return [case.say("comes_to.C2.nobody")]
         return case.filled(meaning, share=case.money(self.share), cost=case.money(self.cost))
 
     def said_of_v4(self, case, meaning):
-        named = {} if self.enough() is None else {"voter": voter_words(self.enough())}
+        named = {} if self.enough() is None else {"voter": case.voter(self.enough())}
         worths = {"gets": self.worth(case, self.gets()), "demanded": self.worth(case, self.demanded())}
         return case.filled(meaning, **named, **worths)
 

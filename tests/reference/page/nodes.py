@@ -10,8 +10,8 @@ WRAPPERS = {
 }  # fmt: skip
 # Classes by which something is told: the colour of news, what a patch or a bar is, an order, words of others.
 TELLING = {
-    "answer", "bad", "state", "fails", "unasked", "bar", "over", "beyond", "rest", "patch", "part", "mark", "cut",
-    "named", "stable", "closest", "dearest", "supported", "sorted", "claim", "head",
+    "answer", "bad", "neither", "caution", "state", "fails", "unasked", "bar", "over", "beyond", "rest", "patch", "part",
+    "mark", "cut", "named", "stable", "closest", "dearest", "supported", "sorted", "claim", "head",
 }  # fmt: skip
 
 
@@ -50,7 +50,7 @@ class Reader(HTMLParser):
         self.open, self.faults = [self.root], []
         self.feed(text)
         self.close()
-        if len(self.open) > 3:
+        if len(self.open) > 1:
             self.faults.append(f"{self.open[-1].tag} isn't ended")
 
     def handle_starttag(self, tag, attrs):

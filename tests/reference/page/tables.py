@@ -27,8 +27,9 @@ def head_words(case, column):
     return [case.say(head), case.unit() if kind == MONEY else []]
 
 
-def row(case, columns, project, order, *cells):
-    """The row of a project: its name and its id, and the cells of the other columns."""
+def row(case, columns, project, places, *cells):
+    """The row of a project: its name and its id, and the cells of the other columns; where the table has other orders,
+    with its places in them."""
     name = case.labels.name(project)
     head = element(
         "th",
@@ -36,15 +37,10 @@ def row(case, columns, project, order, *cells):
         element("span", case.filled("projects.project_id", id=case.framed(case.id(project)))),
         role="rowheader",
     )
-    return element("tr", head, [cell(case, *each) for each in zip(columns[1:], cells)], role="row", style=order)
+    return element("tr", head, [cell(case, *each) for each in zip(columns[1:], cells)], role="row", style=places)
 
 
 def cell(case, column, content):
     """A cell. Where rows are cards its head stands in it as well, which is heard once."""
     head = element("span", head_words(case, column), class_="head", aria_hidden="true")
     return element("td", [] if column[1] == BAR else head, content, role="cell")
-
-
-def order_by(cost, supporters):
-    """The numbers by which a row is put in another order."""
-    return f"--cost:-{cost};--supporters:-{supporters}"

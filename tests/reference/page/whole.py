@@ -15,7 +15,7 @@ from .prices import PriceFigures
 
 POLICY = "default-src 'none'; style-src 'unsafe-inline'; base-uri 'none'; form-action 'none'"
 PLAIN_WORD = re.compile(r"[A-Za-z0-9._/-]*")
-MODE = ("--stable", "--no-exhaustive", "--cover")
+MOST_IN_A_LINE, MOST_IN_A_WORD = 120, 255
 
 
 class Audit:
@@ -37,8 +37,8 @@ class Audit:
             self.found = PriceFigures(self.election, self.funded, prices, self.mode)
 
     def files(self):
-        given = {role: path for role, path in self.paths.items() if path is not None}
-        return [InputFile(role, os.path.basename(os.fsencode(path)), answers.load(path)) for role, path in given.items()]
+        given = [(role, os.fsencode(path)) for role, path in self.paths.items() if path is not None]
+        return [InputFile(role, os.path.basename(path), answers.load(path)) for role, path in given]
 
     def page(self, language):
         """The page in a language."""
@@ -96,8 +96,7 @@ def place(case):
 def dates(case):
     begin, end = case.labels.fact("date_begin"), case.labels.fact("date_end")
     if begin and end and begin != end:
-        return case.filled("head.from_to", **{key: case.words_of_others(cut(each))
-                                             for key, each in (("begin", begin), ("end", end))})
+        return case.filled("head.from_to", begin=case.words_of_others(begin), end=case.words_of_others(end))
     return fact(case, "date_end") or fact(case, "date_begin")
 
 
@@ -107,8 +106,9 @@ def body(case, found):
             "section",
             element("h2", case.say(found.answer())),
             element("p", found.why(case)),
+            found.caution(case),
             element("ul", found.asked_for(case)),
-            class_="answer" if found.is_good_news() else "answer bad",
+            class_=f"answer {found.news()}",
         ),
         glance(case, found),
         found.figures(case),
@@ -142,7 +142,7 @@ def use(case, name, whole, used):
     patch = element("span", class_="patch beyond" if is_over else "patch")
     return [
         element("p", caption),
-        bar(text_of([caption, ": ", used_words]), used, whole, is_over),
+        bar(text_of([caption, ": ", used_words]), used, whole),
         element("li", patch, used_words),
         element("li", [] if is_over else element("span", class_="patch rest"), rest),
     ]
@@ -158,24 +158,29 @@ def behind_figures(case, found):
         element("section", element("h2", case.say("not_said.title")), element("li", case.say(found.not_said())),
                 element("li", case.say("not_said.files"))),
         element("section", element("h2", case.say("claims.title")),
-                element("p", case.say(found.may_be_said()), class_="claim"), element("p", case.say("claims.how"))),
+                element("p", " ".join(map(case.say, found.may_be_said())), class_="claim"),
+                element("p", case.say("claims.how"))),
         element("section", element("h2", case.say("words.title")), explained),
     ]  # fmt: skip
 
 
 def footer(case, audit):
     """The files, and how to check the page."""
-    line = audit.line.decode().removesuffix("\n")
     return element(
         "footer",
         element("h2", case.say("files.title")),
         [file_facts(case, file) for file in case.files],
-        element("p", case.say("files.by_program"), element("br"), element("code", command(case, audit.found)),
-                element("br"), case.say("files.answers"), " ", element("code", line)),
+        element("p", by_program(case, audit.found), element("br"), case.say("files.answers"), " ",
+                element("code", shown_line(audit.line))),
         element("p", case.say("files.by_browser")),
         element("p", case.say("files.trust")),
         element("p", case.filled("files.made_by", version=version())),
     )  # fmt: skip
+
+
+def shown_line(line):
+    """The line that the program prints, as names are shown."""
+    return cut(visible(line.removesuffix(b"\n")), MOST_IN_A_LINE)
 
 
 def file_facts(case, file):
@@ -184,13 +189,31 @@ def file_facts(case, file):
     return tile(case, f"files.{file.role}", [name, ", ", size, element("br"), "SHA-256 ", element("code", file.sum)])
 
 
+def by_program(case, found):
+    """The command that gives the same answer, with whole names; or where a name isn't one for a command, what to give
+    to it."""
+    names = [file.name for file in case.files]
+    if all(map(is_word, names)) and len(set(names)) == len(names):
+        return [case.say("files.by_program"), element("br"), element("code", command(case, found))]
+    options = (["--outcome"] if len(names) == 3 else []) + found.options()
+    told = [" ", case.filled("files.options", options=" ".join(options))] if options else []
+    return [case.say("files.by_hand"), told]
+
+
 def command(case, found):
-    """The command that gives the same answer."""
-    words = {file.role: case.words_of_others(shell_word(visible(file.name))) for file in case.files}
+    words = {file.role: element("bdi", shell_word(file.name.decode())) for file in case.files}
     told = ["pbaudit explain ", words["election"], " ", words["certificate"]]
     if "outcome" in words:
         told += [" --outcome ", words["outcome"]]
     return told + [" " + option for option in found.options()]
+
+
+def is_word(name):
+    """Whether a name can stand in a command: a text of at most 255 characters, which all are seen, and which shells and
+    browsers take as they are."""
+    text = name.decode("utf-8", "replace")
+    is_kept = all(c == " " or not (c.isspace() or c == "\\") for c in text)
+    return text.encode() == name and visible(name) == text and 0 < len(text) <= MOST_IN_A_WORD and is_kept
 
 
 def shell_word(name):
