@@ -1,18 +1,20 @@
 """The check of prices over Python values, with the arguments of `validate_price_system` of pabutools."""
-from dataclasses import replace
 from fractions import Fraction
 from itertools import chain
 from math import gcd
 from typing import Iterable, List, Tuple
 
 from ._auditor import Mode, Question, switch
-from .amounts import MILLION, MOST_COST, MOST_DENOMINATOR, Amount, common_denominator, exact_price
+from .amounts import (
+    MILLION, MOST_COST, MOST_DENOMINATOR, NearAmount, TooManyDenominators, common_denominator, exact_price, is_float,
+)
 from .auditing import Verdict, verdict
-from .certificates import certified
 from .coarse import told_by_signs
+from .nearby import verdict_near
+from .rounding import CannotKeep
 from .town import Town
 from .values import (
-    AnyInstance, AnyProject, PaymentFunction, Payments, Profile, Projects, ballots_of, check_count, funded_of,
+    AnyInstance, AnyProject, NearPaymentFunction, Payments, Profile, Projects, ballots_of, check_count, funded_of,
     projects_of,
 )
 from .writing import election_file, payers_of, price_file
@@ -21,12 +23,8 @@ TOO_MANY = ("the amounts have too large a common denominator for a certificate (
             "largest cost is 10^12): near=True audits exact prices near these, which price_certificate makes")
 
 
-class _TooMany(ValueError):
-    """Amounts that no certificate states."""
-
-
 def validate_price_system(instance: AnyInstance, profile: Profile, budget_allocation: Iterable[AnyProject],
-                          voter_budget: Amount, payment_functions: Iterable[PaymentFunction], stable: bool = False,
+                          voter_budget: NearAmount, payment_functions: Iterable[NearPaymentFunction], stable: bool = False,
                           exhaustive: bool = True, *, near: bool = False) -> Verdict:
     """Whether the payments support the budget allocation: a Verdict, which is true or false, and names what fails
     first.
@@ -49,18 +47,15 @@ def validate_price_system(instance: AnyInstance, profile: Profile, budget_alloca
     ballots, funded = ballots_of(profile, projects), funded_of(budget_allocation, projects)
     payments = Payments(payment_functions, projects)
     check_count(len(ballots), len(payments.functions))
+    town = Town(projects.ids, costs, limit, set(funded), ballots)
+    if is_near and (is_float(voter_budget) or payments.has_floats):
+        return verdict_near(town, projects, voter_budget, payments, mode)
     budget = exact_price(voter_budget, "the voter budget")
     payments.check_exact()
-    town = Town(projects.ids, costs, limit, set(funded), ballots)
     try:
         factor, denominator = _scale([limit, *town.costs], chain([budget.denominator], payments.denominators()))
-    except _TooMany:
-        found = told_by_signs(town, projects, payments, mode)
-        if found is None and is_near:
-            return _near(town, projects, budget, payments, mode)
-        if found is None:
-            raise
-        return found
+    except TooManyDenominators:
+        return _beyond_certificates(town, projects, budget, payments, mode, is_near)
     election = election_file(projects, [cost * factor for cost in town.costs], limit * factor, ballots, funded)
     scaled = denominator * factor
     numerator = budget.numerator * (scaled // budget.denominator)
@@ -68,11 +63,22 @@ def validate_price_system(instance: AnyInstance, profile: Profile, budget_alloca
     return verdict(Question("prices", election, certificate, mode=mode))
 
 
-def _near(town: Town, projects: Projects, budget: Fraction, payments: Payments, mode: Mode) -> Verdict:
-    """The verdict on prices near these. Raises CannotKeep."""
-    made = certified(town, projects, budget, payments, mode.stable, mode.exhaustive)
-    election = election_file(projects, town.costs, town.limit, town.ballots, town.funded)
-    return replace(verdict(Question("prices", election, made.file, mode=mode)), moved=made.moved)
+def _beyond_certificates(town: Town, projects: Projects, budget: Fraction, payments: Payments, mode: Mode,
+                         is_near: bool) -> Verdict:
+    """The verdict where no certificate states the amounts. A no that is seen without their size stands before a yes to
+    prices near these."""
+    sure = told_by_signs(town, projects, payments, mode)
+    if is_near:
+        try:
+            found = verdict_near(town, projects, budget, payments, mode)
+        except CannotKeep:
+            if sure is None:
+                raise
+            return sure
+        return sure if found and sure is not None else found
+    if sure is None:
+        raise TooManyDenominators(TOO_MANY)
+    return sure
 
 
 def _scale(costs: List[Fraction], denominators: Iterable[int]) -> Tuple[int, int]:
@@ -85,12 +91,12 @@ def _scale(costs: List[Fraction], denominators: Iterable[int]) -> Tuple[int, int
     for denominator in denominators:
         common *= denominator // gcd(common, denominator)
         if common > most:
-            raise _TooMany(TOO_MANY)
+            raise TooManyDenominators(TOO_MANY)
     rest = common // gcd(common, factor)
     while rest > MOST_DENOMINATOR:
         prime = next((number for number in range(2, 10**5) if rest % number == 0), rest)
         rest //= prime
         factor *= prime
     if max(costs) * factor > MOST_COST:
-        raise _TooMany(TOO_MANY)
+        raise TooManyDenominators(TOO_MANY)
     return factor, rest

@@ -14,7 +14,7 @@ from collections.abc import Mapping as AnyMapping, Set as AnySet
 from decimal import Decimal
 from fractions import Fraction
 from functools import lru_cache
-from numbers import Rational
+from numbers import Rational, Real
 from operator import attrgetter, index
 from typing import (
     Any, Collection, Dict, Iterable, Iterator, List, Mapping, Optional, Protocol, Sequence, Set, Tuple, Union,
@@ -156,6 +156,11 @@ class Payments:
         self._is_whole, self._is_own = self.kinds <= {int}, self.kinds <= {int, float, Decimal}
         self._is_rational = all(issubclass(kind, Rational) and not issubclass(kind, bool) for kind in self.kinds)
         self._is_exact = self.kinds <= {int, Fraction, Decimal}
+
+    @property
+    def has_floats(self) -> bool:
+        """Whether an amount is a rounded number, of whatever kind."""
+        return any(issubclass(kind, Real) and not issubclass(kind, Rational) for kind in self.kinds)
 
     def check_exact(self) -> None:
         """Raises TypeError where an amount is a float or no number, and ValueError where one is no amount."""
