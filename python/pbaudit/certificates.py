@@ -10,6 +10,7 @@ from .amounts import (
 )
 from .auditing import audit_prices
 from .files import Path, checked_path, write_to
+from .matrices import check_rows
 from .records import records
 from .rounding import CannotKeep, Given, Rounding
 from .town import Town
@@ -68,6 +69,7 @@ def price_certificate(instance: AnyInstance, profile: Profile, budget_allocation
     What comes out was audited. That CannotKeep is raised doesn't say that there is no such certificate. Raises
     ValueError, TypeError and MemoryError too.
     """
+    check_rows(profile, payment_functions)
     projects, costs, limit = projects_of(instance)
     funded = funded_of(budget_allocation, projects)
     ballots, payments = ballots_of(profile, projects), Payments(payment_functions, projects)

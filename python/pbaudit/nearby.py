@@ -4,13 +4,13 @@ A yes is the auditor's to exact prices that keep all conditions, as `price_certi
 prices that are only rounded, and counts where the given ones fail at that place by more than rounding, or a solver's
 noise, can do.
 """
-from dataclasses import dataclass, field, replace
+from dataclasses import dataclass, field
 from fractions import Fraction
 from typing import Dict, List, Optional, Set, Tuple
 
 from ._auditor import Mode, Question
 from .amounts import MOST_DENOMINATOR, common_denominator
-from .auditing import Verdict, verdict
+from .auditing import Verdict, verdict, with_moved
 from .certificates import NOISE, certified, payable
 from .rounding import CannotKeep
 from .town import Town
@@ -33,7 +33,7 @@ def verdict_near(town: Town, projects: Projects, voter_budget: object, payments:
         if found is None:
             raise
         return found
-    return replace(verdict(Question("prices", election, made.file, mode=mode)), moved=made.moved)
+    return with_moved(verdict(Question("prices", election, made.file, mode=mode)), made.moved)
 
 
 def _noise(town: Town) -> Fraction:
@@ -53,7 +53,7 @@ def _plain_no(town: Town, projects: Projects, budget: Fraction, payments: Paymen
     place = None if found.project is None else projects.place[found.project]
     if found or found.condition not in ("Feasible", "Exhaustive") and not rounded.is_plain(found, place, mode.stable):
         return None
-    return replace(found, moved=rounded.moved)
+    return with_moved(found, rounded.moved)
 
 
 @dataclass

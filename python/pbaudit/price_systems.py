@@ -10,6 +10,7 @@ from .amounts import (
 )
 from .auditing import Verdict, verdict
 from .coarse import told_by_signs
+from .matrices import check_rows
 from .nearby import verdict_near
 from .rounding import CannotKeep
 from .town import Town
@@ -25,24 +26,42 @@ TOO_MANY = ("the amounts have too large a common denominator for a certificate (
 
 def validate_price_system(instance: AnyInstance, profile: Profile, budget_allocation: Iterable[AnyProject],
                           voter_budget: NearAmount, payment_functions: Iterable[NearPaymentFunction], stable: bool = False,
-                          exhaustive: bool = True, *, near: bool = False) -> Verdict:
+                          exhaustive: bool = True, *, relaxation: None = None, verbose: bool = False,
+                          near: bool = False) -> Verdict:
     """Whether the payments support the budget allocation: a Verdict, which is true or false, and names what fails
     first.
 
     An instance is an iterable of projects with `name` and `cost`, and has a `budget_limit`; a profile is an iterable
     of approval ballots, each a set of projects; payments are, for each voter in the order of the profile, a mapping
     from projects or their names to amounts. Both may also be matrices, as numpy has them, with a row for each voter
-    and a column for each project in the order of the instance. Amounts are whole numbers, Fractions or Decimals, and
-    are taken exactly. A float is a TypeError, since a check of rounded numbers shows nothing; `price_certificate` makes
-    exact payments of floats. What no certificate can say (a payment below 0, amounts that are too large) is a
-    ValueError, and so is a voter who pays for a project twice, by its name and as itself.
+    and a column for each project in the order of the instance, or tables of pandas with the ids as the columns' names.
+    Amounts are whole numbers, Fractions or Decimals, and are taken exactly. A float is a TypeError, since a check of
+    rounded numbers shows nothing, but with `near` (below). What no certificate can say (a payment below 0, amounts that
+    are too large) is a ValueError, and so is a voter who pays for a project twice, by its name and as itself.
 
     Amounts whose common denominator is too large for a certificate get a no where that is seen without their size:
     Feasible, Exhaustive, C1, C3 of a project that nobody pays for, and C4, of which the last two need not be the first
-    that fail. Else they are a ValueError. With `near` the answer is then the verdict on exact prices near these, as
-    `price_certificate` makes them, or its CannotKeep, which is no answer; `moved` of the verdict says how near.
+    that fail. Else they are TooManyDenominators, a ValueError. With `near` such amounts, and floats, are answered by
+    exact prices near them: yes where such prices keep all conditions, and no where the given ones fail by more than a
+    millionth of the largest cost for each payment, as a solver may be off; what lies between is a CannotKeep, which is
+    no answer. `moved` of the verdict is how far a payment moved.
+
+    `relaxation` is there for callers of pabutools, and has to be None: relaxed forms aren't audited, so another is a
+    ValueError. `verbose` prints what each condition comes to, as `explain` of the verdict has it.
     """
-    mode, is_near = Mode(stable, exhaustive), switch("near", near)
+    mode, is_near, is_told = Mode(stable, exhaustive), switch("near", near), switch("verbose", verbose)
+    if relaxation is not None:
+        raise ValueError(f"the relaxation is {relaxation!r}, and only None is audited")
+    found = _validated(instance, profile, budget_allocation, voter_budget, payment_functions, mode, is_near)
+    if is_told:
+        print(found.explain(), end="")
+    return found
+
+
+def _validated(instance: AnyInstance, profile: Profile, budget_allocation: Iterable[AnyProject],
+               voter_budget: NearAmount, payment_functions: Iterable[NearPaymentFunction], mode: Mode,
+               is_near: bool) -> Verdict:
+    check_rows(profile, payment_functions)
     projects, costs, limit = projects_of(instance)
     ballots, funded = ballots_of(profile, projects), funded_of(budget_allocation, projects)
     payments = Payments(payment_functions, projects)

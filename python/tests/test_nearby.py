@@ -1,4 +1,6 @@
 """The check of prices near the given ones, beside that of the exact ones that they are near."""
+import contextlib
+import io
 import random
 import unittest
 from fractions import Fraction
@@ -122,6 +124,19 @@ class Near(unittest.TestCase):
             validate_price_system(SAMPLE, PROFILE, [A, B], -1.0, [{A: 2.0, B: 2.0}, {A: 4.0}, {B: 2.0}], near=True)
         with self.assertRaisesRegex(ValueError, "2 payment functions"):
             validate_price_system(SAMPLE, PROFILE, [A, B], 4.0, [{A: 2.0}, {}], near=True)
+
+    def test_as_pabutools_is_called(self):
+        floats = [{A: 2.0, B: 2.0}, {A: 3.0}, {B: 2.0}]
+        out = io.StringIO()
+        with contextlib.redirect_stdout(out):
+            verdict = validate_price_system(SAMPLE, PROFILE, [A, B], 4.0, floats, stable=False, exhaustive=True,
+                                            relaxation=None, verbose=True, near=True)
+        self.assertEqual(out.getvalue(), str(verdict.explain()))
+        self.assertIn("failed C3 project a", out.getvalue())
+        with self.assertRaisesRegex(ValueError, "^the relaxation is 'min_add', and only None is audited"):
+            validate_price_system(SAMPLE, PROFILE, [A, B], 4, floats, relaxation="min_add")
+        with self.assertRaisesRegex(TypeError, "^verbose is 1, not True or False"):
+            validate_price_system(SAMPLE, PROFILE, [A, B], 4, floats, verbose=1)
 
     def test_exact_amounts_stay_exact(self):
         """A budget that is a float, and payments that are whole, come to what they come to exactly."""
