@@ -19,6 +19,7 @@ from typing import TYPE_CHECKING, List
 from ._version import VERSION
 
 if TYPE_CHECKING:
+    from .amounts import TooManyDenominators
     from .auditing import (
         Explanation, Finding, ProjectMargins, Refusal, Summary, Verdict, audit_both, audit_prices, audit_violation,
         explain, margins, read, tidy,
@@ -38,13 +39,15 @@ if TYPE_CHECKING:
 __version__ = VERSION
 __all__ = [
     "CannotKeep", "EqualShares", "Explanation", "Finding", "FolderReport", "Found", "FoundPrices", "FoundViolation",
-    "Instance", "NotReplaced", "PriceCertificate", "Project", "ProjectMargins", "Refusal", "Summary", "Verdict",
-    "audit_both", "audit_folder", "audit_prices", "audit_violation", "equal_shares", "explain", "find", "margins",
-    "page", "price_certificate", "read", "tidy", "validate_price_system", "write_election", "write_folder_pages",
+    "Instance", "NotReplaced", "PriceCertificate", "Project", "ProjectMargins", "Refusal", "Summary",
+    "TooManyDenominators", "Verdict", "audit_both", "audit_folder", "audit_prices", "audit_violation", "equal_shares",
+    "explain", "find", "margins", "page", "price_certificate", "read", "tidy", "validate_price_system",
+    "write_election", "write_folder_pages",
     "write_outcome", "write_page", "write_prices", "write_violation",
 ]
 # The parts are loaded when they are first used, since an import of all takes long beside an audit.
 _PARTS = {
+    "amounts": ("TooManyDenominators",),
     "auditing": ("Explanation", "Finding", "ProjectMargins", "Refusal", "Summary", "Verdict", "audit_both",
                  "audit_prices", "audit_violation", "explain", "margins", "read", "tidy"),
     "certificates": ("PriceCertificate", "price_certificate"),
