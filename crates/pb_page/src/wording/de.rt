@@ -241,7 +241,7 @@ pub(crate) fn wording(sentence: Sentence) -> &'static str {
         Sentence::FoundC2 =>
             "Am meisten gibt Person {voter} aus: {spent} von einem Budget von {budget}.",
         Sentence::BrokenC2 =>
-            "Person {voter} gibt {spent} aus, und das ist mehr als das Budget von {budget}.",
+            "Person {voter} gibt {spent} aus, und das ist um {over} mehr als das Budget von {budget}.",
         Sentence::NoVoters => "Es gibt keine Abstimmenden.",
         Sentence::FoundC3 => "Die Kosten jedes geförderten Projekts sind genau gedeckt.",
         Sentence::BrokenC3 =>

@@ -226,7 +226,7 @@ pub(crate) fn wording(sentence: Sentence) -> &'static str {
             "Voter {voter} pays for project {project}, which isn’t on this voter’s ballot.",
         Sentence::FoundC2 => "Voter {voter} spends most: {spent} of a budget of {budget}.",
         Sentence::BrokenC2 =>
-            "Voter {voter} spends {spent}, which is more than the budget of {budget}.",
+            "Voter {voter} spends {spent}, which is {over} more than the budget of {budget}.",
         Sentence::NoVoters => "There are no voters.",
         Sentence::FoundC3 => "Each funded project is paid for exactly.",
         Sentence::BrokenC3 => "Project {project} costs {cost}, and {paid} is paid for it.",

@@ -241,7 +241,7 @@ pub(crate) fn wording(sentence: Sentence) -> &'static str {
         Sentence::FoundC2 =>
             "Le votant {voter} dépense le plus\u{a0}: {spent} sur un budget de {budget}.",
         Sentence::BrokenC2 =>
-            "Le votant {voter} dépense {spent}, ce qui dépasse le budget de {budget}.",
+            "Le votant {voter} dépense {spent}, soit {over} de plus que le budget de {budget}.",
         Sentence::NoVoters => "Il n’y a pas de votants.",
         Sentence::FoundC3 => "Chaque projet financé est payé exactement.",
         Sentence::BrokenC3 =>

@@ -235,7 +235,8 @@ pub(crate) fn wording(sentence: Sentence) -> &'static str {
             "Głosujący {voter} płaci za projekt {project}, którego nie ma na jego karcie do \
              głosowania.",
         Sentence::FoundC2 => "Najwięcej wydaje głosujący {voter}: {spent} z budżetu {budget}.",
-        Sentence::BrokenC2 => "Głosujący {voter} wydaje {spent}, a to więcej niż budżet {budget}.",
+        Sentence::BrokenC2 =>
+            "Głosujący {voter} wydaje {spent}, a to o {over} więcej niż budżet {budget}.",
         Sentence::NoVoters => "Nie ma głosujących.",
         Sentence::FoundC3 => "Każdy wybrany projekt jest opłacony co do grosza.",
         Sentence::BrokenC3 => "Projekt {project} kosztuje {cost}, a zapłacono za niego {paid}.",

@@ -52,6 +52,16 @@ fn small_differences_have_a_digit(rt: HostRuntime) -> Result<(), Fail> {
 }
 
 #[test]
+fn spent_beside_a_budget_that_looks_alike(rt: HostRuntime) -> Result<(), Fail> {
+    // The budget is 10 1/6, and voter 1 spends 10 1/3.
+    let rows = "6\nvoter_budget,61\nvoter,project,payment\n1,a,62\n";
+    let text = page_on(rt.alloc(), ELECTION, rows)?;
+    let said = "spends 10\u{2026}, which is 0.1\u{2026} more than the budget of 10\u{2026}.";
+    assert!(rt; text.contains(said), "{text}");
+    Ok(())
+}
+
+#[test]
 fn cost_per_supporter_is_rounded(rt: HostRuntime) -> Result<(), Fail> {
     let alloc = rt.alloc();
     // Two thirds of a millionth are rounded up, a third of a unit down, and half a millionth up.
