@@ -118,7 +118,19 @@ def close(chance):
     town, claim = making.supported(chance, "--stable" in mode and chance.random() < 0.3)
     if chance.random() < 0.6:
         making.cheaper(chance, town, claim, 1)
+    if chance.random() < 0.3:
+        raised(chance, town, len(town.ballots) * claim.budget * making.MILLION // claim.denominator)
     return of_prices(chance, town, claim, chance.random() < 0.6, mode)
+
+
+def raised(chance, town, budgets):
+    """Raises the limit to what all voter budgets come to, or somewhat more, and with it all costs of what isn't
+    funded."""
+    by = max(0, budgets + chance.choice([0, 1, making.MILLION]) - town.limit)
+    if by + max(town.costs, default=0) + town.limit < making.MOST_COST:
+        town.limit += by
+        for place in set(range(len(town.ids))) - town.funded:
+            town.costs[place] += by
 
 
 def of_prices(chance, town, claim, plain, options=(), files=()):
@@ -148,7 +160,7 @@ def dressed_violation(chance):
 # How often each kind is made, and how often a file of it is damaged.
 KINDS = {
     dressed_prices: 6, close: 6, muddled: 8, dressed_violation: 8, a_price_check: 2, a_violation_check: 2,
-    without_projects: 1,
+    without_projects: 2,
 }  # fmt: skip
 DAMAGED = 0.1
 
