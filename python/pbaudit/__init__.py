@@ -26,7 +26,7 @@ if TYPE_CHECKING:
     from .certificates import PriceCertificate, price_certificate
     from .elections import Instance, Project
     from .folder_pages import NotReplaced, write_folder_pages
-    from .folders import FolderReport, audit_folder
+    from .folders import FileResult, FolderReport, audit_folder
     from .pages import page, write_page
     from .price_systems import validate_price_system
     from .rounding import CannotKeep
@@ -35,7 +35,7 @@ if TYPE_CHECKING:
 
 __version__ = VERSION
 __all__ = [
-    "CannotKeep", "EqualShares", "Explanation", "Finding", "FolderReport", "Instance", "NotReplaced",
+    "CannotKeep", "EqualShares", "Explanation", "FileResult", "Finding", "FolderReport", "Instance", "NotReplaced",
     "PriceCertificate", "Project", "ProjectMargins", "Refusal", "Summary", "TooManyDenominators", "Verdict",
     "audit_both", "audit_folder", "audit_prices", "audit_violation", "equal_shares", "explain", "margins", "page",
     "price_certificate", "read", "tidy", "validate_price_system", "write_election", "write_folder_pages",
@@ -49,7 +49,7 @@ _PARTS = {
     "certificates": ("PriceCertificate", "price_certificate"),
     "elections": ("Instance", "Project"),
     "folder_pages": ("NotReplaced", "write_folder_pages"),
-    "folders": ("FolderReport", "audit_folder"),
+    "folders": ("FileResult", "FolderReport", "audit_folder"),
     "pages": ("page", "write_page"),
     "price_systems": ("validate_price_system",),
     "rounding": ("CannotKeep",),
