@@ -29,7 +29,7 @@ if TYPE_CHECKING:
     from .finding import find
     from .finding.results import Found, FoundPrices, FoundViolation
     from .folder_pages import NotReplaced, write_folder_pages
-    from .folders import FolderReport, audit_folder
+    from .folders import FileResult, FolderReport, audit_folder
     from .pages import page, write_page
     from .price_systems import validate_price_system
     from .rounding import CannotKeep
@@ -38,8 +38,8 @@ if TYPE_CHECKING:
 
 __version__ = VERSION
 __all__ = [
-    "CannotKeep", "EqualShares", "Explanation", "Finding", "FolderReport", "Found", "FoundPrices", "FoundViolation",
-    "Instance", "NotReplaced", "PriceCertificate", "Project", "ProjectMargins", "Refusal", "Summary",
+    "CannotKeep", "EqualShares", "Explanation", "FileResult", "Finding", "FolderReport", "Found", "FoundPrices",
+    "FoundViolation", "Instance", "NotReplaced", "PriceCertificate", "Project", "ProjectMargins", "Refusal", "Summary",
     "TooManyDenominators", "Verdict", "audit_both", "audit_folder", "audit_prices", "audit_violation", "equal_shares",
     "explain", "find", "margins", "page", "price_certificate", "read", "tidy", "validate_price_system",
     "write_election", "write_folder_pages",
@@ -55,7 +55,7 @@ _PARTS = {
     "finding": ("find",),
     "finding.results": ("Found", "FoundPrices", "FoundViolation"),
     "folder_pages": ("NotReplaced", "write_folder_pages"),
-    "folders": ("FolderReport", "audit_folder"),
+    "folders": ("FileResult", "FolderReport", "audit_folder"),
     "pages": ("page", "write_page"),
     "price_systems": ("validate_price_system",),
     "rounding": ("CannotKeep",),

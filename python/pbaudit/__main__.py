@@ -4,7 +4,9 @@ import argparse
 import errno
 import io
 import os
+import re
 import sys
+from fractions import Fraction
 from typing import IO, List, NoReturn, Optional, Sequence
 
 from ._version import VERSION
@@ -12,7 +14,7 @@ from .auditing import Refusal
 from .finding.command import Answer, add_to as add_find, answer, folder_answer
 from .pages import LANGUAGES, replaced, write_page
 from .rounding import CannotKeep
-from .shares import COMPLETIONS, MEASURES
+from .shares import COMPLETIONS, MEASURES, checked_increment
 from .shown import shown, visible
 
 DIFFERS, REFUSED, USAGE, FAULT = 1, 2, 3, 4
@@ -91,9 +93,18 @@ def _add_equal_shares(commands: "argparse._SubParsersAction[_Parser]") -> None:
                         "file beside it ends with .outcome.csv in the place of .prices.csv")
     shares.add_argument("--by", choices=MEASURES, default="cost", help="what a project is worth to each supporter: its "
                         "cost, which is the default, or 1")
-    shares.add_argument("--completion", choices=COMPLETIONS, default="none", help="add1 raises the budget of the "
-                        "voters by 1 until no other project fits, or the next outcome costs more than the limit")
+    shares.add_argument("--completion", choices=COMPLETIONS, default="none", help="add1 raises the budget of each "
+                        "voter by 1 until no other project fits, or the next outcome costs more than the limit")
+    shares.add_argument("--increment", type=_increment, default=Fraction(1), metavar="AMOUNT", help="what add1 raises the "
+                        "budget by in the place of 1, such as 1000 where costs are in millions, or 0.01")
     shares.set_defaults(run=_equal_shares, end_by_usage=shares.error)
+
+
+def _increment(word: str) -> Fraction:
+    """An amount as the words of a command state it: digits, which may have a point. Raises ValueError."""
+    if not re.fullmatch(r"[0-9]{1,12}(\.[0-9]{1,6})?", word):
+        raise ValueError(word)
+    return checked_increment(Fraction(word))
 
 
 def main(words: Optional[Sequence[str]] = None) -> int:
@@ -158,7 +169,7 @@ def _equal_shares(given: argparse.Namespace) -> int:
         if replaced(path, {"ELECTION": given.election}):
             given.end_by_usage(f"-o has {path} written, which is the election")
     try:
-        made = certify(given.election, given.by, given.completion)
+        made = certify(given.election, given.by, given.completion, given.increment)
     except Refusal as refusal:
         return _refused(refusal.printed, "\n".join(refusal.sentences()))
     except OSError as unread:
