@@ -1,6 +1,8 @@
 """The command that looks for certificates: what it writes and tells, how it ends, and what stops it."""
+import contextlib
 import csv
 import importlib.util
+import io
 import os
 import pathlib
 import pty
@@ -18,9 +20,10 @@ from unittest import mock
 import pbaudit
 from finding_cases import Case, cases
 from pbaudit._auditor import Mode
-from pbaudit.finding import folders, helpers, telling
+from pbaudit.finding import command, folders, helpers, telling
 from pbaudit.finding.results import Wanted
 from pbaudit.folders import entries_of
+from test_documents import block
 
 REPOSITORY = pathlib.Path(__file__).resolve().parents[2]
 EXAMPLES = REPOSITORY / "examples"
@@ -391,6 +394,31 @@ class Folders(Commands):
         with mock.patch.object(folders, "Seeker", mock.Mock(side_effect=ZeroDivisionError("x"))):
             result = folders.searched(folders.Asked(str(self.room), "fair", Wanted()))
         self.assertEqual((result.row.note, result.status), ("fault: ZeroDivisionError('x')", 4))
+
+
+@HAS_SCIPY
+class Documents(unittest.TestCase):
+    def test_the_command(self):
+        words = block("~/pbaudit/bin/pip install './python[find]'").splitlines()[1].split()[3:]
+        with tempfile.TemporaryDirectory() as room:
+            shutil.copytree(EXAMPLES, f"{room}/examples", ignore=shutil.ignore_patterns("*.prices.csv"))
+            done = subprocess.run([sys.executable, "-m", "pbaudit", *words], cwd=room, capture_output=True, text=True,
+                                  check=False)
+        self.assertEqual((done.stdout, done.stderr), (block("found/district.violation.csv"), ""))
+
+    def test_the_function(self):
+        values, out = {}, io.StringIO()
+        with contextlib.redirect_stdout(io.StringIO()):
+            exec(block("from pbaudit import Instance"), values)
+        with contextlib.redirect_stdout(out):
+            exec(block("from pbaudit import find"), values)
+        told = (REPOSITORY / "docs" / "LIBRARY.md").read_text(encoding="utf-8")
+        self.assertIn(f"\nprints `{out.getvalue().rstrip()}`:", told)
+
+    def test_the_statuses(self):
+        """The help says each, as the table does."""
+        for status in range(5):
+            self.assertRegex(command.HOW_IT_ENDS, f"[:;] {status} if ")
 
 
 class Wheel(unittest.TestCase):
