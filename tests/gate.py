@@ -147,7 +147,7 @@ def check_parts():
     for name, (does, is_well, lines) in GATES.items():
         with tempfile.TemporaryDirectory() as folder:
             words = ["bash", "-c", PARTS + does, "gate", folder, TOP]
-            ran = subprocess.run(words, capture_output=True, text=True, timeout=60)
+            ran = subprocess.run(words, capture_output=True, text=True, timeout=300)
         said = ran.stdout.splitlines()
         wrong = [it for it in lines if (it.removeprefix("!") in said) == it.startswith("!")]
         right = (ran.returncode == 0) == is_well and not wrong
@@ -194,7 +194,7 @@ def whole_gate(folder, fails):
     for name in ("run", "parts"):
         shutil.copy(TOP / ".ci" / name, top / ".ci")
     environment = {**os.environ, "PATH": f"{folder}/tools:{os.environ['PATH']}", "NOTES": str(notes), "FAILS": fails}
-    ran = subprocess.run([top / ".ci/run"], env={**environment, "TMPDIR": str(folder)}, capture_output=True, text=True, timeout=90)
+    ran = subprocess.run([top / ".ci/run"], env={**environment, "TMPDIR": str(folder)}, capture_output=True, text=True, timeout=300)
     return ran.returncode, ran.stdout + ran.stderr, sorted(notes.read_text().split())
 
 
@@ -214,7 +214,7 @@ def check_whole():
     for fails in ["nothing", "binaryen", "object", "kept", *sorted({*PARTS_RUN})]:
         with tempfile.TemporaryDirectory() as folder:
             status, said, begun = whole_gate(folder, fails)
-            deadline = time.monotonic() + 10
+            deadline = time.monotonic() + 60
             while is_left(folder) and time.monotonic() < deadline:
                 time.sleep(0.1)
             left = is_left(folder)
