@@ -1,7 +1,8 @@
 #!/usr/bin/env python3
 """Prints what each source file and each module of definitions is for: the first sentence of the comment at its head.
 
-usage: docs/files.py [NAME..]     of these crates, or of the folders python/pbaudit and web, in the place of all
+usage: docs/files.py [NAME..]     of these crates, or of the folders python/pbaudit, python/pbaudit/finding and web,
+                                  in the place of all
 """
 import re
 import signal
@@ -9,7 +10,7 @@ import sys
 from pathlib import Path
 
 TOP = Path(__file__).resolve().parent.parent
-FOLDERS = ["python/pbaudit", "web"]
+FOLDERS = ["python/pbaudit", "python/pbaudit/finding", "web"]
 KINDS = ["src/**/*.rt", "specs/**/*.antt", "*.py", "*.js", "*.c"]
 # What may stand before the comment, and the comment.
 HEADS = {

@@ -1,12 +1,15 @@
 #!/usr/bin/env python3
 """Tries the edits of must-fail/, as many in one check as it can tell apart.
 
-    tests/edits.py COPY [--anew] [CRATE..]
+    tests/edits.py COPY [--anew] [--jobs N] [CRATE..]
 
-COPY is a copy of the repository in which nothing else works. Its crates are proved there, lowest first, and the edits
-of a crate are tried beside the proofs of those above it. What is refused is noted in ~/.cache/pbaudit/edits by the sum
-of all that it rests on, and isn't tried again on this machine until some of that changes, but with --anew. A crate is
-proved only where an edit of it or of one above is to be tried.
+COPY is a copy of the repository in which nothing else works. Its crates are proved there, lowest first, which a line tells
+at the end, and the edits of a crate are tried beside the proofs of those above it. What is refused is noted in
+~/.cache/pbaudit/edits by the sum of all that it rests on, and isn't tried again on this machine until some of that changes,
+but with --anew. A crate is proved only where an edit of it or of one above is to be tried.
+
+Checks of edits go on side by side, of one crate or of several: N, or as many as there are processors, but no more than
+memory allows. First come those of the crates whose proof took longest. The proofs go before all of them.
 
 A function is proved from its own body and from the contracts of what it calls, and a check says of each function
 whether it is proved. So edits in the bodies of different functions are made in one text. Each is refused where a goal
@@ -18,9 +21,12 @@ since right code would be refused too. `rt must-fail` lets that pass, and tries 
 
 The last line is 'N passed, M failed'; an edit that is refused has passed.
 """
-import concurrent.futures
+import argparse
+import contextlib
 import functools
 import hashlib
+import heapq
+import itertools
 import os
 import pathlib
 import re
@@ -28,6 +34,7 @@ import shutil
 import subprocess
 import sys
 import tempfile
+import threading
 import time
 
 HEADER = re.compile(r'(?m)^( *)(?:pub(?:\(\w+\))? )?(?:const )?(?:unsafe )?(?:extern "C" )?fn (\w+)')
@@ -45,6 +52,11 @@ MOST = 16
 PARTS = ("src", "specs", "proofs")
 # for how many seconds a note that isn't asked for is kept
 MONTH = 30 * 24 * 60 * 60
+# how much memory a check may come to take, and after how many seconds it has taken what it needs
+ROOM = 4_000_000_000
+BEGINNING = 30
+# by how much checks of edits stand back behind proofs
+BEHIND = 5
 
 
 def module_of(path):
@@ -147,8 +159,8 @@ class Verdict:
         return "" if self.refused else "a proof only names what it took away"
 
 
-def rt(word, crate, *flags):
-    words = ["rt", word, "--jobs", "1", *flags]
+def rt(word, crate, *flags, behind=0):
+    words = ["nice", "-n", str(behind), "rt", word, "--jobs", "1", *flags]
     ran = subprocess.run(words, cwd=crate, stdin=subprocess.DEVNULL, stdout=subprocess.PIPE, stderr=subprocess.STDOUT)
     return ran.returncode, ran.stdout.decode(errors="replace")
 
@@ -218,7 +230,7 @@ class Room:
                 shutil.copytree(self.home / part, self.crate / part)
         for edit in edits:
             edit.make(self.crate)
-        return Verdict(rt("check", self.crate)[1], self.functions)
+        return Verdict(rt("check", self.crate, behind=BEHIND)[1], self.functions)
 
 
 def edits_of(crate):
@@ -238,54 +250,160 @@ def rounds_of(edits):
     return rounds
 
 
-def try_round(copy, crate, lines, edits, kept):
-    """Tries edits together, and alone where they have to be. Returns what to say of each that isn't refused."""
-    began, failed, alone = time.monotonic(), {}, edits
-    with tempfile.TemporaryDirectory(dir=copy) as folder:
-        room = Room(copy, crate, lines, pathlib.Path(folder))
+def free_memory():
+    """The bytes of memory that the system has left."""
+    return 1024 * int(re.search(r"(?m)^MemAvailable: *(\d+)", pathlib.Path("/proc/meminfo").read_text())[1])
+
+
+class Lanes:
+    """Runs calls side by side, the heaviest of those that wait first; beside another only where memory is left."""
+
+    def __init__(self, count, memory):
+        self.memory, self.change, self.numbers = memory, threading.Condition(), itertools.count()
+        self.waiting, self.begun, self.errors = [], {}, []
+        for _ in range(count):
+            threading.Thread(target=self.work, daemon=True).start()
+
+    def add(self, weight, call, *given):
+        with self.change:
+            heapq.heappush(self.waiting, (-weight, next(self.numbers), call, given))
+            self.change.notify_all()
+
+    def has_room(self):
+        """Whether another may begin. One that has just begun has yet to take its memory."""
+        young = sum(time.monotonic() - began < BEGINNING for began in self.begun.values())
+        return not self.begun or self.memory() >= ROOM * (1 + young)
+
+    def take(self):
+        with self.change:
+            while not (self.waiting and self.has_room()):
+                self.change.wait(1)
+            self.begun[threading.get_ident()] = time.monotonic()
+            return heapq.heappop(self.waiting)[2:]
+
+    def work(self):
+        while True:
+            call, given = self.take()
+            try:
+                call(*given)
+            except Exception as error:
+                self.errors.append(error)
+            with self.change:
+                del self.begun[threading.get_ident()]
+                self.change.notify_all()
+
+    def finish(self):
+        """Waits until nothing is left, also of what the calls have added."""
+        with self.change:
+            self.change.wait_for(lambda: not self.waiting and not self.begun)
+        if self.errors:
+            raise self.errors[0]
+
+
+class Trial:
+    """The trial of a crate's edits, each round of them in one check, and alone where they have to be."""
+
+    def __init__(self, copy, crate, lines, kept, lanes):
+        self.copy, self.crate, self.lines, self.kept, self.lanes = copy, crate, lines, kept, lanes
+        self.seconds, self.not_refused = 0, []
+
+    def begin(self, edits, seconds):
+        """Tries these edits, of a crate whose proof took so long."""
+        self.seconds = seconds
+        for together in rounds_of(edits):
+            # A round is followed by some of its edits alone.
+            self.lanes.add(2 * seconds, self.try_together, together)
+
+    def try_together(self, edits):
+        began, alone = time.monotonic(), edits
         if len(edits) > 1:
-            refused = room.check(edits).refused
+            with self.room() as room:
+                refused = room.check(edits).refused
             alone = [it for it in edits if not it.functions & refused]
-        for edit in alone:
+            self.say(f"{len(edits)} edits in one check, {len(alone)} of them to be tried alone", began)
+        for edit in edits:
+            if edit in alone:
+                self.lanes.add(self.seconds, self.try_alone, edit)
+            else:
+                self.kept.add(self.crate, edit)
+
+    def try_alone(self, edit):
+        began = time.monotonic()
+        with self.room() as room:
             verdict = room.check([edit])
             if not verdict.is_read:
                 # once more, since a check may have been killed for want of memory
                 verdict = room.check([edit])
-            if verdict.why_not():
-                failed[edit.name] = f"{crate}/{edit.name}: {verdict.why_not()}\n{verdict.text}"
-    for edit in edits:
-        if edit.name not in failed:
-            kept.add(crate, edit)
-    seconds = time.monotonic() - began
-    print(f"{crate}: {len(edits)} edits, {len(alone)} alone, {len(failed)} not refused, {seconds:.0f} s", flush=True)
-    return failed.values()
+        if verdict.why_not():
+            self.not_refused.append(f"{self.crate}/{edit.name}: {verdict.why_not()}\n{verdict.text}")
+        else:
+            self.kept.add(self.crate, edit)
+        self.say(f"{edit.name} alone", began)
+
+    def say(self, what, began):
+        print(f"{self.crate}: {what}, {time.monotonic() - began:.0f} s", flush=True)
+
+    @contextlib.contextmanager
+    def room(self):
+        with tempfile.TemporaryDirectory(dir=self.copy) as folder:
+            yield Room(self.copy, self.crate, self.lines, pathlib.Path(folder))
+
+
+def arguments():
+    words = argparse.ArgumentParser(description=__doc__, formatter_class=argparse.RawDescriptionHelpFormatter)
+    words.add_argument("copy", type=lambda path: pathlib.Path(path).resolve())
+    words.add_argument("crates", nargs="*")
+    words.add_argument("--anew", action="store_true")
+    words.add_argument("--jobs", type=int, default=os.cpu_count())
+    given = words.parse_intermixed_args()
+    if not (given.copy / "crates.txt").is_file():
+        words.error(f"{given.copy} is no copy of the repository")
+    lines = lines_of(given.copy)
+    unknown = [it for it in given.crates if it not in lines]
+    if unknown or given.jobs < 1:
+        words.error(f"there is no crate {unknown[0]}" if unknown else "--jobs is at least 1")
+    return given, lines
+
+
+def lines_of(copy):
+    """The line of each crate in crates.txt, lowest first."""
+    lines = (copy / "crates.txt").read_text().splitlines(keepends=True)
+    return {re.match(r"\w+", line)[0]: line for line in lines if re.match(r"\w", line)}
+
+
+def new_edits(kept, crate, edits):
+    """Those of a crate's edits that were not refused before."""
+    new = [it for it in edits if not kept.has(crate, it)]
+    if len(new) < len(edits):
+        print(f"{crate}: {len(edits) - len(new)} of {len(edits)} edits were refused on this machine before", flush=True)
+    return new
 
 
 def main():
-    names = [it for it in sys.argv[2:] if it != "--anew"]
-    copy, lines = pathlib.Path(sys.argv[1]).resolve(), {}
-    for line in (copy / "crates.txt").read_text().splitlines(keepends=True):
-        if re.match(r"\w", line):
-            lines[re.match(r"\w+", line)[0]] = line
-    kept = Kept(copy, lines, "--anew" not in sys.argv[2:])
-    count, failed, tried = 0, [], []
-    with concurrent.futures.ThreadPoolExecutor(os.cpu_count()) as pool:
-        for crate in names or lines:
-            edits = edits_of(copy / "crates" / crate)
-            new = [it for it in edits if not kept.has(crate, it)]
-            if len(new) < len(edits):
-                print(f"{crate}: {len(edits) - len(new)} of {len(edits)} edits were refused on this machine before", flush=True)
-            if new:
-                status, said = prove(copy, crate, lines)
-                if status:
-                    failed.append(f"{crate}: it isn't proved\n{said}")
-                    break
-            count += len(edits)
-            tried += [pool.submit(try_round, copy, crate, lines, it, kept) for it in rounds_of(new)]
-    not_refused = [said for it in tried for said in it.result()]
-    print(*failed, *not_refused, sep="\n")
-    print(f"{count - len(not_refused)} passed, {len(failed) + len(not_refused)} failed")
-    return 1 if failed or not_refused or not count else 0
+    given, lines = arguments()
+    kept, lanes = Kept(given.copy, lines, not given.anew), Lanes(given.jobs, free_memory)
+    count, failed, trials = 0, [], []
+    for crate in given.crates or lines:
+        edits = edits_of(given.copy / "crates" / crate)
+        new = new_edits(kept, crate, edits)
+        if new:
+            began = time.monotonic()
+            status, said = prove(given.copy, crate, lines)
+            if status:
+                failed.append(f"{crate}: it isn't proved\n{said}")
+                break
+            seconds = time.monotonic() - began
+            print(f"{crate}: proved, {seconds:.0f} s", flush=True)
+            trials.append(Trial(given.copy, crate, lines, kept, lanes))
+            trials[-1].begin(new, seconds)
+        count += len(edits)
+    else:
+        print("the crates are proved", flush=True)
+    lanes.finish()
+    failed += [said for trial in trials for said in trial.not_refused]
+    print(*failed, sep="\n")
+    print(f"{count - sum(len(it.not_refused) for it in trials)} passed, {len(failed)} failed")
+    return 1 if failed or not count else 0
 
 
 if __name__ == "__main__":

@@ -74,6 +74,7 @@ WAYS = [
 ]  # fmt: skip
 # By their crate, what the names of the tests begin with whose allocations are made to fail.
 TESTS = {
+    "pb_visible_tests": ("tests::hidden::bytes_", "tests::hidden::number_", "tests::joiners::"),
     "pb_certificate_tests": ("tests::certificate::canonical::", "tests::election::"),
     "pb_price_tests": (
         "tests::cohesion::", "tests::command::", "tests::price::telling::",

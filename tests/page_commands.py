@@ -20,7 +20,7 @@ import tempfile
 from score import Score
 
 EXAMPLES = pathlib.Path(__file__).resolve().parent.parent / "examples"
-# No page gives the kit's own shell; these read quotes alike, and are tried where they are installed.
+# Each of these that is installed runs the commands.
 SHELLS = ("sh", "dash", "bash", "busybox", "zsh", "ksh", "mksh", "fish", "tcsh")
 STAND_IN = "#!/bin/sh\nprintf '%s\\0' \"$@\" > \"$KEPT\"\n"
 # Names that a command has to have, and such that none may.

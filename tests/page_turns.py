@@ -162,7 +162,7 @@ SHOWN = [
         language, count % 10 + 20 if language == "pl" and count > 9 else count)))),
 ]
 NAMES = [
-    Turn("hidden characters stay", (labels, "HIDDEN", instead(set()))),
+    Turn("hidden characters stay", (labels, "shown", instead(lambda text: text))),
     Turn("names cut elsewhere", (case_of_page, "cut", lambda old: lambda text, most=79: old(text, most))),
     Turn("less under the pointer",
          (Case, "words_of_others", asked(lambda self, text, *class_: (self, text[:100], *class_)))),

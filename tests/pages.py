@@ -5,17 +5,17 @@ Everything here is made from the files by itself, slowly, and without the packag
 import csv
 import pathlib
 import random
-import unicodedata
 from collections import Counter
 from fractions import Fraction
 
 import pbaudit
+from reference.hidden import shown  # noqa: F401  for those that look at pages
 
 EXAMPLES = pathlib.Path(__file__).resolve().parent.parent / "examples"
 # Where the mark of a bound stands in a bar.
 MARK = Fraction(3, 4)
-# The kinds of characters that a page shows by their numbers, how much of a name it shows, and the languages of names.
-HIDDEN, MOST_SHOWN = ("Cc", "Cf", "Zl", "Zp"), 80
+# How much of a name a page shows, and the languages of names.
+MOST_SHOWN = 80
 LANGUAGES = {"de": "de", "Poland": "pl"}
 # Ids and names that try to break the page, to fake a part of it, or to turn the text around them.
 TITLE = "\"><script>document.title='x'</script>"
@@ -145,11 +145,6 @@ class Town:
             self.funded |= {row["project_id"]} if row["selected"] == "1" else set()
         elif section == "VOTES":
             self.ballots.append(set(filter(None, map(str.strip, row["vote"].split(",")))))
-
-
-def shown(text):
-    """A name as a page shows it: what can't be seen, or turns what follows, by its number."""
-    return "".join(f"\\u{{{ord(c):x}}}" if unicodedata.category(c) in HIDDEN else c for c in text)
 
 
 def shortened(text, most=MOST_SHOWN):

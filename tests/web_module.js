@@ -12,8 +12,8 @@ const fs = require("fs"), readline = require("readline"), vm = require("vm");
 const page = fs.readFileSync(process.argv[2], "utf8");
 const elementOf = id => new RegExp(`<script type="text/plain" id="${id}">(.*?)</script>`, "s").exec(page)[1];
 const bytesOfModule = Buffer.from(elementOf("module"), "base64");
-// The worker listens to messages, and here gets none.
-const { Auditor, ARGUMENTS } = vm.runInThisContext(`var onmessage;${elementOf("worker")}\n({ Auditor, ARGUMENTS })`);
+// The worker listens to messages and tells that it does; here it gets none, and nobody listens.
+const { Auditor, ARGUMENTS } = vm.runInThisContext(`var onmessage, postMessage = () => {};${elementOf("worker")}\n({ Auditor, ARGUMENTS })`);
 const OUT_OF_MEMORY = 4;
 // By how many bytes the memory that is left is raised.
 const STEP = 144;

@@ -127,6 +127,11 @@ FOCUSABLE = """
 return [...document.querySelectorAll('button, select, input, summary, a, iframe')]
   .filter(each => each.checkVisibility?.() !== false && !each.hidden && each.tabIndex < 0).map(each => each.outerHTML);
 """
+CHOOSE = """
+const choice = document.querySelector(arguments[0]);
+choice.selectedIndex = [...choice.options].findIndex(option => option.textContent === arguments[1]);
+choice.dispatchEvent(new Event('change'));
+"""
 LOOKS = {"too wide": TOO_WIDE, "faint": FAINT, "without a name": UNNAMED, "out of reach": FOCUSABLE}
 
 
@@ -178,6 +183,10 @@ class Visit:
         self.browser.wait(IS_DONE, "the audits")
         return [tuple(each[:3]) for each in self.browser.ask(AUDITS)]
 
+    def choose(self, selector, word):
+        """Chooses a word of a list."""
+        self.browser.ask(CHOOSE, selector, word)
+
     def shown(self):
         """The page in the frame, in which attributes of style go by another name."""
         return self.browser.ask("return document.querySelector('#frame').srcdoc").replace(' data-style="', ' style="')
@@ -212,6 +221,8 @@ def try_answers(visit):
     visit.holds("The prices don\u2019t support this outcome" in visit.browser.ask(SENTENCE), "the No stands in words")
     visit.browser.click("#clear")
     visit.give(EXAMPLES / "district.pb", EXAMPLES / "district.violation.csv", EXAMPLES / "district.other.outcome.csv")
+    visit.answers(1)
+    visit.choose("#audit-list [aria-label='Funded projects']", "district.other.outcome.csv")
     visit.same([("district.violation.csv", "Yes", None)], visit.answers(1), "a violation of another outcome")
     words = ["page", "district.pb", "district.violation.csv", "--outcome", "district.other.outcome.csv"]
     visit.same(visit.says(*words), visit.shown(), "the page of a violation")
@@ -224,7 +235,7 @@ def try_frame(visit):
     """The frame has the library's style, no script runs in it, and it is as high as its page."""
     visit.open()
     visit.browser.click("#example")
-    visit.same([("district.prices.csv", "Yes", None)], visit.answers(1), "the example")
+    visit.same([("example.prices.csv", "Yes", None)], visit.answers(1), "the example")
     ask = "const frame = document.querySelector('#frame'), inside = frame.contentDocument; "
     visit.browser.wait(ask + "return inside?.body?.children.length > 0", "the frame")
     is_styled = visit.browser.ask(ask + "return inside.styleSheets[0]?.cssRules.length > 0")
@@ -298,7 +309,8 @@ def try_refusal(visit):
     unsaid = visit.new_room() / "unsaid.pb"
     unsaid.write_text((EXAMPLES / "sample.pb").read_text(encoding="utf-8").replace("selected", "chosen"))
     visit.browser.click("#clear")
-    visit.give(unsaid, EXAMPLES / "sample.prices.csv")
+    shutil.copy(EXAMPLES / "sample.prices.csv", unsaid.with_name("unsaid.prices.csv"))
+    visit.give(unsaid, unsaid.with_name("unsaid.prices.csv"))
     visit.answers(1)
     told = visit.text("#refusal")
     visit.holds("Add the outcome file" in told, f"an outcome that is missing: {told}")
@@ -316,13 +328,6 @@ def districts(room):
     (room / "alone.pb").write_bytes((EXAMPLES / "sample.pb").read_bytes())
 
 
-CHOOSE = """
-const choice = document.querySelector(arguments[0]);
-choice.selectedIndex = [...choice.options].findIndex(option => option.textContent === arguments[1]);
-choice.dispatchEvent(new Event('change'));
-"""
-
-
 def try_choices(visit):
     """A certificate whose name says nothing of its election, an outcome and a kind: each is chosen by hand."""
     room = visit.new_room()
@@ -333,9 +338,11 @@ def try_choices(visit):
     visit.give(*elections, room / "claim.csv", EXAMPLES / "district.other.outcome.csv")
     found = [each for each in visit.answers(3) if each[0] == "claim.csv"]
     visit.same([("claim.csv", "\u2013", None)], found, "an election is asked for")
-    visit.browser.ask(CHOOSE, "#audit-list [aria-label=Election]", "district.pb")
+    visit.choose("#audit-list [aria-label=Election]", "district.pb")
+    visit.holds(("claim.csv", "\u2013", None) in visit.answers(2), "an outcome is asked for")
+    visit.choose("#audit-list [aria-label='Funded projects']", "as the election says")
     visit.holds(("claim.csv", "No", "failed V4 voter 9") in visit.answers(2), "the chosen election")
-    visit.browser.ask(CHOOSE, "#audit-list [aria-label='Funded projects']", "district.other.outcome.csv")
+    visit.choose("#audit-list [aria-label='Funded projects']", "district.other.outcome.csv")
     visit.holds(("claim.csv", "Yes", "violation") in visit.answers(2), "the chosen outcome")
     visit.browser.click("#clear")
     visit.give(EXAMPLES / "sample.pb")
@@ -343,8 +350,8 @@ def try_choices(visit):
     visit.give(room / "what.csv")
     is_asked = "return document.querySelector(\"#file-list [aria-label='What what.csv is']\") !== null"
     visit.browser.wait(is_asked, "a file of no kind")
-    visit.browser.ask(CHOOSE, "#file-list [aria-label='What what.csv is']", "price certificate")
-    visit.browser.wait("return document.querySelector('.badge').textContent === 'Refused'", "its kind is chosen")
+    visit.choose("#file-list [aria-label='What what.csv is']", "price certificate")
+    visit.choose("#audit-list [aria-label=Election]", "sample.pb")
     refused = ("what.csv", "Refused", "refused certificate 21 BadHead record 1")
     visit.same([refused], visit.answers(1), "a file whose kind is chosen")
 
@@ -378,7 +385,7 @@ def try_corrected(visit):
     visit.open()
     visit.give(one, two, claim)
     visit.answers(3)
-    visit.browser.ask(CHOOSE, "#audit-list [aria-label=Election]", "one.pb")
+    visit.choose("#audit-list [aria-label=Election]", "one.pb")
     visit.same([("Yes", "supported priceable"), "one.pb"], claimed(2), "the election that is chosen")
     one.write_text(bad, encoding="utf-8")
     give_anew(visit, one)
@@ -389,12 +396,9 @@ def try_corrected(visit):
     one.write_text(good, encoding="utf-8")
     give_anew(visit, one)
     visit.same([("Yes", "supported priceable"), "one.pb"], claimed(2), "the chosen election, corrected again")
-    visit.browser.ask(CHOOSE, "#file-list [aria-label='What one.pb is']", "outcome")
-    found = [(name, word) for name, word, _ in visit.answers()]
-    visit.same([("claim.csv", "Refused")], found, "the chosen election is said to be an outcome")
     visit.browser.click("[aria-label='Remove one.pb']")
-    found = [(name, word) for name, word, _ in visit.answers(1)]
-    visit.same([("claim.csv", "No")], found, "the chosen election is removed, so the other is the only one")
+    found = [(name, word) for name, word, _ in visit.answers(2)]
+    visit.same([("claim.csv", "\u2013"), ("two.pb", "Read")], found, "the chosen election is removed, and no other taken")
 
 
 def try_corrected_outcome(visit):
@@ -404,7 +408,7 @@ def try_corrected_outcome(visit):
     visit.open()
     visit.give(outcome, EXAMPLES / "sample.pb", EXAMPLES / "district.pb", EXAMPLES / "district.violation.csv")
     visit.answers(2)
-    visit.browser.ask(CHOOSE, "#audit-list [aria-label='Funded projects']", "winners.csv")
+    visit.choose("#audit-list [aria-label='Funded projects']", "winners.csv")
     visit.holds(("district.violation.csv", "Yes", "violation") in visit.answers(2), "the chosen outcome")
     shutil.copy(EXAMPLES / "district.stable.outcome.csv", outcome)
     give_anew(visit, outcome)
@@ -430,25 +434,32 @@ def try_totals(visit):
 
 
 def try_unused(visit):
-    """An outcome that is used no more, since files came, is told, and that of an answer is named."""
+    """An outcome that fits no certificate by its name is asked about at each, is named where it is used, and told where
+    it isn't used."""
+    choice = "#audit-list > li:nth-child({}) [aria-label='Funded projects']"
     visit.open()
     visit.give(EXAMPLES / "district.pb", EXAMPLES / "district.violation.csv", EXAMPLES / "district.other.outcome.csv")
-    visit.same([("district.violation.csv", "Yes", None)], visit.answers(1), "a violation of the only outcome")
-    visit.same("", visit.text("#notes"), "all files are used")
+    visit.same([("district.violation.csv", "\u2013", None)], visit.answers(1), "an outcome of another name")
+    visit.holds("Which projects are to be checked as funded?" in visit.browser.ask(SENTENCE), "it is asked about")
+    visit.same("", visit.text("#notes"), "it isn't said to be unused")
+    visit.choose(choice.format(1), "district.other.outcome.csv")
+    visit.same([("district.violation.csv", "Yes", None)], visit.answers(1), "a violation of this outcome")
     about = "checked against district.pb, with the funded projects of district.other.outcome.csv"
     visit.holds(about in visit.text("#about"), f"what the answer is about: {visit.text('#about')}")
     visit.give(EXAMPLES / "district.prices.csv")
     told = [(name, word) for name, word, _ in visit.answers(2)]
-    visit.same([("district.prices.csv", "Yes"), ("district.violation.csv", "No")], told, "with another certificate")
+    wanted = [("district.prices.csv", "\u2013"), ("district.violation.csv", "Yes")]
+    visit.same(wanted, told, "the other certificate keeps its answer, and the new one is asked about")
+    visit.choose(choice.format(1), "as the election says")
+    visit.same(["Yes", "Yes"], [word for _, word, _ in visit.answers(2)], "two outcomes")
+    totals = "Prices support the outcome: 1, don't support it: 0. Violation proved: 1, not proved: 0."
+    visit.same([totals, ""], [visit.text("#totals"), visit.text("#notes")], "the totals then")
+    visit.choose(choice.format(2), "as the election says")
+    visit.same(["Yes", "No"], [word for _, word, _ in visit.answers(2)], "the election's outcome twice")
     wanted = ("Not used: district.other.outcome.csv. An outcome is chosen under “Funded projects”, beside its "
               "certificate.")  # fmt: skip
     visit.same(wanted, visit.text("#notes"), "the outcome isn't used")
     visit.holds(visit.text("#spoken").endswith(wanted), f"and that is read out: {visit.text('#spoken')}")
-    last = "#audit-list > li:last-child [aria-label='Funded projects']"
-    visit.browser.ask(CHOOSE, last, "district.other.outcome.csv")
-    visit.holds(("district.violation.csv", "Yes", "violation") in visit.answers(2), "the outcome is chosen")
-    totals = "Prices support the outcome: 1, don't support it: 0. Violation proved: 1, not proved: 0."
-    visit.same([totals, ""], [visit.text("#totals"), visit.text("#notes")], "the totals then")
     visit.browser.click("#clear")
     visit.give(EXAMPLES / "district.other.outcome.csv")
     visit.browser.wait("return document.querySelector('#notes').textContent", "an outcome alone")
@@ -583,7 +594,7 @@ def try_replacing(visit):
     visit.browser.click("#clear")
     visit.give(EXAMPLES / "district.pb", EXAMPLES / "sample.pb", claim)
     visit.answers(3)
-    visit.browser.ask(CHOOSE, "#audit-list [aria-label=Election]", "district.pb")
+    visit.choose("#audit-list [aria-label=Election]", "district.pb")
     visit.answers(2)
     visit.browser.click("[aria-label='Replace claim.csv']")
     visit.give(EXAMPLES / "sample.wrong.prices.csv", to="#replace-input")
@@ -624,6 +635,8 @@ def try_hostile_names(visit):
     (room / "<script>document.title='taken'<.prices.csv").write_bytes((EXAMPLES / "sample.prices.csv").read_bytes())
     visit.open()
     visit.give(*sorted(room.iterdir()))
+    visit.answers(2)
+    visit.choose("#audit-list [aria-label=Election]", BAD_NAME)
     told = visit.answers(1)
     visit.holds("<script>" in told[0][0], f"the name is told as it is: {told}")
     names = visit.browser.ask("return document.querySelector('#file-list').innerText")

@@ -10,14 +10,15 @@ const NO_OUTCOME = "refused election 17 ";
 /** @type {(words: Words, audit: Audit) => void} */
 function showAnswer(words, { task, page, refused, problem }) {
   const { certificate, election, outcome } = task;
-  const about = certificate && election ? words.about(certificate.file.name, election.file.name) : "";
-  element("about").textContent = about && outcome ? about + words.withOutcome(outcome.file.name) : about;
+  const nameOfFile = (/** @type {Piece} */ piece) => toldName(piece.file.name);
+  const about = certificate && election ? words.about(nameOfFile(certificate), nameOfFile(election)) : "";
+  element("about").textContent = about && outcome ? about + words.withOutcome(nameOfFile(outcome)) : about;
   element("saved").textContent = "";
   element("found").hidden = page === undefined;
   element("refusal").hidden = page !== undefined;
   for (const id of ["margins", "tidy"]) element(id).hidden = certificate?.kind !== "prices";
   if (page !== undefined) return showPage(element("frame"), page);
-  const why = problem ? [make("p", {}, problemSentence(words, problem))] : refused ? refusalOf(words, refused) : [];
+  const why = problem ? [make("p", {}, ...problemText(words, problem))] : refused ? refusalOf(words, refused) : [];
   element("refusal").replaceChildren(...why);
 }
 
@@ -67,12 +68,13 @@ function fitFrame(frame) {
  * @type {(words: Words, refused: Refused) => HTMLElement[]}
  */
 function refusalOf(words, { file, line, sentences, excerpt, text }) {
+  const name = toldName(file), stands = shortened(visible(excerpt, "\t"), LONGEST_LINE);
   return [
-    make("p", {}, make("strong", {}, words.refused(file))),
-    ...line > 0 ? [make("p", {}, words.atLine(file, line)), make("pre", {}, excerpt)] : [],
-    ...sentences.map(each => make("p", { lang: "en" }, each)),
+    make("p", {}, make("strong", {}, words.refused(name))),
+    ...line > 0 ? [make("p", {}, words.atLine(name, line)), make("pre", {}, stands)] : [],
+    ...sentences.map(each => make("p", { lang: "en" }, shownLine(each))),
     ...text.startsWith(NO_OUTCOME) ? [make("p", {}, words.needsOutcome)] : [],
-    make("p", { class: "soft" }, `${words.programPrints} `, make("code", { lang: "en" }, text)),
+    make("p", { class: "soft" }, `${words.programPrints} `, make("code", { lang: "en" }, shownLine(text))),
   ];
 }
 

@@ -3,24 +3,30 @@
 
     python3 web/assemble.py MODULE PAGE [FILE..]
 
-MODULE is the WebAssembly module, PAGE the file that is written, and FILEs are put into it to be audited. Each script
-and each style is allowed by its hash in the page's policy, and nothing else may run.
+MODULE is the WebAssembly module, or a page that has it: with release/pbaudit.html there the page can be worked on
+without the kit. PAGE is the file that is written, and FILEs are put into it to be audited. Each script and each style
+is allowed by its hash in the page's policy, and nothing else may run. The English words stand in the file itself, for
+browsers in which no script runs.
 """
 import base64
 import hashlib
 import html
+import json
 import pathlib
 import re
 import sys
 
 HERE = pathlib.Path(__file__).resolve().parent
 EXAMPLES = HERE.parent / "examples"
-EXAMPLE = ["district.pb", "district.prices.csv"]
+# The example has names of its own, by which it is told apart from files that are given.
+EXAMPLE = {"example.pb": "district.pb", "example.prices.csv": "district.prices.csv"}
 FRAME_STYLE = HERE.parent / "crates" / "pb_page" / "src" / "style.rt"
 # In the order in which they build on each other.
-WORKER = ["statuses.js", "auditor.js", "worker.js"]
-SCRIPTS = ["words/en.js", "words/pl.js", "words/de.js", "words/fr.js", "statuses.js", "elements.js", "pieces.js",
+WORKER = ["statuses.js", "auditor.js", "kinds.js", "worker.js"]
+LANGUAGES = ["en", "pl", "de", "fr"]
+SCRIPTS = [*[f"words/{code}.js" for code in LANGUAGES], "statuses.js", "elements.js", "names.js", "pieces.js",
            "gather.js", "audits.js", "lists.js", "notes.js", "answer.js", "page.js", "start.js"]
+MODULE_IN_PAGE = re.compile(rb'<script type="text/plain" id="module">([^<]*)</script>')
 
 
 def text_of(name):
@@ -41,8 +47,34 @@ def frame_style(module):
     return style
 
 
+def module_of(data):
+    """The module: the bytes themselves, or those that a page has."""
+    found = MODULE_IN_PAGE.search(data)
+    return base64.b64decode(found[1]) if found else data
+
+
+def words_of(code):
+    """What the page says in a language, without the texts that have names or numbers in them."""
+    found = re.findall(r'^  (\w+): ("(?:[^"\\]|\\.)*"),$', text_of(f"words/{code}.js"), re.MULTILINE)
+    return {name: json.loads(text) for name, text in found}
+
+
+def with_words(page, words):
+    """The page with words in its elements, for whoever has no script that puts them there."""
+    def written(found):
+        return f"{found[0]}{html.escape(words[found[1]], quote=False)}"
+
+    return re.sub(r'<[^>]* data-word="(\w+)"[^>]*>(?=</)', written, page)
+
+
+def unstarted():
+    """That no script runs, in each language."""
+    told = [f'<p lang="{code}">{html.escape(words_of(code)["unstarted"], quote=False)}</p>' for code in LANGUAGES]
+    return "\n".join(told)
+
+
 def policy(scripts, styles):
-    """Nothing is fetched, and nothing runs but the scripts of the file and the module."""
+    """Nothing is fetched, and nothing runs but the scripts of the file and the module. Few browsers know `webrtc`."""
     rules = {
         "default-src": ["'none'"],
         "connect-src": ["'none'"],
@@ -52,6 +84,7 @@ def policy(scripts, styles):
         "img-src": ["data:"],
         "form-action": ["'none'"],
         "base-uri": ["'none'"],
+        "webrtc": ["'block'"],
     }
     return "; ".join(f"{name} {' '.join(values)}" for name, values in rules.items())
 
@@ -62,8 +95,8 @@ def data_element(attributes, data):
     return f'<script type="text/plain" {written}>{base64.b64encode(data).decode()}</script>'
 
 
-def file_element(kind, file):
-    return data_element({"class": kind, "data-name": file.name}, file.read_bytes())
+def file_element(kind, name, file):
+    return data_element({"class": kind, "data-name": name}, file.read_bytes())
 
 
 def page_of(module, files):
@@ -75,22 +108,24 @@ def page_of(module, files):
         "worker": "".join(map(text_of, WORKER)),
         "data": "\n".join([
             data_element({"id": "module"}, module),
-            *[file_element("example", EXAMPLES / name) for name in EXAMPLE],
-            *[file_element("brought", file) for file in files],
+            *[file_element("example", name, EXAMPLES / file) for name, file in EXAMPLE.items()],
+            *[file_element("brought", file.name, file) for file in files],
         ]),
+        "unstarted": unstarted(),
         "scripts": "\n".join(f"<script>{script}</script>" for script in scripts),
     }
     for name in ("worker", "scripts"):
         if "<!--" in fields[name]:
             sys.exit(f"assemble.py: {name} would end its element early")
-    return re.sub(r"\{(\w+)\}", lambda found: fields[found[1]], text_of("page.html"))
+    page = with_words(text_of("page.html"), words_of("en"))
+    return re.sub(r"\{(\w+)\}", lambda found: fields[found[1]], page)
 
 
 def main():
     if len(sys.argv) < 3:
         sys.exit("usage: assemble.py MODULE PAGE [FILE..]")
     module, page, *files = map(pathlib.Path, sys.argv[1:])
-    page.write_bytes(page_of(module.read_bytes(), files).encode("utf-8"))
+    page.write_bytes(page_of(module_of(module.read_bytes()), files).encode("utf-8"))
 
 
 if __name__ == "__main__":

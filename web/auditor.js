@@ -69,6 +69,10 @@ class Auditor {
   /** @param {WebAssembly.Module} module */
   constructor(module) {
     this.calls = /** @type {any} */ (new WebAssembly.Instance(module, {}).exports);
+    /** @type {Place | undefined} */
+    this.answer = undefined;
+    /** @type {Place | undefined} */
+    this.needed = undefined;
   }
 
   /**
@@ -135,14 +139,18 @@ class Auditor {
   }
 
   /**
+   * Calls a function of the module. The room of an answer is used again for the next.
    * @param {string} name
    * @param {any[]} words
    * @param {number} guess
    * @returns {Reply}
    */
   call(name, words, guess) {
-    const needed = this.room(8);
-    for (let room = this.room(guess); ; room = this.room(this.number(needed))) {
+    const needed = this.needed ?? this.room(8);
+    this.needed = needed;
+    let room = this.answer && this.answer.length >= guess ? this.answer : this.room(guess);
+    for (;; room = this.room(this.number(needed))) {
+      this.answer = room;
       const status = this.calls[name](...words, room.at, room.length, needed.at);
       const length = this.number(needed);
       if (length <= Number(room.length)) {

@@ -4,21 +4,29 @@
 
 /** @typedef {"waiting" | "running" | "done" | "stopped" | "incomplete"} State */
 
+/** @typedef {{why: Nothing["why"] | "tooLong", file: string, detail?: string}} Problem */
+
 /**
  * An audit and how far it is. `line` is what the program prints first; `page` the answer for people, once it was asked
- * for, and `sentence` its head.
+ * for, and `sentence` its head. All that is told is of one look at the files, whose bytes have these sums.
  * @typedef {object} Audit
  * @property {Task} task
  * @property {State} state
+ * @property {Mode=} mode how prices were asked
+ * @property {Sums=} sums
  * @property {number=} status
  * @property {string=} line
+ * @property {string[]=} notes what the program remarks on the election
  * @property {string=} page
  * @property {string=} sentence
  * @property {Refused=} refused
- * @property {{why: "memory" | "trap" | "unreadable" | "tooLong", file: string}=} problem
+ * @property {Problem=} problem
  */
 
 /** @typedef {{module: Promise<WebAssembly.Module>, script: string}} Engine */
+
+/** The browser doesn't run the auditor. */
+class NoEngine extends Error {}
 
 /**
  * Bytes that an element of the file has as base64.
@@ -29,12 +37,13 @@ function bytesOf(holder) {
 }
 
 /**
- * The module, compiled once, and the worker's script.
+ * The module, compiled once, and the worker's script. A browser may have no WebAssembly, or forbid it here.
  * @returns {Engine}
  */
 function makeEngine() {
   const script = URL.createObjectURL(new Blob([element("worker").textContent], { type: "text/javascript" }));
-  const module = WebAssembly.compile(bytesOf(element("module")));
+  const compile = async () => WebAssembly.compile(bytesOf(element("module")));
+  const module = compile().catch(error => { throw new NoEngine(`${error}`); });
   return { module, script };
 }
 
@@ -55,37 +64,54 @@ class Runner {
 
   /**
    * Does an order. Answers undefined where it was stopped.
-   * @param {Omit<Order, "module">} order
+   * @param {Omit<Order, "module"> | Omit<KindsOrder, "module">} order
    * @param {(told: Told) => void} tell called as it goes on
-   * @returns {Promise<Told | undefined>}
+   * @returns {Promise<Told | NoAnswer | undefined>}
    */
   async run(order, tell) {
+    /** @type {Worker | undefined} */
+    let worker;
     const stopped = new Promise(resolve => { this.stop = () => resolve(undefined); });
-    const worker = new Worker(this.engine.script);
-    const told = await Promise.race([stopped, this.told(worker, order, tell)]);
-    worker.terminate();
+    const begin = () => worker = new Worker(this.engine.script);
+    const told = await Promise.race([stopped, this.told(begin, order, tell).catch(noEngine)]);
+    worker?.terminate();
     return told;
   }
 
   /**
-   * Gives a worker an order, and answers what it tells last.
-   * @param {Worker} worker
-   * @param {Omit<Order, "module">} order
+   * Gives a worker an order, and answers what it tells last. Where notes come after the answer, this is told first. A
+   * worker that ends before it is there was never let run.
+   * @param {() => Worker} begin
+   * @param {Omit<Order, "module"> | Omit<KindsOrder, "module">} order
    * @param {(told: Told) => void} tell
    * @returns {Promise<Told>}
    */
-  async told(worker, order, tell) {
-    const module = await this.engine.module;
-    return new Promise(resolve => {
+  async told(begin, order, tell) {
+    const module = await this.engine.module, worker = begin();
+    const isFirst = (/** @type {Told} */ data) => data.tells === "answer" && "notes" in order && order.notes;
+    let isReady = false, answer = {};
+    return new Promise((resolve, reject) => {
       worker.onmessage = ({ data }) => {
-        const isStep = data.tells === "reading" || data.tells === "checking";
-        return isStep ? tell(data) : resolve(data);
+        isReady = true;
+        if (isFirst(data)) answer = data;
+        if (data.tells === "notes") resolve({ ...answer, ...data, tells: "answer" });
+        else if (isFirst(data) || ["ready", "reading", "checking"].includes(data.tells)) tell(data);
+        else resolve(data);
       };
-      worker.onerror = () => resolve({ tells: "nothing", why: "trap" });
+      worker.onerror = ({ message }) =>
+        isReady ? resolve({ tells: "nothing", why: "trap" }) : reject(new NoEngine(message || "Worker"));
       worker.postMessage({ ...order, module });
     });
   }
 }
+
+/** @typedef {Nothing & {detail?: string}} NoAnswer */
+
+/**
+ * That there is no answer, and what the browser says of it.
+ * @type {(error: Error) => NoAnswer}
+ */
+const noEngine = error => ({ tells: "nothing", why: "engine", detail: error.message });
 
 /**
  * The order that does a task.
@@ -97,15 +123,11 @@ class Runner {
  */
 function orderOf(task, command, mode, language) {
   const { election, outcome, certificate } = task;
-  return {
-    command, mode, language,
-    files: {
-      election: /** @type {Piece} */ (election).file,
-      outcome: outcome?.file ?? null,
-      certificate: certificate?.file ?? null,
-    },
-    kind: certificate?.kind === "violation" ? 3 : 2,
+  const files = {
+    election: /** @type {Piece} */ (election).file, outcome: outcome?.file ?? null,
+    certificate: certificate?.file ?? null,
   };
+  return { command, mode, language, files };
 }
 
 const WARMING_ROUNDS = 100;
@@ -122,21 +144,41 @@ function warm(engine, task) {
 }
 
 /**
- * The audit with what was told of it.
+ * The audit with what was told of it. What was told before is kept if it was of the same bytes, asked in the same way.
  * @param {Audit} audit
- * @param {Told | undefined} told
+ * @param {Told | NoAnswer | undefined} told
  * @param {string} command
+ * @param {Audit} before
  * @returns {Audit}
  */
-function answered(audit, told, command) {
-  if (!told) return { ...audit, state: "stopped" };
-  if (told.tells === "refused") return { ...audit, state: "done", status: REFUSED, line: told.text, refused: told };
-  if (told.tells !== "answer") {
-    const nothing = /** @type {{why: "memory" | "trap" | "unreadable", file?: string}} */ (told);
-    return { ...audit, state: "done", problem: { why: nothing.why, file: nothing.file ?? "" } };
+function answered(audit, told, command, before) {
+  const { task, mode } = audit;
+  if (!told) return { task, state: "stopped" };
+  if (told.tells === "refused") {
+    return { task, mode, state: "done", status: REFUSED, line: told.text, refused: told, sums: told.sums };
   }
-  const text = new TextDecoder().decode(told.bytes);
-  const sentence = /<section class="answer[^>]*><h2>([^<]*)/.exec(text)?.[1];
-  const found = command === "page" ? { page: text, sentence } : { line: text.split("\n", 1)[0] };
-  return { ...audit, state: "done", status: told.status, ...found };
+  if (told.tells !== "answer") {
+    const nothing = /** @type {NoAnswer} */ (told);
+    return { task, mode, state: "done", problem: { ...nothing, file: nothing.file ?? "" } };
+  }
+  const { status, sums } = told, text = new TextDecoder().decode(told.bytes);
+  const isSame = `${before.sums}` === `${sums}` && isSameMode(before.mode, mode);
+  const kept = isSame ? { line: before.line, notes: before.notes } : {};
+  const notes = told.notes ? { notes: told.notes } : {};
+  return { task, mode, state: "done", status, sums, ...kept, ...foundBy(command, text), ...notes };
 }
+
+/**
+ * What an answer says.
+ * @param {string} command
+ * @param {string} text
+ */
+function foundBy(command, text) {
+  if (command === "page") return { page: text, sentence: /<section class="answer[^>]*><h2>([^<]*)/.exec(text)?.[1] };
+  const [line, ...notes] = text.split("\n").filter(Boolean);
+  return command === "read" ? { line, notes } : { line };
+}
+
+/** @type {(one: Mode | undefined, other: Mode | undefined) => boolean} */
+const isSameMode = (one, other) =>
+  one?.stable === other?.stable && one?.exhaustive === other?.exhaustive && one?.cover === other?.cover;

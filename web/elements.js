@@ -50,7 +50,7 @@ function makeButton(word, label, click) {
  */
 function makeChoice(label, words, chosen, change) {
   const options = words.map((word, at) => make("option", at === chosen ? { selected: "" } : {}, word));
-  const select = /** @type {HTMLSelectElement} */ (make("select", { label }, ...options));
+  const select = /** @type {HTMLSelectElement} */ (make("select", { label, autocomplete: "off" }, ...options));
   select.addEventListener("change", () => change(select.selectedIndex));
   return select;
 }

@@ -13,7 +13,21 @@ const kindWord = (words, kind) => ({
 })[kind];
 
 /** @type {(piece: Piece) => HTMLElement} */
-const nameOf = piece => make("bdi", {}, pathOf(piece));
+const nameOf = piece => make("bdi", {}, shownName(pathOf(piece)));
+
+/**
+ * What a file is: a word where the auditor told it, and else a choice.
+ * @param {Page} page
+ * @param {Piece} piece
+ */
+function kindItem(page, piece) {
+  const { words } = page;
+  if (piece.isTold) return make("span", { class: "soft kind" }, kindWord(words, piece.kind));
+  const kinds = piece.kind === "unknown" ? [...KINDS, /** @type {Kind} */ ("unknown")] : KINDS;
+  const label = words.kindOf(toldName(piece.file.name));
+  return makeChoice(label, kinds.map(kind => kindWord(words, kind)), kinds.indexOf(piece.kind),
+                    at => page.setKind(piece, kinds[at]));
+}
 
 /**
  * A file, with what it is.
@@ -21,18 +35,22 @@ const nameOf = piece => make("bdi", {}, pathOf(piece));
  * @param {Piece} piece
  */
 function pieceItem(page, piece) {
-  const { words } = page, { name, size } = piece.file;
-  const kinds = piece.kind === "unknown" ? [...KINDS, /** @type {Kind} */ ("unknown")] : KINDS;
-  const kindWords = kinds.map(kind => kindWord(words, kind));
+  const { words } = page, name = toldName(piece.file.name);
   return make(
     "li", {},
     make("span", { class: "grows" }, nameOf(piece)),
-    make("span", { class: "soft" }, sizeOf(size, page.language)),
-    makeChoice(words.kindOf(name), kindWords, kinds.indexOf(piece.kind), at => page.setKind(piece, kinds[at])),
+    make("span", { class: "soft" }, sizeOf(piece.file.size, page.language)),
+    kindItem(page, piece),
     makeButton(words.replace, words.replaceFile(name), () => page.replace(piece)),
     makeButton(words.remove, words.removeFile(name), () => page.remove(piece)),
   );
 }
+
+/** @typedef {"good" | "bad" | "plain"} Colour */
+
+/** The colours of a Yes and of a No. */
+const GOOD_OR_BAD = /** @type {[Colour, Colour]} */ (["good", "bad"]);
+const BAD_OR_PLAIN = /** @type {[Colour, Colour]} */ (["bad", "plain"]);
 
 /**
  * The word for how an audit stands, and its colour.
@@ -40,7 +58,7 @@ function pieceItem(page, piece) {
  * @param {Audit} audit
  */
 function badgeOf(words, { state, status, task, problem }) {
-  /** @type {(kind: "good" | "bad" | "plain", word: string) => HTMLElement} */
+  /** @type {(kind: Colour, word: string) => HTMLElement} */
   const badge = (kind, word) => make("span", { class: `badge ${kind}` }, word);
   if (state !== "done") {
     const told = { waiting: words.isWaiting, running: words.isRunning, stopped: words.isStopped, incomplete: "–" };
@@ -49,9 +67,9 @@ function badgeOf(words, { state, status, task, problem }) {
   if (problem || status === undefined) return badge("bad", words.isFailed);
   if (status === REFUSED) return badge("bad", words.isRefused);
   if (!task.certificate) return badge("plain", words.isRead);
-  // A violation that was shown is no good news.
-  const isGood = (status === YES) === (task.certificate.kind === "prices");
-  return badge(isGood ? "good" : "bad", status === YES ? words.yes : words.no);
+  // A violation that was shown is no good news, and one that wasn't shown is none either.
+  const [yes, no] = task.certificate.kind === "prices" ? GOOD_OR_BAD : BAD_OR_PLAIN;
+  return status === YES ? badge(yes, words.yes) : badge(no, words.no);
 }
 
 /**
@@ -62,43 +80,95 @@ const isRead = ({ task, state, status }) => !task.certificate && state === "done
 
 /**
  * What the program prints of an election, in the page's language.
- * @type {(words: Words, line: string) => string}
+ * @type {(page: Page, line: string) => string}
  */
-function readLine(words, line) {
+function readLine({ words, language }, line) {
   const [, voters, projects, funded] = /^read (\d+) voters (\d+) projects (?:(\d+) funded|no outcome)/.exec(line) ?? [];
-  return words.readLine(voters, projects, funded ?? words.noneSaid);
+  const told = (/** @type {string} */ count) => numberIn(count, language);
+  return words.readLine(told(voters), told(projects), funded ? told(funded) : words.noneSaid);
+}
+
+/**
+ * What the program remarks on an election, in the page's language.
+ * @type {(page: Page, note: string) => string}
+ */
+function noteLine({ words, language }, note) {
+  const [, what, said, counted] = /^note: num_(votes|projects) says (\d+), counted (\d+)$/.exec(note) ?? [];
+  const [, odd] = /^note: selected is neither 0 nor 1 in (\d+) projects$/.exec(note) ?? [];
+  const told = (/** @type {string} */ count) => numberIn(count, language);
+  if (odd) return words.oddSelected(told(odd));
+  if (!what) return shownLine(note);
+  return (what === "votes" ? words.otherVotes : words.otherProjects)(told(said), told(counted));
 }
 
 /**
  * The sentence beside the badge: the answer's, what the program prints, or what is missing.
- * @param {Words} words
+ * @param {Page} page
  * @param {Audit} audit
  */
-function lineOf(words, audit) {
-  const { task, line, sentence, problem } = audit;
-  if (problem) return make("span", {}, problemSentence(words, problem));
-  if (!task.election) return make("span", { class: "soft" }, words.wantsElection);
+function lineOf(page, audit) {
+  const { words } = page, { task, line, sentence, problem } = audit, { certificate, election } = task;
+  if (problem) return make("span", {}, ...problemText(words, problem));
+  if (!election) return make("span", { class: "soft" }, page.hasElections() ? words.asksElection : words.wantsElection);
+  if (task.asks === "outcome") return make("span", { class: "soft" }, words.asksOutcome);
   if (isRead(audit)) {
-    return make("span", {}, readLine(words, line ?? ""), make("span", { class: "soft" }, ` ${words.noCertificate}`));
+    const wants = page.audits.some(each => each.task.asks === "election") ? "" : ` ${words.noCertificate}`;
+    return make("span", {}, readLine(page, line ?? ""), make("span", { class: "soft" }, wants));
   }
-  return make("span", {}, sentence ? `${sentence} ` : "", ...line ? [make("code", { lang: "en" }, line)] : []);
+  const printed = line ? [make("code", { lang: "en" }, shownLine(line))] : [];
+  return make("span", {}, certificate && sentence ? `${sentence} ` : "", ...printed);
+}
+
+/**
+ * What is below that: the election and the outcome that a certificate is checked with, and what is remarked on the
+ * election.
+ * @param {Page} page
+ * @param {Audit} audit
+ */
+function belowOf(page, { task, notes }) {
+  const { words } = page, { certificate, election, outcome } = task, below = [];
+  if (certificate && election) {
+    const whose = task.asks ? "?" : outcome ? toldName(outcome.file.name) : words.ownOutcome;
+    const told = `${words.against}: ${toldName(election.file.name)}. ${words.outcome}: ${whose}.`;
+    below.push(make("span", { class: "soft with" }, told));
+  }
+  return [...below, ...(notes ?? []).map(note => make("span", { class: "note" }, noteLine(page, note)))];
 }
 
 /**
  * What is read out of an audit.
- * @type {(words: Words, audit: Audit) => string}
+ * @type {(page: Page, audit: Audit) => string}
  */
-function saidOf(words, audit) {
-  const name = (audit.task.certificate ?? audit.task.election)?.file.name ?? "";
-  const badge = audit.state === "incomplete" ? null : badgeOf(words, audit).textContent;
-  return words.said(name, [badge, lineOf(words, audit).textContent?.trim()].filter(Boolean).join(". "));
+function saidOf(page, audit) {
+  const { words } = page, badge = audit.state === "incomplete" ? null : badgeOf(words, audit).textContent;
+  const notes = (audit.notes ?? []).map(note => noteLine(page, note));
+  const told = [badge, lineOf(page, audit).textContent?.trim(), ...notes];
+  return words.said(toldName(fileOf(audit).name), told.filter(Boolean).join(". "));
 }
 
-/** @type {(words: Words, problem: {why: string, file: string}) => string} */
+/**
+ * The file that an audit is called by.
+ * @type {(audit: Audit) => File}
+ */
+const fileOf = ({ task }) => /** @type {Piece} */ (task.certificate ?? task.election).file;
+
+/** @type {(words: Words, problem: Problem) => string} */
 function problemSentence(words, { why, file }) {
-  if (why === "memory") return words.outOfMemory;
-  if (why === "unreadable") return words.unreadable(file);
-  return why === "tooLong" ? words.tooLong(file) : words.trap;
+  const name = toldName(file);
+  return {
+    memory: words.outOfMemory, unreadable: words.unreadable(name), tooLong: words.tooLong(name), trap: words.trap,
+    engine: words.broken,
+  }[why];
+}
+
+/**
+ * Why there is no answer, with what the browser says of it.
+ * @param {Words} words
+ * @param {Problem} problem
+ */
+function problemText(words, problem) {
+  const detail = problem.detail ? [" ", make("code", { lang: "en" }, shownLine(problem.detail))] : [];
+  return [problemSentence(words, problem), ...detail];
 }
 
 /**
@@ -107,44 +177,52 @@ function problemSentence(words, { why, file }) {
  * @param {Page} page
  * @param {Kind} kind
  * @param {Piece | null} chosen
+ * @param {boolean} isAsked
  */
-function candidates({ pieces }, kind, chosen) {
+function candidates({ pieces }, kind, chosen, isAsked = false) {
   const all = pieces.filter(piece => piece.kind === kind);
-  if (all.length <= MOST_CHOICES) return all;
+  if (all.length <= MOST_CHOICES || isAsked) return all;
   return chosen ? [chosen] : kind === "election" ? all : [];
 }
+
+/** @typedef {[string, Piece | null | undefined]} Option a word, and what it stands for: undefined leaves all as it is */
 
 /**
  * A list of files to choose from, with words ahead of them that stand for no file.
  * @param {string} word
- * @param {string[]} first
+ * @param {Option[]} first
  * @param {Piece[]} pieces
- * @param {Piece | null} chosen
+ * @param {Piece | null | undefined} chosen
  * @param {(piece: Piece | null) => void} change
  */
 function pieceChoice(word, first, pieces, chosen, change) {
-  const names = [...first, ...pieces.map(pathOf)];
-  const place = chosen ? pieces.indexOf(chosen) + first.length : 0;
-  const choice = makeChoice(word, names, place, at => change(pieces[at - first.length] ?? null));
+  const options = [...first, ...pieces.map(piece => /** @type {Option} */ ([toldName(pathOf(piece)), piece]))];
+  const place = options.findIndex(([, piece]) => piece === chosen);
+  const choice = makeChoice(word, options.map(([each]) => each), place, at => {
+    const piece = options[at]?.[1];
+    if (piece !== undefined) change(piece);
+  });
   return make("label", {}, make("span", { class: "soft" }, word), choice);
 }
 
 /**
- * The choices of an audit: its election, and whose outcome is audited.
+ * The choices of an audit: its election, and whose outcome is audited. Where one is asked for, none is chosen yet.
  * @param {Page} page
  * @param {Audit} audit
  */
 function choicesOf(page, { task }) {
-  const { words } = page, { certificate, election, outcome } = task;
+  const { words } = page, { certificate, election, outcome, asks } = task;
   if (!certificate) return [];
-  const elections = candidates(page, "election", election), outcomes = candidates(page, "outcome", outcome);
+  const elections = candidates(page, "election", election);
+  const outcomes = election ? candidates(page, "outcome", outcome, asks === "outcome") : [];
   const choices = [];
   if (elections.length > 1 || (elections.length === 1 && !election)) {
-    choices.push(pieceChoice(words.against, election ? [] : [words.noElection], elections, election,
-                             chosen => chosen && page.choose(certificate, { election: chosen })));
+    choices.push(pieceChoice(words.against, election ? [] : [[words.noElection, undefined]], elections,
+                             election ?? undefined, chosen => chosen && page.choose(certificate, { election: chosen })));
   }
   if (outcomes.length > 0) {
-    choices.push(pieceChoice(words.outcome, [words.ownOutcome], outcomes, outcome,
+    const none = /** @type {Option[]} */ (asks ? [[words.noOutcome, undefined]] : []);
+    choices.push(pieceChoice(words.outcome, [...none, [words.ownOutcome, null]], outcomes, asks ? undefined : outcome,
                              chosen => page.choose(certificate, { outcome: chosen })));
   }
   return choices;
@@ -156,8 +234,7 @@ function choicesOf(page, { task }) {
  * @param {Audit} audit
  */
 function buttonsOf(page, audit) {
-  const { words } = page, { task, state, problem } = audit;
-  const name = (task.certificate ?? task.election)?.file.name ?? "";
+  const { words } = page, { task, state, problem } = audit, name = toldName(fileOf(audit).name);
   const canShow = audit.page !== undefined || audit.refused || (task.certificate && !problem);
   if (state === "stopped" || problem) {
     return [makeButton(words.checkAgain, `${words.checkAgain}: ${name}`, () => page.again(audit))];
@@ -178,7 +255,7 @@ function auditItem(page, audit) {
   return make(
     "li", { "data-state": state, ...(isShown ? { class: "shown" } : {}) },
     badgeOf(words, audit),
-    make("span", { class: "grows" }, nameOf(piece), make("br"), lineOf(words, audit)),
+    make("span", { class: "grows" }, nameOf(piece), make("br"), lineOf(page, audit), ...belowOf(page, audit)),
     ...choicesOf(page, audit),
     ...buttonsOf(page, audit),
   );

@@ -8,17 +8,21 @@ const MAKES_PRICES = "python -m pbaudit equal-shares NAME.pb --completion add1 -
 
 /** @type {(words: Words, names: string[]) => string} */
 const someOf = (words, names) =>
-  names.slice(0, MOST_NAMED).join(", ") + (names.length > MOST_NAMED ? words.more(names.length - MOST_NAMED) : "");
+  names.slice(0, MOST_NAMED).map(toldName).join(", ") + (names.length > MOST_NAMED ? words.more(names.length - MOST_NAMED) : "");
 
 /**
  * @param {Page} page
  * @returns {HTMLElement[]}
  */
-function notesOf({ words, pieces, audits, passedOver }) {
+function notesOf({ words, pieces, audits, passedOver, twice }) {
   const ofKind = (/** @type {Kind} */ kind) => pieces.filter(piece => piece.kind === kind);
   const outcomes = ofKind("outcome"), hasCertificate = pieces.some(isCertificate);
-  const unused = outcomes.filter(piece => audits.every(({ task }) => task.outcome !== piece)).map(pathOf);
-  const notes = ofKind("unknown").map(piece => make("p", { class: "problem" }, words.isNoFile(pathOf(piece))));
+  const isAsking = audits.some(({ task }) => task.asks === "outcome");
+  const unused = outcomes.filter(piece => !isAsking && audits.every(({ task }) => task.outcome !== piece)).map(pathOf);
+  const notes = ofKind("unknown")
+    .map(piece => make("p", { class: "problem" }, words.isNoFile(toldName(pathOf(piece)))));
+  const replaced = twice.filter(name => pieces.some(piece => pathOf(piece) === name));
+  if (replaced.length > 0) notes.push(make("p", {}, words.twice(someOf(words, replaced))));
   if (unused.length > 0) {
     const how = hasCertificate ? outcomes.length <= MOST_CHOICES ? words.chooseOutcome : "" : words.outcomeAlone;
     notes.push(make("p", {}, `${words.unused(someOf(words, unused))} ${how}`));

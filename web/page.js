@@ -19,12 +19,18 @@ class Page {
     this.audits = [];
     /** @type {Audit | null} */
     this.shown = null;
-    /** @type {Mode} */
-    this.mode = USUAL_MODE;
+    // Names of which several files came: the last one is used.
+    /** @type {string[]} */
+    this.twice = [];
+    this.taking = Promise.resolve();
     this.language = preferredLanguage();
     this.words = WORDS[this.language];
-    this.runner = new Runner(makeEngine());
+    this.engine = makeEngine();
+    this.runner = new Runner(this.engine);
     this.isBusy = false;
+    // What the worker is asked about now.
+    /** @type {Task | null} */
+    this.working = null;
     // What somebody asked for that isn't done yet.
     /** @type {(() => Promise<void>)[]} */
     this.asked = [];
@@ -35,17 +41,41 @@ class Page {
     this.replaced = null;
   }
 
+  /** How prices are asked now. A browser may restore the boxes without a word, so they are read each time. */
+  get mode() {
+    const isChecked = (/** @type {string} */ id) => /** @type {boolean} */ (element(id).checked);
+    return { stable: isChecked("stable"), exhaustive: isChecked("exhaustive"), cover: isChecked("cover") };
+  }
+
   /**
-   * Takes files. Of several, those that are of no kind are passed over; a single one is asked about.
+   * What files are, as the auditor tells it. Where it doesn't run, nothing is told.
    * @param {Found[]} found
+   * @returns {Promise<(Kind | undefined)[]>}
    */
-  async take(found) {
-    if (found.length > 0) element("broken").hidden = true;
-    const kinds = await Promise.all(found.map(({ file }) => kindOf(file)));
-    const added = found.map(({ file, folder }, at) => ({ file, folder, kind: kinds[at] }));
-    const known = added.filter(piece => piece.kind !== "unknown" || found.length === 1);
-    this.passedOver = added.filter(piece => !known.includes(piece)).map(pathOf);
-    this.set(withPieces(this.pieces, known));
+  async kindsOf(found) {
+    const list = found.map(({ file }) => file);
+    const told = await new Runner(this.engine).run({ command: "kinds", list }, () => {});
+    return told?.tells === "kinds" ? told.kinds : [];
+  }
+
+  /**
+   * Takes files, after those that came before. Of several, those that are of no kind are passed over; a single one is
+   * asked about. One's own files take the place of the example.
+   * @param {Found[]} found
+   * @param {boolean} isExample
+   */
+  take(found, isExample = false) {
+    this.taking = this.taking.then(async () => {
+      if (found.length > 0) element("broken").hidden = true;
+      const kinds = await this.kindsOf(found);
+      const added = found.map((each, at) => ({ ...pieceOf(each, kinds[at]), isExample }));
+      const known = added.filter(piece => piece.kind !== "unknown" || found.length === 1);
+      const kept = this.pieces.filter(piece => !!piece.isExample === isExample);
+      const pieces = withPieces(kept, known), gone = [...kept, ...known].filter(piece => !pieces.includes(piece));
+      this.passedOver = added.filter(piece => !known.includes(piece)).map(pathOf);
+      this.twice = [...new Set(gone.map(pathOf))];
+      this.set(pieces);
+    });
   }
 
   /**
@@ -73,11 +103,11 @@ class Page {
   /** Finds what is to be audited, and keeps what is answered already. */
   pair() {
     const isSame = (/** @type {Task} */ a, /** @type {Task} */ b) =>
-      a.election === b.election && a.certificate === b.certificate && a.outcome === b.outcome;
+      a.election === b.election && a.certificate === b.certificate && a.outcome === b.outcome && a.asks === b.asks;
     this.audits = tasksOf(this.pieces, this.choices)
       .map(task => this.audits.find(audit => isSame(audit.task, task)) ?? newAudit(task));
     if (this.audits.every(audit => audit.task !== this.shown?.task)) this.shown = null;
-    if (!this.audits.some(audit => audit.state === "running")) this.runner.stop();
+    if (this.audits.every(audit => audit.task !== this.working)) this.runner.stop();
     this.draw();
     this.work();
   }
@@ -88,6 +118,19 @@ class Page {
    */
   setKind(piece, kind) {
     this.set(this.pieces.map(each => each === piece ? { ...piece, kind } : each));
+  }
+
+  /** Whether there are elections among which somebody can choose. */
+  hasElections() {
+    return this.pieces.some(piece => piece.kind === "election");
+  }
+
+  /** Forgets all files, also those that are on their way. */
+  clear() {
+    this.taking = this.taking.then(() => {
+      this.passedOver = [];
+      this.set([]);
+    });
   }
 
   /** @param {Piece} piece */
@@ -108,9 +151,13 @@ class Page {
   async replaceBy([found]) {
     const old = this.replaced;
     if (!found || !old) return;
-    const kind = await kindOf(found.file);
-    const piece = { file: found.file, folder: old.folder, kind: kind === "unknown" ? old.kind : kind };
-    this.set(this.pieces.map(each => each === old ? piece : each), new Map([[old, piece]]));
+    const [told] = await this.kindsOf([found]);
+    const its = pieceOf({ ...found, folder: old.folder }, told);
+    const piece = its.kind === "unknown" ? { ...its, kind: old.kind } : its;
+    const all = this.pieces.map(each => each === old ? piece : each);
+    const pieces = all.filter(each => each === piece || !isSamePath(each, piece));
+    this.twice = all.filter(each => !pieces.includes(each)).map(pathOf);
+    this.set(pieces, new Map([[old, piece]]));
   }
 
   /**
@@ -122,16 +169,13 @@ class Page {
     this.pair();
   }
 
-  /**
-   * Asks otherwise of prices, which is nothing to a violation.
-   * @param {Mode} mode
-   */
-  setMode(mode) {
-    const isPrices = (/** @type {Audit} */ { task }) => task.certificate?.kind === "prices";
-    this.mode = mode;
-    if (this.audits.some(audit => audit.state === "running" && isPrices(audit))) this.runner.stop();
-    this.audits = this.audits.map(audit => isPrices(audit) ? newAudit(audit.task) : audit);
-    if (this.shown && isPrices(this.shown)) this.shown = null;
+  /** Asks prices anew that were asked otherwise than the boxes say, which is nothing to a violation. */
+  askAnew() {
+    const isOther = (/** @type {Audit} */ audit) => audit.mode !== undefined && !isSameMode(audit.mode, this.mode);
+    if (!this.audits.some(isOther)) return;
+    if (this.audits.some(audit => audit.task === this.working && isOther(audit))) this.runner.stop();
+    if (this.shown && isOther(this.shown)) this.shown = null;
+    this.audits = this.audits.map(audit => isOther(audit) ? newAudit(audit.task) : audit);
     this.draw();
     this.work();
   }
@@ -194,26 +238,45 @@ class Page {
    * Does an audit that waits. The only one is shown at once.
    * @param {Audit} audit
    */
-  async answer(audit) {
+  answer(audit) {
     const isOnly = this.audits.length === 1;
-    const done = await this.do(audit, isOnly ? "page" : audit.task.certificate?.kind ?? "read");
-    if (isOnly && done && this.audits.includes(done)) this.reveal(done);
+    return this.do(audit, isOnly ? "page" : audit.task.certificate?.kind ?? "read", done => isOnly && this.reveal(done));
   }
 
   /**
-   * Asks a command of an audit's files, and notes what is told.
+   * Asks a command of an audit's files, and notes what is told: first the answer, and then what the program remarks on
+   * the election.
    * @param {Audit} audit
    * @param {string} command
-   * @returns {Promise<Audit | undefined>}
+   * @param {(done: Audit) => void} whenAnswered
    */
-  async do(audit, command) {
-    const { task } = audit, long = tooLong(task);
-    const asked = task.certificate ? command : "read";
+  async do(audit, command, whenAnswered) {
+    const { task } = audit, { certificate } = task, long = tooLong(task);
+    const asked = certificate ? command : "read";
     if (long) return this.note(audit, { ...audit, state: "done", problem: { why: "tooLong", file: long.file.name } });
-    const running = this.put(audit, { ...audit, state: "running" });
-    const name = (task.certificate ?? /** @type {Piece} */ (task.election)).file.name;
+    const mode = certificate?.kind === "prices" ? this.mode : undefined;
+    let now = this.put(audit, { ...audit, state: "running", mode });
+    const note = (/** @type {Told | NoAnswer | undefined} */ told) => {
+      const isFirst = now.state === "running", done = this.note(now, answered(now, told, asked, audit));
+      now = done ?? now;
+      if (done && isFirst) whenAnswered(done);
+    };
     this.drawSoon();
-    return this.note(running, answered(running, await this.order(task, asked, name), asked));
+    const name = (certificate ?? /** @type {Piece} */ (task.election)).file.name;
+    const told = await this.order(task, asked, name, note);
+    if (told || now.state === "running") note(told);
+    this.follow(task, told);
+  }
+
+  /**
+   * Takes a certificate for what the auditor took it for, where its file was changed since it was given.
+   * @param {Task} task
+   * @param {Told | NoAnswer | undefined} told
+   */
+  follow({ certificate }, told) {
+    const kind = told?.tells === "answer" || told?.tells === "refused" ? told.kind : "unknown";
+    if (!certificate || kind === "unknown" || kind === certificate.kind) return;
+    this.set(this.pieces.map(each => each === certificate ? { ...each, kind, isTold: true } : each));
   }
 
   /**
@@ -221,11 +284,16 @@ class Page {
    * @param {Task} task
    * @param {string} command
    * @param {string} name the file that this is told of
+   * @param {(answer: Answer) => void=} note called with an answer after which notes come
    */
-  async order(task, command, name) {
+  async order(task, command, name, note) {
     showWork(this.words.loading);
-    const order = orderOf(task, command, this.mode, this.language);
-    const told = await this.runner.run(order, step => showStep(this.words, step, name));
+    this.working = task;
+    const notes = note !== undefined && command !== "read";
+    const order = { ...orderOf(task, command, this.mode, this.language), notes };
+    const told = await this.runner.run(order, step =>
+      step.tells === "answer" ? note?.(step) : showStep(this.words, step, toldName(name)));
+    this.working = null;
     hideWork();
     return told;
   }
@@ -234,7 +302,7 @@ class Page {
   tell() {
     const [only, ...others] = this.audits, notes = [...element("notes").children].map(note => note.textContent);
     const answers = others.length > 0 ? element("totals") : element("files-head");
-    speak([only && others.length === 0 ? saidOf(this.words, only) : answers.textContent, ...notes].join(" "));
+    speak([only && others.length === 0 ? saidOf(this, only) : answers.textContent, ...notes].join(" "));
   }
 
   /**
@@ -267,12 +335,14 @@ class Page {
    * @param {() => void} then
    */
   open(audit, then) {
-    const openNow = (/** @type {Audit | false | undefined} */ done) => {
-      if (done) this.reveal(done);
-      if (done && this.shown === done) then();
+    const openNow = (/** @type {Audit} */ done) => {
+      this.reveal(done);
+      if (this.shown === done) then();
     };
     if (audit.page || audit.refused || audit.problem) return openNow(audit);
-    this.ask(async () => openNow(this.audits.includes(audit) && await this.do(audit, "page")));
+    this.ask(async () => {
+      if (this.audits.includes(audit)) await this.do(audit, "page", openNow);
+    });
   }
 
   /** @param {Audit} audit */
@@ -293,9 +363,12 @@ class Page {
     if (!audit) return;
     this.ask(async () => {
       const name = savedName(audit, ending), told = await this.order(audit.task, command, name);
-      const isFailed = told?.tells === "nothing";
-      element("saved").textContent = isFailed ? problemSentence(this.words, { file: "", ...told }) : "";
-      if (told?.tells === "answer") saveAs(name, told.bytes, "text/csv");
+      const isTold = told?.tells === "answer" || told?.tells === "refused";
+      const isOther = isTold && `${told.sums}` !== `${audit.sums}`;
+      const problem = told?.tells === "nothing" ? problemSentence(this.words, { file: "", ...told }) : "";
+      element("saved").textContent = isOther ? this.words.changed : problem;
+      if (told?.tells === "answer" && !isOther) saveAs(name, told.bytes, "text/csv");
+      if (isOther && this.audits.includes(audit)) this.again(audit);
     });
   }
 
@@ -339,34 +412,37 @@ class Page {
     element("files-head").textContent = `${words.files} (${pieces.length})`;
     element("files").hidden = pieces.length === 0;
     element("options").hidden = !pieces.some(piece => piece.kind === "prices");
+    element("example").hidden = pieces.some(piece => !piece.isExample);
+    element("is-example").hidden = !pieces.some(piece => piece.isExample);
     element("audits").hidden = audits.length === 0 && notes.length === 0;
     element("answer").hidden = this.shown === null;
     element("totals").hidden = audits.length < 2;
-    element("totals").textContent = totalsOf(words, audits);
+    element("totals").textContent = totalsOf(this, audits);
   }
 }
 
 /** @type {(task: Task) => Audit} */
-const newAudit = task => ({ task, state: task.election ? "waiting" : "incomplete" });
+const newAudit = task => ({ task, state: task.election && !task.asks ? "waiting" : "incomplete" });
 
 /**
  * How many audits ended in which way. Those of prices and of violations are told apart, since of these a Yes is no good
  * news. All together are as many as the audits.
- * @type {(words: Words, audits: Audit[]) => string}
+ * @type {(page: Page, audits: Audit[]) => string}
  */
-function totalsOf(words, audits) {
+function totalsOf({ words, language }, audits) {
   const done = audits.filter(audit => audit.state === "done" && !audit.problem);
   const [yes, no] = [YES, NO].map(status => (/** @type {Kind} */ kind) =>
     done.filter(audit => audit.status === status && audit.task.certificate?.kind === kind).length);
   const refused = done.filter(audit => audit.status === REFUSED).length, read = done.filter(isRead).length;
   const prices = yes("prices") + no("prices"), violations = yes("violation") + no("violation");
   const open = audits.length - prices - violations - refused - read;
+  const told = (/** @type {number} */ count) => numberIn(count, language);
   return [
-    prices > 0 ? words.pricesTotals(yes("prices"), no("prices")) : "",
-    violations > 0 ? words.violationTotals(yes("violation"), no("violation")) : "",
-    refused > 0 ? words.refusedTotal(refused) : "",
-    read > 0 ? words.readTotal(read) : "",
-    open > 0 ? words.openTotal(open) : "",
+    prices > 0 ? words.pricesTotals(told(yes("prices")), told(no("prices"))) : "",
+    violations > 0 ? words.violationTotals(told(yes("violation")), told(no("violation"))) : "",
+    refused > 0 ? words.refusedTotal(told(refused)) : "",
+    read > 0 ? words.readTotal(told(read)) : "",
+    open > 0 ? words.openTotal(told(open)) : "",
   ].filter(Boolean).join(" ");
 }
 
@@ -405,6 +481,7 @@ function hideWork() {
 
 /** @type {(words: Words, told: Told, name: string) => void} */
 function showStep(words, told, name) {
+  if (told.tells === "ready") return;
   element("doing").textContent = told.tells === "reading" ? words.reading(name) : words.checking(name);
   if (told.tells === "reading") element("bar").value = told.done / (told.all || 1);
   else element("bar").removeAttribute("value");

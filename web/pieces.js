@@ -5,13 +5,19 @@
 /** @typedef {"election" | "prices" | "violation" | "outcome" | "unknown"} Kind */
 
 /**
- * A file that was given. `folder` is the folder that it lay in, where a folder was given.
- * @typedef {{file: File, folder: string, kind: Kind}} Piece
+ * A file that was given. `folder` is the folder that it lay in, where a folder was given. The auditor told its kind, or
+ * else its name does, or somebody chose it. An example is the page's own.
+ * @typedef {{file: File, folder: string, kind: Kind, isTold: boolean, isExample?: boolean}} Piece
  */
 
 /**
- * What is to be audited: a certificate with its election, or an election alone.
- * @typedef {{election: Piece | null, certificate: Piece | null, outcome: Piece | null}} Task
+ * What is to be audited: a certificate with its election, or an election alone. `asks` says what the names of the files
+ * leave open, and somebody has to choose first.
+ * @typedef {object} Task
+ * @property {Piece | null} election
+ * @property {Piece | null} certificate
+ * @property {Piece | null} outcome
+ * @property {"election" | "outcome"=} asks
  */
 
 /**
@@ -19,25 +25,27 @@
  * @typedef {{election?: Piece, outcome?: Piece | null}} Choice
  */
 
-const FRONT = 4096;
-/** How the first record of each kind of file begins, and its name ends. */
-const MARKS = /** @type {{kind: Kind, begins: string, ends: string}[]} */ ([
-  { kind: "prices", begins: "pb-prices", ends: ".prices.csv" },
-  { kind: "violation", begins: "pb-violation", ends: ".violation.csv" },
-  { kind: "outcome", begins: "pb-outcome", ends: ".outcome.csv" },
-  { kind: "election", begins: "META", ends: ".pb" },
+/** How the name of each kind of file ends. */
+const ENDINGS = /** @type {[Kind, string][]} */ ([
+  ["prices", ".prices.csv"], ["violation", ".violation.csv"], ["outcome", ".outcome.csv"], ["election", ".pb"],
 ]);
 
 /**
- * What a file is, by its first record, or else by its name. The auditor judges whether it is one.
- * @param {File} file
- * @returns {Promise<Kind>}
+ * What a file is by its name, which is asked where the auditor doesn't tell.
+ * @param {string} name
+ * @returns {Kind}
  */
-async function kindOf(file) {
-  const front = await file.slice(0, FRONT).text().catch(() => "");
-  const record = front.trimStart().replace(/^\ufeff?\s*"?/, "");
-  const byRecord = MARKS.find(({ begins }) => record.startsWith(begins));
-  return (byRecord ?? MARKS.find(({ ends }) => lower(file.name).endsWith(ends)))?.kind ?? "unknown";
+const kindByName = name => ENDINGS.find(([, ending]) => lower(name).endsWith(ending))?.[0] ?? "unknown";
+
+/**
+ * A file that was given, with its kind.
+ * @param {Found} found
+ * @param {Kind | undefined} told by the auditor
+ * @returns {Piece}
+ */
+function pieceOf({ file, folder }, told = "unknown") {
+  const isTold = told !== "unknown";
+  return { file, folder, kind: isTold ? told : kindByName(file.name), isTold };
 }
 
 /** @type {(piece: Piece) => boolean} */
@@ -57,7 +65,7 @@ const stemOf = piece => piece.file.name.replace(/\.pb$/i, "");
 
 /**
  * The election of whose name a file's name begins, the longest such in its own folder; or the only one of whose name it
- * begins but for capitals; or the only one that there is.
+ * begins but for capitals.
  * @param {Piece} piece
  * @param {Piece[]} elections
  * @returns {Piece | null}
@@ -67,25 +75,35 @@ function electionOf(piece, elections) {
   const namedBy = (/** @type {(name: string) => string} */ read) =>
     near.filter(each => read(piece.file.name).startsWith(`${read(stemOf(each))}.`));
   const named = namedBy(name => name).sort((a, b) => stemOf(b).length - stemOf(a).length), alike = namedBy(lower);
-  if (named.length > 0) return named[0];
-  return [alike, elections].find(each => each.length === 1)?.[0] ?? null;
+  return named[0] ?? (alike.length === 1 ? alike[0] : null);
 }
 
 /**
- * The outcome file of an audit: the one that is named as the certificate is, as A.B.outcome.csv beside A.B.prices.csv;
- * or the only one that is named so but for capitals; or the only file, where there are one election and one
- * certificate.
+ * The outcome file that is named as the certificate is, as A.B.outcome.csv beside A.B.prices.csv; or the only one that
+ * is named so but for capitals.
  * @param {Piece} certificate
  * @param {Piece[]} outcomes
- * @param {boolean} isOnly
  * @returns {Piece | null}
  */
-function outcomeOfTask(certificate, outcomes, isOnly) {
+function namedOutcome(certificate, outcomes) {
   const name = certificate.file.name.replace(/\.(prices|violation)\.csv$/i, ".outcome.csv");
   const near = outcomes.filter(each => each.folder === certificate.folder);
-  const named = near.find(each => each.file.name === name);
   const alike = near.filter(each => lower(each.file.name) === lower(name));
-  return named ?? [alike, isOnly ? outcomes : []].find(each => each.length === 1)?.[0] ?? null;
+  return near.find(each => each.file.name === name) ?? (alike.length === 1 ? alike[0] : null);
+}
+
+/**
+ * The files among which the outcome of an election's certificates may be: those that are named for no certificate, and
+ * for this election, or for none where there is no other.
+ * @param {Piece} election
+ * @param {{elections: Piece[], certificates: Piece[], outcomes: Piece[]}} given
+ */
+function openOutcomes(election, { elections, certificates, outcomes }) {
+  const named = new Set(certificates.map(each => namedOutcome(each, outcomes)));
+  return outcomes.filter(each => {
+    const its = electionOf(each, elections) ?? (elections.length === 1 ? election : null);
+    return !named.has(each) && its === election;
+  });
 }
 
 /**
@@ -95,15 +113,16 @@ function outcomeOfTask(certificate, outcomes, isOnly) {
  * @returns {Task[]}
  */
 function tasksOf(pieces, choices) {
-  const elections = pieces.filter(piece => piece.kind === "election");
-  const certificates = pieces.filter(isCertificate);
-  const outcomes = pieces.filter(piece => piece.kind === "outcome");
-  const isOnly = elections.length === 1 && certificates.length === 1;
+  const ofKind = (/** @type {Kind} */ kind) => pieces.filter(piece => piece.kind === kind);
+  const elections = ofKind("election"), outcomes = ofKind("outcome"), certificates = pieces.filter(isCertificate);
   const tasks = certificates.map(certificate => {
     const chosen = choices.get(certificate) ?? {};
     const election = chosen.election ?? electionOf(certificate, elections);
-    const outcome = chosen.outcome === undefined ? outcomeOfTask(certificate, outcomes, isOnly) : chosen.outcome;
-    return { election, certificate, outcome };
+    const outcome = chosen.outcome === undefined ? namedOutcome(certificate, outcomes) : chosen.outcome;
+    if (!election) return { election, certificate, outcome, asks: /** @type {const} */ ("election") };
+    const isOpen = chosen.outcome === undefined && !outcome
+      && openOutcomes(election, { elections, certificates, outcomes }).length > 0;
+    return { election, certificate, outcome, ...isOpen ? { asks: /** @type {const} */ ("outcome") } : {} };
   });
   const audited = new Set(tasks.map(task => task.election));
   const alone = elections.filter(election => !audited.has(election));
@@ -112,24 +131,26 @@ function tasksOf(pieces, choices) {
 
 /** @type {(a: Task, b: Task) => number} */
 function byName(a, b) {
-  const placeOf = (/** @type {Piece | null} */ piece) => piece ? `${piece.folder}/${piece.file.name}` : "";
   const keyOf = (/** @type {Task} */ { election, certificate }) =>
     `${placeOf(election ?? certificate)}\0${placeOf(certificate)}`;
   return keyOf(a) < keyOf(b) ? -1 : 1;
 }
 
+/** @type {(piece: Piece | null) => string} */
+const placeOf = piece => piece ? `${piece.folder}/${piece.file.name}` : "";
+
 /** @type {(a: Piece, b: Piece) => boolean} */
-const isSamePath = (a, b) => a.folder === b.folder && a.file.name === b.file.name;
+const isSamePath = (a, b) => placeOf(a) === placeOf(b);
 
 /**
- * Adds files to those that are there. One of the same name and folder takes the other's place.
+ * Adds files to those that are there. Of those of one name and folder the one that came last is kept.
  * @param {Piece[]} pieces
  * @param {Piece[]} added
  * @returns {Piece[]}
  */
 function withPieces(pieces, added) {
-  const kept = pieces.filter(piece => !added.some(each => isSamePath(piece, each)));
-  return [...kept, ...added];
+  const all = [...pieces, ...added], last = new Map(all.map(piece => [placeOf(piece), piece]));
+  return all.filter(piece => last.get(placeOf(piece)) === piece);
 }
 
 /**

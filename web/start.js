@@ -18,11 +18,10 @@ function listenToFiles(page) {
     target.value = "";
   });
   element("clear").addEventListener("click", () => {
-    page.passedOver = [];
-    page.set([]);
+    page.clear();
     element("choose").focus();
   });
-  element("example").addEventListener("click", () => page.take(ownFiles("example")));
+  element("example").addEventListener("click", () => page.take(ownFiles("example"), true));
 }
 
 /**
@@ -55,11 +54,8 @@ function listenToDrops(page) {
 
 /** @type {(page: Page) => void} */
 function listenToOptions(page) {
-  const isChecked = (/** @type {string} */ id) => /** @type {boolean} */ (element(id).checked);
-  for (const id of ["stable", "exhaustive", "cover"]) {
-    element(id).addEventListener("change", () => page.setMode(
-      { stable: isChecked("stable"), exhaustive: isChecked("exhaustive"), cover: isChecked("cover") }));
-  }
+  for (const id of ["stable", "exhaustive", "cover"]) element(id).addEventListener("change", () => page.askAnew());
+  addEventListener("pageshow", () => page.askAnew());
   const codes = Object.keys(WORDS), choice = element("language");
   choice.append(...codes.map(code => make("option", { value: code, lang: code }, WORDS[code].name)));
   choice.value = page.language;
@@ -98,14 +94,13 @@ function start() {
   setWords(page.words, page.language);
   element("makes-prices").textContent = MAKES_PRICES;
   for (const listen of [listenToFiles, listenToDrops, listenToOptions, listenToAnswer, listenToConnect]) listen(page);
-  page.runner.engine.module.catch(() => {
-    element("broken").textContent = page.words.broken;
+  page.engine.module.catch(error => {
+    element("broken").replaceChildren(...problemText(page.words, { ...noEngine(error), file: "" }));
     element("broken").hidden = false;
   });
-  const [election, certificate] = ownFiles("example");
-  warm(page.runner.engine, {
-    election: { ...election, kind: "election" }, certificate: { ...certificate, kind: "prices" }, outcome: null,
-  });
+  const [election, certificate] = ownFiles("example").map(found => pieceOf(found));
+  warm(page.engine, { election, certificate, outcome: null });
+  element("unstarted").remove();
   const brought = ownFiles("brought");
   if (brought.length > 0) page.take(brought);
   return page;

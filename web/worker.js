@@ -6,19 +6,28 @@
  * @typedef {object} Order
  * @property {WebAssembly.Module} module
  * @property {string} command
- * @property {{election: File, outcome: File | null, certificate: File | null}} files
+ * @property {Files} files
  * @property {Mode} mode
  * @property {string} language
- * @property {number} kind what a refused certificate is: 2 prices, 3 a violation
+ * @property {boolean=} notes whether what the program remarks on the election is told after the answer
  * @property {number=} rounds how often it is done; only the last time is told
  */
 
+/** @typedef {{election: File, outcome: File | null, certificate: File | null}} Files */
+
+/** @typedef {{module: WebAssembly.Module, command: "kinds", list: File[]}} KindsOrder asks what files are */
+
+/** @typedef {string[]} Sums of the bytes that were read, by which a file is known that was changed since */
+
+/** @typedef {{tells: "answer", status: number, bytes: Uint8Array, kind: Kind, sums: Sums, notes?: string[]}} Answer */
+
+/** @typedef {{tells: "nothing", why: "memory" | "trap" | "unreadable" | "engine", file?: string}} Nothing */
+
 /**
- * What the worker tells: how many bytes are read of how many, that it checks now, and last an answer, a refusal or why
- * there is none.
- * @typedef {{tells: "reading", done: number, all: number} | {tells: "checking"}
- *   | {tells: "answer", status: number, bytes: Uint8Array} | Refused
- *   | {tells: "nothing", why: "memory" | "trap" | "unreadable", file?: string}} Told
+ * What the worker tells: that it is there, how many bytes are read of how many, that it checks now, and last an answer,
+ * a refusal or why there is none. `kind` is what the auditor takes the certificate for.
+ * @typedef {{tells: "ready"} | {tells: "reading", done: number, all: number} | {tells: "checking"}
+ *   | Answer | {tells: "notes", notes: string[]} | Refused | {tells: "kinds", kinds: Kind[]} | Nothing} Told
  */
 
 /**
@@ -31,15 +40,18 @@
  * @property {number} line
  * @property {string[]} sentences
  * @property {string} excerpt
+ * @property {Kind} kind
+ * @property {Sums} sums
  */
 
 const PIECE = 1 << 22;
 const LONGEST_EXCERPT = 300;
+const ELECTION = 0, OUTCOME = 1, PRICES = 2, VIOLATION = 3, CERTIFICATE = 4;
 /**
- * The inputs as the line of a refusal names them.
+ * What a refused certificate had to be for each command.
  * @type {Record<string, number>}
  */
-const INPUTS = { election: 0, outcome: 1, prices: 2, violation: 3, certificate: 4 };
+const WANTED = { prices: PRICES, margins: PRICES, tidy: PRICES, violation: VIOLATION, page: CERTIFICATE };
 const LINE_FEED = 10, RETURN = 13;
 
 /** A file can't be read. */
@@ -129,7 +141,7 @@ async function questionOf(auditor, order) {
 }
 
 /**
- * A line of a file, counted from 1, cut where it is long.
+ * A line of a file, counted from 1. Of a long one the front, which is still longer than what is shown.
  * @param {Uint8Array} bytes
  * @param {number} line
  */
@@ -143,8 +155,7 @@ function excerptOf(bytes, line) {
     const end = endOf(start);
     start = end + (bytes[end] === RETURN && bytes[end + 1] === LINE_FEED ? 2 : 1);
   }
-  const text = new TextDecoder().decode(bytes.subarray(start, endOf(start)).slice(0, 4 * LONGEST_EXCERPT));
-  return text.length > LONGEST_EXCERPT ? `${text.slice(0, LONGEST_EXCERPT)}…` : text;
+  return new TextDecoder().decode(bytes.subarray(start, endOf(start)).slice(0, 4 * LONGEST_EXCERPT));
 }
 
 /**
@@ -153,17 +164,43 @@ function excerptOf(bytes, line) {
  * @param {Order} order
  * @param {Question} asked
  * @param {string} text
- * @returns {Refused}
  */
-function refusedBy(auditor, order, asked, text) {
+function refusalBy(auditor, order, asked, text) {
   const [, input, number, record] = /^refused (\w+) (\d+) \w+ record (\d+)/.exec(text) ?? [];
   const role = input === "election" || input === "outcome" ? input : "certificate";
   const place = asked[role] ?? asked.election;
-  const kind = role === "certificate" ? order.kind : INPUTS[input];
-  const refusal = { input: kind, number: Number(number), record: BigInt(record) };
+  const wanted = { election: ELECTION, outcome: OUTCOME, certificate: WANTED[order.command] }[role];
+  const refusal = { input: wanted, number: Number(number), record: BigInt(record) };
   const { line, sentences } = auditor.hint(refusal, place, role === "election" ? undefined : asked.election);
   const excerpt = line > 0 ? excerptOf(auditor.bytes(place), line) : "";
-  return { tells: "refused", text: text.trim(), file: order.files[role]?.name ?? "", line, sentences, excerpt };
+  return { text: text.trim(), file: order.files[role]?.name ?? "", line, sentences, excerpt };
+}
+
+/**
+ * Two numbers of all bytes, in which a change of any shows.
+ * @param {Uint8Array} bytes
+ */
+function sumOf(bytes) {
+  const words = new Uint32Array(bytes.buffer, bytes.byteOffset, bytes.length >> 2);
+  let one = bytes.length | 0, other = 1;
+  const add = (/** @type {number} */ word) => {
+    one = Math.imul(one ^ word, 0x9e3779b1);
+    other = Math.imul(other ^ word, 0x5f356495);
+    other ^= other >>> 15;
+  };
+  for (let at = 0; at < words.length; at++) add(words[at]);
+  for (let at = 4 * words.length; at < bytes.length; at++) add(bytes[at]);
+  return `${one} ${other}`;
+}
+
+/**
+ * What the program remarks on an election.
+ * @param {Auditor} auditor
+ * @param {Question} asked
+ */
+function notesBy(auditor, asked) {
+  const { status, bytes } = auditor.ask("read", asked);
+  return status === YES ? new TextDecoder().decode(bytes).split("\n").slice(1).filter(Boolean) : [];
 }
 
 /**
@@ -172,13 +209,38 @@ function refusedBy(auditor, order, asked, text) {
  */
 async function audit(order) {
   const auditor = new Auditor(order.module);
-  const asked = await questionOf(auditor, order);
+  const asked = await questionOf(auditor, order), { certificate } = asked;
   tell({ tells: "checking" });
-  const guess = FIRST_ROOM + (order.command === "tidy" ? Number(asked.certificate?.length ?? 0) : 0);
+  const places = [asked.election, asked.outcome, certificate];
+  const sums = places.map(place => place ? sumOf(auditor.bytes(place)) : "");
+  const kind = certificate ? new Teller(auditor).kindOf(certificate) : "unknown";
+  const guess = FIRST_ROOM + (order.command === "tidy" ? Number(certificate?.length ?? 0) : 0);
   const { status, bytes } = auditor.ask(order.command, asked, guess);
   if (status === NO_MEMORY) return { tells: "nothing", why: "memory" };
-  if (status === REFUSED) return refusedBy(auditor, order, asked, new TextDecoder().decode(bytes));
-  return { tells: "answer", status, bytes };
+  if (status !== REFUSED) {
+    const answer = /** @type {Answer} */ ({ tells: "answer", status, bytes, kind, sums });
+    if (!order.notes) return answer;
+    tell(answer);
+    return { tells: "notes", notes: notesBy(auditor, asked) };
+  }
+  return { tells: "refused", kind, sums, ...refusalBy(auditor, order, asked, new TextDecoder().decode(bytes)) };
+}
+
+/**
+ * What each file is. One that can't be read is of no kind, and so is one that is too long to be any.
+ * @param {KindsOrder} order
+ * @returns {Promise<Told>}
+ */
+async function kindsOf({ module, list }) {
+  const auditor = new Auditor(module), teller = new Teller(auditor), place = auditor.room(FRONT);
+  /** @type {Kind[]} */
+  const kinds = [];
+  for (const file of list) {
+    const front = await file.slice(0, FRONT).arrayBuffer().catch(() => new ArrayBuffer(0));
+    auditor.bytes(place).set(new Uint8Array(front));
+    kinds.push(teller.kindOf({ at: place.at, length: BigInt(front.byteLength) }));
+  }
+  return { tells: "kinds", kinds };
 }
 
 /**
@@ -193,6 +255,8 @@ function nothingBy(error) {
 }
 
 onmessage = async ({ data }) => {
-  for (let round = 1; round < (data.rounds ?? 1); round++) await audit(data).catch(nothingBy);
-  tell(await audit(data).catch(nothingBy));
+  const does = data.command === "kinds" ? kindsOf : audit;
+  for (let round = 1; round < (data.rounds ?? 1); round++) await does(data).catch(nothingBy);
+  tell(await does(data).catch(nothingBy));
 };
+tell({ tells: "ready" });

@@ -98,22 +98,31 @@ def tags_of(data):
     return [f"py3-none-{platform}" for platform in platforms]
 
 
+def extras():
+    """The optional packages, by the name under which they are asked for."""
+    section = re.search(r"^\[project.optional-dependencies\]\n((?:.+\n)*)", PROJECT, re.MULTILINE)[1]
+    for extra, packages in re.findall(r"^(\w+) = \[(.*)\]$", section, re.MULTILINE):
+        yield "Provides-Extra", extra
+        yield from (("Requires-Dist", f"{package}; extra == '{extra}'") for package in re.findall('"(.*?)"', packages))
+
+
 def metadata():
     """What the wheel says of itself, by pyproject.toml, and the README."""
     author = re.search(r'^authors = .*name = "(.*?)"', PROJECT, re.MULTILINE)[1]
     classifiers = re.search(r"^classifiers = \[\n(.*?)^\]", PROJECT, re.MULTILINE | re.DOTALL)[1]
-    lines = {
-        "Metadata-Version": "2.1",
-        "Name": field("name"),
-        "Version": version(),
-        "Summary": field("description"),
-        "Author": author,
-        "License": "MIT",
-        "License-File": "LICENSE",
-        "Requires-Python": field("requires-python"),
-        "Description-Content-Type": "text/markdown",
-    }
-    said = [*lines.items(), *(("Classifier", text) for text in re.findall(r'"(.*)"', classifiers))]
+    lines = [
+        ("Metadata-Version", "2.1"),
+        ("Name", field("name")),
+        ("Version", version()),
+        ("Summary", field("description")),
+        ("Author", author),
+        ("License", "MIT"),
+        ("License-File", "LICENSE"),
+        ("Requires-Python", field("requires-python")),
+        ("Description-Content-Type", "text/markdown"),
+        *extras(),
+    ]
+    said = [*lines, *(("Classifier", text) for text in re.findall(r'"(.*)"', classifiers))]
     readme = (PYTHON / "README.md").read_text(encoding="utf-8")
     return "".join(f"{name}: {value}\n" for name, value in said) + "\n" + readme
 
@@ -121,7 +130,7 @@ def metadata():
 def files_of(data, tags):
     """The files of the wheel with what is in them, the library's bytes among it."""
     folder = f"{field('name')}-{version()}.dist-info"
-    files = {f"pbaudit/{path.name}": path.read_bytes() for path in sorted((PYTHON / "pbaudit").glob("*.py"))}
+    files = {str(path.relative_to(PYTHON)): path.read_bytes() for path in sorted((PYTHON / "pbaudit").rglob("*.py"))}
     files["pbaudit/_version.py"] = f'"""The version of this package."""\nVERSION = "{version()}"\n'.encode()
     files["pbaudit/py.typed"] = b""
     files["pbaudit/libpbaudit.so"] = data

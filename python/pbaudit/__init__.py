@@ -5,9 +5,10 @@
 Audits of files are `read`, `audit_prices`, `audit_violation`, `audit_both`, `explain`, `margins`, `tidy` and
 `audit_folder`; of Python values `validate_price_system`. `write_page` shows what was found on a page for people, and
 `write_folder_pages` writes the pages of a folder with an index. `write_election`, `write_outcome`, `write_prices` and
-`write_violation` write the files, `price_certificate` makes exact prices of a solver's floats, and `equal_shares` has
-those of a rule. The answers are those of the program `pbaudit`: they come from the proved library, or from the program
-where the library isn't there. What this package does before and after isn't proved.
+`write_violation` write the files, `price_certificate` makes exact prices of a solver's floats, `equal_shares` has
+those of a rule, and `find` looks for prices and violations of any outcome. The answers are those of the program
+`pbaudit`: they come from the proved library, or from the program where the library isn't there. What this package does
+before and after isn't proved.
 
 Voters are numbered from 1, in the order of the profile. Amounts are in the currency of the costs. Files are given by
 their paths (`str` or `os.PathLike`), as bytes, or as binary files that are open. Where Python values are taken, what no
@@ -18,14 +19,17 @@ from typing import TYPE_CHECKING, List
 from ._version import VERSION
 
 if TYPE_CHECKING:
+    from .amounts import TooManyDenominators
     from .auditing import (
         Explanation, Finding, ProjectMargins, Refusal, Summary, Verdict, audit_both, audit_prices, audit_violation,
         explain, margins, read, tidy,
     )
     from .certificates import PriceCertificate, price_certificate
     from .elections import Instance, Project
+    from .finding import find
+    from .finding.results import Found, FoundPrices, FoundViolation
     from .folder_pages import NotReplaced, write_folder_pages
-    from .folders import FolderReport, audit_folder
+    from .folders import FileResult, FolderReport, audit_folder
     from .pages import page, write_page
     from .price_systems import validate_price_system
     from .rounding import CannotKeep
@@ -34,20 +38,24 @@ if TYPE_CHECKING:
 
 __version__ = VERSION
 __all__ = [
-    "CannotKeep", "EqualShares", "Explanation", "Finding", "FolderReport", "Instance", "NotReplaced",
-    "PriceCertificate", "Project", "ProjectMargins", "Refusal", "Summary", "Verdict", "audit_both", "audit_folder",
-    "audit_prices", "audit_violation", "equal_shares", "explain", "margins", "page", "price_certificate", "read",
-    "tidy", "validate_price_system", "write_election", "write_folder_pages", "write_outcome", "write_page",
-    "write_prices", "write_violation",
+    "CannotKeep", "EqualShares", "Explanation", "FileResult", "Finding", "FolderReport", "Found", "FoundPrices",
+    "FoundViolation", "Instance", "NotReplaced", "PriceCertificate", "Project", "ProjectMargins", "Refusal", "Summary",
+    "TooManyDenominators", "Verdict", "audit_both", "audit_folder", "audit_prices", "audit_violation", "equal_shares",
+    "explain", "find", "margins", "page", "price_certificate", "read", "tidy", "validate_price_system",
+    "write_election", "write_folder_pages",
+    "write_outcome", "write_page", "write_prices", "write_violation",
 ]
 # The parts are loaded when they are first used, since an import of all takes long beside an audit.
 _PARTS = {
+    "amounts": ("TooManyDenominators",),
     "auditing": ("Explanation", "Finding", "ProjectMargins", "Refusal", "Summary", "Verdict", "audit_both",
                  "audit_prices", "audit_violation", "explain", "margins", "read", "tidy"),
     "certificates": ("PriceCertificate", "price_certificate"),
     "elections": ("Instance", "Project"),
+    "finding": ("find",),
+    "finding.results": ("Found", "FoundPrices", "FoundViolation"),
     "folder_pages": ("NotReplaced", "write_folder_pages"),
-    "folders": ("FolderReport", "audit_folder"),
+    "folders": ("FileResult", "FolderReport", "audit_folder"),
     "pages": ("page", "write_page"),
     "price_systems": ("validate_price_system",),
     "rounding": ("CannotKeep",),

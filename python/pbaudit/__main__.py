@@ -1,17 +1,20 @@
-"""The commands of the package: `python -m pbaudit page` writes a page about a certificate, and `equal-shares` certifies
-outcomes of the Method of Equal Shares."""
+"""The commands of the package: `python -m pbaudit page` writes a page about a certificate, `equal-shares` certifies
+outcomes of the Method of Equal Shares, and `find` looks for certificates of any outcome."""
 import argparse
 import errno
 import io
 import os
+import re
 import sys
+from fractions import Fraction
 from typing import IO, List, NoReturn, Optional, Sequence
 
 from ._version import VERSION
 from .auditing import Refusal
+from .finding.command import Answer, add_to as add_find, answer, folder_answer
 from .pages import LANGUAGES, replaced, write_page
 from .rounding import CannotKeep
-from .shares import COMPLETIONS, MEASURES
+from .shares import COMPLETIONS, MEASURES, checked_increment
 from .shown import shown, visible
 
 DIFFERS, REFUSED, USAGE, FAULT = 1, 2, 3, 4
@@ -59,6 +62,8 @@ def _parser(by_folder: bool) -> _Parser:
     commands = parser.add_subparsers(dest="command", required=True)
     _add_page(commands, by_folder)
     _add_equal_shares(commands)
+    find = add_find(commands, by_folder)
+    find.set_defaults(run=_find_in_folder if by_folder else _find, end_by_usage=find.error)
     return parser
 
 
@@ -88,9 +93,18 @@ def _add_equal_shares(commands: "argparse._SubParsersAction[_Parser]") -> None:
                         "file beside it ends with .outcome.csv in the place of .prices.csv")
     shares.add_argument("--by", choices=MEASURES, default="cost", help="what a project is worth to each supporter: its "
                         "cost, which is the default, or 1")
-    shares.add_argument("--completion", choices=COMPLETIONS, default="none", help="add1 raises the budget of the "
-                        "voters by 1 until no other project fits, or the next outcome costs more than the limit")
+    shares.add_argument("--completion", choices=COMPLETIONS, default="none", help="add1 raises the budget of each "
+                        "voter by 1 until no other project fits, or the next outcome costs more than the limit")
+    shares.add_argument("--increment", type=_increment, default=Fraction(1), metavar="AMOUNT", help="what add1 raises the "
+                        "budget by in the place of 1, such as 1000 where costs are in millions, or 0.01")
     shares.set_defaults(run=_equal_shares, end_by_usage=shares.error)
+
+
+def _increment(word: str) -> Fraction:
+    """An amount as the words of a command state it: digits, which may have a point. Raises ValueError."""
+    if not re.fullmatch(r"[0-9]{1,12}(\.[0-9]{1,6})?", word):
+        raise ValueError(word)
+    return checked_increment(Fraction(word))
 
 
 def main(words: Optional[Sequence[str]] = None) -> int:
@@ -155,7 +169,7 @@ def _equal_shares(given: argparse.Namespace) -> int:
         if replaced(path, {"ELECTION": given.election}):
             given.end_by_usage(f"-o has {path} written, which is the election")
     try:
-        made = certify(given.election, given.by, given.completion)
+        made = certify(given.election, given.by, given.completion, given.increment)
     except Refusal as refusal:
         return _refused(refusal.printed, "\n".join(refusal.sentences()))
     except OSError as unread:
@@ -173,6 +187,32 @@ def _equal_shares(given: argparse.Namespace) -> int:
     if check is not None:
         lines.append(f"check it by: {check}")
     return _told(lines, DIFFERS if made.is_own is False else 0)
+
+
+def _find(given: argparse.Namespace) -> int:
+    try:
+        found = answer(given)
+    except Refusal as refusal:
+        return _refused(refusal.printed, "\n".join(refusal.sentences()))
+    except OSError as unread:
+        return _refused(f"refused {_role(given, unread.filename)} 18 Read record 0", _reason(unread))
+    return _found(found)
+
+
+def _find_in_folder(given: argparse.Namespace) -> int:
+    if given.outcome is not None:
+        given.end_by_usage("--folder takes no --outcome: each election of the folder states its own")
+    try:
+        found = folder_answer(given)
+    except OSError as unlisted:
+        return _refused("refused folder 18 Read record 0", _reason(unlisted))
+    return _found(found)
+
+
+def _found(found: Answer) -> int:
+    """Tells what was found, and then what went wrong."""
+    status = _told(found.lines, found.status) if found.lines else found.status
+    return status if found.fault is None else _fault(found.fault)
 
 
 def _told(lines: List[str], status: int) -> int:

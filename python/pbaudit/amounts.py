@@ -15,6 +15,11 @@ MOST_NUMERATOR = 10**21
 _TENS = tuple(10**decimals for decimals in range(40))
 
 
+class TooManyDenominators(ValueError):
+    """Exact amounts whose common denominator is larger than one that a certificate has, as with shares of many costs. The
+    check of prices near these may answer: `validate_price_system` with `near=True`, or `price_certificate`."""
+
+
 class Rational(Protocol):
     """A whole number or a fraction of any kind, as those of numpy and gmpy2."""
 

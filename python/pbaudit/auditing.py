@@ -10,12 +10,13 @@ RuntimeError.
 """
 import os
 import re
-from dataclasses import dataclass, field
+from dataclasses import dataclass, replace
 from fractions import Fraction
-from typing import Any, Dict, List, Optional, Tuple
+from typing import Any, ClassVar, Dict, List, Optional, Tuple
 
 from ._auditor import Mode, PageWords, Place, Question, ask, hint
 from .files import MOST_BYTES, File, bytes_of, path_of
+from .kept import Kept, keep, source_of, stamp_of
 from .records import records
 
 __all__ = [
@@ -67,7 +68,7 @@ class Verdict:
     Where something fails, `condition` names the first that does, as "C3" or "V4", and `voter` (numbered from 1, by the
     ballots) and `project` (the id) say where, each None where the condition names none. `moved` is None but where
     `validate_price_system` was asked for prices near the given ones: then it is how far the payment that moved farthest
-    did, in the currency of the costs. For the page in a notebook a verdict keeps the files that were audited.
+    did, in the currency of the costs. A notebook shows a verdict as the page about its certificate.
     """
 
     holds: bool
@@ -76,16 +77,26 @@ class Verdict:
     voter: Optional[int] = None
     project: Optional[str] = None
     moved: Optional[Fraction] = None
-    # What was asked, for the page in a notebook. It isn't pickled.
-    _asked: Optional[Question] = field(default=None, repr=False, compare=False)
+    # What was asked; and of a verdict that was pickled the page. They are no fields, and so no part of it.
+    _kept: ClassVar[Optional[Kept]] = None
+    _page: ClassVar[Optional[str]] = None
+
+    def explain(self) -> "Explanation":
+        """What each condition comes to that was audited. Raises ValueError where the files aren't there any more: large
+        ones that were given as bytes aren't kept, nor are those of a verdict that was pickled, and others may have
+        changed; ask `pbaudit.explain` of them. Raises MemoryError too."""
+        question = None if self._kept is None else self._kept.question()
+        if question is None:
+            raise ValueError("the files of this verdict aren't kept, or have changed: ask pbaudit.explain of them")
+        return _explained(replace(question, command="explain"), self._kept)
 
     def __getstate__(self) -> Dict[str, Any]:
-        return {**vars(self), "_asked": None}
+        return {**{name: value for name, value in vars(self).items() if name != "_kept"}, "_page": self._repr_html_()}
 
     def _repr_html_(self) -> Optional[str]:
         """The page about the certificate, as a notebook shows it."""
         from .notebook import framed
-        return framed(self._asked)
+        return self._page if self._kept is None else framed(self._kept.question())
 
     def __bool__(self) -> bool:
         return self.holds
@@ -208,11 +219,23 @@ def explain(election: File, certificate: File, outcome: Optional[File] = None, *
     `audit_prices` or `audit_violation`. The outcome and the switches are as for `audit_prices`; a violation doesn't
     depend on the switches. Raises Refusal, OSError and MemoryError."""
     asked = _Asked("explain", election, certificate=certificate, outcome=outcome, mode=Mode(stable, exhaustive, cover))
-    line, *rows = asked.lines()
-    found, = asked.verdicts(line)
+    found, = asked.verdicts(asked.lines()[0])
+    return _explanation(found, asked.text())
+
+
+def _explained(question: Question, kept: Optional[Kept]) -> Explanation:
+    """The explanation that answers a question, whose files were accepted before."""
+    status, text = answered(question)
+    found = _verdict(text.decode("utf-8").split("\n")[0], kept)
+    _check_status(status, [found])
+    return _explanation(found, text)
+
+
+def _explanation(found: Verdict, text: bytes) -> Explanation:
+    _, _, *rows = text.decode("utf-8").rstrip("\n").split("\n")
     # Names stand in 12 columns and states in 11.
-    findings = tuple(Finding(row[:12].rstrip(), row[12:23].rstrip(), row[23:]) for row in rows[1:])
-    return Explanation(found, findings, asked.text().decode("utf-8"))
+    findings = tuple(Finding(row[:12].rstrip(), row[12:23].rstrip(), row[23:]) for row in rows)
+    return Explanation(found, findings, text.decode("utf-8"))
 
 
 def tidy(election: File, certificate: File) -> bytes:
@@ -249,9 +272,9 @@ def _judge_ahead(election: File, outcome: Optional[File]) -> None:
 
 
 def verdict(question: Question) -> Verdict:
-    """The verdict that answers a question on prices or on a violation."""
+    """The verdict that answers a question on prices or on a violation, with files that were made of values."""
     status, text = answered(question)
-    found = _verdict(text.decode("utf-8").rstrip("\n"), question)
+    found = _verdict(text.decode("utf-8").rstrip("\n"), keep(question))
     _check_status(status, [found])
     return found
 
@@ -269,14 +292,24 @@ def _lines_of(asked: "_Asked", number: int) -> List[str]:
     return lines
 
 
-def _verdict(line: str, question: Question) -> Verdict:
-    if line in _YES:
-        return Verdict(True, line, _asked=question)
+def _verdict(line: str, kept: Optional[Kept]) -> Verdict:
     failed = re.fullmatch(r"failed (\w+)(?: voter (\d+))?(?: project (.*))?", line)
-    if not failed:
+    if failed:
+        condition, voter, project = failed.groups()
+        found = Verdict(False, line, condition, None if voter is None else int(voter), project)
+    elif line in _YES:
+        found = Verdict(True, line)
+    else:
         raise RuntimeError(f"pbaudit answers {line!r}")
-    condition, voter, project = failed.groups()
-    return Verdict(False, line, condition, None if voter is None else int(voter), project, _asked=question)
+    object.__setattr__(found, "_kept", kept)
+    return found
+
+
+def with_moved(found: Verdict, moved: Fraction) -> Verdict:
+    """The same verdict, of prices that moved so far."""
+    other = replace(found, moved=moved)
+    object.__setattr__(other, "_kept", found._kept)
+    return other
 
 
 def _check_status(status: int, verdicts: List[Verdict]) -> None:
@@ -293,7 +326,9 @@ class _Asked:
         self._given: Dict[str, File] = {"election": election, **certificates}
         if outcome is not None:
             self._given["outcome"] = outcome
+        stamps = {name: stamp_of(file) for name, file in self._given.items()}
         data = {name: bytes_of(file) for name, file in self._given.items()}
+        self._sources = {name: source_of(file, stamps[name], data[name]) for name, file in self._given.items()}
         first, second = (*(data[name] for name in certificates), None, None)[:2]
         self.question = Question(command, data["election"], first, second, data.get("outcome"), mode, page)
         self._answer: Optional[Tuple[int, bytes]] = None
@@ -313,11 +348,15 @@ class _Asked:
     def verdicts(self, *lines: str) -> List[Verdict]:
         """The verdicts by these lines of the answer, which go with its status."""
         question, mode = self.question, self.question.mode
+        election, first, second, outcome = question.election, question.certificate, question.violation, question.outcome
+        certificates = [name for name in self._given if name not in ("election", "outcome")]
         questions = [question]
-        if question.violation is not None:
-            questions = [Question("prices", question.election, question.certificate, None, question.outcome, mode),
-                         Question("violation", question.election, question.violation, None, question.outcome)]
-        verdicts = [_verdict(*each) for each in zip(lines, questions)]
+        if second is not None:
+            questions = [Question("prices", election, first, None, outcome, mode),
+                         Question("violation", election, second, None, outcome)]
+        kept = [keep(each, {**self._sources, "certificate": self._sources[name]})
+                for name, each in zip(certificates, questions)]
+        verdicts = [_verdict(*each) for each in zip(lines, kept)]
         _check_status(self.answer()[0], verdicts)
         return verdicts
 

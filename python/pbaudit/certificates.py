@@ -10,6 +10,7 @@ from .amounts import (
 )
 from .auditing import audit_prices
 from .files import Path, checked_path, write_to
+from .matrices import check_rows
 from .records import records
 from .rounding import CannotKeep, Given, Rounding
 from .town import Town
@@ -68,6 +69,7 @@ def price_certificate(instance: AnyInstance, profile: Profile, budget_allocation
     What comes out was audited. That CannotKeep is raised doesn't say that there is no such certificate. Raises
     ValueError, TypeError and MemoryError too.
     """
+    check_rows(profile, payment_functions)
     projects, costs, limit = projects_of(instance)
     funded = funded_of(budget_allocation, projects)
     ballots, payments = ballots_of(profile, projects), Payments(payment_functions, projects)
@@ -77,14 +79,15 @@ def price_certificate(instance: AnyInstance, profile: Profile, budget_allocation
 
 
 def certified(town: Town, projects: Projects, voter_budget: Optional[NearAmount], payments: Payments, stable: bool,
-              exhaustive: bool, wanted: Optional[int] = None) -> PriceCertificate:
-    """The certificate that `price_certificate` answers."""
+              exhaustive: bool, wanted: Optional[int] = None, is_near: bool = False) -> PriceCertificate:
+    """The certificate that `price_certificate` answers; or, as near as can be, one whose voter budget isn't lowered to
+    what voters spend."""
     # This also refuses what no election has.
     election = election_file(projects, town.costs, town.limit, town.ballots, town.funded)
     _check_outcome(town, exhaustive)
     given = _given(town, projects, voter_budget, payments)
-    _check_unfunded(town, given, stable)
-    certificate = _certificate(_rounded(town, given, stable, wanted), projects)
+    _check_unfunded(town, given, stable, is_near)
+    certificate = _certificate(_rounded(town, given, stable, wanted, is_near), given, projects)
     verdict = audit_prices(election, certificate.file, stable=stable, exhaustive=exhaustive)
     if not verdict:
         told = f"the rounded payments are answered '{verdict}'"
@@ -114,13 +117,13 @@ def _given(town: Town, projects: Projects, voter_budget: Optional[NearAmount], p
     """The payments by slot, without noise. What is more than noise in a wrong place is told."""
     check_count(len(town.ballots), len(payments.functions))
     noise = max(town.costs, default=Fraction(0)) * NOISE
-    amounts, floats = _amounts_by_slot(town, projects, payments, noise)
+    amounts, floats, dropped = _amounts_by_slot(town, projects, payments, noise)
     # Whether something is off by more than noise is told from rounded sums, since exact ones take long.
     spent = _spent(town, floats)
-    budget = _most(town, amounts, spent) if voter_budget is None else _payable(voter_budget, "the voter budget")
+    budget = _most(town, amounts, spent) if voter_budget is None else payable(voter_budget, "the voter budget")
     if budget < -noise:
         raise ValueError("the voter budget is below 0")
-    given = Given(amounts, floats, budget, noise, payments.kinds == {float})
+    given = Given(amounts, floats, budget, noise, payments.kinds == {float}, dropped)
     has, off = float(budget), float(noise)
     for voter, total in enumerate(spent):
         if total > has + off * max(1, len(town.slots_of(voter))):
@@ -134,10 +137,11 @@ def _given(town: Town, projects: Projects, voter_budget: Optional[NearAmount], p
 
 
 def _amounts_by_slot(town: Town, projects: Projects, payments: Payments,
-                     noise: Fraction) -> Tuple[List[Any], "array[float]"]:
-    """What is paid in each slot, as it was given and as a float. More than noise in a wrong place is a CannotKeep."""
+                     noise: Fraction) -> Tuple[List[Any], "array[float]", Fraction]:
+    """What is paid in each slot, as it was given and as a float; and the most that is left out as noise. More than noise
+    in a wrong place is a CannotKeep."""
     amounts: List[Any] = []
-    floats = array("d")
+    floats, dropped = array("d"), Fraction(0)
     for voter, function in enumerate(payments.functions):
         what = f"voter {voter + 1} pays for"
         places = projects.once(projects.places(function, what), what)
@@ -145,10 +149,12 @@ def _amounts_by_slot(town: Town, projects: Projects, payments: Payments,
         slots = town.slots_of(voter)
         expected = town.project_of[slots.start:slots.stop]
         if not _is_in_place(mine, expected):
-            mine = _without_noise(town, voter, mine, noise)
+            kept = _without_noise(town, voter, mine, noise)
+            dropped = max([dropped, *(abs(near(mine[at], "a payment")) for at in mine.keys() - kept.keys())])
+            mine = kept
         amounts += [mine.get(project, 0) for project in expected]
         floats.extend(map(float, amounts[slots.start:]))
-    return amounts, floats
+    return amounts, floats, dropped
 
 
 def _is_in_place(mine: Dict[int, Any], expected: Sequence[int]) -> bool:
@@ -169,7 +175,7 @@ def _without_noise(town: Town, voter: int, mine: Dict[int, Any], noise: Fraction
     ballot = set(town.ballots[voter])
     for at, given in mine.items():
         name = town.names[at]
-        amount = _payable(given, f"what voter {voter + 1} pays for {name}")
+        amount = payable(given, f"what voter {voter + 1} pays for {name}")
         told = f"voter {voter + 1} pays {float(amount):.9g} for {name}"
         if amount < 0:
             if amount < -noise:
@@ -182,11 +188,11 @@ def _without_noise(town: Town, voter: int, mine: Dict[int, Any], noise: Fraction
             if amount > noise:
                 raise CannotKeep("C4", f"{told}, which isn't funded", voter + 1, name)
         else:
-            payments[at] = amount
+            payments[at] = given
     return payments
 
 
-def _payable(amount: object, what: str) -> Fraction:
+def payable(amount: object, what: str) -> Fraction:
     """An amount of any kind, but none beyond what a certificate has. One a little below 0 may be noise."""
     exact = near(amount, what)
     if abs(exact) > MOST_NUMERATOR:
@@ -206,11 +212,11 @@ def _most(town: Town, amounts: Sequence[Any], spent: List[float]) -> Fraction:
     return max(sums, default=Fraction(0))
 
 
-def _check_unfunded(town: Town, given: Given, stable: bool) -> None:
-    """C5 or S5 of the given payments, by the lowest voter budget that they allow. What fails by more than noise isn't a
-    matter of rounding."""
+def _check_unfunded(town: Town, given: Given, stable: bool, is_near: bool) -> None:
+    """C5 or S5 of the given payments, by the lowest voter budget that they allow, or near the given one. What fails by more
+    than noise isn't a matter of rounding."""
     spent = _spent(town, given.floats)
-    budget = min(float(given.budget), max(spent, default=0.0))
+    budget = float(given.budget) if is_near else min(float(given.budget), max(spent, default=0.0))
     shares = [budget - each for each in spent]
     if stable:
         shares = [max(left, max(given.floats[start:end], default=0.0))
@@ -223,30 +229,33 @@ def _check_unfunded(town: Town, given: Given, stable: bool) -> None:
             raise CannotKeep(condition, told, project=name)
 
 
-def _rounded(town: Town, given: Given, stable: bool, denominator: Optional[int]) -> Rounding:
-    """The first denominator by which all conditions can be kept, with numerators over it."""
+def _rounded(town: Town, given: Given, stable: bool, denominator: Optional[int], is_near: bool) -> Rounding:
+    """The first denominator by which all conditions can be kept, with numerators over it; the finest first where they are
+    to be as near as can be."""
     # Funded projects are paid for exactly, so their costs are whole numbers over each denominator.
     unit = common_denominator(town.costs[project] for project in town.funded)
     if denominator is not None:
         _check_denominator(denominator, unit)
     exact = _exact_denominator(given)
     failed: Optional[CannotKeep] = None
-    denominators = [denominator] if denominator else list(_denominators(unit, exact))
+    denominators = [denominator] if denominator else list(_denominators(unit, exact, given.budget.denominator))
+    if is_near:
+        denominators.sort(key=lambda tried: (exact is None or tried % exact != 0, -tried))
     # A finer denominator is found sooner than a repair.
     for repairs in (False, True):
         for tried in denominators:
             try:
-                return _settled(Rounding(town, given, tried, stable), repairs)
+                return _settled(Rounding(town, given, tried, stable, is_near), repairs)
             except CannotKeep as why:
                 failed = failed or why
     if denominator is None and exact is None:
         # A corner of a linear program, where conditions are tight: take the simplest fraction near each amount.
         simple = _simplified(given)
         part = _exact_denominator(simple)
-        tried = MOST_DENOMINATOR + 1 if part is None else least_multiple((unit, part))
+        tried = MOST_DENOMINATOR + 1 if part is None else least_multiple((unit, part, simple.budget.denominator))
         if tried <= MOST_DENOMINATOR:
             try:
-                return _settled(Rounding(town, simple, tried, stable), True)
+                return _settled(Rounding(town, simple, tried, stable, is_near), True)
             except CannotKeep:
                 pass
     assert failed is not None
@@ -265,8 +274,8 @@ def _settled(rounding: Rounding, repairs: bool) -> Rounding:
 
 
 def _exact_denominator(given: Given) -> Optional[int]:
-    """The common denominator of the amounts, or None where it is more than a certificate has."""
-    common = given.budget.denominator
+    """The common denominator of the payments, or None where it is more than a certificate has."""
+    common = 1
     known: Set[float] = set()
     for amount in given.amounts:
         if isinstance(amount, int) or isinstance(amount, float) and amount in known:
@@ -280,11 +289,20 @@ def _exact_denominator(given: Given) -> Optional[int]:
     return common
 
 
-def _denominators(unit: int, exact: Optional[int]) -> Iterator[int]:
-    """The exact denominator where it fits, and then multiples of the unit, near round numbers and rising."""
+def _denominators(unit: int, exact: Optional[int], of_budget: int) -> Iterator[int]:
+    """The exact denominator where it fits, that of the payments with a finer one for the budget where only this has too
+    large a one, and then multiples of the unit, near round numbers and rising."""
     if exact is not None and exact % unit == 0:
-        yield exact
+        both = least_multiple((exact, of_budget))
+        yield both if both <= MOST_DENOMINATOR else _finer(exact)
     yield from sorted({min(-(-round_number // unit), MOST_DENOMINATOR // unit) * unit for round_number in DENOMINATORS})
+
+
+def _finer(denominator: int) -> int:
+    """The largest multiple by a power of ten that a certificate has."""
+    while denominator * 10 <= MOST_DENOMINATOR:
+        denominator *= 10
+    return denominator
 
 
 def _simplified(given: Given) -> Given:
@@ -301,16 +319,29 @@ def _simple(amount: Fraction, noise: Fraction) -> Fraction:
     return amount
 
 
-def _certificate(rounding: Rounding, projects: Projects) -> PriceCertificate:
-    denominator, given, paid = rounding.denominator, rounding.given, rounding.paid
-    moved = Fraction(0)
-    if paid:
-        moves = (abs(numerator / denominator - amount) for numerator, amount in zip(paid, given.floats))
-        _, slot = max(zip(moves, range(len(paid))))
-        moved = abs(Fraction(paid[slot], denominator) - near(given.amounts[slot], "a payment"))
-    raised = Fraction(rounding.budget, denominator) - given.budget
+def _certificate(rounding: Rounding, given: Given, projects: Projects) -> PriceCertificate:
+    denominator = rounding.denominator
+    moved, raised = _farthest(rounding, given), Fraction(rounding.budget, denominator) - given.budget
     file = price_file(denominator, rounding.budget, projects, _payers(rounding))
     return PriceCertificate(denominator, rounding.budget, moved, raised, file)
+
+
+def _farthest(rounding: Rounding, given: Given) -> Fraction:
+    """The farthest that a payment moved, exactly. Floats tell which payments it may be."""
+    denominator, paid = rounding.denominator, rounding.paid
+    moves = array("d", (abs(numerator / denominator - amount) for numerator, amount in zip(paid, given.floats)))
+    # A quotient, an amount and their difference are off by less than this together.
+    error = max(max(given.floats, default=0.0), max(moves, default=0.0)) * 2.0**-50
+    least = max(moves, default=0.0) - 2 * error
+    # A number of parts of the denominator.
+    away, part_away = 0, 1
+    for numerator, amount, move in zip(paid, given.amounts, moves):
+        if move >= least:
+            whole, part = ratio(amount, "a payment")
+            moved = abs(numerator * part - whole * denominator)
+            if moved * part_away > away * part:
+                away, part_away = moved, part
+    return max(Fraction(away, part_away * denominator), given.dropped)
 
 
 def _payers(rounding: Rounding) -> Payers:

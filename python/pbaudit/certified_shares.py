@@ -4,10 +4,12 @@ import shlex
 import sys
 import time
 from dataclasses import dataclass
+from fractions import Fraction
 from typing import Iterator, List, Optional, Set
 
 from . import auditing
 from ._auditor import Question
+from .amounts import MILLION, money
 from .auditing import Explanation
 from .certificates import PriceCertificate, certified
 from .election_files import Election, election_of
@@ -42,13 +44,13 @@ class Certified:
         """What is told of it."""
         ids, shares = self.election.projects.ids, self.shares
         funded = {self.election.projects.place[name] for name in shares.funded}
-        spent = sum(self.election.costs[project] for project in funded)
+        spent = sum((self.election.costs[project] for project in funded), Fraction(0))
         yield f"{len(self.election.ballots)} voters, {len(ids)} projects, limit {_amount(self.election.limit)}"
         runs = f" after {shares.runs} runs" if shares.runs > 1 else ""
         yield f"voter budget {_amount(shares.voter_budget)}{runs}; {len(funded)} projects for {_amount(spent)}:"
         yield "  " + " ".join(map(shown, shares.funded))
         yield self._compared(funded)
-        yield f"certificate over the denominator {self.certificate.denominator}, as it was audited:"
+        yield f"certificate over the denominator {self.certificate.denominator}, {self._off()}, as it was audited:"
         for name in ("plain", "stable", "Exhaustive", "Cover"):
             yield f"  {name:<12}{self._holds(name)}"
 
@@ -63,6 +65,16 @@ class Certified:
         if self._holds("Exhaustive") != "holds":
             more.append("--no-exhaustive")
         return shlex.join(["pbaudit", "prices", election, certificate, *more])
+
+    def _off(self) -> str:
+        """How far the certificate's amounts are from the rule's."""
+        moved, raised = self.certificate.moved, self.certificate.raised
+        if not moved and not raised:
+            return "with the budget and the payments of the rule"
+        budget = "the budget of the rule"
+        if raised:
+            budget = f"a budget that is {'more' if raised > 0 else 'less'} than the rule's by {_about(abs(raised))}"
+        return f"with {budget}, and payments off by {_about(moved)} at most"
 
     def _compared(self, funded: Set[int]) -> str:
         own, ids = self.election.funded, self.election.projects.ids
@@ -82,14 +94,14 @@ class Certified:
         return "holds" if found and not failing else "; ".join(told)
 
 
-def certify(path: str, by: str, completion: str) -> Certified:
+def certify(path: str, by: str, completion: str, increment: Fraction) -> Certified:
     """The outcome of the rule on an election file, with a certificate. Raises Refusal, OSError, MemoryError and
     CannotKeep."""
     data = bytes_of(path)
     auditing.answered(Question("read", data), {"election": path})
     election = election_of(data)
     rule = Rule(election.costs, election.limit, election.ballots, by)
-    shares = result(election.projects, rule, *rule.completed(completion, _Teller(rule.voters)))
+    shares = result(election.projects, rule, *rule.completed(completion, increment, _Teller(rule.voters)))
     funded = {election.projects.place[name] for name in shares.funded}
     town = Town(election.projects.ids, election.costs, election.limit, funded, election.ballots)
     payments = Payments(shares.payments)
@@ -140,9 +152,18 @@ def clear_progress() -> None:
         print("\r\033[K", end="", file=sys.stderr, flush=True)
 
 
-def _amount(amount: object) -> str:
-    number = float(amount)  # type: ignore[arg-type]
-    return f"{number:.12g}"
+def _amount(amount: Fraction) -> str:
+    """An exact amount: a decimal where it has at most six decimals, and else a whole number and a fraction."""
+    if (amount * MILLION).denominator == 1:
+        return money(amount, "the amount")
+    whole, rest = divmod(amount, 1)
+    return f"{whole} {rest}" if whole else str(rest)
+
+
+def _about(amount: Fraction) -> str:
+    """An amount to three digits, or exactly where it has no more."""
+    told = f"{float(amount):.3g}"
+    return told if Fraction(told) == amount else f"about {told}"
 
 
 def _some(names: List[str]) -> str:

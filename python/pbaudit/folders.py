@@ -1,5 +1,6 @@
 """Audits a folder of elections, by any executor of `concurrent.futures`."""
 import errno
+import html
 import json
 import logging
 import os
@@ -8,9 +9,9 @@ import subprocess
 import sys
 import uuid
 from concurrent.futures import BrokenExecutor, Executor, Future, ThreadPoolExecutor
-from dataclasses import asdict, dataclass
+from dataclasses import asdict, dataclass, field
 from functools import partial
-from typing import Callable, Dict, Iterator, List, Optional, Sequence, Tuple
+from typing import Callable, Dict, Iterator, List, NamedTuple, Optional, Sequence, Tuple
 
 from ._auditor import Mode, Question, ask
 from .files import MOST_BYTES, Path
@@ -31,16 +32,40 @@ MOST_OF_A_TASK, MOST_BYTES_OF_A_TASK = 50, 2**23
 CERTIFICATES = {".prices.csv": "prices", ".violation.csv": "violation"}
 
 
+class FileResult(NamedTuple):
+    """What was found of a file of a folder: the name of its election, without `.pb`, and its own; its `kind`, "election",
+    "prices" or "violation"; the `answer`, "read" of an election, "yes" or "no" of a certificate, "refused", or "lost"; of a
+    no the condition that fails first with the voter and the project that it names; and the line that the program prints."""
+
+    election: str
+    file: str
+    kind: str
+    answer: str
+    condition: Optional[str]
+    voter: Optional[int]
+    project: Optional[str]
+    line: str
+
+
 @dataclass(frozen=True)
 class FolderReport:
     """The report on a folder: its text, and a status as that of `pbaudit folder`: 2 where a file is refused, else 1
     where a certificate is answered no, else 0. It is true where the status is 0. Where the workers on an election were
     lost three times, the line on it ends in `fault worker`, its name (without `.pb`) is in `lost`, and the status is
-    4."""
+    4. `results` has a row for each file in the order of the text, as `pandas.DataFrame(report.results)` takes them."""
 
     text: str
     status: int
     lost: Tuple[str, ...] = ()
+    results: Tuple[FileResult, ...] = field(default=(), compare=False, repr=False)
+
+    def _repr_html_(self) -> str:
+        """The report as a table, as a notebook shows it."""
+        rows = [("File", "Answer"), *((result.file, result.line) for result in self.results)]
+        cells = ("".join(f"<{tag}><bdi>{html.escape(visible(text))}</bdi></{tag}>" for text in row)
+                 for tag, row in zip(["th", *["td"] * len(rows)], rows))
+        total = html.escape(self.text.rstrip("\n").split("\n")[-1])
+        return f'<table>{"".join(f"<tr>{row}</tr>" for row in cells)}</table><p>{total}</p>'
 
     def __bool__(self) -> bool:
         return self.status == 0
@@ -62,13 +87,16 @@ class Entry:
 
 
 Found = Dict[Entry, List[Line]]
+# Is told what was found of an entry, or none where its workers were lost.
+Tell = Callable[[Entry, Optional[List[Line]]], None]
+OnResult = Callable[[FileResult], object]
 
 
 def audit_folder(path: Path, executor: Optional[Executor] = None, *, stable: bool = False,
-                 exhaustive: bool = True, cover: bool = False) -> FolderReport:
+                 exhaustive: bool = True, cover: bool = False, on_result: Optional[OnResult] = None) -> FolderReport:
     """Audits the elections `NAME.pb` of a folder with `NAME.prices.csv` and `NAME.violation.csv` where these lie beside
     them, and answers the text and the status of `pbaudit folder`, without what that says on standard error of files
-    that it passes over.
+    that it passes over. `on_result` is called with each FileResult as soon as it is known here.
 
     Without an executor the elections are audited here, one after the other. With one they are its tasks, small
     elections many to a task: processes of a `ProcessPoolExecutor`, or a Dask cluster by `client.get_executor()`, whose
@@ -81,7 +109,17 @@ def audit_folder(path: Path, executor: Optional[Executor] = None, *, stable: boo
         raise TypeError(f"the executor is {executor!r}, which has no submit: give one of concurrent.futures, such as a "
                         "ProcessPoolExecutor")
     entries = entries_of(path, Mode(stable, exhaustive, cover))
-    found: Found = {entry: audit_entry(entry) for entry in entries} if executor is None else _spread(executor, entries)
+
+    def tell(entry: Entry, lines: Optional[List[Line]]) -> None:
+        if on_result is not None:
+            for result in results_of(entry, lines):
+                on_result(result)
+    found: Found = {}
+    if executor is not None:
+        _spread(executor, entries, found, tell)
+    for entry in entries if executor is None else ():
+        found[entry] = audit_entry(entry)
+        tell(entry, found[entry])
     return report_on(entries, found)
 
 
@@ -170,18 +208,20 @@ def _check_name(folder: str, name: str) -> None:
         raise OSError(errno.EILSEQ, f"it lists {name!r}, a name that isn't UTF-8", folder) from None
 
 
-def _spread(executor: Executor, entries: List[Entry]) -> Found:
-    """What is found of each entry by an executor. What is lost thrice isn't in it."""
-    found: Found = {}
+def _spread(executor: Executor, entries: List[Entry], found: Found, tell: Tell) -> None:
+    """Adds what is found of each entry by an executor. What is lost thrice isn't added."""
     call = uuid.uuid4().hex
-    is_broken = _by_executor(executor, list(_tasks(entries)), f"{call}/1", found)
+    is_broken = _by_executor(executor, list(_tasks(entries)), f"{call}/1", found, tell)
     for attempt in range(2, MOST_LOSSES + 1):
         left = [entry for entry in entries if entry not in found]
         if left and is_broken:
-            _alone(left, found)
+            # Where the executor doesn't say how many it has work at a time, as many as there are processors.
+            _alone(left, getattr(executor, "_max_workers", None) or os.cpu_count() or 1, found, tell)
         elif left:
-            is_broken = _by_executor(executor, [[entry] for entry in left], f"{call}/{attempt}", found)
-    return found
+            is_broken = _by_executor(executor, [[entry] for entry in left], f"{call}/{attempt}", found, tell)
+    for entry in entries:
+        if entry not in found:
+            tell(entry, None)
 
 
 def _tasks(entries: List[Entry]) -> Iterator[List[Entry]]:
@@ -197,7 +237,7 @@ def _tasks(entries: List[Entry]) -> Iterator[List[Entry]]:
         yield task
 
 
-def _by_executor(executor: Executor, tasks: List[List[Entry]], attempt: str, found: Found) -> bool:
+def _by_executor(executor: Executor, tasks: List[List[Entry]], attempt: str, found: Found, tell: Tell) -> bool:
     """Audits entries by an executor. Whether it was broken by that."""
     futures: "List[Tuple[List[Entry], Future[List[List[Line]]]]]" = []
     is_broken = False
@@ -209,13 +249,17 @@ def _by_executor(executor: Executor, tasks: List[List[Entry]], attempt: str, fou
             break
     for task, future in futures:
         try:
-            found.update(zip(task, future.result()))
+            made = future.result()
         except BrokenExecutor:
             is_broken = True
         except (ImportError, MemoryError):
             raise
         except Exception as error:  # Each library has its own class for a worker that was lost.
             LOG.warning("the worker on %s was lost: %r", _named(task), error)
+        else:
+            for entry, lines in zip(task, made):
+                found[entry] = lines
+                tell(entry, lines)
     return is_broken
 
 
@@ -224,12 +268,14 @@ def _named(task: List[Entry]) -> str:
     return f"{visible(task[0].name)}.pb{more}"
 
 
-def _alone(entries: List[Entry], found: Found) -> None:
-    """Audits each entry in a process of its own, so that the one that ends its process takes no other along."""
-    with ThreadPoolExecutor(os.cpu_count()) as threads:
+def _alone(entries: List[Entry], workers: int, found: Found, tell: Tell) -> None:
+    """Audits each entry in a process of its own, so many at a time, so that the one that ends its process takes no other
+    along."""
+    with ThreadPoolExecutor(workers) as threads:
         for entry, lines in zip(entries, threads.map(_in_a_process, entries)):
             if lines is not None:
                 found[entry] = lines
+                tell(entry, lines)
 
 
 def _in_a_process(entry: Entry) -> Optional[List[Line]]:
@@ -256,7 +302,23 @@ def report_on(entries: List[Entry], found: Found) -> FolderReport:
     refused = sum(status == 2 for _, status in statuses)
     lines.append(f"total {len(entries)} elections {yes} yes {no} no {refused} refused")
     status = 4 if lost else 2 if refused else 1 if no else 0
-    return FolderReport("".join(line + "\n" for line in lines), status, tuple(lost))
+    results = tuple(result for entry in entries for result in results_of(entry, found.get(entry)))
+    return FolderReport("".join(line + "\n" for line in lines), status, tuple(lost), results)
+
+
+def results_of(entry: Entry, lines: Optional[List[Line]]) -> List[FileResult]:
+    """A row for each line on an entry, or one that says that its workers were lost."""
+    if lines is None:
+        return [FileResult(entry.name, entry.name + ".pb", "election", "lost", None, None, None, LOST)]
+    results = []
+    for ending, line, status in lines:
+        failed = re.fullmatch(r"failed (\w+)(?: voter (\d+))?(?: project (.*))?", line) if status == 1 else None
+        condition, voter, project = failed.groups() if failed else (None, None, None)
+        kind = CERTIFICATES.get(ending, "election")
+        answer = ("read" if kind == "election" else "yes", "no", "refused")[status]
+        results.append(FileResult(entry.name, entry.name + ending, kind, answer, condition,
+                                  None if voter is None else int(voter), project, line))
+    return results
 
 
 def answer() -> None:

@@ -1,11 +1,68 @@
 """Matrices in the place of ballots and of payments, as numpy has them: a row for each voter, and a column for each
-project in the order of the instance. They are taken by their shape, so that numpy isn't needed."""
-from typing import Any, Dict, Iterator, List, Sequence
+project in the order of the instance; and tables of pandas, whose columns have the names of projects. They are taken by
+their shape, so that neither is needed."""
+from typing import Any, Callable, Dict, Iterator, List, Sequence
 
 
 def is_matrix(values: object) -> bool:
     """Whether values are an array of two dimensions."""
     return getattr(values, "ndim", None) == 2
+
+
+def array_of(table: Any, ids: Sequence[str], columns: Callable[[], Sequence[str]], what: str) -> Any:
+    """A matrix as it is, and a table as one with its columns in the order of the ids. `columns` gives these, or raises
+    ValueError where projects have no order. Raises ValueError where the columns aren't those of the projects."""
+    if not hasattr(table, "columns") or not callable(getattr(table, "to_numpy", None)):
+        columns()
+        return table
+    labels = list(table.columns)
+    names = list(map(label_of, labels))
+    if len(set(names)) != len(names):
+        raise ValueError(f"{what} has two columns of one name")
+    if labels == list(range(len(labels))) and names != list(ids):
+        # Numbers that nobody gave.
+        if set(names) == set(ids):
+            raise ValueError(f"{what} has columns that may be named by projects or numbered: name them by the ids")
+        columns()
+    elif set(names) != set(ids):
+        odd = next((name for name in names if name not in ids), None)
+        missing = next((name for name in ids if name not in names), None)
+        told = f"has a column {odd!r}, which isn't a project" if odd else f"has no column for the project {missing!r}"
+        raise ValueError(f"{what} {told} of the instance")
+    else:
+        place = {name: at for at, name in enumerate(names)}
+        table = table.iloc[:, [place[name] for name in ids]]
+    # Else columns of whole numbers beside others would be rounded.
+    return table.to_numpy() if len(set(table.dtypes)) <= 1 else table.to_numpy(dtype=object)
+
+
+def label_of(label: Any) -> str:
+    """The name that a label of a table stands for: a project, its id, or a number that is its id."""
+    return str(getattr(label, "name", label))
+
+
+def check_rows(profile: Any, payments: Any) -> None:
+    """Raises ValueError where two tables name their rows differently, so that they may be in another order."""
+    rows, others = (getattr(table, "index", None) for table in (profile, payments))
+    if is_matrix(profile) and is_matrix(payments) and rows is not None and others is not None:
+        if list(rows) != list(others):
+            raise ValueError("the rows of the profile and of the payments have other names, or another order")
+
+
+def is_series(values: Any) -> bool:
+    """Whether values are a series of pandas: one column with labels."""
+    return getattr(values, "ndim", None) == 1 and hasattr(values, "index") and callable(getattr(values, "tolist", None))
+
+
+def mapping_of(series: Any, what: str) -> Dict[Any, Any]:
+    """A series as a mapping from its labels to Python's own values. Raises ValueError for a label that is there twice."""
+    made: Dict[Any, Any] = {}
+    for label, value in zip(series.index, series.tolist()):
+        name = label if isinstance(label, str) or hasattr(label, "name") else label_of(label)
+        if name in made:
+            raise ValueError(f"{what} {name} twice")
+        made[name] = value
+    return made
 
 
 def ballots_in(matrix: Any, ids: Sequence[str]) -> Iterator[List[int]]:

@@ -1,18 +1,21 @@
 """The check of prices over Python values, with the arguments of `validate_price_system` of pabutools."""
-from dataclasses import replace
 from fractions import Fraction
 from itertools import chain
 from math import gcd
 from typing import Iterable, List, Tuple
 
 from ._auditor import Mode, Question, switch
-from .amounts import MILLION, MOST_COST, MOST_DENOMINATOR, Amount, common_denominator, exact_price
+from .amounts import (
+    MILLION, MOST_COST, MOST_DENOMINATOR, NearAmount, TooManyDenominators, common_denominator, exact_price, is_float,
+)
 from .auditing import Verdict, verdict
-from .certificates import certified
 from .coarse import told_by_signs
+from .matrices import check_rows
+from .nearby import verdict_near
+from .rounding import CannotKeep
 from .town import Town
 from .values import (
-    AnyInstance, AnyProject, PaymentFunction, Payments, Profile, Projects, ballots_of, check_count, funded_of,
+    AnyInstance, AnyProject, NearPaymentFunction, Payments, Profile, Projects, ballots_of, check_count, funded_of,
     projects_of,
 )
 from .writing import election_file, payers_of, price_file
@@ -21,46 +24,57 @@ TOO_MANY = ("the amounts have too large a common denominator for a certificate (
             "largest cost is 10^12): near=True audits exact prices near these, which price_certificate makes")
 
 
-class _TooMany(ValueError):
-    """Amounts that no certificate states."""
-
-
 def validate_price_system(instance: AnyInstance, profile: Profile, budget_allocation: Iterable[AnyProject],
-                          voter_budget: Amount, payment_functions: Iterable[PaymentFunction], stable: bool = False,
-                          exhaustive: bool = True, *, near: bool = False) -> Verdict:
+                          voter_budget: NearAmount, payment_functions: Iterable[NearPaymentFunction], stable: bool = False,
+                          exhaustive: bool = True, *, relaxation: None = None, verbose: bool = False,
+                          near: bool = False) -> Verdict:
     """Whether the payments support the budget allocation: a Verdict, which is true or false, and names what fails
     first.
 
     An instance is an iterable of projects with `name` and `cost`, and has a `budget_limit`; a profile is an iterable
     of approval ballots, each a set of projects; payments are, for each voter in the order of the profile, a mapping
     from projects or their names to amounts. Both may also be matrices, as numpy has them, with a row for each voter
-    and a column for each project in the order of the instance. Amounts are whole numbers, Fractions or Decimals, and
-    are taken exactly. A float is a TypeError, since a check of rounded numbers shows nothing; `price_certificate` makes
-    exact payments of floats. What no certificate can say (a payment below 0, amounts that are too large) is a
-    ValueError, and so is a voter who pays for a project twice, by its name and as itself.
+    and a column for each project in the order of the instance, or tables of pandas with the ids as the columns' names.
+    Amounts are whole numbers, Fractions or Decimals, and are taken exactly. A float is a TypeError, since a check of
+    rounded numbers shows nothing, but with `near` (below). What no certificate can say (a payment below 0, amounts that
+    are too large) is a ValueError, and so is a voter who pays for a project twice, by its name and as itself.
 
     Amounts whose common denominator is too large for a certificate get a no where that is seen without their size:
     Feasible, Exhaustive, C1, C3 of a project that nobody pays for, and C4, of which the last two need not be the first
-    that fail. Else they are a ValueError. With `near` the answer is then the verdict on exact prices near these, as
-    `price_certificate` makes them, or its CannotKeep, which is no answer; `moved` of the verdict says how near.
+    that fail. Else they are TooManyDenominators, a ValueError. With `near` such amounts, and floats, are answered by
+    exact prices near them: yes where such prices keep all conditions, and no where the given ones fail by more than a
+    millionth of the largest cost for each payment, as a solver may be off; what lies between is a CannotKeep, which is
+    no answer. `moved` of the verdict is how far a payment moved.
+
+    `relaxation` is there for callers of pabutools, and has to be None: relaxed forms aren't audited, so another is a
+    ValueError. `verbose` prints what each condition comes to, as `explain` of the verdict has it.
     """
-    mode, is_near = Mode(stable, exhaustive), switch("near", near)
+    mode, is_near, is_told = Mode(stable, exhaustive), switch("near", near), switch("verbose", verbose)
+    if relaxation is not None:
+        raise ValueError(f"the relaxation is {relaxation!r}, and only None is audited")
+    found = _validated(instance, profile, budget_allocation, voter_budget, payment_functions, mode, is_near)
+    if is_told:
+        print(found.explain(), end="")
+    return found
+
+
+def _validated(instance: AnyInstance, profile: Profile, budget_allocation: Iterable[AnyProject],
+               voter_budget: NearAmount, payment_functions: Iterable[NearPaymentFunction], mode: Mode,
+               is_near: bool) -> Verdict:
+    check_rows(profile, payment_functions)
     projects, costs, limit = projects_of(instance)
     ballots, funded = ballots_of(profile, projects), funded_of(budget_allocation, projects)
     payments = Payments(payment_functions, projects)
     check_count(len(ballots), len(payments.functions))
+    town = Town(projects.ids, costs, limit, set(funded), ballots)
+    if is_near and (is_float(voter_budget) or payments.has_floats):
+        return verdict_near(town, projects, voter_budget, payments, mode)
     budget = exact_price(voter_budget, "the voter budget")
     payments.check_exact()
-    town = Town(projects.ids, costs, limit, set(funded), ballots)
     try:
         factor, denominator = _scale([limit, *town.costs], chain([budget.denominator], payments.denominators()))
-    except _TooMany:
-        found = told_by_signs(town, projects, payments, mode)
-        if found is None and is_near:
-            return _near(town, projects, budget, payments, mode)
-        if found is None:
-            raise
-        return found
+    except TooManyDenominators:
+        return _beyond_certificates(town, projects, budget, payments, mode, is_near)
     election = election_file(projects, [cost * factor for cost in town.costs], limit * factor, ballots, funded)
     scaled = denominator * factor
     numerator = budget.numerator * (scaled // budget.denominator)
@@ -68,11 +82,22 @@ def validate_price_system(instance: AnyInstance, profile: Profile, budget_alloca
     return verdict(Question("prices", election, certificate, mode=mode))
 
 
-def _near(town: Town, projects: Projects, budget: Fraction, payments: Payments, mode: Mode) -> Verdict:
-    """The verdict on prices near these. Raises CannotKeep."""
-    made = certified(town, projects, budget, payments, mode.stable, mode.exhaustive)
-    election = election_file(projects, town.costs, town.limit, town.ballots, town.funded)
-    return replace(verdict(Question("prices", election, made.file, mode=mode)), moved=made.moved)
+def _beyond_certificates(town: Town, projects: Projects, budget: Fraction, payments: Payments, mode: Mode,
+                         is_near: bool) -> Verdict:
+    """The verdict where no certificate states the amounts. A no that is seen without their size stands before a yes to
+    prices near these."""
+    sure = told_by_signs(town, projects, payments, mode)
+    if is_near:
+        try:
+            found = verdict_near(town, projects, budget, payments, mode)
+        except CannotKeep:
+            if sure is None:
+                raise
+            return sure
+        return sure if found and sure is not None else found
+    if sure is None:
+        raise TooManyDenominators(TOO_MANY)
+    return sure
 
 
 def _scale(costs: List[Fraction], denominators: Iterable[int]) -> Tuple[int, int]:
@@ -85,12 +110,12 @@ def _scale(costs: List[Fraction], denominators: Iterable[int]) -> Tuple[int, int
     for denominator in denominators:
         common *= denominator // gcd(common, denominator)
         if common > most:
-            raise _TooMany(TOO_MANY)
+            raise TooManyDenominators(TOO_MANY)
     rest = common // gcd(common, factor)
     while rest > MOST_DENOMINATOR:
         prime = next((number for number in range(2, 10**5) if rest % number == 0), rest)
         rest //= prime
         factor *= prime
     if max(costs) * factor > MOST_COST:
-        raise _TooMany(TOO_MANY)
+        raise TooManyDenominators(TOO_MANY)
     return factor, rest

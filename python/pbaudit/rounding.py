@@ -35,13 +35,14 @@ SMALL = 2**62
 @dataclass
 class Given:
     """Payments as they were given, by slot, 0 where there is none, and as floats; the voter budget; the noise of a
-    solver; and whether all payments were given as floats."""
+    solver; whether all payments were given as floats; and the most of a payment that was left out as noise."""
 
     amounts: Sequence[Any]
     floats: "array[float]"
     budget: Fraction
     noise: Fraction
     is_float: bool = False
+    dropped: Fraction = Fraction(0)
 
 
 @dataclass
@@ -64,8 +65,9 @@ class Rounding:
     # Bounds on the repairs, so that one that doesn't come to an end is given up. A shift may look at each approval.
     MOST_SHIFTS, MOST_LOOKS, MOST_ROUNDS, MOST_MOVES = 5000, 5 * 10**6, 100, 3000
 
-    def __init__(self, town: Town, given: Given, denominator: int, stable: bool):
+    def __init__(self, town: Town, given: Given, denominator: int, stable: bool, keeps_budget: bool = False):
         self.town, self.given, self.denominator, self.stable = town, given, denominator, stable
+        self._keeps_budget = keeps_budget
         self.budget = 0
         self.paid: Numbers = []
         self.spent: Numbers = []
@@ -95,9 +97,10 @@ class Rounding:
 
     def _settle_by(self, budget: int, repairs: bool) -> None:
         self._share_costs(budget)
-        # A lower budget breaks nothing that a higher one keeps.
         if self._failing():
-            self.budget = max(self.spent, default=0)
+            # A lower budget breaks nothing that a higher one keeps.
+            if not self._keeps_budget:
+                self.budget = max(self.spent, default=0)
             if repairs:
                 self._shift_payments()
             if repairs and self.stable:

@@ -12,7 +12,7 @@ from heapq import heapify, heappop, heappush
 from math import gcd
 from typing import Callable, Dict, Iterator, List, Optional, Sequence, Set, Tuple
 
-from .amounts import least_multiple
+from .amounts import Amount, exact_cost, least_multiple
 from .values import AnyInstance, Ballots, Profile, Projects, ballots_of, projects_of
 
 MEASURES = ("cost", "count")
@@ -55,18 +55,28 @@ class Purchase:
     rests: Dict[int, Fraction]
 
 
-def equal_shares(instance: AnyInstance, profile: Profile, *, by: str = "cost",
-                 completion: str = "none") -> EqualShares:
+def equal_shares(instance: AnyInstance, profile: Profile, *, by: str = "cost", completion: str = "none",
+                 increment: Amount = 1) -> EqualShares:
     """The outcome and the payments of the Method of Equal Shares, exactly.
 
     A project is worth to each supporter what it costs (`by="cost"`), or 1 (`by="count"`). The budget of a voter is the
     limit over the number of voters. With `completion="add1"` it is raised by 1, in the currency of the costs, until no
-    other project fits within the limit or the next outcome would cost more than the limit. Ties go to the project that
+    other project fits within the limit or the next outcome would cost more than the limit. `increment` is another step
+    than 1: a larger one is quicker where costs are large, and may end at another outcome. Ties go to the project that
     stands first. A project that costs nothing is bought where it has a supporter. Raises ValueError and TypeError.
     """
+    step = checked_increment(increment)
     projects, costs, limit = projects_of(instance)
     rule = Rule(costs, limit, ballots_of(profile, projects), by)
-    return result(projects, rule, *rule.completed(completion))
+    return result(projects, rule, *rule.completed(completion, step))
+
+
+def checked_increment(increment: Amount) -> Fraction:
+    """By how much `add1` raises the budget of a voter. Raises ValueError and TypeError."""
+    step = exact_cost(increment, "the increment")
+    if not step:
+        raise ValueError("the increment is 0, by which no budget is raised")
+    return step
 
 
 class Rule:
@@ -82,24 +92,25 @@ class Rule:
             for project in ballot:
                 self.supporters[project].append(voter)
 
-    def completed(self, completion: str, tell: Optional[Tell] = None) -> Tuple[List[Purchase], Fraction, int]:
+    def completed(self, completion: str, step: Fraction = Fraction(1),
+                  tell: Optional[Tell] = None) -> Tuple[List[Purchase], Fraction, int]:
         """What is bought, the budget of a voter, and how often the rule was run."""
         if completion not in COMPLETIONS:
             raise ValueError(f"the completion is {completion!r}, not 'none' or 'add1'")
         budget, runs = self.limit / max(1, self.voters), 1
         if completion == "add1":
-            budget, runs = self._raised(budget, tell)
+            budget, runs = self._raised(budget, step, tell)
         return Run(self, budget, runs, tell).bought, budget, runs
 
-    def _raised(self, budget: Fraction, tell: Optional[Tell]) -> Tuple[Fraction, int]:
-        """The budget of a voter that is raised by 1 as often as that can be, and how often the rule was run."""
+    def _raised(self, budget: Fraction, step: Fraction, tell: Optional[Tell]) -> Tuple[Fraction, int]:
+        """The budget of a voter that is raised by a step as often as that can be, and how often the rule was run."""
         runs, funded = 1, self.funded_by(budget, 1, tell)
         while self._has_room(funded):
             runs += 1
-            more = self.funded_by(budget + 1, runs, tell)
+            more = self.funded_by(budget + step, runs, tell)
             if self._spent(more) > self.limit:
                 break
-            funded, budget = more, budget + 1
+            funded, budget = more, budget + step
         return budget, runs
 
     def funded_by(self, budget: Fraction, number: int = 1, tell: Optional[Tell] = None) -> Set[int]:

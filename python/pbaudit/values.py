@@ -14,7 +14,7 @@ from collections.abc import Mapping as AnyMapping, Set as AnySet
 from decimal import Decimal
 from fractions import Fraction
 from functools import lru_cache
-from numbers import Rational
+from numbers import Rational, Real
 from operator import attrgetter, index
 from typing import (
     Any, Collection, Dict, Iterable, Iterator, List, Mapping, Optional, Protocol, Sequence, Set, Tuple, Union,
@@ -22,7 +22,7 @@ from typing import (
 
 from .amounts import Amount, NearAmount, exact_cost, exact_price, near, ratio
 from .elections import Instance
-from .matrices import PaymentRows, ballots_in, is_matrix
+from .matrices import PaymentRows, array_of, ballots_in, is_matrix, is_series, mapping_of
 
 BLANKS = " \t\n\v\f\r"
 PROJECTS = "projects or their ids"
@@ -144,7 +144,8 @@ class Payments:
         mappings from projects to amounts."""
         self.functions: Sequence[NearPaymentFunction]
         if projects is not None and is_matrix(payment_functions):
-            self.functions = PaymentRows(payment_functions, projects.columns())
+            matrix = array_of(payment_functions, projects.ids, projects.columns, "the matrix of payments")
+            self.functions = PaymentRows(matrix, projects.ids)
         else:
             self.functions = functions_of(payment_functions)
         self.kinds: Set[type] = set()
@@ -156,6 +157,11 @@ class Payments:
         self._is_whole, self._is_own = self.kinds <= {int}, self.kinds <= {int, float, Decimal}
         self._is_rational = all(issubclass(kind, Rational) and not issubclass(kind, bool) for kind in self.kinds)
         self._is_exact = self.kinds <= {int, Fraction, Decimal}
+
+    @property
+    def has_floats(self) -> bool:
+        """Whether an amount is a rounded number, of whatever kind."""
+        return any(issubclass(kind, Real) and not issubclass(kind, Rational) for kind in self.kinds)
 
     def check_exact(self) -> None:
         """Raises TypeError where an amount is a float or no number, and ValueError where one is no amount."""
@@ -250,7 +256,7 @@ def limit_of(instance: AnyInstance) -> Fraction:
 def ballots_of(profile: Profile, projects: Projects) -> Ballots:
     """The ballots of a profile."""
     if is_matrix(profile):
-        return Ballots(ballots_in(profile, projects.columns()))
+        return Ballots(ballots_in(array_of(profile, projects.ids, projects.columns, "the profile"), projects.ids))
     return Ballots(projects.places(ballot, f"voter {voter} approves")
                    for voter, ballot in enumerate(_ballots(profile), 1))
 
@@ -270,8 +276,10 @@ def _ballots(profile: Profile) -> Iterator[Collection[AnyProject]]:
 
 
 def functions_of(payment_functions: Iterable[NearPaymentFunction]) -> List[NearPaymentFunction]:
-    """The payment functions as a list, also where they are an iterator."""
-    return list(listed(payment_functions, "the payment functions are", "mappings, one for each voter", AnyMapping))
+    """The payment functions as a list, also where they are an iterator. Series of pandas are mappings as well."""
+    functions = listed(payment_functions, "the payment functions are", "mappings, one for each voter", AnyMapping)
+    return [mapping_of(function, f"voter {voter} pays for") if is_series(function) else function
+            for voter, function in enumerate(functions, 1)]
 
 
 def check_count(ballots: int, functions: int) -> None:

@@ -65,6 +65,63 @@ class Roundings(unittest.TestCase):
             made.write(f"{room}/p.csv")
             self.assertEqual(pathlib.Path(room, "p.csv").read_bytes(), made.file)
 
+    def test_a_budget_that_no_denominator_has(self):
+        """Payments stay as they are, and the budget is rounded down, also where there is no payment."""
+        for part in (7 * 10**9 + 1, 1999 * 10**9 + 1, 10**9 + 7, 3 * 10**40 + 1):
+            for instance, profile, funded, payments, least in (
+                (Instance([C], 5), [{C}] * 7, [], [{}] * 7, 0),
+                (SAMPLE, PROFILE, [A, B], [{A: 2, B: 2}, {A: 4}, {B: 2}], 4),
+                (SAMPLE, PROFILE, [A, B], [{A: Fraction(13, 7), B: 2}, {A: Fraction(29, 7)}, {B: 2}], Fraction(29, 7)),
+            ):
+                for budget in (least + Fraction(5, part), least + 1 - Fraction(5, part)):
+                    with self.subTest(budget=budget, payments=payments):
+                        made = price_certificate(instance, profile, funded, budget, payments)
+                        self.assertEqual(made.moved, 0)
+                        self.assertTrue(-Fraction(1, 10**6) < made.raised <= 0, made.raised)
+                        town = pbaudit.write_election(instance, profile, funded)
+                        self.assertTrue(pbaudit.audit_prices(town, made.file))
+                        verdict = pbaudit.validate_price_system(instance, profile, funded, budget, payments, near=True)
+                        self.assertEqual((str(verdict), verdict.moved or 0), ("supported priceable", 0))
+
+    def test_how_far_payments_moved(self):
+        """Exactly, also by less than floats tell apart, and with a farther move beside one that floats take for it."""
+        big, town = 10**11, Instance([Project("a", 3 * 10**11)], 3 * 10**11)
+        for tiny in (Fraction(1, 10**15), Fraction(1, 10**30), Fraction(-2, 10**40)):
+            payments = [{"a": big + tiny}, {"a": big - tiny}, {"a": Fraction(big)}]
+            made = price_certificate(town, [["a"]] * 3, ["a"], big + abs(tiny), payments, denominator=1)
+            self.assertEqual(self.moves(made, payments), [abs(tiny), abs(tiny), 0])
+            self.assertEqual(made.moved, abs(tiny))
+        for seed in range(40):
+            instance, profile, measure = an_election(seed)
+            shares = equal_shares(instance, profile, by=measure)
+            payments = [dict(mine) for mine in shares.payments]
+            made = price_certificate(instance, profile, shares.funded, shares.voter_budget, payments, exhaustive=False)
+            self.assertEqual(made.moved, max(self.moves(made, payments), default=0))
+
+    @staticmethod
+    def moves(made, payments):
+        paid = {(voter, name): Fraction(numerator, made.denominator) for voter, name, numerator in made.rows}
+        return [abs(paid.get((voter, name), 0) - amount)
+                for voter, mine in enumerate(payments, 1) for name, amount in mine.items()]
+
+    def test_budgets_with_large_denominators(self):
+        """Of many small price systems, none needs payments to move."""
+        chance = random.Random("budgets")
+        found = 0
+        for _ in range(1500):
+            costs = [chance.randint(1, 12) for _ in range(3)]
+            projects = [Project(name, cost) for name, cost in zip("abc", costs)]
+            instance = Instance(projects, chance.randint(1, 15))
+            profile = [{project for project in projects if chance.random() < 0.6} for _ in range(chance.randint(1, 7))]
+            made = equal_shares(instance, profile)
+            budget = made.voter_budget - Fraction(1, chance.choice([10**9 + 7, 10**12 + 39, 10**30 + 57]))
+            if budget < max((sum(mine.values()) for mine in made.payments), default=0):
+                continue
+            found += 1
+            made = price_certificate(instance, profile, made.funded, budget, made.payments, exhaustive=False)
+            self.assertEqual(made.moved, 0)
+        self.assertGreater(found, 500)
+
     def test_a_chain_pays_what_is_missing(self):
         """Rounded down, a lacks a unit that only a voter without budget could pay; b's other supporter has it."""
         instance = Instance([Project("a", 1), Project("b", 1)], 2)

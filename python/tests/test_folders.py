@@ -139,6 +139,41 @@ class Folders(unittest.TestCase):
             self.assertEqual(pbaudit.audit_folder(self.room, **{name: value}), self.wanted(switch))
         self.assertEqual(pbaudit.audit_folder(EXAMPLES).status, 1)
 
+    def test_results_are_the_lines(self):
+        """A row for each line but the total, with what it says; each is told once, by whatever does the work."""
+        name = 'p <b>"\u202e&'
+        town = pbaudit.Instance([pbaudit.Project(name, 1)], 5)
+        self.write("z.pb", pbaudit.write_election(town, [[name]], []))
+        self.write("z.prices.csv", pbaudit.write_prices(1, [{}]))
+        self.write("z.violation.csv", pbaudit.write_violation([1], [name]))
+        told = []
+        report = pbaudit.audit_folder(self.room, on_result=told.append)
+        self.assertEqual(report, self.wanted())
+        self.assertEqual([f"{result.file}: {result.line}" for result in report.results],
+                         report.text.rstrip("\n").split("\n")[:-1])
+        self.assertEqual(report.results, tuple(told))
+        found = {result.file: result for result in report.results}
+        self.assertEqual(found["worse.prices.csv"][:7], ("worse", "worse.prices.csv", "prices", "no", "C3", None, "a"))
+        self.assertEqual(found["worse.violation.csv"][2:7], ("violation", "refused", None, None, None))
+        self.assertEqual(found["torn.pb"][2:7], ("election", "refused", None, None, None))
+        self.assertEqual(found["no.pb"][2:7], ("election", "read", None, None, None))
+        self.assertEqual(found["z.prices.csv"][2:7], ("prices", "no", "Exhaustive", None, name))
+        self.assertEqual(found["z.violation.csv"][2:7], ("violation", "yes", None, None, None))
+        totals = [sum(result.answer == answer for result in report.results) for answer in ("yes", "no", "refused")]
+        self.assertTrue(report.text.endswith("elections {} yes {} no {} refused\n".format(*totals)))
+        with ThreadPoolExecutor(3) as executor:
+            told.clear()
+            self.assertEqual(pbaudit.audit_folder(self.room, executor, on_result=told.append).results, report.results)
+            self.assertEqual(sorted(told, key=repr), sorted(report.results, key=repr))
+        page = report._repr_html_()
+        self.assertEqual(page.count("<tr>"), len(report.results) + 1)
+        self.assertIn("failed Exhaustive project p &lt;b&gt;&quot;\\u{202e}&amp;", page)
+        self.assertNotIn("<b>", page)
+        if importlib.util.find_spec("pandas"):
+            table = importlib.import_module("pandas").DataFrame(report.results)
+            self.assertEqual(list(table.columns), list(folders.FileResult._fields))
+            self.assertEqual(list(table[table.answer == "no"].file), ["worse.prices.csv", "z.prices.csv"])
+
     def test_a_folder_that_is_refused(self):
         self.assert_refused(os.path.join(self.room, "missing"), errno.ENOENT)
         self.assert_refused(os.path.join(self.room, "a.pb"), errno.ENOTDIR)
@@ -179,8 +214,14 @@ class Folders(unittest.TestCase):
 
     def test_a_worker_that_is_killed(self):
         forks = multiprocessing.get_context("fork")
-        with mock.patch.object(folders, "audit_entry", killed_at_b), ProcessPoolExecutor(2, forks) as executor:
-            self.assertEqual(pbaudit.audit_folder(self.room, executor), self.wanted())
+        told = []
+        with mock.patch.object(folders, "audit_entry", killed_at_b), ProcessPoolExecutor(2, forks) as executor, \
+                mock.patch.object(folders.os, "cpu_count", lambda: 64), \
+                mock.patch.object(folders, "ThreadPoolExecutor", side_effect=ThreadPoolExecutor) as threads:
+            report = pbaudit.audit_folder(self.room, executor, on_result=told.append)
+        self.assertEqual(report, self.wanted())
+        self.assertEqual(sorted(told, key=repr), sorted(report.results, key=repr))
+        self.assertEqual([call.args for call in threads.call_args_list], [(2,)])
 
     def test_an_election_that_is_lost(self):
         alone = folders._in_a_process
@@ -190,8 +231,12 @@ class Folders(unittest.TestCase):
         forks = multiprocessing.get_context("fork")
         with mock.patch.multiple(folders, audit_entry=killed_at_b, _in_a_process=lost):
             with ProcessPoolExecutor(2, forks) as executor:
-                report = pbaudit.audit_folder(self.room, executor)
+                told = []
+                report = pbaudit.audit_folder(self.room, executor, on_result=told.append)
         self.assertEqual((report.status, report.lost), (4, ("b",)))
+        lost = [result for result in report.results if result.answer == "lost"]
+        self.assertEqual([result[:2] + result[-1:] for result in lost], [("b", "b.pb", "fault worker")])
+        self.assertEqual(sorted(told, key=repr), sorted(report.results, key=repr))
         lines = self.wanted().text.splitlines(keepends=True)
         kept = [line for line in lines if not line.startswith(("b.pb", "b.prices", "total"))]
         self.assertEqual([line for line in report.text.splitlines(keepends=True) if line in kept], kept)

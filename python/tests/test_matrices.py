@@ -4,7 +4,7 @@ import unittest
 from fractions import Fraction
 
 import pbaudit
-from pbaudit import Instance, Project, validate_price_system
+from pbaudit import Instance, Project, validate_price_system, values
 
 A, B, C = Project("a", 6), Project("b", 4), Project("c", 9)
 SAMPLE = Instance([A, B, C], 10)
@@ -68,6 +68,58 @@ class Matrices(unittest.TestCase):
             for instance in (SetOfProjects([A, B, C]), Instance({A, B, C}, 10)):
                 with self.assertRaisesRegex(ValueError, "^the instance is a set, whose projects have no order"):
                     validate_price_system(instance, ballots, [A, B], 4, paid)
+
+
+@unittest.skipUnless(importlib.util.find_spec("pandas"), "pandas isn't installed")
+class Tables(unittest.TestCase):
+    def setUp(self):
+        import pandas
+        self.table, self.series = pandas.DataFrame, pandas.Series
+
+    def test_columns_are_named(self):
+        """In any order, by ids, by projects or by numbers that are ids; without names in the order of the instance."""
+        town = Instance([Project("12", 6), Project("7", 4), Project("9", 9)], 10)
+        for instance, names in ((SAMPLE, "abc"), (SAMPLE, [A, B, C]), (SAMPLE, [0, 1, 2]), (Instance({A, B, C}, 10), "abc"),
+                                (town, ["12", "7", "9"]), (town, [12, 7, 9])):
+            ids = [project.name for project in town] if instance is town else ["a", "b", "c"]
+            for order in ([0, 1, 2], [2, 0, 1]) if list(names) != [0, 1, 2] else ([0, 1, 2],):
+                ballots, paid = ([[row[at] for at in order] for row in rows] for rows in (BALLOTS, PAID))
+                named = {"columns": [names[at] for at in order]}
+                for paid_table in (self.table(paid, **named), self.table(paid, **named).astype(object) * Fraction(1)):
+                    for profile in (self.table(ballots, **named), self.table(ballots, **named) == 1):
+                        verdict = validate_price_system(instance, profile, ids[:2], 4, paid_table)
+                        self.assertEqual(str(verdict), "supported priceable")
+                        made = pbaudit.price_certificate(instance, profile, ids[:2], 4, paid_table)
+                        self.assertEqual([row[1] for row in made.rows], [ids[0], ids[1], ids[0], ids[1]])
+
+    def test_whole_numbers_beside_floats_stay_whole(self):
+        big = 2**53 + 1
+        payments = values.Payments(self.table({"a": [big], "b": [0.5]}), values.Projects(["a", "b"]))
+        self.assertEqual([dict(each) for each in payments.functions], [{"a": big, "b": 0.5}])
+
+    def test_series_are_payment_functions(self):
+        rows = [self.series({"a": 2, "b": 2}), self.series({A: 4}), self.series([2], index=["b"])]
+        self.assertTrue(validate_price_system(SAMPLE, PROFILE, [A, B], 4, rows))
+        self.assertTrue(validate_price_system(SAMPLE, self.series(PROFILE), [A, B], 4, self.series(PAYMENTS)))
+        self.assertEqual(pbaudit.write_prices(4, rows), pbaudit.write_prices(4, PAYMENTS))
+        rows[2] = self.series([1, 1], index=["b", "b"])
+        with self.assertRaisesRegex(ValueError, "^voter 3 pays for b twice"):
+            validate_price_system(SAMPLE, PROFILE, [A, B], 4, rows)
+
+    def test_what_is_wrong_is_told(self):
+        for told, ballots, paid in (
+            ("the profile has a column 'd', which isn't a project", self.table(BALLOTS, columns=[*"abd"]), PAYMENTS),
+            ("the matrix of payments has no column for the project 'c'", PROFILE, self.table([[1, 0]] * 3, columns=[*"ab"])),
+            ("the profile has two columns of one name", self.table(BALLOTS, columns=[*"aab"]), PAYMENTS),
+            ("the rows of the profile and of the payments have other names",
+             self.table(BALLOTS, columns=[*"abc"], index=[1, 2, 3]), self.table(PAID, columns=[*"abc"], index=[2, 1, 3])),
+            ("what voter 1 pays for a is nan", PROFILE, self.table([[float("nan"), 2, 0]] * 3, columns=[*"abc"])),
+        ):
+            with self.subTest(told=told), self.assertRaisesRegex(ValueError, f"^{told}"):
+                validate_price_system(SAMPLE, ballots, [A, B], 4, paid, near=True)
+        numbered = Instance([Project("1", 6), Project("0", 4)], 10)
+        with self.assertRaisesRegex(ValueError, "^the profile has columns that may be named by projects or numbered"):
+            validate_price_system(numbered, self.table([[1, 1]]), ["1", "0"], 10, [{"1": 6, "0": 4}])
 
 
 if __name__ == "__main__":

@@ -60,11 +60,10 @@ def whole(kind):
 
 def held(kind, number):
     """A number of a kind, or none where it has no room for it."""
-    try:
-        made = kind(number)
-    except (OverflowError, ValueError):
-        return None
-    return made if int(made) == number else None
+    if numpy and issubclass(kind, numpy.integer):
+        room = numpy.iinfo(kind)
+        return kind(number) if room.min <= number <= room.max else None
+    return kind(number)
 
 
 def fraction_of(kind):

@@ -1,4 +1,5 @@
 """The package as its users have it: types, help, the time of an import, and notebooks."""
+import dataclasses
 import html
 import os
 import pathlib
@@ -100,7 +101,79 @@ class Notebooks(unittest.TestCase):
         verdict = pbaudit.audit_violation(EXAMPLES / "district.pb", EXAMPLES / "district.violation.csv")
         self.assertIn("V4", verdict._repr_html_())
         again = pickle.loads(pickle.dumps(verdict))
-        self.assertEqual((again, again._repr_html_()), (verdict, None))
+        self.assertEqual((again, again._repr_html_()), (verdict, verdict._repr_html_()))
+        with self.assertRaisesRegex(ValueError, "pbaudit.explain"):
+            again.explain()
+
+
+class Kept(unittest.TestCase):
+    """What a verdict keeps of its files."""
+
+    FILES = EXAMPLES / "district.pb", EXAMPLES / "district.stable.prices.csv", EXAMPLES / "district.stable.outcome.csv"
+
+    def test_a_verdict_is_explained(self):
+        """Of paths, bytes and open files, in the mode in which it was asked."""
+        for modes in ({}, {"stable": True, "cover": True}, {"exhaustive": False}):
+            wanted = pbaudit.explain(*self.FILES, **modes)
+            opened = [open(file, "rb") for file in self.FILES]
+            for files in (self.FILES, [file.read_bytes() for file in self.FILES], opened):
+                verdict = pbaudit.audit_prices(*files, **modes)
+                self.assertEqual(verdict.explain(), wanted)
+                self.assertEqual(verdict.explain().verdict._repr_html_(), verdict._repr_html_())
+            for file in opened:
+                file.close()
+        claim = EXAMPLES / "district.violation.csv"
+        prices, violation = pbaudit.audit_both(self.FILES[0], self.FILES[1], claim, self.FILES[2], stable=True)
+        self.assertEqual(prices.explain(), pbaudit.explain(*self.FILES, stable=True))
+        self.assertEqual(violation.explain(), pbaudit.explain(self.FILES[0], claim, self.FILES[2]))
+
+    def test_of_values(self):
+        a, b = pbaudit.Project("a", 6), pbaudit.Project("b", 4)
+        verdict = pbaudit.validate_price_system(pbaudit.Instance([a, b], 10), [[a, b]], [a, b], 9, [{a: 5, b: 4}])
+        self.assertEqual([each.name for each in verdict.explain().findings if each.state == "fails"], ["C3"])
+        self.assertIn("5", verdict.explain().findings[5].sentence)
+
+    def test_files_are_no_part_of_it(self):
+        verdict = pbaudit.audit_prices(*(file.read_bytes() for file in self.FILES))
+        self.assertEqual(dataclasses.asdict(verdict), {"holds": True, "line": "supported priceable", "condition": None,
+                                                       "voter": None, "project": None, "moved": None})
+        self.assertNotIn("META", repr(vars(pickle.loads(pickle.dumps(verdict)))).replace("&lt;META", ""))
+
+    def test_files_that_have_changed(self):
+        with tempfile.TemporaryDirectory() as room:
+            files = [shutil.copy(file, room) for file in self.FILES]
+            verdict = pbaudit.audit_prices(*files)
+            for change in (lambda path: path.write_bytes(path.read_bytes().replace(b",1", b",2")), pathlib.Path.unlink):
+                change(pathlib.Path(files[1]))
+                self.assertIsNone(verdict._repr_html_())
+                with self.assertRaisesRegex(ValueError, "aren't kept, or have changed: ask pbaudit.explain"):
+                    verdict.explain()
+
+    def test_large_files_are_not_kept(self):
+        """Those that were given as bytes; and those of values are pressed."""
+        projects = [pbaudit.Project(f"project {at}", 1) for at in range(40)]
+        instance, profile = pbaudit.Instance(projects, 1), [projects] * 4000
+        verdict = pbaudit.validate_price_system(instance, profile, [], 0, [{}] * 4000, exhaustive=False)
+        data = pbaudit.write_election(instance, profile, [])
+        self.assertGreater(len(data), 2**20)
+        self.assertLess(sum(map(len, kept_bytes(verdict))), len(data) / 5)
+        self.assertEqual(verdict.explain(), pbaudit.explain(data, pbaudit.write_prices(0, []), exhaustive=False))
+        verdict = pbaudit.audit_prices(data, pbaudit.write_prices(0, []), exhaustive=False)
+        self.assertLess(sum(map(len, kept_bytes(verdict))), 1000)
+        with self.assertRaisesRegex(ValueError, "pbaudit.explain"):
+            verdict.explain()
+
+
+def kept_bytes(value):
+    """All bytes that can be reached from a value."""
+    found, seen, line = [], set(), [value]
+    for each in line:
+        if id(each) not in seen and not isinstance(each, (type, str, int)):
+            seen.add(id(each))
+            found += [each] if isinstance(each, bytes) else []
+            line += each.values() if isinstance(each, dict) else each if isinstance(each, (tuple, list)) else [
+                getattr(each, "__dict__", {})]
+    return found
 
 
 if __name__ == "__main__":

@@ -2,6 +2,7 @@
 import io
 import os
 import pathlib
+import re
 import shlex
 import subprocess
 import sys
@@ -60,6 +61,12 @@ def run(*words, **given):
     return subprocess.run(command, capture_output=True, text=True, check=False, **given)
 
 
+def about(amount):
+    """An amount to three digits, or exactly where it has no more."""
+    told = f"{float(amount):.3g}"
+    return told if Fraction(told) == amount else f"about {told}"
+
+
 class Rule(unittest.TestCase):
     def test_as_it_is_defined(self):
         for seed in range(60):
@@ -70,7 +77,11 @@ class Rule(unittest.TestCase):
                 self.assertEqual((found.funded, found.payments), wanted)
 
     def test_add1_raises_the_budget_by_one(self):
-        """Until nothing fits any more, or the next outcome costs more than the limit."""
+        """Or by another amount, until nothing fits any more, or the next outcome costs more than the limit."""
+        for increment in (1, Fraction(1, 3), Fraction(50)):
+            self.assertEqual(self.ends_of_raising(increment), {"full", "over"})
+
+    def ends_of_raising(self, increment):
         ends = set()
         for seed in range(12):
             instance, profile, by = an_election(seed)
@@ -83,16 +94,26 @@ class Rule(unittest.TestCase):
                 if not any(costs[name] <= left for name in approved - set(wanted[0])):
                     ends.add("full")
                     break
-                more, runs = plain_shares(instance, profile, by, budget + 1), runs + 1
+                more, runs = plain_shares(instance, profile, by, budget + increment), runs + 1
                 if sum(map(costs.get, more[0])) > instance.budget_limit:
                     ends.add("over")
                     break
-                wanted, budget = more, budget + 1
+                wanted, budget = more, budget + increment
             else:
                 continue
-            found = equal_shares(instance, profile, by=by, completion="add1")
+            more = {} if increment == 1 else {"increment": increment}
+            found = equal_shares(instance, profile, by=by, completion="add1", **more)
             self.assertEqual((found.funded, found.payments, found.voter_budget, found.runs), (*wanted, budget, runs))
-        self.assertEqual(ends, {"full", "over"})
+        return ends
+
+    def test_an_increment_that_fits_the_money(self):
+        """Steps of 1 would be a million and more runs."""
+        instance = Instance([Project("a", 4 * 10**6), Project("b", 5 * 10**6), Project("c", 6 * 10**6)], 10**7)
+        found = equal_shares(instance, [["a"], ["b"], ["c"]], completion="add1", increment=10**5)
+        self.assertEqual((found.funded, found.voter_budget), (["a", "b"], Fraction(10**7, 3) + 17 * 10**5))
+        for odd, error in ((0, ValueError), (-1, ValueError), (0.5, TypeError), (True, TypeError), ("1", TypeError)):
+            with self.assertRaisesRegex(error, "^the increment is "):
+                equal_shares(instance, [["a"]], completion="add1", increment=odd)
 
     def test_rounded_amounts_leave_no_doubt(self):
         """What is bought is found from rounded amounts as from exact ones, with ties too, and where these leave a doubt
@@ -222,6 +243,60 @@ class Commands(unittest.TestCase):
         ids = election.projects.ids
         instance = Instance([Project(*pair) for pair in zip(ids, election.costs)], election.limit)
         return instance, [[ids[at] for at in ballot] for ballot in election.ballots]
+
+    def test_amounts_are_told_exactly(self):
+        """A third of 13 is no decimal, and 6.5 and 2 are."""
+        town = self.room / "town.pb"
+        for limit, voters, told in ((13, 3, "4 1/3"), (13, 2, "6.5"), (1, 3, "1/3"), (6, 3, "2"), (0, 2, "0"),
+                                    (Fraction("0.000001"), 2, "1/2000000"), (Fraction("0.000002"), 2, "0.000001"),
+                                    (10**12 - 2, 7, "142857142856 6/7")):
+            town.write_bytes(pbaudit.write_election(Instance([Project("a", 10**12)], limit), [["a"]] * voters))
+            self.assertEqual(run(town).stdout.split("\n")[1], f"voter budget {told}; 0 projects for 0:")
+
+    def test_it_says_how_far_the_certificate_is_from_the_rule(self):
+        town, certificate = self.room / "town.pb", self.room / "town.prices.csv"
+        primes = [7, 11, 13, 17, 19, 23, 29, 31]
+        projects = [Project(f"p{prime}", 1000 + prime) for prime in primes]
+        ballots = [[project for project, prime in zip(projects, primes) if voter < prime] for voter in range(31)]
+        many = pbaudit.write_election(Instance(projects, 10**5), ballots)
+        few = pbaudit.write_election(Instance([Project("a", 1)], Fraction("0.9")), [["a"]] * 3)
+        for data in (many, few, (EXAMPLES / "district.pb").read_bytes()):
+            town.write_bytes(data)
+            done = run(town, "-o", certificate)
+            told = re.search("^certificate over the denominator (\\d+), (.*), as it was audited:$", done.stdout, re.MULTILINE)
+            election = election_of(data)
+            made = equal_shares(*self.values_of(data))
+            rows = [line.split(",") for line in certificate.read_text().splitlines()]
+            denominator, budget = int(rows[1][1]), Fraction(int(rows[2][1]), int(rows[1][1]))
+            paid = {(int(voter), name): Fraction(int(amount), denominator) for voter, name, amount in rows[4:]}
+            moved = max((abs(paid.get((voter, name), 0) - amount) for voter, mine in enumerate(made.payments, 1)
+                         for name, amount in mine.items()), default=Fraction(0))
+            with self.subTest(voters=len(election.ballots)):
+                self.assertEqual(int(told[1]), denominator)
+                wanted = "with the budget and the payments of the rule"
+                if moved or budget != made.voter_budget:
+                    less = made.voter_budget - budget
+                    budgets = "the budget of the rule" if not less else (
+                        f"a budget that is {'less' if less > 0 else 'more'} than the rule's by {about(abs(less))}")
+                    wanted = f"with {budgets}, and payments off by {about(moved)} at most"
+                self.assertEqual(told[2], wanted)
+    def test_an_increment(self):
+        district = EXAMPLES / "district.pb"
+        done = run(district, "--completion", "add1", "--increment", "12.5")
+        made = equal_shares(*self.values_of(district.read_bytes()), completion="add1", increment=Fraction("12.5"))
+        self.assertIn(f"\nvoter budget {float(made.voter_budget):g} after {made.runs} runs; ", done.stdout)
+        self.assertGreater(made.runs, 2)
+        for odd in ("0", "-1", "x", "1/0", "1e999999999"):
+            self.assertEqual(run(EXAMPLES / "district.pb", "--completion", "add1", "--increment", odd).returncode, 3, odd)
+
+    def test_a_budget_that_no_denominator_has(self):
+        town = self.room / "town.pb"
+        instance = Instance([Project("a", 5000)], Fraction("1000.000001"))
+        town.write_bytes(pbaudit.write_election(instance, [["a"]] * 1999))
+        done = run(town, "-o", self.room / "t.prices.csv")
+        self.assertEqual((done.returncode, done.stderr), (0, ""))
+        self.assertIn("voter budget 1000000001/1999000000; 0 projects for 0:\n", done.stdout)
+        self.assertTrue(pbaudit.audit_prices(town, self.room / "t.prices.csv", self.room / "t.outcome.csv"))
 
     def test_names_are_shown_and_none_is_a_command(self):
         """Names that try to move a terminal's cursor, to begin a line or to be an option; and an output in ASCII."""

@@ -32,11 +32,11 @@ both_yes : (first second : Status) → (yes_where_both first second ≡ Yes) ↔
 both_yes first second = grind arith
 
 -- what the reply on prices and a claim of sets promises
-both_promise : (m : Mode) (e : Instance) (w : List Bool) (p : Prices) (claim : GroupAndDemand) → IsGroup e claim.1
-    → AreProjects e claim.2
+both_promise : (m : Mode) (e : Instance) (w : List Bool) (d : Delivery) (p : Prices) (claim : GroupAndDemand)
+    → StatesPrices name.Prices e d (Ok p) → IsGroup e claim.1 → AreProjects e claim.2
     → BothPromise m (both_on m e w p claim).status e w p claim
-both_promise m e w p claim group demand =
-    let on_prices = prices_promise m e w p in
+both_promise m e w d p claim states group demand =
+    let on_prices = prices_promise m name.Prices e w d p states in
     let on_claim = violation_promises e w claim in
     let yes = both_yes (price_reply m e w p).status (violation_reply e w claim).status in
     record {
@@ -60,7 +60,7 @@ claim_sets e d claim states = grind (arith, group-text-sets)
 pub both_promises : (m : Mode) (violation : Delivery) → Promised (both_rules m violation)
 both_promises m violation e w prices (p, Ok claim) states =
     let sets = claim_sets e violation claim states.1 in
-    both_promise m e w p claim sets.0 sets.1
+    both_promise m e w prices p claim states.0 sets.0 sets.1
 both_promises m violation e w prices (p, Err why) states = tt
 
 -- the prices are refused

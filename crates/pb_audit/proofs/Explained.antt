@@ -33,7 +33,7 @@ use Rattle.pb_reply.proofs.Culprits.{among-projects, missing-name, projects-are,
 use Rattle.pb_audit.proofs.Promises.{prices_promise, violation_promises}
 
 pub explained_promise : (m : Mode) → Promised (explained_rules m)
-explained_promise m e w d (OfPrices p) given = prices_promise m e w p
+explained_promise m e w d (OfPrices p) given = prices_promise m Certificate e w d p given.1
 explained_promise m e w d (OfViolation v) given = violation_promises e w v
 
 -- a certificate that is taken as prices, or as a violation, is one of either kind

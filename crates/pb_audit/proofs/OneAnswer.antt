@@ -146,7 +146,9 @@ audit-one rules one each election outcome certificate = record {
 
 pub price-reply-one : (m : Mode) (election : Delivery) (outcome : Option Delivery) (certificate : Delivery)
     → JustOne (AnswersPrices m election outcome certificate)
-price-reply-one m = audit-one (price_rules m) (prices-one name.Certificate) (λ e w d p given. prices_promise m e w p)
+price-reply-one m =
+    audit-one (price_rules m) (prices-one name.Certificate)
+    (λ e w d p given. prices_promise m name.Certificate e w d p given)
 
 pub violation-reply-one : (election : Delivery) (outcome : Option Delivery) (certificate : Delivery)
     → JustOne (AnswersViolation election outcome certificate)

@@ -3,7 +3,8 @@ use Rattle.std.specs.Prelude.{◌≡◌, ◌↔◌, ℕ, IsFalse, IsTrue, Bool, 
 use Rattle.pb_election.specs.Instance.{Instance}
 use Rattle.pb_certificate.specs.Prices.{Prices}
 use Rattle.pb_certificate.specs.declared.violations.measure.Measure.{Measure}
-use Rattle.pb_cohesion.specs.EveryGroup.{BudgetsAreWithinReach, GroupsGetTheirShare, NoGroupHasMoreLeft, NoViolationByCounting, NothingBlocks, SupportersBlock, SupportersHaveMoreLeft}
+use Rattle.pb_cohesion.specs.Conditions.{Cover}
+use Rattle.pb_cohesion.specs.EveryGroup.{BudgetsAreWithinReach, BudgetsReachTheLimit, DemandsAreWithinReach, GroupsGetTheirShare, NoDemandIsPassedOver, NoGroupHasMoreLeft, NoGroupIsPassedOver, NoViolationByCounting, NothingBlocks, SharesAreWithinReach, SupportersBlock, SupportersHaveMoreLeft}
 use Rattle.pb_cohesion.specs.Groups.{Violates}
 use Rattle.pb_cohesion.specs.Satisfactions.{worth_by}
 use Rattle.pb_price.specs.First.{First}
@@ -14,12 +15,16 @@ use Rattle.pb_reply.specs.declared.status.Status.{Status}
 use Rattle.pb_reply.specs.declared.status.Status.TheVariants.{Yes}
 
 -- The status is yes exactly where the prices support the outcome. What is more, a yes speaks of every group of
--- supporters, and a no by the last condition of the supporters of the project that it names.
+-- voters, and a no by the last condition of the supporters of the project that it names.
 pub record PricesPromise (m : Mode) (status : Status) (e : Instance) (w : List Bool) (p : Prices) : Type 0 where
   pub exactly : (status ≡ Yes) ↔ Supports m e w p
   pub plain_yes : status ≡ Yes → IsFalse m.stable → NoGroupHasMoreLeft e w p
   pub stable_yes : status ≡ Yes → IsTrue m.stable → NothingBlocks e w p
   pub any_yes : status ≡ Yes → BudgetsAreWithinReach e w p
+  pub share_yes : status ≡ Yes → BudgetsReachTheLimit e p → SharesAreWithinReach e w
+  pub pjr_plus_yes : status ≡ Yes → Cover e p → NoGroupIsPassedOver e w
+  pub demand_yes : status ≡ Yes → BudgetsReachTheLimit e p → DemandsAreWithinReach e w
+  pub pjr_yes : status ≡ Yes → Cover e p → NoDemandIsPassedOver e w
   pub fair_yes : status ≡ Yes → IsTrue m.stable → GroupsGetTheirShare e w p
   pub covered_yes : status ≡ Yes → IsTrue m.stable → IsTrue m.cover → NoViolationByCounting e w
   pub plain_no : (c : ℕ) → First m e w p ≡ Some (failure.C5 c) → SupportersHaveMoreLeft e p c

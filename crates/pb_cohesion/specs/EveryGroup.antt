@@ -35,8 +35,8 @@ BudgetsAreWithinReach e w p = (s : List ℕ) (c : ℕ) → IsUnfunded e w c → 
 abbrev pub BudgetsReachTheLimit : Instance → Prices → Type 0
 BudgetsReachTheLimit e p = budget_limit e p ≤ voters e * beta p
 
--- the share of a group of supporters of an unfunded project in the limit is at most what this project costs and what was
--- funded for the group together
+-- the share of a group of supporters of an unfunded project in the limit is at most what this project costs and what
+-- was funded for the group together
 abbrev pub SharesAreWithinReach : Instance → List Bool → Type 0
 SharesAreWithinReach e w = (s : List ℕ) (c : ℕ) → IsUnfunded e w c → IsGroupWithin e s c
     → length s * e.limit ≤ voters e * (cost_of e c + funded_for e w s)

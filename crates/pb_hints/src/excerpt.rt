@@ -1,4 +1,5 @@
 //! What stands in a file, as it is shown to a person.
+use pb_visible::{is_hidden, push_number};
 use std::alloc::{AllocError, Global};
 
 /// How many characters are shown.
@@ -14,8 +15,8 @@ pub(crate) fn quoted(alloc: Global, words: &str, bytes: &[u8]) -> Result<String,
     Ok(text)
 }
 
-/// Adds an excerpt between quotes: at most 60 characters, and dots where there are more. Control characters are shown
-/// by their numbers, and so are bytes that aren't UTF-8.
+/// Adds an excerpt between quotes: at most 60 characters, and dots where there are more. Characters that can't be seen,
+/// joiners too, are shown by their numbers, and so are bytes that aren't UTF-8.
 pub(crate) fn push_quoted(text: &mut String, bytes: &[u8]) -> Result<(), AllocError> {
     text.push('\'')?;
     push_excerpt(text, bytes)?;
@@ -45,7 +46,7 @@ fn push_excerpt(text: &mut String, bytes: &[u8]) -> Result<(), AllocError> {
     Ok(())
 }
 
-/// Adds all of a text, with its control characters shown by their numbers.
+/// Adds all of a text, with the characters that can't be seen shown by their numbers.
 pub fn push_shown(text: &mut String, shown: &str) -> Result<(), AllocError> {
     for letter in shown.chars() {
         push_letter(text, letter)?;
@@ -58,22 +59,7 @@ fn push_letter(text: &mut String, letter: char) -> Result<(), AllocError> {
         '\t' => text.push_str("\\t"),
         '\n' => text.push_str("\\n"),
         '\r' => text.push_str("\\r"),
-        _ if is_unseen(letter) => push_number(text, letter),
+        _ if is_hidden(letter) => push_number(text, letter),
         _ => text.push(letter),
     }
-}
-
-fn push_number(text: &mut String, letter: char) -> Result<(), AllocError> {
-    let number = letter as u32;
-    write!(text, "\\u{{{number:x}}}")
-}
-
-/// Whether a letter isn't seen as itself: a control character, a space that looks like another, a mark without width,
-/// or one that turns the direction in which a line is shown.
-fn is_unseen(letter: char) -> bool {
-    letter.is_control()
-        || matches!(
-            letter,
-            '\u{A0}' | '\u{200B}'..='\u{200F}' | '\u{202A}'..='\u{202F}' | '\u{2066}'..='\u{2069}' | '\u{FEFF}'
-        )
 }

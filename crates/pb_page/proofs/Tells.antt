@@ -51,7 +51,7 @@ pub tells-prices : (m : Mode) (e : Instance) (w : List Bool) (d : Delivery) (p :
     → f.findings ≡ findings e w p → AreMargins e w p f.margins → is_violation d ≡ false
     → TellsCertificate m e w d (Ok t)
 tells-prices m e w d p t f states is mode line finds margins kind =
-    let low = denominator-low e d p states in
+    let low = denominator-low name.Certificate e d p states in
     let same = told-verdict m e w p f.findings low finds in (
       OfPrices p,
       (kind, states),

@@ -118,6 +118,7 @@ fn is_plain_line(line: &str) -> bool
     line.len() <= MOST_IN_A_LINE && are_visible(line.as_bytes())
 }
 
+#[tactic(auto, using(std::proofs::lemmas::List::Folds::list_all_at, std::proofs::lemmas::List::Folds::list_all_more))]
 fn are_visible(bytes: &[u8]) -> bool
     ensures { result ≡ list_all spec.is_visible_byte bytes.now }
 {

@@ -192,6 +192,8 @@ pub enum Sentence {
     ClaimViolation,
     ClaimByCount,
     ClaimByCost,
+    ClaimLittle,
+    ClaimLess,
     ClaimNoViolation,
     ClaimHow,
     // Words explained.

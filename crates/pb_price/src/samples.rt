@@ -1,10 +1,12 @@
 //! What the definitions give on sample elections and prices.
 
-ghost use Rattle.std.specs.Prelude.{◌≡◌, ◌∷◌, [], Some, None, false, true};
+ghost use Rattle.std.specs.Prelude.{◌≡◌, ◌+◌, ◌*◌, ◌∷◌, [], Some, None, false, true};
+ghost use Rattle.pb_election.specs.Instance.{cost_of, cost_of_all, voters};
 ghost use Rattle.pb_certificate.specs.Samples.{sample_election, sample_outcome, sample_prices, sample_prices_with, sample_with_costs, shared_election, shared_prices, split_election, split_outcome, split_prices};
-ghost use Rattle.pb_cohesion.specs.EveryGroup.{NoGroupHasMoreLeft, NothingBlocks, SupportersBlock};
+ghost use Rattle.pb_cohesion.specs.EveryGroup.{DemandsAreWithinReach, NoDemandIsPassedOver, NoGroupHasMoreLeft, NoGroupIsPassedOver, NothingBlocks, SharesAreWithinReach, SupportersBlock};
+ghost use Rattle.pb_cohesion.specs.Groups.{funded_for};
 ghost use Rattle.pb_price.specs.First.{First};
-ghost use Rattle.pb_price.specs.Samples.{moved_prices, overpaid_prices, overpaying_election};
+ghost use Rattle.pb_price.specs.Samples.{moved_prices, no_money, none_funded, overpaid_prices, overpaying_election, pool_of_two, pool_prices};
 
 use crate::{Failure, Mode};
 
@@ -47,6 +49,20 @@ pub fn left_and_offered()
     ensures not_added { SupportersBlock (sample_with_costs 6 4 2) sample_outcome sample_prices 3 → ⊥ }
     // What is left is not all that counts: voter 3 blocks by what it pays for the library.
     ensures not_left_alone { NothingBlocks (sample_with_costs 6 4 2) sample_outcome moved_prices → ⊥ }
+{}
+
+/// A group may have a share of the limit of just what a project costs that it lacks, with all that was funded for it.
+pub fn shares_of_groups()
+    ensures supported { First PLAIN_ALONE pool_of_two sample_outcome pool_prices ≡ None }
+    ensures share { 2 * pool_of_two.limit ≡ voters pool_of_two * (cost_of pool_of_two 3 + funded_for pool_of_two sample_outcome (2 ∷ 3 ∷ [])) }
+    ensures demand { cost_of_all pool_of_two (1 ∷ 3 ∷ []) ≡ cost_of pool_of_two 3 + funded_for pool_of_two sample_outcome (2 ∷ 3 ∷ []) }
+    // So a yes doesn't exclude that a group or a demand is passed over where the budgets only reach the limit.
+    ensures group_passed_over { NoGroupIsPassedOver pool_of_two sample_outcome → ⊥ }
+    ensures demand_passed_over { NoDemandIsPassedOver pool_of_two sample_outcome → ⊥ }
+    // Where they don't, it says nothing of shares and demands.
+    ensures poor { First PLAIN_ALONE pool_of_two none_funded no_money ≡ None }
+    ensures poor_share { SharesAreWithinReach pool_of_two none_funded → ⊥ }
+    ensures poor_demand { DemandsAreWithinReach pool_of_two none_funded → ⊥ }
 {}
 
 /// The limit.

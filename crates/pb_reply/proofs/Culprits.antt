@@ -25,7 +25,7 @@ use Rattle.pb_records.specs.Loading.{Delivery}
 use Rattle.pb_reply.specs.Inputs.{StatesPrices}
 use Rattle.pb_reply.specs.Lines.{price_failed, violation_failed}
 use Rattle.pb_reply.specs.Named.{NamesProject, PricesNameProject, ViolationNamesProject}
-use Rattle.pb_reply.specs.declared.input.InputName.TheVariants.{Certificate}
+use Rattle.pb_reply.specs.declared.input.InputName.{InputName}
 
 -- projects
 pub projects-are : (e : Instance) → AllByRecursion (IsProject e) (all_projects e)
@@ -119,9 +119,9 @@ pub violation_names_projects : (worth : ℕ → ℕ) (e : Instance) (w : List Bo
 violation_names_projects worth e w s t v is set = grind (arith, first-demanded, all-first, violation-names)
 
 -- the denominator of prices that are stated
-pub denominator-low : (e : Instance) (d : Delivery) (p : Prices) → StatesPrices Certificate e d (Ok p)
+pub denominator-low : (input : InputName) (e : Instance) (d : Delivery) (p : Prices) → StatesPrices input e d (Ok p)
     → 1 ≤ p.denominator
-denominator-low e d p given = grind arith
+denominator-low input e d p given = grind arith
 
 -- the verdict that the findings on prices tell names a project of the election, if any
 pub told_names_project : (m : Mode) (e : Instance) (w : List Bool) (p : Prices) (f : Findings) → 1 ≤ p.denominator

@@ -1,10 +1,12 @@
 """The command `find`: looks for certificates of an outcome, writes them, and tells what was found."""
 import argparse
 import os
-from typing import List, NamedTuple, NoReturn, Optional, Protocol
+from typing import Any, List, NamedTuple, Optional, Tuple
 
 from ..pages import replaced
+from .results import SECONDS, Found, Wanted
 from .telling import Teller, quoted, shown
+from .writing import endings, files_of, stem_of, write_new
 
 USAGE = (
     "python -m pbaudit find ELECTION [--outcome FILE] [OPTIONS]\n"
@@ -12,24 +14,18 @@ USAGE = (
 )
 WHAT_IT_DOES = (
     "Looks for certificates of an outcome: for prices that support it, with Cover first and then without, and for a "
-    "group of voters that it treats worse than it deserves. What is found is audited, and written to NAME.prices.csv and "
-    "NAME.violation.csv beside the election NAME.pb. The search isn't proved, and needn't be: its results are audited by "
-    "code that is. That it finds nothing proves nothing. It needs scipy."
+    "group of voters that it treats worse than it deserves. What is found is audited, and written to NAME.prices.csv "
+    "and NAME.violation.csv beside the election NAME.pb; where there is a violation by counting and one by cost, the "
+    "latter is NAME.cost.violation.csv. The search isn't proved, and needn't be: its results are audited by code that "
+    "is. That it finds nothing proves nothing. It needs scipy."
 )
 HOW_IT_ENDS = (
-    "Exit statuses: 0 if a certificate was found; 1 if none was, which proves nothing; 2 if a file is refused; 3 if the "
-    "arguments aren't understood, or a file that would be written is there already; 4 if memory runs out, a file or the "
-    "answer can't be written, scipy isn't installed, or the auditor isn't found or can't be used. With --folder it is 4, 2 "
-    "or 1 where that is so of any election, in this order. Stopped by Ctrl+C, it writes what it has found, and ends as if "
-    "there were no more."
+    "Exit statuses: 0 if a certificate was found; 1 if none was, which proves nothing; 2 if a file is refused; 3 if "
+    "the arguments aren't understood, or a file is there already that could be written; 4 if memory runs out, a file "
+    "or the answer can't be written, scipy isn't installed, or the auditor isn't found or can't be used. With --folder "
+    "it is 4, 2 or 1 where that is so of any election, in this order. Stopped by Ctrl+C, it writes what it has found, "
+    "and ends as if there were no more to find."
 )
-SECONDS = 60.0
-
-
-class Parsers(Protocol):
-    """What takes the parser of a command, as argparse's subparsers do."""
-
-    def add_parser(self, name: str, **settings: object) -> argparse.ArgumentParser: ...
 
 
 class Answer(NamedTuple):
@@ -40,15 +36,20 @@ class Answer(NamedTuple):
     fault: Optional[str] = None
 
 
-def add_to(commands: "Parsers", by_folder: bool) -> argparse.ArgumentParser:
-    """Adds the command's options."""
+def add_to(commands: Any, by_folder: bool) -> Any:
+    """Adds the command to the subparsers of argparse, and answers its parser."""
     find = commands.add_parser("find", help="looks for prices and violations of an outcome", usage=USAGE,
                                description=WHAT_IT_DOES, epilog=HOW_IT_ENDS, allow_abbrev=False)
     if not by_folder:
         find.add_argument("election", metavar="ELECTION", help="an election file")
-    find.add_argument("--folder", metavar="FOLDER", help="in place of ELECTION: look for certificates of all elections of "
-                      "a folder, on all processors, and write a table of them, found.csv")
+    find.add_argument("--folder", metavar="FOLDER", help="in place of ELECTION: look for certificates of all elections "
+                      "of a folder, on all processors, and write a table of them, found.csv")
     find.add_argument("--outcome", metavar="FILE", help="take the funded projects from this file")
+    _add_options(find)
+    return find
+
+
+def _add_options(find: Any) -> None:
     find.add_argument("--stable", action="store_true", help="look for the stable form of prices")
     find.add_argument("--cover", action="store_true", help="look for prices with Cover alone")
     only = find.add_mutually_exclusive_group()
@@ -58,7 +59,6 @@ def add_to(commands: "Parsers", by_folder: bool) -> argparse.ArgumentParser:
                       "election: 60 unless it is given")
     find.add_argument("--output", metavar="FOLDER", help="write to this folder, which is made if it isn't there")
     find.add_argument("--replace", action="store_true", help="write over files that are there")
-    return find
 
 
 def _seconds(text: str) -> float:
@@ -71,28 +71,85 @@ def _seconds(text: str) -> float:
 def answer(given: argparse.Namespace) -> Answer:
     """Looks for certificates of one election, and writes them. Raises Refusal, OSError where a file can't be read,
     MemoryError and ImportError."""
-    from .search import Found, Seeker, Wanted
-    from .writing import files_of, stem_of, write_new
-    stem = stem_of(given.election, _folder(given))
+    stem = stem_of(given.election, given.output or os.path.dirname(given.election))
     _check_paths(given, stem)
-    wanted = Wanted(given.stable, given.cover, not given.violation, not given.prices, given.time)
-    found, teller, lines, stopped = Found(), Teller(), [], False
+    found = Found()
+    is_stopped = _search(found, given)
+    lines, fault = _write(found, given, stem)
+    lines += map(shown, found.sentences)
+    if is_stopped:
+        lines.append(f"This was stopped while {found.unfinished or 'the files'} was looked for.")
+    return Answer(lines, 4 if fault else 0 if found else 1, fault)
+
+
+def _check_paths(given: argparse.Namespace, stem: str) -> None:
+    """Ends by usage where a file is in the way."""
+    for path in [stem + ending for ending in endings(not given.violation, not given.prices)]:
+        over = replaced(path, {"ELECTION": given.election, "--outcome": given.outcome})
+        if over:
+            given.end_by_usage(f"{shown(path)} would be written, which is {over}")
+        if os.path.lexists(path) and not given.replace:
+            given.end_by_usage(f"{shown(path)} is there already: --replace writes over it, --output elsewhere")
+
+
+def _search(found: Found, given: argparse.Namespace) -> bool:
+    """Looks for what is asked for. Whether it was stopped by the keyboard."""
+    # What needs scipy is loaded here, so that other commands don't need it.
+    from .search import Seeker
+    teller = Teller()
     try:
-        Seeker(found, given.election, given.outcome, wanted, teller).run()
+        Seeker(found, given.election, given.outcome, wanted_by(given), teller).run()
     except KeyboardInterrupt:
-        stopped = True
+        return True
     finally:
         teller.clear()
-    fault = None
-    for (ending, data), (line, options) in zip(files_of(found), _audits(found)):
+    return False
+
+
+def wanted_by(given: argparse.Namespace) -> Wanted:
+    """What the options ask for."""
+    return Wanted(given.stable, given.cover, not given.violation, not given.prices, given.time)
+
+
+def _write(found: Found, given: argparse.Namespace, stem: str) -> Tuple[List[str], Optional[str]]:
+    """Writes what was found. The lines on it, and what went wrong."""
+    lines: List[str] = []
+    for ending, verdict, data in files_of(found):
+        path = stem + ending
         try:
-            os.makedirs(os.path.dirname(stem) or ".", exist_ok=True)
-            write_new(stem + ending, data, given.replace)
+            write_new(path, data, given.replace)
         except OSError as unwritten:
-            fault = f"fault write: {shown(stem + ending)}: {unwritten.strerror or unwritten}"
-            break
-        lines += [f"{shown(stem + ending)}: {shown(line)}", "  check it by: " + _check(given, stem + ending, options)]
-    lines += map(shown, found.sentences)
-    if stopped:
-        lines.append(f"It was stopped while it looked for {found.unfinished or 'nothing more'}.")
-    return Answer(lines, 4 if fault else 0 if found else 1, fault)
+            return lines, f"fault write: {shown(path)}: {unwritten.strerror or unwritten}"
+        outcome = [] if given.outcome is None else ["--outcome", given.outcome]
+        options = found.prices.options if found.prices and verdict is found.prices.verdict else []
+        command = "prices" if ending == ".prices.csv" else "violation"
+        words = ["pbaudit", command, given.election, path, *outcome, *options]
+        lines += [f"{shown(path)}: {shown(verdict.line)}", f"  check it by: {quoted(words)}"]
+    return lines, None
+
+
+def folder_answer(given: argparse.Namespace) -> Answer:
+    """Looks for certificates of all elections of a folder. Raises OSError where it can't be listed, and ImportError."""
+    from .._auditor import Mode, auditor
+    from ..folders import entries_of
+    from .folders import TABLE, Folder, table_file, table_lines
+    auditor()
+    output = given.output or given.folder
+    table = os.path.join(output, TABLE)
+    if os.path.lexists(table) and not given.replace:
+        given.end_by_usage(f"{shown(table)} is there already: --replace writes over it, --output elsewhere")
+    folder, teller = Folder(entries_of(given.folder, Mode()), output, wanted_by(given), given.replace), Teller()
+    is_stopped = False
+    try:
+        folder.run(teller)
+    except KeyboardInterrupt:
+        is_stopped = True
+    finally:
+        teller.clear()
+    rows, fault = folder.rows(), folder.fault
+    try:
+        write_new(table, table_file(rows), given.replace)
+    except OSError as unwritten:
+        fault = f"fault write: {shown(table)}: {unwritten.strerror or unwritten}"
+    lines = table_lines(rows) + (["This was stopped before all elections were looked at."] if is_stopped else [])
+    return Answer(lines, 4 if fault else folder.status(), fault)

@@ -1,5 +1,7 @@
 """Voters merged by equal ballots: what searches for prices compute with."""
+from array import array
 from dataclasses import dataclass
+from itertools import chain
 from typing import Any, Dict, List, Sequence
 
 from ..town import Town
@@ -34,13 +36,13 @@ def groups_of(town: Town) -> Groups:
     known: Dict[bytes, int] = {}
     of_voter, places, ends = [], [], [0]
     for ballot in town.ballots:
-        key = bytes(memoryview(ballot))
+        key = array("I", ballot).tobytes()
         if key not in known:
             known[key] = len(known)
             places.append(ballot)
             ends.append(ends[-1] + len(ballot))
         of_voter.append(known[key])
-    indices = np.concatenate([np.frombuffer(ballot, np.uint32) for ballot in places]) if ends[-1] else []
+    indices = np.fromiter(chain.from_iterable(places), np.int32, ends[-1])
     shape = (len(known), len(town.names))
     approvals = sparse.csr_matrix((np.ones(ends[-1]), indices, ends), shape=shape)
     numbers = np.array(of_voter, np.int64)

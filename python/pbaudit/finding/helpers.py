@@ -66,13 +66,18 @@ class Helper:
                                              start_new_session=self._leads, env={**os.environ, "PYTHONPATH": path})
         return self._process
 
+    def stop(self) -> None:
+        """Stops what the process does, so that a call of another thread ends."""
+        process = self._process
+        if process is not None and self._leads:
+            _kill_group(process.pid)
+
     def close(self) -> None:
         """Ends the process, and its own helpers."""
+        self.stop()
         process, self._process = self._process, None
         if process is None:
             return
-        if self._leads:
-            _kill_group(process.pid)
         process.kill()
         for stream in (process.stdin, process.stdout):
             _close(stream)

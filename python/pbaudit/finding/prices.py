@@ -5,20 +5,21 @@ They are made exact by `price_certificate`'s own rounding, and audited.
 """
 from dataclasses import dataclass
 from fractions import Fraction
-from typing import Iterator, List, Optional, Tuple
+from typing import Iterator, Optional, Tuple
 
-from ..auditing import Verdict, audit_prices
-from ..certificates import DENOMINATORS, PriceCertificate, certified
+from ..auditing import audit_prices
+from ..certificates import DENOMINATORS, certified
 from ..rounding import CannotKeep
 from ..values import Payments, Projects
 from .clock import Clock
 from .helpers import Helper
-from .programme import NoPrices, OutOfTime, by_programme
+from .programme import NoPrices, OutOfTime, Unsolved, by_programme
+from .results import FoundPrices
 from .shares import Need, Problem, Shares, budgets, payments_of, unpaid
 from .water import by_water
 
 # Why no prices were found.
-NONE, TIME, ROUNDING, UNPAID = "none", "time", "rounding", "unpaid"
+NONE, TIME, UNSOLVED, ROUNDING, UNPAID = "none", "time", "unsolved", "rounding", "unpaid"
 
 
 @dataclass(frozen=True)
@@ -32,45 +33,42 @@ class Given:
     exhaustive: bool
 
 
-@dataclass(frozen=True)
-class FoundPrices:
-    """A price certificate that was found, with the auditor's verdict on it, which is a yes, and the mode in which that
-    was asked."""
-
-    certificate: PriceCertificate
-    verdict: Verdict
-    stable: bool
-    exhaustive: bool
-    cover: bool
-
-    @property
-    def file(self) -> bytes:
-        """The certificate as a file."""
-        return self.certificate.file
-
-    @property
-    def options(self) -> List[str]:
-        """The options by which `pbaudit prices` gives this verdict."""
-        options = [("--stable", self.stable), ("--no-exhaustive", not self.exhaustive), ("--cover", self.cover)]
-        return [option for option, is_on in options if is_on]
-
-
-def find_prices(given: Given, need: Need, solver: Helper, clock: Clock) -> Tuple[Optional[FoundPrices], str]:
-    """Prices of a form, or None and why none were found."""
+def find_prices(given: Given, stable: bool, covered: bool, solver: Helper,
+                clock: Clock) -> Tuple[Optional[FoundPrices], str]:
+    """Prices, with Cover where there are some, or None and why none were found. Where `covered`, those without Cover
+    don't count."""
     if unpaid(given.problem) is not None:
         return None, UNPAID
-    form = ("stable prices" if need.stable else "prices") + (" with Cover" if need.cover else "")
-    shares, failed = by_water(given.problem, need, clock, form)
-    found = None if shares is None else _exact(given, shares, need)
-    if found is None:
-        try:
-            shares = by_programme(given.problem, need, failed, solver, clock, form)
-        except NoPrices:
-            return None, NONE
-        except OutOfTime:
-            return None, TIME
-        found = _exact(given, shares, need)
-    return found, "" if found else ROUNDING
+    try:
+        return _found(given, stable, covered, solver, clock)
+    except NoPrices:
+        return None, NONE
+    except OutOfTime:
+        return None, TIME
+    except Unsolved:
+        return None, UNSOLVED
+
+
+def _found(given: Given, stable: bool, covered: bool, solver: Helper,
+           clock: Clock) -> Tuple[Optional[FoundPrices], str]:
+    problem, with_cover, without = given.problem, Need(stable, True), Need(stable, False)
+    shares, failed = by_water(problem, with_cover, clock)
+    found = shares and _exact(given, shares, with_cover)
+    if found or covered:
+        found = found or _exact(given, by_programme(problem, with_cover, failed, solver, clock), with_cover)
+        return found, "" if found else ROUNDING
+    # Where there are none without Cover there are none with it.
+    shares, failed = by_water(problem, without, clock)
+    spare = shares and _exact(given, shares, without)
+    if not spare:
+        shares = by_programme(problem, without, failed, solver, clock)
+        found = _exact(given, shares, with_cover)
+        spare = None if found else _exact(given, shares, without)
+    try:
+        found = found or _exact(given, by_programme(problem, with_cover, failed, solver, clock), with_cover)
+    except (NoPrices, OutOfTime, Unsolved):
+        pass
+    return found or spare, "" if found or spare else ROUNDING
 
 
 def _exact(given: Given, shares: Shares, need: Need) -> Optional[FoundPrices]:

@@ -5,11 +5,11 @@ Unfunded projects are looked at once they are violated. That the programme finds
 nothing: it computes in floats.
 """
 from dataclasses import dataclass
-from typing import Any, List, Optional, Tuple
+from typing import Any, List, Tuple
 
 from .clock import Clock
 from .groups import Groups
-from .helpers import Helper, Late
+from .helpers import Helper, Late, Lost
 from .needs import needed
 from .shares import Need, Problem, Shares, excesses
 
@@ -20,8 +20,14 @@ COVERED = 1e-6
 TOLERANCE = 1e-7
 # Of equal margins the one with the smaller budget is taken.
 PREFER = 1e-7
+# How many unfunded projects are looked at first.
+FIRST = 5
 # How much longer than it may HiGHS takes to give up.
 GRACE = 5.0
+# A programme of so many variables is solved at once, and so in this process.
+SMALL = 2000
+# What scipy says of a programme.
+SOLVED, LIMIT, INFEASIBLE = 0, 1, 2
 
 
 class NoPrices(Exception):
@@ -30,6 +36,10 @@ class NoPrices(Exception):
 
 class OutOfTime(Exception):
     """There was too little time."""
+
+
+class Unsolved(Exception):
+    """The programme wasn't solved: it takes more memory than there is, or its numbers are too far apart."""
 
 
 @dataclass(frozen=True)
@@ -116,11 +126,12 @@ def programme_of(problem: Problem, groups: Groups, seen: List[int], need: Need) 
     return made, paying, column
 
 
-def by_programme(problem: Problem, need: Need, seen: List[int], solver: Helper, clock: Clock, form: str) -> Shares:
-    """Prices by the programme, which first looks at these unfunded projects. Raises NoPrices and OutOfTime."""
-    seen = seen or problem.unfunded[:1]
+def by_programme(problem: Problem, need: Need, seen: List[int], solver: Helper, clock: Clock) -> Shares:
+    """Prices by the programme, which first looks at the first of these unfunded projects. Raises NoPrices, OutOfTime
+    and Unsolved."""
+    seen = sorted(seen[:FIRST] or problem.unfunded[:1])
     while True:
-        clock.tell(f"{form}: linear programme over {len(seen)} of {len(problem.unfunded)} unfunded projects")
+        clock.tell(f"{need}: linear programme over {len(seen)} of {len(problem.unfunded)} unfunded projects")
         shares, budget, margin = _solved(problem, need, seen, solver, clock)
         if margin < -TOLERANCE:
             raise NoPrices
@@ -137,26 +148,34 @@ def _solved(problem: Problem, need: Need, seen: List[int], solver: Helper, clock
     """What the programme over some unfunded projects comes to: payments, the voter budget, and the margin."""
     groups = problem.groups.merged([*problem.funded, *seen])
     programme, paying, column = programme_of(problem, groups, seen, need)
-    seconds = clock.left()
-    try:
-        answer = solver.call(solve, programme, seconds, seconds=seconds + GRACE, tick=clock.tick) if seconds else None
-    except Late:
-        answer = None
-    if answer is None:
-        raise OutOfTime
-    if not len(answer):
-        raise NoPrices
+    answer = _answer(programme, solver, clock)
     amounts = np.maximum(answer[2:2 + len(paying)], 0.0) / groups.sizes[paying]
     funded = np.array(problem.funded, np.int64)
     return Shares(groups, paying, funded[column], amounts), float(answer[0]), float(answer[1])
 
 
-def solve(programme: Programme, seconds: float) -> Optional[Any]:
-    """Solves a programme by HiGHS: the values of the variables, none where there are none, and None where time ran
-    out."""
+def _answer(programme: Programme, solver: Helper, clock: Clock) -> Any:
+    """The values of the variables."""
+    seconds = clock.left()
+    if not seconds:
+        raise OutOfTime
+    try:
+        if len(programme.objective) <= SMALL:
+            status, values = solve(programme, seconds)
+        else:
+            status, values = solver.call(solve, programme, seconds, seconds=seconds + GRACE, tick=clock.tick)
+    except Late:
+        raise OutOfTime from None
+    except (Lost, MemoryError):
+        raise Unsolved from None
+    if status != SOLVED:
+        raise {LIMIT: OutOfTime, INFEASIBLE: NoPrices}.get(status, Unsolved)
+    return values
+
+
+def solve(programme: Programme, seconds: float) -> Tuple[int, Any]:
+    """Solves a programme by HiGHS: its status, and the values of the variables."""
     found = needed("scipy.optimize").linprog(
         programme.objective, A_ub=programme.rows, b_ub=programme.most, A_eq=programme.equal, b_eq=programme.sums,
         bounds=np.column_stack([programme.low, programme.high]), method="highs", options={"time_limit": seconds})
-    if found.status == 0:
-        return found.x
-    return np.zeros(0) if found.status == 2 else None
+    return found.status, found.x

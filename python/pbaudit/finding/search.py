@@ -1,10 +1,8 @@
-"""Finds certificates for an election and an outcome, has them audited, and says what was found."""
-from dataclasses import dataclass, field
-from typing import Callable, Dict, List, Optional
+"""A search: what is looked for one after the other, and what is said of it."""
+from typing import Dict, List, Optional
 
 from .. import auditing
 from .._auditor import Question
-from ..auditing import Verdict
 from ..election_files import election_of
 from ..files import File, bytes_of
 from ..records import records
@@ -13,11 +11,11 @@ from ..writing import write_violation
 from .clock import Clock, Tell
 from .groups import groups_of
 from .helpers import Helper
-from .prices import NONE, ROUNDING, TIME, FoundPrices, Given, find_prices
-from .shares import Need, problem_of, unpaid
+from .prices import NONE, ROUNDING, TIME, UNSOLVED, Given, find_prices
+from .results import Found, FoundPrices, FoundViolation, Wanted
+from .shares import problem_of, unpaid
 from .violations import MEASURES, Search, Searched
 
-SECONDS = 60.0
 # How many projects a sentence names.
 SHOWN = 12
 NAMES = {"count": "counting", "cost": "cost"}
@@ -25,6 +23,7 @@ NO_PROOF = "That proves nothing: there may be some."
 REASONS = {
     NONE: "the linear programme has none. It computes in rounded numbers, so that this is no proof.",
     TIME: f"there was too little time. {NO_PROOF}",
+    UNSOLVED: f"the linear programme wasn't solved, since memory ran out, or its numbers are too far apart. {NO_PROOF}",
     ROUNDING: f"the linear programme has some in rounded numbers, and no exact ones were found near them. {NO_PROOF}",
 }
 NOT_FEASIBLE = ("No prices can support this outcome: the funded projects cost more than the limit, so that every "
@@ -39,68 +38,6 @@ NO_CONTRADICTION = (
 _NO_PAYMENTS = b"pb-prices,1\ndenominator,1\nvoter_budget,0\nvoter,project,payment\n"
 
 
-@dataclass(frozen=True)
-class FoundViolation:
-    """A violation certificate that was found, with the auditor's verdict on it, which is a yes: the group, by the
-    numbers of its voters, from 1, and the ids of the projects that it demands; and the measure, "count" or "cost"."""
-
-    by: str
-    voters: List[int] = field(repr=False)
-    projects: List[str]
-    verdict: Verdict
-    file: bytes = field(repr=False)
-
-
-@dataclass
-class Found:
-    """What a search found: prices, or None; violations, at most one by each measure; and sentences on what was found
-    and on what wasn't, which `str` shows. It is true where anything was found. `unfinished` is what was looked for when
-    the search was stopped, or None."""
-
-    prices: Optional[FoundPrices] = None
-    violations: List[FoundViolation] = field(default_factory=list)
-    sentences: List[str] = field(default_factory=list)
-    unfinished: Optional[str] = None
-
-    def __bool__(self) -> bool:
-        return self.prices is not None or bool(self.violations)
-
-    def __str__(self) -> str:
-        return "\n".join(self.sentences)
-
-
-@dataclass(frozen=True)
-class Wanted:
-    """What is looked for, and for how many seconds."""
-
-    stable: bool = False
-    cover: bool = False
-    prices: bool = True
-    violation: bool = True
-    seconds: float = SECONDS
-
-
-def find(election: File, outcome: Optional[File] = None, *, stable: bool = False, cover: bool = False,
-         prices: bool = True, violation: bool = True, seconds: float = SECONDS,
-         on_progress: Optional[Callable[[str, float], None]] = None) -> Found:
-    """Looks for certificates of an outcome: for prices that support it, with Cover first and then without, and for a
-    violation by counting and one by cost. The files are given as for `audit_prices`.
-
-    `stable` asks for the stable form of prices, and `cover` for prices with Cover alone; without `prices` or without
-    `violation` these aren't looked for. `seconds` is how long all may take, of which prices have two thirds and each
-    violation a sixth; what is found depends on it only where time runs out. `on_progress` is called with what is tried
-    and how many seconds are left for it.
-
-    What is found was audited. That nothing is found proves nothing. Raises Refusal, OSError, MemoryError, ValueError
-    where nothing is asked for, and ImportError where scipy isn't installed.
-    """
-    if not prices and not violation:
-        raise ValueError("neither prices nor violations are looked for")
-    found = Found()
-    Seeker(found, election, outcome, Wanted(stable, cover, prices, violation, seconds), on_progress).run()
-    return found
-
-
 class Seeker:
     """A search. What it finds is in `found` as soon as it is found."""
 
@@ -108,7 +45,9 @@ class Seeker:
         self.found, self.wanted, self._tell = found, wanted, tell
         data, chosen = bytes_of(election), None if outcome is None else bytes_of(outcome)
         question = Question("prices", data, _NO_PAYMENTS, None, chosen)
-        files: Dict[str, File] = {"election": election} if outcome is None else {"election": election, "outcome": outcome}
+        files: Dict[str, File] = {"election": election}
+        if outcome is not None:
+            files["outcome"] = outcome
         auditing.answered(question, files)
         self.bare = auditing.verdict(question)
         values = election_of(data)
@@ -139,16 +78,9 @@ class Seeker:
             return
         if not self.given.exhaustive:
             say(f"{self.bare.project} could be added within the limit, so that Exhaustive is left out.")
-        seconds, why = wanted.seconds * (2 / 3 if wanted.violation else 1), ""
-        for cover in (True,) if wanted.cover else (True, False):
-            # Where prices without Cover will do, they have half of the time.
-            clock = Clock(seconds if wanted.cover or not cover else seconds / 2, self._tell)
-            self.found.prices, why = find_prices(self.given, Need(wanted.stable, cover), solver, clock)
-            if self.found.prices:
-                say(_told(self.found.prices))
-                return
-            seconds -= clock.taken()
-        say(self._no_prices(why))
+        clock = Clock(wanted.seconds * (2 / 3 if wanted.violation else 1), self._tell)
+        self.found.prices, why = find_prices(self.given, wanted.stable, wanted.cover, solver, clock)
+        say(_told(self.found.prices) if self.found.prices else self._no_prices(why))
 
     def _no_prices(self, why: str) -> str:
         """What is said where no prices were found."""
@@ -193,8 +125,8 @@ def _told_violation(by: str, voters: int, names: List[str]) -> str:
     """What is said of a violation that was found."""
     group, each = ("one voter", "it gets") if voters == 1 else (f"{voters} voters", "each of them gets")
     shown = ", ".join(names[:SHOWN]) + (f" and {len(names) - SHOWN} others" if len(names) > SHOWN else "")
-    return (f"By {NAMES[by]}, the outcome treats a group worse than it deserves: {group} could demand {shown}, and {each} "
-            "less.")
+    return (f"By {NAMES[by]}, the outcome treats a group worse than it deserves: {group} could demand {shown}, and "
+            f"{each} less.")
 
 
 def _no_violation(searched: Searched, by: str) -> str:

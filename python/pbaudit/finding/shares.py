@@ -11,11 +11,13 @@ np = needed("numpy")
 
 @dataclass(frozen=True)
 class Need:
-    """What prices are looked for: of which form, and by a voter budget of more than so much, in the unit of a problem,
-    where Cover is asked for."""
+    """Which prices are looked for."""
 
     stable: bool = False
     cover: bool = False
+
+    def __str__(self) -> str:
+        return ("stable prices" if self.stable else "prices") + (" with Cover" if self.cover else "")
 
 
 @dataclass(frozen=True)

@@ -62,7 +62,7 @@ class Search:
         """Puts the voters in order, and the projects that could be demanded by themselves: unfunded ones first, so that
         one of these is in each demand."""
         town, costs = self.town, self.costs
-        worth = [0 if project not in town.funded else 1 if self._is_count else cost for project, cost in enumerate(costs)]
+        worth = [(1 if self._is_count else cost) if at in town.funded else 0 for at, cost in enumerate(costs)]
         got = [sum(map(worth.__getitem__, ballot)) for ballot in town.ballots]
         self.order = sorted(range(len(got)), key=got.__getitem__)
         self.got = [got[voter] for voter in self.order]
@@ -70,7 +70,7 @@ class Search:
         for ballot in town.ballots:
             for project in ballot:
                 supporters[project] += 1
-        candidates = [project for project, count in enumerate(supporters) if count and self._covers(count, costs[project])]
+        candidates = [at for at, count in enumerate(supporters) if count and self._covers(count, costs[at])]
         candidates.sort(key=lambda project: (project in town.funded, Fraction(costs[project], supporters[project])))
         groups = _bits([town.ballots[voter] for voter in self.order], candidates)
         self.candidates = [(project, groups[project]) for project in candidates]

@@ -16,6 +16,8 @@ SWEEPS, MORE_SWEEPS, ROUNDS = 60, 8, 60
 STILL = 1e-9
 # How far C5 is to be kept, as a part of what a project costs.
 ROOM = 1e-3
+# After so many rounds by which the budget that C5 allows isn't nearer to the one that is needed, it is given up.
+PATIENCE, NEARER = 10, 0.99
 
 
 class Water:
@@ -71,28 +73,29 @@ def _level(height: Any, sizes: Any, cost: float, start: float) -> float:
         count = found
 
 
-def by_water(problem: Problem, need: Need, clock: Clock, form: str) -> Tuple[Optional[Shares], List[int]]:
-    """Prices, or None where none were found so; and the unfunded projects by which they failed."""
+def by_water(problem: Problem, need: Need, clock: Clock) -> Tuple[Optional[Shares], List[int]]:
+    """Prices, or None where none were found so; and the unfunded projects by which they failed, the worst first."""
     water = Water(problem)
-    clock.tell(f"{form}: water-filling")
+    clock.tell(f"{need}: water-filling")
     water.settle(SWEEPS, clock)
     costs, unfunded = problem.costs[problem.unfunded], problem.unfunded
     supporters = problem.groups.sums(np.ones(len(problem.groups)))[unfunded]
-    asked, failed = np.zeros(len(problem.costs)), np.zeros(len(unfunded), bool)
-    least = problem.share + STILL if need.cover else 0.0
+    asked, over = np.zeros(len(problem.costs)), np.zeros(len(unfunded))
+    least, best, since = problem.share + STILL if need.cover else 0.0, np.inf, 0
     for number in range(ROUNDS):
         shares = water.shares()
         low, high = budgets(problem, shares, need.stable)
         low = max(low, least)
         if low <= high:
             return shares, []
-        if need.stable or not clock.left():
+        best, since = (low - high, 0) if low - high < NEARER * best else (best, since + 1)
+        if need.stable or since > PATIENCE or not clock.left():
             break
-        clock.tell(f"{form}: water-filling, round {number + 1} of at most {ROUNDS}")
+        clock.tell(f"{need}: water-filling, round {number + 1} of at most {ROUNDS}")
         left = problem.groups.sums(low - water.spent)[unfunded]
         over = left - (1 - ROOM) * costs
-        failed |= left > costs
         asked[unfunded] = np.maximum(asked[unfunded] + np.where(over > 0, 1.0, 0.25) * over / supporters, 0.0)
         water.richer = problem.groups.approvals @ asked
         water.settle(MORE_SWEEPS, clock)
-    return None, [project for project, is_over in zip(unfunded, failed) if is_over]
+    worst = sorted((-by / max(problem.costs[at], ROOM), at) for by, at in zip(over.tolist(), unfunded) if by > 0)
+    return None, [project for _, project in worst]

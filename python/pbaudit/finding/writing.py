@@ -3,7 +3,8 @@ measure, the one by cost is `NAME.cost.violation.csv`."""
 import os
 from typing import List, Tuple
 
-from .search import Found
+from ..auditing import Verdict
+from .results import Found
 
 PRICES, VIOLATION, BY_COST = ".prices.csv", ".violation.csv", ".cost.violation.csv"
 
@@ -19,15 +20,17 @@ def endings(prices: bool, violation: bool) -> List[str]:
     return [PRICES] * prices + [VIOLATION, BY_COST] * violation
 
 
-def files_of(found: Found) -> List[Tuple[str, bytes]]:
-    """The files of what was found, each with the ending of its name; prices first."""
-    files = [] if found.prices is None else [(PRICES, found.prices.file)]
-    return files + list(zip((VIOLATION, BY_COST), (violation.file for violation in found.violations)))
+def files_of(found: Found) -> List[Tuple[str, Verdict, bytes]]:
+    """The files of what was found: how each name ends, the auditor's verdict, and the bytes; prices first."""
+    files = [] if found.prices is None else [(PRICES, found.prices.verdict, found.prices.file)]
+    return files + [(ending, violation.verdict, violation.file)
+                    for ending, violation in zip((VIOLATION, BY_COST), found.violations)]
 
 
 def write_new(path: str, data: bytes, replace: bool) -> None:
     """Writes a file, over another only if that is to be replaced. One that can't be written whole isn't left. Raises
     OSError."""
+    os.makedirs(os.path.dirname(path) or ".", exist_ok=True)
     with open(path, "wb" if replace else "xb") as file:
         try:
             file.write(data)

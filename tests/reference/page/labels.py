@@ -1,13 +1,10 @@
 """What an election's file says for people: the facts of META and the names of projects; and how others' words are
 shown."""
-import unicodedata
-
 from ..election import marker
+from ..hidden import shown
 from ..records import lower, records
 
 MOST_SHOWN, MOST_UNDER_POINTER, MOST_OF_A_CURRENCY = 80, 2000, 12
-# What can't be seen, or turns the order of what follows.
-HIDDEN = {"Cc", "Cf", "Zl", "Zp"}
 LANGUAGE_OF = {
     "pl": ["pl", "Poland", "Polska"],
     "de": ["de", "Germany", "Deutschland", "Austria", "Österreich"],
@@ -23,8 +20,7 @@ LANGUAGE_OF = {
 
 def visible(data):
     """What others wrote, with each character that can't be seen as its number."""
-    text = data.decode("utf-8", "replace")
-    return "".join(f"\\u{{{ord(c):x}}}" if unicodedata.category(c) in HIDDEN else c for c in text)
+    return shown(data.decode("utf-8", "replace"))
 
 
 def cut(text, most=MOST_SHOWN):

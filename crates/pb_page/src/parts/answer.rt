@@ -47,17 +47,21 @@ fn push_reason(page: &mut Page, case: &Case<'_>) -> Result<(), AllocError> {
     page.close()
 }
 
-// Adds how little a yes says where the budgets of all voters together are less than the limit.
-fn push_caution(page: &mut Page, case: &Case<'_>) -> Result<(), AllocError> {
+/// Whether the answer is a yes by prices, and the budgets of all voters together are less than the limit.
+pub(crate) fn says_little(case: &Case<'_>) -> bool {
     let CertificateFigures::Prices(figures) = &case.told.found else {
-        return Ok(());
+        return false;
     };
-    let mode = case.told.mode;
     let findings = &figures.findings;
-    if findings.verdict(mode) != Verdict::Supported || findings.budgets >= findings.limit {
+    findings.verdict(case.told.mode) == Verdict::Supported && findings.budgets < findings.limit
+}
+
+// Adds how little a yes says, where that is so.
+fn push_caution(page: &mut Page, case: &Case<'_>) -> Result<(), AllocError> {
+    if !says_little(case) {
         return Ok(());
     }
-    let sentence = if mode.exhaustive {
+    let sentence = if case.told.mode.exhaustive {
         Sentence::SaysLess
     } else {
         Sentence::SaysLittle

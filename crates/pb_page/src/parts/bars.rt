@@ -38,14 +38,19 @@ impl Look {
     }
 }
 
-/// A part of a whole, where the whole is so many hundredths of a percent of the width. Where there is no whole, a part
-/// that isn't nothing is longer than the bar.
+/// A part of a whole, where the whole is so many hundredths of a percent of the width, cut to one of them. One that is
+/// longer than the bar, by however little, stays so. Where there is no whole, a part that isn't nothing is.
 pub(crate) fn length_of(part: u128, whole: u128, width_of_whole: u32) -> u32 {
     if whole == 0 {
         return if part == 0 { 0 } else { BEYOND };
     }
-    let length = part.saturating_mul(u128::from(width_of_whole)) / whole;
-    u32::try_from(length).unwrap_or(BEYOND).min(BEYOND)
+    let scaled = part.saturating_mul(u128::from(width_of_whole));
+    let length = u32::try_from(scaled / whole).unwrap_or(BEYOND).min(BEYOND);
+    if length == WIDTH && scaled % whole != 0 {
+        WIDTH + 1
+    } else {
+        length
+    }
 }
 
 /// Adds a bar of a length in hundredths of a percent of the width, with the words for who can't see it. One that is
@@ -65,7 +70,7 @@ pub(crate) fn push_bar(
     if look == Look::Against || look == Look::Over {
         page.element_class(Tag::Span, "mark", "")?;
     }
-    if length > WIDTH || look == Look::Beyond {
+    if length > WIDTH {
         page.element_class(Tag::Span, "cut", "\u{bb}")?;
     }
     page.close()
@@ -85,9 +90,9 @@ fn push_part(alloc: Global, page: &mut Page, length: u32) -> Result<(), AllocErr
     page.close()
 }
 
-/// A length as a part of the whole width, in percent, or in words where it is of more than the whole.
-pub(crate) fn part_in_words(words: Words, look: Look, length: u32) -> Result<String, AllocError> {
-    if look == Look::Beyond {
+/// A length as a part of the whole width, in percent, or in words where it is longer.
+pub(crate) fn part_in_words(words: Words, length: u32) -> Result<String, AllocError> {
+    if length > WIDTH {
         return String::from_str(words.alloc, words.say(Sentence::MoreThanWhole));
     }
     let mut text = percent(words.alloc, length, words.language.decimal_sign())?;

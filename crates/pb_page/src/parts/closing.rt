@@ -2,6 +2,7 @@
 use crate::case::Case;
 use crate::condition::Condition;
 use crate::markup::Page;
+use crate::parts::answer::says_little;
 use crate::parts::asked::fails_as_stable_alone;
 use crate::sentence::Sentence;
 use crate::tag::Tag;
@@ -43,6 +44,7 @@ fn push_claim(page: &mut Page, case: &Case<'_>) -> Result<(), AllocError> {
     page.open_class(Tag::P, "claim")?;
     page.text(case.words.say(claim(case)))?;
     push_measure(page, case)?;
+    push_caution(page, case)?;
     page.close()?;
     page.element(Tag::P, case.words.say(Sentence::ClaimHow))?;
     page.close()
@@ -60,6 +62,20 @@ fn push_measure(page: &mut Page, case: &Case<'_>) -> Result<(), AllocError> {
     let sentence = match figures.violation.satisfaction() {
         Measure::ByCount => Sentence::ClaimByCount,
         Measure::ByCost => Sentence::ClaimByCost,
+    };
+    page.text(case.words.say(sentence))
+}
+
+// Adds how little a yes says, where that is so.
+fn push_caution(page: &mut Page, case: &Case<'_>) -> Result<(), AllocError> {
+    if !says_little(case) {
+        return Ok(());
+    }
+    page.text(" ")?;
+    let sentence = if case.told.mode.exhaustive {
+        Sentence::ClaimLess
+    } else {
+        Sentence::ClaimLittle
     };
     page.text(case.words.say(sentence))
 }

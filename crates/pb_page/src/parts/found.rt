@@ -96,6 +96,7 @@ fn push_c2(page: &mut Page, case: &Case<'_>, figures: &PriceFigures) -> Result<(
     let fillings = none
         .and("voter", &case.voter(shown.at)?)?
         .and_money("spent", Figure::Amount(Compared::C2))?
+        .and_money("over", Figure::AmountOff(Compared::C2))?
         .and_money("budget", Figure::Bound(Compared::C2))?;
     case.say(page, sentence, &fillings)
 }

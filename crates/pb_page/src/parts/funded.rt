@@ -178,7 +178,7 @@ fn push_part(
     let look = Look::of_part(project.cost, limit);
     push_bar(alloc, page, look, &part_label(case, j)?, length)?;
     page.open_class(Tag::Span, "note")?;
-    page.text(&part_in_words(case.words, look, length)?)?;
+    page.text(&part_in_words(case.words, length)?)?;
     page.text(" \u{b7} ")?;
     page.close()?;
     push_payment(page, case, j, project)

@@ -212,7 +212,7 @@ fn push_row(page: &mut Page, case: &Case<'_>, j: u32) -> Result<(), AllocError> 
     let length = length_of(cost, share, WIDTH);
     let look = Look::of_part(cost, share);
     push_bar(alloc, page, look, &part_label(case, j)?, length)?;
-    let part = part_in_words(case.words, look, length)?;
+    let part = part_in_words(case.words, length)?;
     page.element_class(Tag::Span, "verdict", &part)?;
     page.close()?;
     page.close()

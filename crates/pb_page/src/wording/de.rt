@@ -13,14 +13,14 @@ pub(crate) fn wording(sentence: Sentence) -> &'static str {
         Sentence::Turnout => "Beteiligung",
         Sentence::Currency => "Beträge in",
         Sentence::WhySupported =>
-            "Die Kosten jedes geförderten Projekts sind auf den Cent genau gedeckt, und zwar von \
-             Abstimmenden, die dafür sind, aus gleich großen Budgets. Bei keinem anderen Projekt \
-             haben die Unterstützenden zusammen mehr übrig, als es kostet.",
+            "Die Kosten jedes geförderten Projekts sind genau gedeckt, und zwar von Abstimmenden, \
+             die dafür sind, aus gleich großen Budgets. Bei keinem anderen Projekt haben die \
+             Unterstützenden zusammen mehr übrig, als es kostet.",
         Sentence::WhyStable =>
-            "Die Kosten jedes geförderten Projekts sind auf den Cent genau gedeckt, und zwar von \
-             Abstimmenden, die dafür sind, aus gleich großen Budgets. Bei keinem anderen Projekt \
-             könnten die Unterstützenden mehr bieten, als es kostet, auch nicht, wenn alle dafür \
-             auf ein gefördertes Projekt verzichten.",
+            "Die Kosten jedes geförderten Projekts sind genau gedeckt, und zwar von Abstimmenden, \
+             die dafür sind, aus gleich großen Budgets. Bei keinem anderen Projekt könnten die \
+             Unterstützenden mehr bieten, als es kostet, auch nicht, wenn alle dafür auf ein \
+             gefördertes Projekt verzichten.",
         Sentence::WhyViolation =>
             "Alle Mitglieder der Gruppe haben für die verlangten Projekte gestimmt, und der Anteil \
              der Gruppe am Gesamtbudget würde dafür reichen. Doch von den geförderten Projekten \
@@ -126,7 +126,7 @@ pub(crate) fn wording(sentence: Sentence) -> &'static str {
         Sentence::CostPerSupporter => "Kosten pro unterstützender Person",
         Sentence::PartOfLimit => "Teil des Gesamtbudgets",
         Sentence::MoreThanWhole => "mehr als das Ganze",
-        Sentence::PaidExactly => "auf den Cent genau gedeckt",
+        Sentence::PaidExactly => "genau gedeckt",
         Sentence::PaidOver => "{paid} bezahlt, um {amount} zu viel",
         Sentence::PaidUnder => "{paid} bezahlt, um {amount} zu wenig",
         Sentence::PaidInVain => "{paid} vergeblich bezahlt",
@@ -171,7 +171,7 @@ pub(crate) fn wording(sentence: Sentence) -> &'static str {
         Sentence::NameCover => "Budgets über dem Gesamtbudget",
         Sentence::NameC1 => "Nur für Unterstütztes bezahlt",
         Sentence::NameC2 => "Im Budget jeder Person",
-        Sentence::NameC3 => "Auf den Cent genau gedeckt",
+        Sentence::NameC3 => "Genau gedeckt",
         Sentence::NameC4 => "Nichts vergeblich bezahlt",
         Sentence::NameC5 => "Unterstützende haben nicht mehr übrig als die Kosten",
         Sentence::NameS5 => "Keine Gruppe hätte lieber ein anderes Projekt",
@@ -241,10 +241,9 @@ pub(crate) fn wording(sentence: Sentence) -> &'static str {
         Sentence::FoundC2 =>
             "Am meisten gibt Person {voter} aus: {spent} von einem Budget von {budget}.",
         Sentence::BrokenC2 =>
-            "Person {voter} gibt {spent} aus, und das ist mehr als das Budget von {budget}.",
+            "Person {voter} gibt {spent} aus, und das ist um {over} mehr als das Budget von {budget}.",
         Sentence::NoVoters => "Es gibt keine Abstimmenden.",
-        Sentence::FoundC3 =>
-            "Die Kosten jedes geförderten Projekts sind auf den Cent genau gedeckt.",
+        Sentence::FoundC3 => "Die Kosten jedes geförderten Projekts sind genau gedeckt.",
         Sentence::BrokenC3 =>
             "Projekt {project} kostet {cost}, und der dafür bezahlte Betrag ist {paid}.",
         Sentence::FoundC4 => "Für nicht geförderte Projekte wird nichts bezahlt.",
@@ -281,19 +280,19 @@ pub(crate) fn wording(sentence: Sentence) -> &'static str {
         Sentence::BrokenV4 =>
             "Person {voter} gehört zur Gruppe und bekommt von den geförderten Projekten {gets}, \
              also so viel, wie die verlangten zusammen wert sind ({demanded}), oder mehr.",
-        Sentence::NotSaid => "Was daraus nicht folgt",
+        Sentence::NotSaid => "Was diese Seite nicht beantwortet",
         Sentence::NotSaidOthers =>
             "Ob andere Projekte ebenso gerecht gewesen wären. Oft lassen sich mehrere Ergebnisse \
              stützen.",
         Sentence::NotSaidPayments =>
-            "Dass das Ergebnis ungerecht ist. Dieses Nein gilt nur für diese Zahlungen, und andere \
+            "Ob das Ergebnis ungerecht ist. Dieses Nein gilt nur für diese Zahlungen, und andere \
              können dieselben Projekte stützen.",
         Sentence::NotSaidOutcome =>
-            "Dass andere Zahlungen helfen würden. Hier liegt es am Ergebnis selbst, und keine \
-             Zahlungen ändern das.",
+            "Ob ein anderes Ergebnis alle Bedingungen erfüllen würde. Hier liegt es am Ergebnis \
+             selbst, und keine Zahlungen ändern das.",
         Sentence::NotSaidGroup =>
-            "Dass das Ergebnis allen Gruppen gerecht wird. Die Antwort gilt nur für diese Gruppe \
-             und diese Forderung.",
+            "Ob das Ergebnis allen Gruppen gerecht wird. Die Antwort gilt nur für diese Gruppe und \
+             diese Forderung.",
         Sentence::NotSaidWhich => "Welche Projekte stattdessen hätten gefördert werden sollen.",
         Sentence::NotSaidFiles =>
             "Ob diese Dateien die sind, die die Gemeinde veröffentlicht hat. Vergleichen Sie ihre \
@@ -301,21 +300,20 @@ pub(crate) fn wording(sentence: Sentence) -> &'static str {
         Sentence::Claim => "Was Sie öffentlich sagen können",
         Sentence::ClaimSupported =>
             "Es gibt Preise, die dieses Ergebnis stützen: Die Kosten jedes geförderten Projekts \
-             sind von Abstimmenden, die dafür sind, aus gleich großen Budgets auf den Cent genau \
-             gedeckt, und keine Gruppe von Unterstützenden hat mehr übrig, als ein anderes Projekt \
-             kostet.",
+             sind von Abstimmenden, die dafür sind, aus gleich großen Budgets genau gedeckt, und \
+             keine Gruppe von Unterstützenden hat mehr übrig, als ein anderes Projekt kostet.",
         Sentence::ClaimStable =>
             "Es gibt stabile Preise, die dieses Ergebnis stützen: Die Kosten jedes geförderten \
-             Projekts sind von Abstimmenden, die dafür sind, aus gleich großen Budgets auf den \
-             Cent genau gedeckt, und keine Gruppe würde lieber für ein anderes Projekt zahlen.",
+             Projekts sind von Abstimmenden, die dafür sind, aus gleich großen Budgets genau \
+             gedeckt, und keine Gruppe würde lieber für ein anderes Projekt zahlen.",
         Sentence::ClaimNotSupported =>
             "Diese Zahlungen stützen das Ergebnis nicht. Mehr lässt sich nicht sagen: Andere \
              können es stützen.",
         Sentence::ClaimPlain =>
             "Diese Preise stützen dieses Ergebnis in der einfachen Form, aber nicht in der \
              stabilen: Die Kosten jedes geförderten Projekts sind von Abstimmenden, die dafür \
-             sind, aus gleich großen Budgets auf den Cent genau gedeckt, und keine Gruppe von \
-             Unterstützenden hat mehr übrig, als ein anderes Projekt kostet.",
+             sind, aus gleich großen Budgets genau gedeckt, und keine Gruppe von Unterstützenden \
+             hat mehr übrig, als ein anderes Projekt kostet.",
         Sentence::ClaimOutcome =>
             "Das Ergebnis verletzt eine Bedingung, unabhängig von den Zahlungen.",
         Sentence::ClaimViolation =>
@@ -324,6 +322,11 @@ pub(crate) fn wording(sentence: Sentence) -> &'static str {
         Sentence::ClaimByCount => "Das gilt, wenn nach Projekten gezählt wird: Jedes ist 1 wert.",
         Sentence::ClaimByCost =>
             "Das gilt, wenn nach Kosten gezählt wird: Jedes Projekt ist wert, was es kostet.",
+        Sentence::ClaimLittle =>
+            "Die Budgets aller Abstimmenden zusammen sind kleiner als das Gesamtbudget, und ob ein \
+             weiteres Projekt hineinpasst, wurde nicht geprüft.",
+        Sentence::ClaimLess =>
+            "Die Budgets aller Abstimmenden zusammen sind kleiner als das Gesamtbudget.",
         Sentence::ClaimNoViolation =>
             "Dieses Zertifikat zeigt keine Verletzung. Es zeigt nicht, dass es keine gibt.",
         Sentence::ClaimHow =>

@@ -226,7 +226,7 @@ pub(crate) fn wording(sentence: Sentence) -> &'static str {
             "Voter {voter} pays for project {project}, which isn’t on this voter’s ballot.",
         Sentence::FoundC2 => "Voter {voter} spends most: {spent} of a budget of {budget}.",
         Sentence::BrokenC2 =>
-            "Voter {voter} spends {spent}, which is more than the budget of {budget}.",
+            "Voter {voter} spends {spent}, which is {over} more than the budget of {budget}.",
         Sentence::NoVoters => "There are no voters.",
         Sentence::FoundC3 => "Each funded project is paid for exactly.",
         Sentence::BrokenC3 => "Project {project} costs {cost}, and {paid} is paid for it.",
@@ -299,6 +299,10 @@ pub(crate) fn wording(sentence: Sentence) -> &'static str {
              justified representation (EJR).",
         Sentence::ClaimByCount => "This is so by counting: each project is worth 1.",
         Sentence::ClaimByCost => "This is so by cost: each project is worth what it costs.",
+        Sentence::ClaimLittle =>
+            "The budgets of all voters together are less than the limit, and whether a further \
+             project fits into it wasn’t asked.",
+        Sentence::ClaimLess => "The budgets of all voters together are less than the limit.",
         Sentence::ClaimNoViolation =>
             "This certificate shows no violation. It doesn’t show that there is none.",
         Sentence::ClaimHow =>

@@ -241,7 +241,7 @@ pub(crate) fn wording(sentence: Sentence) -> &'static str {
         Sentence::FoundC2 =>
             "Le votant {voter} dépense le plus\u{a0}: {spent} sur un budget de {budget}.",
         Sentence::BrokenC2 =>
-            "Le votant {voter} dépense {spent}, ce qui dépasse le budget de {budget}.",
+            "Le votant {voter} dépense {spent}, soit {over} de plus que le budget de {budget}.",
         Sentence::NoVoters => "Il n’y a pas de votants.",
         Sentence::FoundC3 => "Chaque projet financé est payé exactement.",
         Sentence::BrokenC3 =>
@@ -323,6 +323,11 @@ pub(crate) fn wording(sentence: Sentence) -> &'static str {
         Sentence::ClaimByCount => "Cela vaut si l’on compte les projets\u{a0}: chacun vaut 1.",
         Sentence::ClaimByCost =>
             "Cela vaut si l’on compte les coûts\u{a0}: chaque projet vaut ce qu’il coûte.",
+        Sentence::ClaimLittle =>
+            "Les budgets de tous les votants font ensemble moins que l’enveloppe, et on n’a pas \
+             demandé si un projet de plus y tient.",
+        Sentence::ClaimLess =>
+            "Les budgets de tous les votants font ensemble moins que l’enveloppe.",
         Sentence::ClaimNoViolation =>
             "Ce certificat ne montre pas de violation. Il ne montre pas qu’il n’y en a pas.",
         Sentence::ClaimHow =>

@@ -235,7 +235,8 @@ pub(crate) fn wording(sentence: Sentence) -> &'static str {
             "Głosujący {voter} płaci za projekt {project}, którego nie ma na jego karcie do \
              głosowania.",
         Sentence::FoundC2 => "Najwięcej wydaje głosujący {voter}: {spent} z budżetu {budget}.",
-        Sentence::BrokenC2 => "Głosujący {voter} wydaje {spent}, a to więcej niż budżet {budget}.",
+        Sentence::BrokenC2 =>
+            "Głosujący {voter} wydaje {spent}, a to o {over} więcej niż budżet {budget}.",
         Sentence::NoVoters => "Nie ma głosujących.",
         Sentence::FoundC3 => "Każdy wybrany projekt jest opłacony co do grosza.",
         Sentence::BrokenC3 => "Projekt {project} kosztuje {cost}, a zapłacono za niego {paid}.",
@@ -307,6 +308,10 @@ pub(crate) fn wording(sentence: Sentence) -> &'static str {
         Sentence::ClaimByCount => "Tak jest, gdy liczy się liczba projektów: każdy jest wart 1.",
         Sentence::ClaimByCost =>
             "Tak jest, gdy liczy się koszt: każdy projekt jest wart tyle, ile kosztuje.",
+        Sentence::ClaimLittle =>
+            "Budżety wszystkich głosujących dają razem mniej niż pula, a czy zmieściłby się w niej \
+             kolejny projekt, nie sprawdzano.",
+        Sentence::ClaimLess => "Budżety wszystkich głosujących dają razem mniej niż pula.",
         Sentence::ClaimNoViolation =>
             "Ten certyfikat nie wykazuje naruszenia. Nie wykazuje też, że go nie ma.",
         Sentence::ClaimHow =>

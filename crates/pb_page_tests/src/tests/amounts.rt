@@ -52,6 +52,16 @@ fn small_differences_have_a_digit(rt: HostRuntime) -> Result<(), Fail> {
 }
 
 #[test]
+fn spent_beside_a_budget_that_looks_alike(rt: HostRuntime) -> Result<(), Fail> {
+    // The budget is 10 1/6, and voter 1 spends 10 1/3.
+    let rows = "6\nvoter_budget,61\nvoter,project,payment\n1,a,62\n";
+    let text = page_on(rt.alloc(), ELECTION, rows)?;
+    let said = "spends 10\u{2026}, which is 0.1\u{2026} more than the budget of 10\u{2026}.";
+    assert!(rt; text.contains(said), "{text}");
+    Ok(())
+}
+
+#[test]
 fn cost_per_supporter_is_rounded(rt: HostRuntime) -> Result<(), Fail> {
     let alloc = rt.alloc();
     // Two thirds of a millionth are rounded up, a third of a unit down, and half a millionth up.
@@ -126,6 +136,21 @@ fn little_more_than_the_whole(rt: HostRuntime) -> Result<(), Fail> {
 }
 
 #[test]
+fn bar_that_is_little_too_long(rt: HostRuntime) -> Result<(), Fail> {
+    let alloc = rt.alloc();
+    let election =
+        "META\nkey;value\nbudget;1\nvote_type;approval\nPROJECTS\nproject_id;cost;selected\n\
+                    a;30000;0\nVOTES\nvoter_id;vote\n1;a\n";
+    // The line at the cost stands at three quarters.
+    for (left, is_cut) in [(40_000, false), (40_001, true)] {
+        let rows = format!(in alloc; "1\nvoter_budget,{left}\nvoter,project,payment\n")?;
+        let text = page_on(alloc, election, &rows)?;
+        assert!(rt; text.contains("<span class=\"cut\">") == is_cut, "{text}");
+    }
+    Ok(())
+}
+
+#[test]
 fn little_is_said_by_small_budgets(rt: HostRuntime) -> Result<(), Fail> {
     let alloc = rt.alloc();
     let open = Mode {
@@ -139,6 +164,9 @@ fn little_is_said_by_small_budgets(rt: HostRuntime) -> Result<(), Fail> {
     let files = (b"town.pb".as_slice(), election.as_str());
     let text = page_named(alloc, files, (b"p.csv", NO_MONEY), open)?;
     assert!(rt; text.contains(little), "{text}");
+    let claim =
+        "costs. The budgets of all voters together are less than the limit, and whether a further project fits into it wasn’t asked.</p>";
+    assert!(rt; text.contains(claim), "{text}");
     for (budget, cost, is_said) in [(3, "9", true), (4, "9", false)] {
         let poor = format!(in alloc;
             "META\nkey;value\nbudget;10\nvote_type;approval\nPROJECTS\nproject_id;cost;selected\n\
@@ -156,6 +184,10 @@ fn little_is_said_by_small_budgets(rt: HostRuntime) -> Result<(), Fail> {
             "But this yes says less than it could: the budgets of all voters come to 9 together",
         );
         assert!(rt; says_less == is_said, "{text}");
+        let claim = text.contains(
+            "costs. The budgets of all voters together are less than the limit.</p>",
+        );
+        assert!(rt; claim == is_said, "{text}");
         assert!(rt; !text.contains("says little"), "{text}");
     }
     Ok(())

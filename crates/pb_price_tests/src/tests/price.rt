@@ -2,6 +2,7 @@
 mod calling;
 mod findings;
 mod margins;
+mod shares;
 mod telling;
 mod verdicts;
 

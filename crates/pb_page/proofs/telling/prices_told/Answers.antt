@@ -3,6 +3,7 @@ use Rattle.pb_price.specs.declared.Verdict.{Verdict}
 use Rattle.pb_reply.specs.Inside.Loaded.{lent}
 use Rattle.pb_reply.specs.Lines.{price_line}
 use Rattle.pb_reply.specs.Named.{PricesNameProject}
+use Rattle.pb_reply.specs.declared.input.InputName.TheVariants.{Certificate}
 use Rattle.pb_reply.proofs.Culprits.{denominator-low, told_names_project}
 use Rattle.pb_page.specs.declared.told.CertificateFigures.TheVariants.{Prices}
 use Rattle.pb_page.proofs.Tells.{tells-prices}
@@ -11,7 +12,7 @@ use Rattle.pb_page.proofs.telling.prices_told.Goals as goal
 pub price_line-requires : goal.price_line-requires
 price_line-requires c =
     let found = c.in_ok-figures.ensures in
-    let low = denominator-low c.args.election.now (lent c.args.certificate) found.0 found.1 in
+    let low = denominator-low Certificate c.args.election.now (lent c.args.certificate) found.0 found.1 in
     subst (λ (v : Verdict). PricesNameProject c.args.election.now v) (sym c.verdict-verdict.ensures)
     (told_names_project c.args.mode c.args.election.now c.args.outcome.now.marks found.0
     c.in_ok-figures.figures.findings low found.2)

@@ -24,7 +24,8 @@ returns c =
     let on : IsVerdictOn c.args.mode c.args.election.now c.args.outcome.now.marks c.args.prices.now
     c.judge-checked.result.verdict =
     on-prices c.args.mode c.args.election.now c.args.outcome.now.marks c.args.prices.now c.judge-checked.result.verdict
-    (c.denominator.ensures.sound.denominator.0) (c.judge-checked.ensures.verdict c.args.prices.now (sym c.denominator.ensures.value) tally) in
+    c.denominator.ensures.sound.denominator.0
+    (c.judge-checked.ensures.verdict c.args.prices.now (sym c.denominator.ensures.value) tally) in
     record {
       first = on.first;
       supported = on.supported;

@@ -19,7 +19,7 @@ returns c =
     let shown = map (unfunded_amount c.args.case.now.told.mode.stable) (take most_rows ranked) in
     let listed =
     subst (λ (xs : List (ℤ × ℕ)). HasParts amount_piece (map (unfunded_amount c.args.case.now.told.mode.stable) xs) rows)
-    (c.deref-2.ensures.value ∙ c.truncate.ensures.items) c.in_ok-rows.ensures in
+    (c.deref-4.ensures.value ∙ c.truncate.ensures.items) c.in_ok-rows.ensures in
     let is : c.append-2.new.self ≡ (c.in_ok-page.page ++ rows) ++ behind =
     c.in_ok-append-2.ensures ∙ ap (λ (l : List Piece). l ++ behind) c.in_ok-append.ensures in (
       ranked,

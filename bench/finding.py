@@ -1,0 +1,137 @@
+#!/usr/bin/env python3
+"""Measures the search for certificates (`find`): the time to what was found, and the greatest memory of the search and
+of its solver.
+
+    python3 bench/finding.py [FILE..]     these elections in the place of the invented ones
+
+The library or the program has to be built, and scipy installed. The invented elections are Euclidean (voters and
+projects are points, and a voter approves what is near), clustered and random, with outcomes of greedy by votes, of
+greedy by votes per cost, and of Equal Shares completed by greedy: 10,000 voters and 100 projects, nearly all ballots
+different, and 100,000 voters and 200 projects with 15,000 different ballots.
+"""
+import os
+import random
+import resource
+import subprocess
+import sys
+import time
+
+TOP = os.path.dirname(os.path.dirname(os.path.abspath(__file__)))
+sys.path.insert(0, os.path.join(TOP, "python"))
+import pbaudit  # noqa: E402
+from pbaudit import Instance, Project  # noqa: E402
+
+SIZES = [(10_000, 100, 10_000), (100_000, 200, 15_000)]
+SEARCHES = [("prices", {"violation": False}), ("stable", {"violation": False, "stable": True}),
+            ("violation", {"prices": False})]
+
+
+def euclidean(chance, voters, projects):
+    points = [(chance.random(), chance.random()) for _ in range(projects)]
+    homes = ((chance.random(), chance.random()) for _ in range(voters))
+    return [[at for at, (x, y) in enumerate(points) if (x - mine) ** 2 + (y - other) ** 2 < 0.04]
+            for mine, other in homes]
+
+
+def clustered(chance, voters, projects):
+    cluster = [chance.randrange(5) for _ in range(projects)]
+    homes = (chance.randrange(5) for _ in range(voters))
+    return [[at for at in range(projects) if chance.random() < (0.4 if cluster[at] == home else 0.04)] for home in homes]
+
+
+def at_random(chance, voters, projects):
+    popular = [chance.random() ** 3 * 0.4 + 0.02 for _ in range(projects)]
+    return [[at for at in range(projects) if chance.random() < popular[at]] for _ in range(voters)]
+
+
+KINDS = {"Euclidean": euclidean, "clustered": clustered, "random": at_random}
+
+
+def greedy(costs, limit, ballots, worth, begin=()):
+    """The projects of the most worth first, as long as they fit."""
+    supporters = [0] * len(costs)
+    for ballot in ballots:
+        for project in ballot:
+            supporters[project] += 1
+    funded = set(begin)
+    left = limit - sum(costs[project] for project in funded)
+    for project in sorted(range(len(costs)), key=lambda at: (-worth(supporters[at], costs[at]), at)):
+        if project not in funded and supporters[project] and costs[project] <= left:
+            funded.add(project)
+            left -= costs[project]
+    return funded
+
+
+def shared(costs, limit, ballots):
+    """Equal Shares, and then greedy by votes."""
+    projects = [Project(f"p{at}", cost) for at, cost in enumerate(costs)]
+    names = [[projects[at].name for at in ballot] for ballot in ballots]
+    bought = pbaudit.equal_shares(Instance(projects, limit), names).funded
+    return greedy(costs, limit, ballots, lambda votes, cost: votes, {int(name[1:]) for name in bought})
+
+
+RULES = {"greedy by votes": lambda *town: greedy(*town, lambda votes, cost: votes),
+         "greedy by votes per cost": lambda *town: greedy(*town, lambda votes, cost: votes / cost),
+         "Equal Shares, then greedy": shared}
+
+
+def elections(voters, count, different):
+    """Elections of a size, each with its name."""
+    for number, (kind, made) in enumerate(KINDS.items()):
+        chance = random.Random(number)
+        ballots = made(chance, different, count)
+        ballots += chance.choices(ballots, k=voters - different)
+        costs = [max(1, int(chance.lognormvariate(0, 0.8) * voters)) for _ in range(count)]
+        limit = sum(costs) // 3
+        projects = [Project(f"p{at}", cost) for at, cost in enumerate(costs)]
+        names = [[projects[at].name for at in ballot] for ballot in ballots]
+        merged = len(set(map(tuple, ballots)))
+        for rule, choose in RULES.items():
+            funded = choose(costs, limit, ballots)
+            data = pbaudit.write_election(Instance(projects, limit), names, [projects[at].name for at in funded])
+            yield f"{kind}, {voters} x {count}, {merged} different ballots, {rule}", data
+
+
+def search(path, switches):
+    """A search in a process of its own, on one processor: what it found, its time, and its memory in MB."""
+    words = [sys.executable, __file__, "--one", path, repr(switches)]
+    began = time.perf_counter()
+    done = subprocess.run(words, stdout=subprocess.PIPE, text=True, check=False)
+    return done.stdout.strip() or f"ended with {done.returncode}", time.perf_counter() - began
+
+
+def one(path, switches):
+    os.sched_setaffinity(0, {max(os.sched_getaffinity(0))})
+    found = pbaudit.find(path, seconds=60, **switches)
+    told = [] if found.prices is None else ["with Cover" if found.prices.cover else "without Cover"]
+    told += [f"by {violation.by}, {len(violation.projects)} demanded" for violation in found.violations]
+    most = [resource.getrusage(whose).ru_maxrss / 1000 for whose in (resource.RUSAGE_SELF, resource.RUSAGE_CHILDREN)]
+    print(f"{'; '.join(told) or found.sentences[-1][:70]}  {most[0]:.0f} MB, the solver {most[1]:.0f} MB")
+
+
+def measure(name, path):
+    print(name, flush=True)
+    for what, switches in SEARCHES:
+        told, seconds = search(path, switches)
+        print(f"  {what:10}{seconds:7.1f} s  {told}", flush=True)
+
+
+def main(paths):
+    for path in paths:
+        measure(path, path)
+    for size in [] if paths else SIZES:
+        for name, data in elections(*size):
+            path = f"/tmp/pbaudit-finding-{os.getpid()}.pb"
+            with open(path, "wb") as file:
+                file.write(data)
+            try:
+                measure(name, path)
+            finally:
+                os.unlink(path)
+
+
+if __name__ == "__main__":
+    if sys.argv[1:2] == ["--one"]:
+        one(sys.argv[2], eval(sys.argv[3]))
+    else:
+        main(sys.argv[1:])

@@ -1,0 +1,3 @@
+pub mod Hidden
+pub mod Joiners
+pub mod Visible

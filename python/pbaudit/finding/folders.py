@@ -1,0 +1,205 @@
+"""Searches for all elections of a folder, on all processors, with a table of what was found."""
+import csv
+import io
+import os
+import queue
+import threading
+import time
+from collections import deque
+from dataclasses import astuple, dataclass, fields, replace
+from typing import Deque, Dict, List, Optional, Tuple
+
+from ..auditing import Refusal, audit_prices
+from ..files import bytes_of
+from ..folders import UNREAD, Entry
+from ..records import records
+from .clock import Tell
+from .helpers import TICK, Helper, Lost
+from .results import Found, Wanted
+from .search import NAMES, Seeker
+from .telling import shown
+from .writing import BY_COST, PRICES, VIOLATION, files_of, write_new
+
+TABLE = "found.csv"
+THERE, NOT_FOUND, NOT_ASKED = "there already", "none found", ""
+
+
+@dataclass(frozen=True)
+class Row:
+    """What the table says of an election: its rule, by its file; whether prices were found, and whether these are
+    stable; by which measures violations were found; how long that took; and what went wrong."""
+
+    election: str
+    rule: str = ""
+    prices: str = NOT_ASKED
+    stable: str = NOT_ASKED
+    violation: str = NOT_ASKED
+    seconds: str = ""
+    note: str = ""
+
+
+@dataclass(frozen=True)
+class Result:
+    """A row, the files that were found, each with the ending of its name, and a status as that of the command."""
+
+    row: Row
+    files: Tuple[Tuple[str, bytes], ...] = ()
+    status: int = 1
+
+
+@dataclass(frozen=True)
+class Asked:
+    """An election of a folder, what is looked for, and the files that are there already and aren't replaced."""
+
+    folder: str
+    name: str
+    wanted: Wanted
+    there: Tuple[str, ...] = ()
+
+
+def searched(asked: Asked) -> Result:
+    """What is found for an election. This is what a helper does."""
+    began, path, wanted = time.monotonic(), os.path.join(asked.folder, asked.name + ".pb"), asked.wanted
+    row = Row(f"{asked.name}.pb", prices=THERE if PRICES in asked.there else NOT_ASKED,
+              violation=THERE if VIOLATION in asked.there else NOT_ASKED)
+    wanted = replace(wanted, prices=wanted.prices and PRICES not in asked.there,
+                     violation=wanted.violation and VIOLATION not in asked.there)
+    try:
+        data = bytes_of(path)
+        row = replace(row, rule=rule_of(data))
+        found = Found()
+        Seeker(found, data, None, wanted, None).run()
+    except Refusal as refusal:
+        return Result(replace(row, note=refusal.printed), status=2)
+    except OSError:
+        return Result(replace(row, note=UNREAD.format("election")), status=2)
+    except Exception as error:  # Whatever is wrong with one election, the others are looked at.
+        return Result(replace(row, note=f"fault: {error!r}"), status=4)
+    row = _told(row, data, found, wanted, time.monotonic() - began)
+    is_there = found or asked.there and not (wanted.prices or wanted.violation)
+    return Result(row, tuple((ending, file) for ending, _, file in files_of(found)), 0 if is_there else 1)
+
+
+def rule_of(data: bytes) -> str:
+    """The rule that an election's file names, or nothing."""
+    for record in records(data, b";"):
+        if record[0].lower() == b"projects":
+            break
+        if record[0].lower() == b"rule" and len(record) > 1:
+            return record[1].decode("utf-8", "replace")
+    return ""
+
+
+def _told(row: Row, data: bytes, found: Found, wanted: Wanted, seconds: float) -> Row:
+    prices, stable, violation = row.prices, row.stable, row.violation
+    if wanted.prices:
+        prices = NOT_FOUND
+    if found.prices:
+        prices = "with Cover" if found.prices.cover else "without Cover"
+        is_stable = found.prices.stable or audit_prices(data, found.prices.file, stable=True, cover=found.prices.cover,
+                                                        exhaustive=found.prices.exhaustive)
+        stable = "yes" if is_stable else "not these"
+    if wanted.violation:
+        violation = " and ".join(f"by {NAMES[each.by]}" for each in found.violations) or NOT_FOUND
+    return replace(row, prices=prices, stable=stable, violation=violation, seconds=f"{seconds:.1f}")
+
+
+class Folder:
+    """Searches for elections by helpers, one for each processor, and writes what they find as it comes. `results` has
+    what came, by the number of the election."""
+
+    def __init__(self, entries: List[Entry], output: str, wanted: Wanted, is_replaced: bool):
+        self._waiting: Deque[Tuple[int, Asked]] = deque()
+        self.entries, self._output, self._is_replaced = entries, output, is_replaced
+        for number, entry in enumerate(entries):
+            there = () if is_replaced else tuple(
+                {".prices.csv": PRICES}.get(ending, VIOLATION) for ending in (PRICES, VIOLATION, BY_COST)
+                if os.path.lexists(self._path(entry.name, ending)))
+            self._waiting.append((number, Asked(entry.folder, entry.name, wanted, there)))
+        self.results: Dict[int, Result] = {}
+        self.fault: Optional[str] = None
+        self._done: "queue.Queue[Tuple[int, Result]]" = queue.Queue()
+        self._helpers = [Helper() for _ in range(min(len(entries), len(os.sched_getaffinity(0))))]
+        self._is_stopped = False
+
+    def _path(self, name: str, ending: str) -> str:
+        return os.path.join(self._output, name + ending)
+
+    def run(self, tell: Tell) -> None:
+        """Searches, and writes what is found. What raises, as the keyboard does, stops the helpers."""
+        threads = [threading.Thread(target=self._work, args=(helper,), daemon=True) for helper in self._helpers]
+        try:
+            for thread in threads:
+                thread.start()
+            while len(self.results) < len(self.entries):
+                self._take()
+                tell(f"{len(self.results)} of {len(self.entries)} elections", 0.0)
+        finally:
+            self._is_stopped = True
+            for helper in self._helpers:
+                helper.stop()
+            for thread in threads:
+                if thread.ident is not None:
+                    thread.join()
+
+    def _work(self, helper: Helper) -> None:
+        with helper:
+            while not self._is_stopped:
+                try:
+                    number, asked = self._waiting.popleft()
+                except IndexError:
+                    return
+                self._done.put((number, self._searched(helper, asked)))
+
+    @staticmethod
+    def _searched(helper: Helper, asked: Asked) -> Result:
+        try:
+            result: Result = helper.call(searched, asked)
+            return result
+        except Lost:
+            return Result(Row(f"{asked.name}.pb", note="fault worker"), status=4)
+        except Exception as error:
+            return Result(Row(f"{asked.name}.pb", note=f"fault: {error!r}"), status=4)
+
+    def _take(self) -> None:
+        """Waits for a result, and writes its files."""
+        try:
+            number, result = self._done.get(timeout=TICK)
+        except queue.Empty:
+            return
+        for ending, data in result.files:
+            path = self._path(self.entries[number].name, ending)
+            try:
+                write_new(path, data, self._is_replaced)
+            except OSError as unwritten:
+                self.fault = f"fault write: {shown(path)}: {unwritten.strerror or unwritten}"
+                result = Result(replace(result.row, note=self.fault), status=4)
+        self.results[number] = result
+
+    def rows(self) -> List[Row]:
+        """The rows of the table, in the order of the elections."""
+        return [self.results[number].row if number in self.results else Row(f"{entry.name}.pb", note="not looked at")
+                for number, entry in enumerate(self.entries)]
+
+    def status(self) -> int:
+        """The status of the whole: 4, 2 or 1 where an election has that, in this order."""
+        found = [result.status for result in self.results.values()] + [1] * (len(self.entries) - len(self.results))
+        return next((status for status in (4, 2, 1) if status in found), 0)
+
+
+def _head() -> Tuple[str, ...]:
+    return tuple(each.name for each in fields(Row))
+
+
+def table_file(rows: List[Row]) -> bytes:
+    """The table as a CSV file."""
+    text = io.StringIO()
+    csv.writer(text, lineterminator="\n").writerows([_head(), *map(astuple, rows)])
+    return text.getvalue().encode("utf-8")
+
+
+def table_lines(rows: List[Row]) -> List[str]:
+    """The table as it is shown on a terminal."""
+    cells = [[shown(cell) for cell in row] for row in (_head(), *map(astuple, rows))]
+    widths = [max(len(row[at]) for row in cells) for at in range(len(cells[0]))]
+    return ["  ".join(cell.ljust(width) for cell, width in zip(row, widths)).rstrip() for row in cells]

@@ -1,0 +1,255 @@
+"""Searches for certificates of invented elections, and of such at the edges. PBAUDIT_ELECTIONS says how many are
+invented, in the place of 60."""
+import importlib.util
+import os
+import pathlib
+import subprocess
+import tempfile
+import unittest
+from fractions import Fraction
+from unittest import mock
+
+import pbaudit
+from finding_cases import Case, best_margin, cases, odd_cases, smallest_violation
+
+REPOSITORY = pathlib.Path(__file__).resolve().parents[2]
+EXAMPLES = REPOSITORY / "examples"
+PROGRAM = REPOSITORY / "crates" / "pbaudit" / "out" / "pbaudit"
+ELECTIONS = int(os.environ.get("PBAUDIT_ELECTIONS", "60"))
+HAS_SCIPY = unittest.skipUnless(importlib.util.find_spec("scipy"), "scipy isn't installed")
+# Below this, what is left to spare may be lost by rounding.
+SPARE = 1e-4
+
+
+def audits(file, found):
+    """What the library answers on each certificate that was found, and the program where it is there."""
+    if found.prices:
+        prices = found.prices
+        yield pbaudit.audit_prices(file, prices.file, stable=prices.stable, exhaustive=prices.exhaustive,
+                                   cover=prices.cover).line
+        yield from by_program(file, prices.file, "prices", *prices.options)
+    for violation in found.violations:
+        yield pbaudit.audit_violation(file, violation.file).line
+        yield from by_program(file, violation.file, "violation")
+
+
+def by_program(election, certificate, command, *options):
+    if PROGRAM.exists():
+        with tempfile.TemporaryDirectory() as room:
+            paths = [pathlib.Path(room, name) for name in ("town.pb", "certificate.csv")]
+            for path, data in zip(paths, (election, certificate)):
+                path.write_bytes(data)
+            done = subprocess.run([PROGRAM, command, *paths, *options], capture_output=True, text=True, check=False)
+            yield done.stdout.rstrip("\n")
+
+
+# In the place of water-filling, so that all is found by the programme.
+NO_WATER = mock.patch("pbaudit.finding.prices.by_water", lambda *_: (None, []))
+
+
+@HAS_SCIPY
+class Invented(unittest.TestCase):
+    def test_what_is_found(self):
+        """Every certificate is accepted; prices are found just where a dense programme has some, and with Cover where
+        it has some with that; an outcome of Equal Shares always has some."""
+        tally = {"prices": 0, "none": 0, "count": 0, "cost": 0}
+        for case in (case for seed in range(ELECTIONS) for case in cases(seed)):
+            with self.subTest(case=case.name):
+                file = case.file()
+                found = pbaudit.find(file)
+                for line in audits(file, found):
+                    self.assertIn(line, ("supported priceable", "violation"))
+                self.check_prices(case, found)
+                if "Shares by" in case.name:
+                    self.assertTrue(found.prices and found.prices.cover)
+                tally["prices" if found.prices else "none"] += 1
+                for violation in found.violations:
+                    tally[violation.by] += 1
+        self.assertGreater(min(tally.values()), ELECTIONS // 20, tally)
+
+    def check_prices(self, case, found):
+        if len(case.ballots) > 30:
+            return
+        for covered in (True, False):
+            margin = best_margin(case, covered=covered)
+            is_found = found.prices is not None and (found.prices.cover or not covered)
+            if margin is not None and abs(margin) > SPARE:
+                self.assertEqual(is_found, margin > 0, margin)
+
+    def test_by_the_programme_alone(self):
+        tally = {True: 0, False: 0}
+        for case in (case for seed in range(ELECTIONS // 4) for case in cases(seed, ((10, 5), (20, 10), (30, 12)))):
+            with self.subTest(case=case.name), NO_WATER:
+                file = case.file()
+                found = pbaudit.find(file, violation=False)
+                for line in audits(file, found):
+                    self.assertEqual(line, "supported priceable")
+                self.check_prices(case, found)
+                tally[bool(found)] += 1
+        self.assertGreater(min(tally.values()), ELECTIONS // 30, tally)
+
+    def test_stable(self):
+        tally = {True: 0, False: 0}
+        for case in (case for seed in range(ELECTIONS // 3) for case in cases(seed, ((10, 5), (20, 10), (30, 12)))):
+            with self.subTest(case=case.name):
+                file = case.file()
+                found = pbaudit.find(file, stable=True, violation=False)
+                for line in audits(file, found):
+                    self.assertEqual(line, "supported stable")
+                margin = best_margin(case, stable=True, covered=False)
+                if margin is not None and abs(margin) > SPARE:
+                    self.assertEqual(found.prices is not None, margin > 0, margin)
+                tally[bool(found)] += 1
+        self.assertGreater(min(tally.values()), ELECTIONS // 10, tally)
+
+    def test_violations_are_the_smallest(self):
+        """As by trying all demands, for both measures: as few projects, and as large a share over their cost."""
+        sizes = set()
+        small = (case for seed in range(ELECTIONS // 3) for case in cases(seed, ((10, 5), (10, 8), (25, 8))))
+        for case in [*small, *(case for seed in range(2 * ELECTIONS) for case in odd_cases(seed))]:
+            found = pbaudit.find(case.file(), prices=False)
+            by_measure = {violation.by: violation for violation in found.violations}
+            for by in ("count", "cost"):
+                with self.subTest(case=case.name, by=by):
+                    wanted, violation = smallest_violation(case, by), by_measure.get(by)
+                    self.assertEqual(violation is None, wanted is None)
+                    if violation:
+                        demanded = sum(case.costs[int(name[1:])] for name in violation.projects)
+                        over = Fraction(len(violation.voters) * case.limit) / len(case.ballots) - demanded
+                        self.assertEqual((len(violation.projects), over), wanted)
+                        sizes.add((by, wanted[0]))
+                    else:
+                        self.assertIn("all demands that the share of a group covers were tried", str(found))
+        self.assertLessEqual({(by, size) for by in ("count", "cost") for size in (1, 2)}, sizes)
+
+    def test_same_bytes(self):
+        for case in cases(2):
+            for switches in ({}, {"stable": True}):
+                first, second = pbaudit.find(case.file(), **switches), pbaudit.find(case.file(), **switches)
+                with NO_WATER:
+                    third, fourth = pbaudit.find(case.file(), **switches), pbaudit.find(case.file(), **switches)
+                for one, other in ((first, second), (third, fourth)):
+                    self.assertEqual(*([each.prices and each.prices.file, each.violations, each.sentences]
+                                       for each in (one, other)))
+
+
+@HAS_SCIPY
+class Edges(unittest.TestCase):
+    def find(self, costs, limit, ballots, funded, **switches):
+        """What is found, of which the library and the program accept all."""
+        file = Case("edge", costs, limit, ballots, funded).file()
+        found = pbaudit.find(file, **switches)
+        for line in audits(file, found):
+            self.assertIn(line, ("supported priceable", "supported stable", "violation"))
+        return found
+
+    def test_nobody(self):
+        self.assertIsNotNone(self.find([3], 2, [], []).prices)
+        found = self.find([3], 3, [], [0])
+        self.assertFalse(found)
+        self.assertIn("p0 is funded, it costs something, and nobody approves it", str(found))
+        self.assertIsNotNone(self.find([0], 3, [], [0]).prices)
+
+    def test_nothing(self):
+        for ballots in ([], [[]], [[], []]):
+            found = self.find([], 5, ballots, [])
+            self.assertEqual((found.prices is None, found.violations), (False, []))
+
+    def test_nothing_to_spend(self):
+        found = self.find([0, 3], 0, [[0], [1]], [0])
+        self.assertTrue(found.prices.cover)
+        self.assertEqual(found.violations, [])
+
+    def test_costs_of_nothing(self):
+        """A project that costs nothing and isn't funded is demanded by a group without any share; and nobody who wants
+        it may have anything left, so that both budgets are spent."""
+        found = self.find([4, 0], 6, [[0, 1], [0, 1]], [0])
+        self.assertEqual((found.prices.cover, found.prices.exhaustive), (False, False))
+        self.assertEqual([(each.by, each.projects) for each in found.violations], [("count", ["p0", "p1"])])
+        found = self.find([4, 0], 6, [[0], [1]], [0])
+        self.assertEqual([(each.by, each.projects, each.voters) for each in found.violations], [("count", ["p1"], [2])])
+        self.assertIsNone(found.prices)
+        self.assertTrue(self.find([0, 0, 5], 5, [[0, 2], [1, 2]], [0, 1, 2]).prices.cover)
+
+    def test_equal_ballots(self):
+        """Forty voters who agree on what isn't funded, and pay for what is."""
+        found = self.find([40, 30, 20], 60, [[0, 1, 2]] * 40, [0, 2])
+        self.assertTrue(found.prices.cover)
+        self.assertEqual(found.violations, [])
+        found = self.find([40, 30, 20], 60, [[1]] * 20 + [[0, 2]] * 20, [0, 2])
+        self.assertIsNone(found.prices)
+        self.assertEqual([(each.by, each.projects, each.voters) for each in found.violations],
+                         [(by, ["p1"], list(range(1, 21))) for by in ("count", "cost")])
+
+    def test_one_voter(self):
+        self.assertTrue(self.find([3, 4], 5, [[0, 1]], [1]).prices.cover)
+        found = self.find([3, 4], 5, [[0]], [1])
+        self.assertEqual([(each.by, each.projects, each.voters) for each in found.violations],
+                         [("count", ["p0"], [1]), ("cost", ["p0"], [1])])
+        self.assertIn("one voter could demand p0, and it gets less", str(found))
+
+    def test_a_tie(self):
+        """Half of the voters can just pay for what is funded, and the others could just pay for what isn't: so the
+        budget is the share of a voter in the limit, neither more nor less, and the group's share covers its demand
+        with nothing to spare."""
+        for voters, limit in ((10, 10), (6, 4), (14, 1), (2, Fraction(1, 10**6) * 2)):
+            found = self.find([limit / Fraction(2)] * 2, limit, [[0]] * (voters // 2) + [[1]] * (voters // 2), [1])
+            made = found.prices.certificate
+            self.assertEqual(Fraction(made.voter_budget, made.denominator) * voters, limit)
+            self.assertFalse(found.prices.cover)
+            self.assertEqual([each.by for each in found.violations], ["count", "cost"])
+            self.assertIn("no contradiction", str(found))
+
+    def test_just_too_little(self):
+        """As before, but what isn't funded costs less by a millionth."""
+        found = self.find([5 - Fraction(1, 10**6), 5], 10, [[0]] * 5 + [[1]] * 5, [1])
+        self.assertIsNone(found.prices)
+
+    def test_too_much_is_funded(self):
+        found = self.find([4, 4], 5, [[0, 1]], [0, 1])
+        self.assertIn("'failed Feasible'", str(found))
+        self.assertFalse(found)
+
+    def test_many_decimals(self):
+        found = self.find([Fraction("0.000001"), Fraction("999999.999999")], 10**6, [[0, 1]] * 7 + [[1]] * 4, [0, 1])
+        self.assertTrue(found.prices.cover)
+
+    def test_what_is_asked_for(self):
+        tie = ([5, 5], 10, [[0]] * 5 + [[1]] * 5, [1])
+        self.assertIsNone(self.find(*tie, cover=True).prices)
+        self.assertEqual(self.find(*tie, violation=False).violations, [])
+        self.assertIsNone(self.find(*tie, prices=False).prices)
+        self.assertTrue(self.find(*tie, stable=True).prices.stable)
+        with self.assertRaisesRegex(ValueError, "neither prices nor violations"):
+            self.find(*tie, prices=False, violation=False)
+
+    def test_an_outcome_file(self):
+        district, outcome = EXAMPLES / "district.pb", EXAMPLES / "district.other.outcome.csv"
+        found = pbaudit.find(district, outcome)
+        self.assertIsNone(found.prices)
+        self.assertEqual([pbaudit.audit_violation(district, each.file, outcome).line for each in found.violations],
+                         ["violation"] * 2)
+        self.assertTrue(pbaudit.find(district).prices.cover)
+
+    def test_what_is_refused(self):
+        sample, outcome = EXAMPLES / "sample.pb", b"pb-outcome,1\nproject,q\n"
+        for given, name in (((EXAMPLES / "sample.prices.csv",), "election"), ((sample, outcome), "outcome"),
+                            ((sample.read_bytes().replace(b"selected", b"chosen"),), "election")):
+            with self.assertRaises(pbaudit.Refusal) as caught:
+                pbaudit.find(*given)
+            self.assertEqual(caught.exception.input, name)
+        self.assertEqual(caught.exception.name, "NoOutcome")
+        with self.assertRaises(FileNotFoundError):
+            pbaudit.find("missing.pb")
+
+    def test_too_little_time(self):
+        """There is time for water-filling alone, and for demands of one project."""
+        case = next(case for case in cases(1) if "by votes" in case.name)
+        found = pbaudit.find(case.file(), seconds=1e-9)
+        for line in audits(case.file(), found):
+            self.assertIn(line, ("supported priceable", "violation"))
+        self.assertNotIn("the linear programme has none", str(found))
+
+
+if __name__ == "__main__":
+    unittest.main()

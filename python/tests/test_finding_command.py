@@ -1,0 +1,436 @@
+"""The command that looks for certificates: what it writes and tells, how it ends, and what stops it."""
+import contextlib
+import csv
+import importlib.util
+import io
+import os
+import pathlib
+import pty
+import re
+import shlex
+import shutil
+import signal
+import subprocess
+import sys
+import tempfile
+import time
+import unittest
+from unittest import mock
+
+import pbaudit
+from finding_cases import Case, cases
+from pbaudit._auditor import Mode
+from pbaudit.finding import command, folders, helpers, telling
+from pbaudit.finding.results import Wanted
+from pbaudit.folders import entries_of
+from test_documents import block
+
+REPOSITORY = pathlib.Path(__file__).resolve().parents[2]
+EXAMPLES = REPOSITORY / "examples"
+PROGRAM = REPOSITORY / "crates" / "pbaudit" / "out" / "pbaudit"
+HAS_SCIPY = unittest.skipUnless(importlib.util.find_spec("scipy"), "scipy isn't installed")
+# Half of the voters can just pay for what is funded, and the others could just pay for what isn't.
+TIE = Case("tie", [5, 5], 10, [[0]] * 5 + [[1]] * 5, [1])
+# A group is passed over, so that there are no prices.
+PASSED_OVER = Case("passed over", [4, 5], 10, [[0]] * 5 + [[1]] * 5, [1])
+# Prices by the first sight, and no violation; and too many demands to try.
+ENDLESS = Case("endless", [1] * 60, 50, [[(7 * voter + at) % 60 for at in range(30)] for voter in range(60)], range(50))
+
+
+searched = folders.searched
+
+
+def killed_at_fair(asked):
+    """What a helper does that is killed at an election."""
+    if asked.name == "fair":
+        os.kill(os.getpid(), signal.SIGKILL)
+    return searched(asked)
+
+
+def words_of(*words):
+    return [sys.executable, "-m", "pbaudit", "find", *map(str, words)]
+
+
+class Commands(unittest.TestCase):
+    def setUp(self):
+        self.room = pathlib.Path(tempfile.mkdtemp())
+        self.addCleanup(shutil.rmtree, self.room)
+
+    def put(self, name, case):
+        path = self.room / name
+        path.write_bytes(case.file() if isinstance(case, Case) else case)
+        return path
+
+    def run_find(self, *words, status=0, **given):
+        done = subprocess.run(words_of(*words), capture_output=True, text=True, check=False, cwd=self.room, **given)
+        self.assertEqual(done.returncode, status, done.stdout + done.stderr)
+        return done
+
+    def files(self, folder="."):
+        return {path.name: path.read_bytes() for path in (self.room / folder).iterdir() if path.is_file()}
+
+
+@HAS_SCIPY
+class Found(Commands):
+    def test_all_that_is_found(self):
+        """The lines are the auditor's, the commands can be copied, and the files are those of the library."""
+        town = self.put("my town.pb", TIE)
+        done = self.run_find(town)
+        found = pbaudit.find(town)
+        self.assertEqual(done.stderr, "")
+        prices, by_count, by_cost = (str(self.room / f"my town{ending}") for ending in (
+            ".prices.csv", ".violation.csv", ".cost.violation.csv"))
+        lines = done.stdout.splitlines()
+        self.assertEqual(lines[::2][:3], [f"{prices}: supported priceable", f"{by_count}: violation",
+                                          f"{by_cost}: violation"])
+        self.assertEqual(lines[6:], found.sentences)
+        self.assertEqual(len(found.sentences), 5)
+        files = self.files()
+        self.assertEqual(files.pop("my town.pb"), TIE.file())
+        self.assertEqual(files, {"my town.prices.csv": found.prices.file, "my town.violation.csv":
+                                 found.violations[0].file, "my town.cost.violation.csv": found.violations[1].file})
+        for line, path in zip(lines[1:6:2], (prices, by_count, by_cost)):
+            words = shlex.split(line.partition("check it by: ")[2])
+            self.assertEqual(words[0:1] + words[2:4], ["pbaudit", str(town), path])
+            if PROGRAM.exists():
+                subprocess.run([PROGRAM, *words[1:]], check=True, stdout=subprocess.DEVNULL)
+
+    def test_same_bytes(self):
+        for name, case in (("tie", TIE), ("other", next(cases(7)))):
+            for folder in ("one", "two"):
+                self.run_find(self.put(f"{name}.pb", case), "--output", folder)
+            self.assertEqual(self.files("one"), self.files("two"))
+
+    def test_one_violation_has_the_usual_name(self):
+        """Also where it is the one by cost."""
+        town = Case("by cost", [5, 1, 4], 10, [[0, 1]] * 5 + [[2]] * 5, [1, 2])
+        self.run_find(self.put("town.pb", town), "--violation")
+        self.assertEqual(sorted(self.files()), ["town.pb", "town.violation.csv"])
+        self.assertIn(b"satisfaction,cost\n", self.files()["town.violation.csv"])
+
+    def test_what_is_asked_for(self):
+        town = self.put("town.pb", TIE)
+        for words, names in ((["--prices"], ["prices"]), (["--violation"], ["cost.violation", "violation"]),
+                             (["--prices", "--stable"], ["prices"])):
+            self.run_find(town, *words, "--output", "out")
+            self.assertEqual(sorted(self.files("out")), [f"town.{name}.csv" for name in names])
+            shutil.rmtree(self.room / "out")
+        done = self.run_find(town, "--prices", "--cover", "--output", "out", status=1)
+        self.assertEqual(done.stdout.splitlines()[-1], "No prices with Cover were found: the linear programme has "
+                         "none. It computes in rounded numbers, so that this is no proof.")
+        self.assertFalse((self.room / "out").exists())
+
+    def test_the_options_of_what_was_found_are_told(self):
+        town = self.put("town.pb", Case("room", [4, 1, 1], 10, [[0]] * 4 + [[1]], [0]))
+        done = self.run_find(town, "--prices", "--stable")
+        self.assertIn("town.prices.csv --stable --no-exhaustive\n", done.stdout)
+        self.assertIn("p1 could be added within the limit, so that Exhaustive is left out.\n", done.stdout)
+
+    def test_an_outcome_file(self):
+        done = self.run_find(EXAMPLES / "district.pb", "--outcome", EXAMPLES / "district.other.outcome.csv", "--output",
+                             "out")
+        self.assertEqual(sorted(self.files("out")), ["district.cost.violation.csv", "district.violation.csv"])
+        for line in re.findall("check it by: pbaudit (.*)", done.stdout):
+            self.assertIn("--outcome", line)
+            if PROGRAM.exists():
+                subprocess.run([PROGRAM, *shlex.split(line)], check=True, stdout=subprocess.DEVNULL, cwd=self.room)
+
+    def test_nothing_found(self):
+        done = self.run_find(self.put("town.pb", PASSED_OVER), "--prices", status=1)
+        self.assertIn("No prices were found: ", done.stdout)
+        self.assertEqual(list(self.files()), ["town.pb"])
+
+    def test_nothing_is_overwritten(self):
+        """Nor looked for in vain: that is told first."""
+        town = self.put("town.pb", TIE)
+        for name in ("town.prices.csv", "town.violation.csv", "town.cost.violation.csv"):
+            self.put(name, b"mine")
+            done = self.run_find(town, status=3)
+            self.assertIn(f"{self.room / name} is there already", done.stderr)
+            self.assertEqual(self.files(), {"town.pb": TIE.file(), name: b"mine"})
+            (self.room / name).unlink()
+        self.put("town.violation.csv", b"mine")
+        self.run_find(town, "--prices")
+        self.assertEqual(self.files()["town.violation.csv"], b"mine")
+        self.run_find(town, "--replace")
+        self.assertTrue(self.files()["town.violation.csv"].startswith(b"pb-violation,2\n"))
+        os.symlink("elsewhere", self.room / "out.pb.prices.csv")
+        self.run_find(self.put("out.pb.pb", TIE), status=3)
+
+    def test_its_own_files_arent_replaced(self):
+        town, outcome = self.put("town.pb", TIE), self.put("town.violation.csv", b"pb-outcome,1\nproject,p1\n")
+        done = self.run_find(town, "--outcome", outcome, "--replace", status=3)
+        self.assertIn("is --outcome", done.stderr)
+        self.assertEqual(self.files()["town.violation.csv"], b"pb-outcome,1\nproject,p1\n")
+
+    def test_it_cant_be_written(self):
+        town = self.put("town.pb", TIE)
+        done = self.run_find(town, "--output", town, status=4)
+        self.assertIn("fault write: ", done.stderr)
+        self.assertIn("There are prices that support this outcome.", done.stdout)
+        with open("/dev/full", "w") as full:
+            done = subprocess.run(words_of(town), stdout=full, stderr=subprocess.PIPE, text=True, check=False)
+        self.assertEqual(done.returncode, 4)
+        self.assertIn("fault write: ", done.stderr)
+
+    def test_what_is_refused(self):
+        done = self.run_find(EXAMPLES / "sample.prices.csv", status=2)
+        self.assertEqual(done.stdout, "refused election 2 NoMeta record 1\n")
+        self.assertIn("sample.prices.csv", done.stderr)
+        done = self.run_find("missing.pb", status=2)
+        self.assertEqual(done.stdout, "refused election 18 Read record 0\n")
+        sample = self.put("sample.pb", (EXAMPLES / "sample.pb").read_bytes())
+        done = self.run_find(sample, "--outcome", "missing.csv", status=2)
+        self.assertEqual(done.stdout, "refused outcome 18 Read record 0\n")
+
+    def test_usage(self):
+        for words in ([], ["--prices", "--violation", "x.pb"], ["--time", "0", "x.pb"], ["--time", "nan", "x.pb"],
+                      ["--sta", "x.pb"], ["--folder", ".", "--outcome", "x"], ["--folder", ".", "x.pb"]):
+            self.run_find(*words, status=3)
+
+    def test_without_scipy(self):
+        """The message names it, and how to install it; nothing else of the package needs it."""
+        program = ("import sys; sys.modules['scipy'] = None; from pbaudit.__main__ import main; "
+                   "sys.exit(main(sys.argv[1:]))")
+        town = self.put("town.pb", TIE)
+        for words, status in ((["find", town], 4), (["find", "--folder", self.room], 4),
+                              (["equal-shares", town, "-o", self.room / "x.csv"], 1), (["find", "--help"], 0)):
+            done = subprocess.run([sys.executable, "-c", program, *map(str, words)], capture_output=True, text=True,
+                                  check=False)
+            self.assertEqual(done.returncode, status, done.stderr)
+            if status == 4:
+                self.assertIn("fault: scipy isn't installed", done.stderr)
+                self.assertIn("pip install './python[find]'", done.stderr)
+        told = subprocess.run([sys.executable, "-c", "import sys; sys.modules['scipy'] = sys.modules['numpy'] = None; "
+                               "import pbaudit, pydoc; print('find(' in pydoc.plain(pydoc.render_doc(pbaudit)))"],
+                              capture_output=True, text=True, check=False)
+        self.assertEqual(told.stdout, "True\n", told.stderr)
+
+    def test_hostile_names(self):
+        """What doesn't print isn't printed, and a shell takes each name for what it is."""
+        name = "a\x1b[2J\n$(touch hit)'\u202e\\.pb"
+        done = self.run_find(self.put(name, TIE), "--prices")
+        self.assertTrue(all(line.isprintable() for line in done.stdout.splitlines()), done.stdout)
+        command = re.search("check it by: pbaudit (.*)", done.stdout)[1]
+        told = subprocess.run(["bash", "-c", f"printf '%s\\0' {command}"], capture_output=True, text=True, check=True)
+        paths = [str(self.room / name), str(self.room / name[:-3]) + ".prices.csv"]
+        self.assertEqual(told.stdout.split("\0")[1:3], paths)
+        self.assertFalse((self.room / "hit").exists())
+
+
+@HAS_SCIPY
+class Stopped(Commands):
+    def stopped(self, words, at):
+        """Interrupts a command, as the keyboard does, once its progress tells this: the output and the status."""
+        master, slave = pty.openpty()
+        given = {"stdout": subprocess.PIPE, "stderr": slave, "cwd": self.room, "start_new_session": True}
+        with subprocess.Popen(words, **given) as command:
+            os.close(slave)
+            seen = b""
+            while at not in seen:
+                part = os.read(master, 1000)
+                self.assertTrue(part, seen)
+                seen += part
+            os.killpg(command.pid, signal.SIGINT)
+            while self.more_of(master):
+                pass
+            out = command.stdout.read().decode()
+        os.close(master)
+        return out, command.returncode
+
+    @staticmethod
+    def more_of(terminal):
+        try:
+            return os.read(terminal, 1000)
+        except OSError:
+            return b""
+
+    def test_what_was_found_is_kept(self):
+        town = self.put("town.pb", ENDLESS)
+        out, status = self.stopped(words_of(town, "--time", "100000"), b"violation by")
+        self.assertEqual(status, 0)
+        self.assertIn("town.prices.csv: supported priceable\n", out)
+        self.assertRegex(out, "\nThis was stopped while a violation by count(ing)? was looked for.\n$")
+        self.assertEqual(sorted(self.files()), ["town.pb", "town.prices.csv"])
+        self.assertTrue(pbaudit.audit_prices(town, self.room / "town.prices.csv", cover=True))
+
+    def test_where_nothing_was_found(self):
+        words = words_of(self.put("town.pb", ENDLESS), "--violation", "--time", "100000")
+        out, status = self.stopped(words, b"violation")
+        self.assertEqual((status, out), (1, "This was stopped while a violation by counting was looked for.\n"))
+        self.assertEqual(list(self.files()), ["town.pb"])
+
+    def test_a_folder(self):
+        os.mkdir(self.room / "towns")
+        self.put("towns/a.pb", TIE)
+        self.put("towns/endless.pb", ENDLESS)
+        out, status = self.stopped(words_of("--folder", "towns", "--time", "100000"), b"1 of 2 elections")
+        self.assertEqual(status, 1)
+        self.assertIn("This was stopped before all elections were looked at.\n", out)
+        self.assertLessEqual({"a.prices.csv", "found.csv"}, set(self.files("towns")))
+        rows = list(csv.DictReader(self.files("towns")["found.csv"].decode().splitlines()))
+        notes = {row["election"]: row["note"] for row in rows}
+        self.assertEqual(notes, {"a.pb": "", "endless.pb": "not looked at"})
+
+    def test_progress_is_for_terminals(self):
+        done = self.run_find(self.put("town.pb", ENDLESS), "--time", "8")
+        self.assertEqual(done.stderr, "")
+        self.assertRegex(done.stdout, "No violation by counting was found: all demands of up to .* were tried. That "
+                         "is no proof")
+
+
+class Helpers(unittest.TestCase):
+    def test_what_a_helper_answers(self):
+        with helpers.Helper() as helper:
+            self.assertEqual(helper.call(os.path.join, "a", "b"), "a/b")
+            with self.assertRaises(FileNotFoundError):
+                helper.call(os.listdir, "/missing")
+            with self.assertRaises(helpers.Lost):
+                helper.call(os.abort)
+            self.assertEqual(helper.call(os.path.join, "c", "d"), "c/d")
+
+    def test_a_helper_that_is_late(self):
+        with helpers.Helper() as helper:
+            helper.call(os.path.join, "a")
+            process = helper._process
+            with self.assertRaises(helpers.Late):
+                helper.call(time.sleep, 10**6, seconds=0.0)
+            self.assertEqual(process.wait(), -signal.SIGKILL)
+
+    def test_a_helper_is_stopped_with_its_caller(self):
+        def tick():
+            raise KeyboardInterrupt
+        with helpers.Helper() as helper:
+            helper.call(os.path.join, "a")
+            process = helper._process
+            with self.assertRaises(KeyboardInterrupt):
+                helper.call(time.sleep, 10**6, tick=tick)
+            self.assertEqual(process.wait(), -signal.SIGKILL)
+
+    def test_what_it_prints_isnt_an_answer(self):
+        with helpers.Helper() as helper:
+            self.assertEqual(helper.call(os.system, "echo hello"), 0)
+            self.assertEqual(helper.call(os.path.join, "a", "b"), "a/b")
+
+
+class Telling(unittest.TestCase):
+    def test_what_is_shown(self):
+        for text, wanted in (("Zażółć 'x'", "Zażółć 'x'"), ("a\x1b[31m\n\x9b", "a\\x1b[31m\\n\\x9b"),
+                             ("\u202e\u2028", "\\u202e\\u2028"), ("\udcff", "\\udcff")):
+            self.assertEqual(telling.shown(text), wanted)
+
+
+@HAS_SCIPY
+class Folders(Commands):
+    def setUp(self):
+        super().setUp()
+        self.put("a tie.pb", TIE.file().replace(b"META\nkey;value\n", b"META\nkey;value\nrule;greedy, \"quoted\"\n"))
+        self.put("none.pb", Case("none", [1, 3], 3, [[0]] * 5 + [[1]], [1]))
+        self.put("fair.pb", Case("fair", [5, 6], 10, [[0]] * 5 + [[1]] * 5, [0]))
+
+    def rows(self, folder="."):
+        return list(csv.reader(self.files(folder)["found.csv"].decode().splitlines()))
+
+    def test_a_table(self):
+        done = self.run_find("--folder", self.room)
+        head, *rows = self.rows()
+        self.assertEqual(head, ["election", "rule", "prices", "stable", "violation", "seconds", "note"])
+        self.assertEqual([row[:5] + row[6:] for row in rows], [
+            ["a tie.pb", 'greedy, "quoted"', "without Cover", "yes", "by counting and by cost", ""],
+            ["fair.pb", "", "with Cover", "yes", "none found", ""],
+            ["none.pb", "", "none found", "", "by counting and by cost", ""]])
+        shown = [re.split("  +", line) for line in done.stdout.splitlines()]
+        self.assertEqual(shown[0], head)
+        self.assertEqual([line[0] for line in shown[1:]], [row[0] for row in rows])
+        self.assertEqual(self.files()["a tie.prices.csv"], pbaudit.find(self.room / "a tie.pb").prices.file)
+        self.assertEqual({name for name in self.files() if not name.endswith(".pb")}, {
+            "a tie.prices.csv", "a tie.violation.csv", "a tie.cost.violation.csv", "fair.prices.csv", "found.csv",
+            "none.violation.csv", "none.cost.violation.csv"})
+
+    def test_one_bad_file_ends_nothing(self):
+        self.put("bad.pb", b"no election")
+        self.put("empty.pb", b"")
+        done = self.run_find("--folder", self.room, "--output", self.room / "out", status=2)
+        notes = {row[0]: row[6] for row in self.rows("out")[1:]}
+        self.assertEqual({name for name, note in notes.items() if note}, {"bad.pb", "empty.pb"})
+        for name in ("bad.pb", "empty.pb"):
+            with self.assertRaises(pbaudit.Refusal) as caught:
+                pbaudit.read(self.room / name)
+            self.assertEqual(notes[name], caught.exception.printed)
+            self.assertIn(caught.exception.printed, done.stdout)
+        self.assertIn("fair.prices.csv", self.files("out"))
+
+    def test_nothing_is_overwritten(self):
+        self.put("fair.prices.csv", b"mine")
+        self.put("none.violation.csv", b"mine")
+        self.run_find("--folder", self.room, "--prices", status=1)
+        rows = {row[0]: row[2:5] for row in self.rows()[1:]}
+        self.assertEqual(rows["fair.pb"], ["there already", "", ""])
+        self.assertEqual(self.files()["fair.prices.csv"], b"mine")
+        done = self.run_find("--folder", self.room, status=3)
+        self.assertIn("found.csv is there already", done.stderr)
+        self.run_find("--folder", self.room, "--replace")
+        self.assertNotEqual(self.files()["fair.prices.csv"], b"mine")
+        self.assertNotEqual(self.files()["none.violation.csv"], b"mine")
+
+    def test_no_folder(self):
+        done = self.run_find("--folder", self.room / "missing", status=2)
+        self.assertEqual(done.stdout, "refused folder 18 Read record 0\n")
+        os.mkdir(self.room / "empty")
+        self.run_find("--folder", self.room / "empty")
+        self.assertEqual(len(self.rows("empty")), 1)
+
+    def test_a_worker_that_is_lost(self):
+        """Its election is told, and the others are looked at."""
+        entries = entries_of(self.room, Mode())
+        with mock.patch.object(folders, "searched", killed_at_fair):
+            folder = folders.Folder(entries, str(self.room), Wanted(), False)
+            folder.run(lambda *_: None)
+        self.assertEqual([(row.election, row.note) for row in folder.rows()],
+                         [("a tie.pb", ""), ("fair.pb", "fault worker"), ("none.pb", "")])
+        self.assertEqual(folder.status(), 4)
+
+    def test_an_election_that_fails(self):
+        with mock.patch.object(folders, "Seeker", mock.Mock(side_effect=ZeroDivisionError("x"))):
+            result = folders.searched(folders.Asked(str(self.room), "fair", Wanted()))
+        self.assertEqual((result.row.note, result.status), ("fault: ZeroDivisionError('x')", 4))
+
+
+@HAS_SCIPY
+class Documents(unittest.TestCase):
+    def test_the_command(self):
+        words = block("~/pbaudit/bin/pip install './python[find]'").splitlines()[1].split()[3:]
+        with tempfile.TemporaryDirectory() as room:
+            shutil.copytree(EXAMPLES, f"{room}/examples", ignore=shutil.ignore_patterns("*.prices.csv"))
+            done = subprocess.run([sys.executable, "-m", "pbaudit", *words], cwd=room, capture_output=True, text=True,
+                                  check=False)
+        self.assertEqual((done.stdout, done.stderr), (block("found/district.violation.csv"), ""))
+
+    def test_the_function(self):
+        values, out = {}, io.StringIO()
+        with contextlib.redirect_stdout(io.StringIO()):
+            exec(block("from pbaudit import Instance"), values)
+        with contextlib.redirect_stdout(out):
+            exec(block("from pbaudit import find"), values)
+        told = (REPOSITORY / "docs" / "LIBRARY.md").read_text(encoding="utf-8")
+        self.assertIn(f"\nprints `{out.getvalue().rstrip()}`:", told)
+
+    def test_the_statuses(self):
+        """The help says each, as the table does."""
+        for status in range(5):
+            self.assertRegex(command.HOW_IT_ENDS, f"[:;] {status} if ")
+
+
+class Wheel(unittest.TestCase):
+    def test_the_wheel_has_it(self):
+        sys.path.append(str(REPOSITORY / "python" / "backend"))
+        import wheel_writer
+        files = wheel_writer.files_of(b"", ["py3-none-any"])
+        here = pathlib.Path(folders.__file__).parent
+        self.assertEqual({name for name in files if name.startswith("pbaudit/finding/")},
+                         {f"pbaudit/finding/{path.name}" for path in here.glob("*.py")})
+        self.assertIn("Provides-Extra: find\nRequires-Dist: scipy>=1.7; extra == 'find'\n", wheel_writer.metadata())
+
+
+if __name__ == "__main__":
+    unittest.main()

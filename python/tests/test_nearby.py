@@ -1,0 +1,151 @@
+"""The check of prices near the given ones, beside that of the exact ones that they are near."""
+import contextlib
+import io
+import random
+import unittest
+from fractions import Fraction
+
+import pbaudit
+from pbaudit import CannotKeep, Instance, Project, validate_price_system
+
+A, B, C = Project("a", 6), Project("b", 4), Project("c", 9)
+SAMPLE = Instance([A, B, C], 10)
+PROFILE = [{A, B}, {A}, {B, C}]
+ODD = Fraction(1, 10**9 + 7) * Fraction(1, 10**6 + 3)
+
+
+def a_price_system(chance):
+    """Prices of Equal Shares in whole hundredths, some of them with something wrong by a hundredth or more."""
+    projects = [Project(f"p{at}", Fraction(chance.randint(1, 900) * 12, 100)) for at in range(chance.randint(2, 6))]
+    instance = Instance(projects, sum(project.cost for project in projects) * chance.randint(20, 90) // 100 + 1)
+    profile = [{project for project in projects if chance.random() < 0.6} for _ in range(chance.randint(1, 12))]
+    shares = pbaudit.equal_shares(instance, profile, by=chance.choice(["cost", "count"]))
+    made = pbaudit.price_certificate(instance, profile, shares.funded, shares.voter_budget, shares.payments,
+                                     exhaustive=False, denominator=100)
+    payments = [{} for _ in profile]
+    for voter, name, numerator in made.rows:
+        payments[voter - 1][name] = Fraction(numerator, 100)
+    budget, funded = Fraction(made.voter_budget, 100), list(shares.funded)
+    for _ in range(chance.randint(0, 2)):
+        mine, name = chance.choice(payments), chance.choice(projects).name
+        kind = chance.randrange(5)
+        if kind == 0:
+            mine[name] = Fraction(chance.randint(1, 300), chance.choice([1, 100]))
+        elif kind == 1:
+            mine.pop(name, None)
+        elif kind == 2:
+            budget = max(Fraction(0), budget + chance.choice([-1, 1]) * Fraction(chance.randint(1, 9000), 100))
+        elif kind == 3 and name in mine:
+            mine[name] += Fraction(chance.randint(1, 50), 100)
+        elif name in funded:
+            funded.remove(name)
+    return instance, profile, funded, budget, payments
+
+
+def off(amount, chance):
+    """An amount with the noise of a solver."""
+    return float(amount) + chance.uniform(-1e-9, 1e-9)
+
+
+def odd(amount, chance):
+    """An amount with a denominator that no certificate has."""
+    return amount + ODD * chance.choice([1, 2, 3]) if amount else Fraction(0)
+
+
+class Near(unittest.TestCase):
+    def test_a_plain_no_is_a_no(self):
+        """What fails by a hundredth or more fails first near it too; what holds is answered yes, unless it holds so
+        narrowly that noise ends it."""
+        told, kept = {}, 0
+        for seed in range(600):
+            chance = random.Random(f"near/{seed}")
+            given = a_price_system(chance)
+            for stable in (False, True):
+                wanted = validate_price_system(*given, stable, exhaustive=False)
+                for noisy in (off, odd):
+                    payments = [{name: noisy(amount, chance) for name, amount in mine.items()} for mine in given[4]]
+                    budget = noisy(given[3], chance)
+                    with self.subTest(seed=seed, stable=stable, noisy=noisy.__name__):
+                        try:
+                            found = validate_price_system(*given[:3], budget, payments, stable, exhaustive=False, near=True)
+                        except CannotKeep as why:
+                            self.assertTrue(wanted or wanted.condition in ("C5", "S5"), f"{wanted} and {why}")
+                            kept += 1
+                            continue
+                        self.assertEqual(str(found), str(wanted))
+                        told.setdefault(str(wanted.condition), set()).add(noisy.__name__)
+        self.assertLess(kept, 30)
+        self.assertEqual({condition: len(kinds) for condition, kinds in told.items()},
+                         dict.fromkeys(("None", "C1", "C2", "C3", "C4", "C5", "S5"), 2))
+
+    def test_the_example(self):
+        """Five is paid for a, which costs six."""
+        paid = [{A: 2 + ODD, B: 2}, {A: 3 - ODD}, {B: 2}]
+        for payments in (paid, [{name: float(amount) for name, amount in mine.items()} for mine in paid]):
+            verdict = validate_price_system(SAMPLE, PROFILE, [A, B], 4, payments, near=True)
+            self.assertEqual((str(verdict), verdict.condition, verdict.project), ("failed C3 project a", "C3", "a"))
+            self.assertLess(verdict.moved, Fraction(1, 10**8))
+
+    def test_what_payments_do_not_change(self):
+        floats = [{A: 2.0, B: 2.0}, {A: 4.0}, {B: 2.0}]
+        for funded, line in (([A, B, C], "failed Feasible"), ([A], "failed Exhaustive project b")):
+            self.assertEqual(str(validate_price_system(SAMPLE, PROFILE, funded, 4.0, floats, near=True)), line)
+
+    def test_another_budget_is_not_near(self):
+        """With 99 for each c's supporter has 97 left; by a budget of 4 all holds."""
+        for two in (2.0000000001, 2 + ODD):
+            verdict = validate_price_system(SAMPLE, PROFILE, [A, B], 99, [{A: two, B: 2}, {A: 4}, {B: 2}], near=True)
+            self.assertEqual(str(verdict), "failed C5 project c")
+            self.assertTrue(validate_price_system(SAMPLE, PROFILE, [A, B], 4, [{A: two, B: 2}, {A: 4}, {B: 2}], near=True))
+
+    def test_noise_is_none(self):
+        """Of a solver: a little for what isn't approved or not funded, and a little below 0."""
+        floats = [{A: 2.0, B: 2.0, C: 1e-9}, {A: 4.0000000001, B: -1e-9}, {B: 1.9999999999, C: 1e-8, A: 1e-12}]
+        verdict = validate_price_system(SAMPLE, PROFILE, [A, B], 4.0, floats, near=True)
+        self.assertEqual(str(verdict), "supported priceable")
+        self.assertEqual(verdict.moved, Fraction(1, 10**8))
+        made = pbaudit.price_certificate(SAMPLE, PROFILE, [A, B], 4.0, floats)
+        self.assertEqual((made.rows, made.moved), ([(1, "a", 200), (1, "b", 200), (2, "a", 400), (3, "b", 200)], Fraction(1, 10**8)))
+        floats[0][A] = 1.5
+        self.assertEqual(str(validate_price_system(SAMPLE, PROFILE, [A, B], 4.0, floats, near=True)), "failed C3 project a")
+
+    def test_what_fails_by_less_than_noise_is_no_answer(self):
+        """The one voter who pays 6 can offer 6 for what costs a millionth less."""
+        narrow = Instance([A, Project("z", Fraction("5.999999"))], 10)
+        with self.assertRaisesRegex(CannotKeep, "^S5: "):
+            validate_price_system(narrow, [{"a", "z"}], ["a"], 6.0, [{"a": 6.0}], True, near=True)
+        self.assertEqual(str(validate_price_system(narrow, [{"a", "z"}], ["a"], 6, [{"a": 6}], True)), "failed S5 project z")
+
+    def test_what_is_no_certificate(self):
+        for odd, error in ((float("nan"), ValueError), (float("inf"), ValueError), (-1.0, ValueError), ("2", TypeError)):
+            with self.assertRaises(error):
+                validate_price_system(SAMPLE, PROFILE, [A, B], 4.0, [{A: odd, B: 2.0}, {A: 4.0}, {B: 2.0}], near=True)
+        with self.assertRaises(ValueError):
+            validate_price_system(SAMPLE, PROFILE, [A, B], -1.0, [{A: 2.0, B: 2.0}, {A: 4.0}, {B: 2.0}], near=True)
+        with self.assertRaisesRegex(ValueError, "2 payment functions"):
+            validate_price_system(SAMPLE, PROFILE, [A, B], 4.0, [{A: 2.0}, {}], near=True)
+
+    def test_as_pabutools_is_called(self):
+        floats = [{A: 2.0, B: 2.0}, {A: 3.0}, {B: 2.0}]
+        out = io.StringIO()
+        with contextlib.redirect_stdout(out):
+            verdict = validate_price_system(SAMPLE, PROFILE, [A, B], 4.0, floats, stable=False, exhaustive=True,
+                                            relaxation=None, verbose=True, near=True)
+        self.assertEqual(out.getvalue(), str(verdict.explain()))
+        self.assertIn("failed C3 project a", out.getvalue())
+        with self.assertRaisesRegex(ValueError, "^the relaxation is 'min_add', and only None is audited"):
+            validate_price_system(SAMPLE, PROFILE, [A, B], 4, floats, relaxation="min_add")
+        with self.assertRaisesRegex(TypeError, "^verbose is 1, not True or False"):
+            validate_price_system(SAMPLE, PROFILE, [A, B], 4, floats, verbose=1)
+
+    def test_exact_amounts_stay_exact(self):
+        """A budget that is a float, and payments that are whole, come to what they come to exactly."""
+        for budget, line in ((4.0, "supported priceable"), (3.5, "failed C2 voter 1"), (13.0, "failed C5 project c")):
+            verdict = validate_price_system(SAMPLE, PROFILE, [A, B], budget, [{A: 2, B: 2}, {A: 4}, {B: 2}], near=True)
+            self.assertEqual((str(verdict), verdict.moved), (line, 0))
+            with self.assertRaisesRegex(TypeError, "price_certificate"):
+                validate_price_system(SAMPLE, PROFILE, [A, B], budget, [{A: 2, B: 2}, {A: 4}, {B: 2}])
+
+
+if __name__ == "__main__":
+    unittest.main()
