@@ -206,13 +206,21 @@ def of_offers(count):
     return of_prices(random.Random(count), town, making.Claim(1, 10, {(0, 0): 10}), True)
 
 
+# Large cases, and those of which the page is compared in one language alone.
+LARGE = {
+    "1001 unfunded": lambda: of_rows(1001, False), "1005 demanded": lambda: of_demand(1005),
+    "1003 funded": lambda: of_rows(1003, True), "1000 unfunded": lambda: of_rows(1000, False),
+}  # fmt: skip
+IN_ONE_LANGUAGE = {"1003 funded": "pl", "1000 unfunded": "en"}
+
+
 def fixed_cases():
     """What chance doesn't meet: tables that are cut, numbers of projects of which Polish speaks in its own way, the
     examples, and files that aren't there or say nothing."""
-    made = [of_rows(1001, False), of_rows(1003, True), of_rows(1000, False), of_rows(1005, True), of_demand(1001)]
-    made += [of_offers(1), of_offers(3), of_offers(5)]
-    for number, case in enumerate(made):
-        yield renamed(random.Random(number), case, f"rows {number}")
+    for name, case in LARGE.items():
+        yield renamed(random.Random(name), case(), name)
+    for count in (1, 3, 5):
+        yield renamed(random.Random(count), of_offers(count), f"offers {count}")
     for words in (["district.prices.csv", "--stable"], ["district.violation.csv"], ["district.stable.prices.csv"]):
         names = ["district.pb", words[0]]
         files = {name: (EXAMPLES / name).read_bytes() for name in names}

@@ -20,7 +20,7 @@ import traceback
 
 from cases import Case, write_files
 from compare import keep_files, run
-from page_cases import fixed_cases, page_case
+from page_cases import IN_ONE_LANGUAGE, fixed_cases, page_case
 from page_turns import TURNS
 from reference.answers import REFUSED, RefusedInput
 from reference.page import wording
@@ -116,7 +116,7 @@ class Compared:
             write_files(room, case.files)
             try:
                 wanted = Wanted(case, room)
-                for language in LANGUAGES:
+                for language in [IN_ONE_LANGUAGE[case.name]] if case.name in IN_ONE_LANGUAGE else LANGUAGES:
                     told = faults_of(program, case, room, wanted, language)
                     self.faults += [f"{language}: {each}" for each in told]
                 self.kind, self.said = wanted.kind(), wanted.said()
