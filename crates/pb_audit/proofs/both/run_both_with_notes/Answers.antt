@@ -5,7 +5,7 @@ use Rattle.pb_audit.specs.Both.{ReadsBoth}
 use Rattle.pb_audit.specs.Readers.{audit_readings}
 use Rattle.pb_reply.specs.Readings.{reading}
 use Rattle.pb_audit.proofs.Texts.{reply_told}
-use Rattle.pb_audit.proofs.both.run_both.Goals as goal
+use Rattle.pb_audit.proofs.both.run_both_with_notes.Goals as goal
 
 pub returns : goal.returns
 returns g c =
