@@ -5,6 +5,7 @@ use pb_audit::{
     Fault, Status, run_both_with_notes, run_explain, run_margins, run_prices, run_read,
     run_tidy, run_violation,
 };
+use pb_command::Inputs;
 use pb_election::{Input, Sink};
 use pb_page::{Language, PageNames, run_page};
 use pb_price::Mode;
