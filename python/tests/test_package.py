@@ -136,7 +136,7 @@ class Kept(unittest.TestCase):
     def test_files_are_no_part_of_it(self):
         verdict = pbaudit.audit_prices(*(file.read_bytes() for file in self.FILES))
         self.assertEqual(dataclasses.asdict(verdict), {"holds": True, "line": "supported priceable", "condition": None,
-                                                       "voter": None, "project": None, "moved": None})
+                                                       "voter": None, "project": None, "moved": None, "says_little": False})
         self.assertNotIn("META", repr(vars(pickle.loads(pickle.dumps(verdict)))).replace("&lt;META", ""))
 
     def test_files_that_have_changed(self):
