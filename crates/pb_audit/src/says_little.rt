@@ -1,6 +1,6 @@
 //! The note on a yes to prices that says little: with voter budgets that are together less than the limit, supporters
 //! have little left, whatever is funded.
-ghost use Rattle.std.specs.Prelude.{◌*◌, ◌<◌, ◌≤◌, ◌^◌, ◌↔◌, IsTrue};
+ghost use Rattle.std.specs.Prelude.{◌*◌, ◌<◌, ◌≤◌, ◌↔◌, IsTrue};
 ghost use Rattle.pb_certificate.specs.Prices.{most_denominator, most_numerator};
 ghost use Rattle.pb_election.specs.Instance.{voters};
 ghost use Rattle.pb_money.specs.Grains.{cost_grains, payment_grains};
