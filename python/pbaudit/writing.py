@@ -117,7 +117,8 @@ def price_file(denominator: int, voter_budget: int, projects: Projects, payers: 
     count = last = 0
     fields: List[str] = []
     for voter, places, numerators in payers:
-        fields += (_field(name, ",") for name in projects.ids[len(fields):])
+        if len(fields) < len(projects.ids):
+            fields += (_field(name, ",") for name in projects.ids[len(fields):])
         if numerators and not (min(numerators) >= 0 and max(numerators) <= MOST_NUMERATOR):
             raise _beyond(voter, [projects.ids[at] for at in places], numerators, denominator)
         rows = [f"{voter},{fields[at]},{numerator}" for at, numerator in zip(places, numerators) if numerator]
