@@ -212,10 +212,11 @@ class Kept:
 
 
 class Room:
-    """A copy of a crate that is proved, with those below it, in which its edits are tried."""
+    """A copy of a crate that is proved, with those below it, in which its edits are tried. The work is what `rt` kept of its
+    proof."""
 
-    def __init__(self, copy, crate, lines, folder):
-        self.home, self.crate = copy / "crates" / crate, folder / "crates" / crate
+    def __init__(self, copy, crate, lines, work, folder):
+        self.home, self.crate, self.work = copy / "crates" / crate, folder / "crates" / crate, work
         self.functions, lower = Functions(self.home), below(crate, lines)
         (folder / "crates.txt").write_text("".join(lines[it] for it in lines if it == crate or it in lower))
         shutil.copy(copy / "HANDLES", folder)
@@ -224,10 +225,11 @@ class Room:
             shutil.copytree(copy / "crates" / it, folder / "crates" / it, copy_function=os.link, ignore=left_out)
 
     def check(self, edits):
-        for part in (*PARTS, "out/incremental"):
+        parts = {**{part: self.home / part for part in PARTS}, "out/incremental": self.work}
+        for part, was in parts.items():
             shutil.rmtree(self.crate / part, ignore_errors=True)
-            if (self.home / part).is_dir():
-                shutil.copytree(self.home / part, self.crate / part)
+            if was.is_dir():
+                shutil.copytree(was, self.crate / part)
         for edit in edits:
             edit.make(self.crate)
         return Verdict(rt("check", self.crate, behind=BEHIND)[1], self.functions)
@@ -303,9 +305,13 @@ class Lanes:
 class Trial:
     """The trial of a crate's edits, each round of them in one check, and alone where they have to be."""
 
-    def __init__(self, copy, crate, lines, kept, lanes):
+    def __init__(self, copy, crate, lines, kept, lanes, folder):
         self.copy, self.crate, self.lines, self.kept, self.lanes = copy, crate, lines, kept, lanes
-        self.seconds, self.not_refused = 0, []
+        self.seconds, self.not_refused, self.work = 0, [], pathlib.Path(folder) / crate
+        work = copy / "crates" / crate / "out/incremental"
+        if work.is_dir():
+            # Later others may build of the crate in its place.
+            shutil.copytree(work, self.work)
 
     def begin(self, edits, seconds):
         """Tries these edits, of a crate whose proof took so long."""
@@ -346,7 +352,7 @@ class Trial:
     @contextlib.contextmanager
     def room(self):
         with tempfile.TemporaryDirectory(dir=self.copy) as folder:
-            yield Room(self.copy, self.crate, self.lines, pathlib.Path(folder))
+            yield Room(self.copy, self.crate, self.lines, self.work, pathlib.Path(folder))
 
 
 def arguments():
@@ -379,10 +385,10 @@ def new_edits(kept, crate, edits):
     return new
 
 
-def main():
-    given, lines = arguments()
-    kept, lanes = Kept(given.copy, lines, not given.anew), Lanes(given.jobs, free_memory)
-    count, failed, trials = 0, [], []
+def begin_trials(given, lines, lanes, folder):
+    """Proves the crates that have edits to be tried, and begins to try them: the trials, how many edits there are, and why a
+    crate isn't proved."""
+    kept, trials, count = Kept(given.copy, lines, not given.anew), [], 0
     for crate in given.crates or lines:
         edits = edits_of(given.copy / "crates" / crate)
         new = new_edits(kept, crate, edits)
@@ -390,20 +396,26 @@ def main():
             began = time.monotonic()
             status, said = prove(given.copy, crate, lines)
             if status:
-                failed.append(f"{crate}: it isn't proved\n{said}")
-                break
+                return trials, count, [f"{crate}: it isn't proved\n{said}"]
             seconds = time.monotonic() - began
             print(f"{crate}: proved, {seconds:.0f} s", flush=True)
-            trials.append(Trial(given.copy, crate, lines, kept, lanes))
+            trials.append(Trial(given.copy, crate, lines, kept, lanes, folder))
             trials[-1].begin(new, seconds)
         count += len(edits)
-    else:
-        print("the crates are proved", flush=True)
-    lanes.finish()
-    failed += [said for trial in trials for said in trial.not_refused]
-    print(*failed, sep="\n")
-    print(f"{count - sum(len(it.not_refused) for it in trials)} passed, {len(failed)} failed")
-    return 1 if failed or not count else 0
+    print("the crates are proved", flush=True)
+    return trials, count, []
+
+
+def main():
+    given, lines = arguments()
+    lanes = Lanes(given.jobs, free_memory)
+    with tempfile.TemporaryDirectory(dir=given.copy) as folder:
+        trials, count, failed = begin_trials(given, lines, lanes, folder)
+        lanes.finish()
+    not_refused = [said for trial in trials for said in trial.not_refused]
+    print(*failed, *not_refused, sep="\n")
+    print(f"{count - len(not_refused)} passed, {len(failed) + len(not_refused)} failed")
+    return 1 if failed or not_refused or not count else 0
 
 
 if __name__ == "__main__":

@@ -47,10 +47,14 @@ if sys.argv[1] == "lib":
     seconds = state / f"{crate}.seconds"
     time.sleep(float(seconds.read_text()) if seconds.exists() else 0)
     (state / f"{crate}.proved").touch()
+    pathlib.Path("out/incremental").mkdir(parents=True, exist_ok=True)
+    pathlib.Path("out/incremental/work").write_text("of the proof")
     print("it can't be proved" if "unprovable" in source else "")
     sys.exit("unprovable" in source)
 note(f"check {crate} {' '.join(sorted(changed))}")
 said = []
+if pathlib.Path("out/incremental/work").read_text() != "of the proof":
+    sys.exit("error: the kept work is of something else")
 if any("broken" in body for body in changed.values()):
     sys.exit("error: it doesn't compile")
 for name, body in bodies.items():
@@ -182,14 +186,15 @@ def try_longest_first(score):
 
 
 def try_line_of_proofs(score):
-    """That all is proved is told while edits are tried."""
+    """That all is proved is told while edits are tried, and what is then built of a crate changes nothing for its edits."""
     with tempfile.TemporaryDirectory() as folder:
-        made = Repository(folder, low={"a": "waits for told"})
+        made = Repository(folder, low={"a": "waits for told", "b": "shy"})
         told = []
         with subprocess.Popen(made.words("--jobs", "1"), env=made.environment, stdout=subprocess.PIPE, text=True) as running:
             for line in running.stdout:
                 told.append(line)
                 if line == "the crates are proved\n":
+                    (made.copy / "crates/low/out/incremental/work").write_text("of the library")
                     (made.state / "told").touch()
         score.check(running.returncode == 0 and "the crates are proved\n" in told, f"the crates are proved: {told}")
 
