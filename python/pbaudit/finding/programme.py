@@ -77,25 +77,28 @@ class Entries:
 
 
 class Variables:
-    """Where the variables stand: the voter budget, the margin, what groups pay, what they have left, and for the stable
-    form what they can offer. Amounts are those of all voters of a group together."""
+    """Where the variables stand: the voter budget, the margin, what groups pay, and what they have left; and for the
+    stable form what those can offer that support a project that is looked at. Amounts are those of all voters of a
+    group together."""
 
     BUDGET, MARGIN = 0, 1
 
-    def __init__(self, groups: Groups, paying: Any, stable: bool):
+    def __init__(self, groups: Groups, paying: Any, offering: Any):
         self.payments = 2 + np.arange(len(paying))
         self.left = 2 + len(paying) + np.arange(len(groups))
-        self.offers = self.left + len(groups) if stable else self.left
-        self.count = 2 + len(paying) + len(groups) * (2 if stable else 1)
+        self.offers = self.left.copy()
+        self.count = 2 + len(paying) + len(groups) + len(offering)
+        self.offers[offering] = np.arange(self.count - len(offering), self.count)
 
 
 def programme_of(problem: Problem, groups: Groups, seen: List[int], need: Need) -> Tuple[Programme, Any, Any]:
     """The programme over merged groups, whose columns are the funded projects and then those that are looked at; and
     the groups and the columns of payments."""
     funded = len(problem.funded)
-    pairs = groups.approvals[:, :funded].tocoo()
+    pairs, approving = (part.tocoo() for part in (groups.approvals[:, :funded], groups.approvals[:, funded:]))
     paying, column = pairs.row.astype(np.int64), pairs.col.astype(np.int64)
-    at = Variables(groups, paying, need.stable)
+    offering = np.unique(approving.row) if need.stable else np.zeros(0, np.int64)
+    at = Variables(groups, paying, offering)
     every = np.arange(len(groups))
     equal = Entries()
     # C2: a group's budgets are what it pays and what it has left.
@@ -106,18 +109,18 @@ def programme_of(problem: Problem, groups: Groups, seen: List[int], need: Need) 
     equal.add(len(groups) + column, at.payments, 1)
     sums = np.concatenate([np.zeros(len(groups)), problem.costs[problem.funded]])
     # C5 or S5, with a margin that is a part of the cost.
-    rows, costs = Entries(), problem.costs[seen]
-    approving = groups.approvals[:, funded:].tocoo()
+    rows, costs, count = Entries(), problem.costs[seen], len(seen)
     rows.add(approving.col, at.offers[approving.row], 1)
-    rows.add(np.arange(len(seen)), at.MARGIN, costs)
-    most, count = costs, len(seen)
-    if need.stable:
-        rows.add(count + every, at.left, 1)
-        rows.add(count + every, at.offers, -1)
-        paid = count + len(groups) + np.arange(len(paying))
-        rows.add(paid, at.payments, 1)
-        rows.add(paid, at.offers[paying], -1)
-        most, count = np.concatenate([costs, np.zeros(len(groups) + len(paying))]), count + len(groups) + len(paying)
+    rows.add(np.arange(count), at.MARGIN, costs)
+    # An offer is what is left, or a payment where that is more.
+    rows.add(count + np.arange(len(offering)), at.left[offering], 1)
+    rows.add(count + np.arange(len(offering)), at.offers[offering], -1)
+    dear = np.flatnonzero(np.isin(paying, offering))
+    count += len(offering)
+    rows.add(count + np.arange(len(dear)), at.payments[dear], 1)
+    rows.add(count + np.arange(len(dear)), at.offers[paying[dear]], -1)
+    count += len(dear)
+    most = np.concatenate([costs, np.zeros(count - len(seen))])
     low, high, objective = np.zeros(at.count), np.full(at.count, np.inf), np.zeros(at.count)
     low[at.BUDGET] = problem.share + COVERED if need.cover else 0.0
     low[at.MARGIN], high[at.MARGIN] = -np.inf, 1.0
