@@ -138,13 +138,19 @@ def by_programme(problem: Problem, need: Need, seen: List[int], solver: Helper, 
         shares, budget, margin = _solved(problem, need, seen, solver, clock)
         if margin < -TOLERANCE:
             raise NoPrices
-        over = excesses(problem, shares, budget, need.stable) + max(margin, 0.0) * problem.costs[problem.unfunded]
-        room = TOLERANCE * (1 + problem.costs[problem.unfunded])
-        worst = [(-float(by), project) for project, by, most in zip(problem.unfunded, over, room)
-                 if by > most and project not in seen]
-        if not worst:
+        more = unseen(problem, need, shares, budget, margin, seen)
+        if not more:
             return shares
-        seen = sorted({*seen, *(project for _, project in sorted(worst)[:max(5, len(problem.unfunded) // 8)])})
+        seen = sorted({*seen, *more})
+
+
+def unseen(problem: Problem, need: Need, shares: Shares, budget: float, margin: float, seen: List[int]) -> List[int]:
+    """The projects to look at besides: those whose margin is less, the worst first."""
+    over = excesses(problem, shares, budget, need.stable) + max(margin, 0.0) * problem.costs[problem.unfunded]
+    room = TOLERANCE * (1 + problem.costs[problem.unfunded])
+    worst = sorted((-float(by), project) for project, by, most in zip(problem.unfunded, over, room)
+                   if by > most and project not in seen)
+    return [project for _, project in worst[:max(5, len(problem.unfunded) // 8)]]
 
 
 def _solved(problem: Problem, need: Need, seen: List[int], solver: Helper, clock: Clock) -> Tuple[Shares, float, float]:
@@ -152,9 +158,13 @@ def _solved(problem: Problem, need: Need, seen: List[int], solver: Helper, clock
     groups = problem.groups.merged([*problem.funded, *seen])
     programme, paying, column = programme_of(problem, groups, seen, need)
     answer = _answer(programme, solver, clock)
-    amounts = np.maximum(answer[2:2 + len(paying)], 0.0) / groups.sizes[paying]
-    funded = np.array(problem.funded, np.int64)
-    return Shares(groups, paying, funded[column], amounts), float(answer[0]), float(answer[1])
+    return shares_of(problem, groups, answer, paying, column), float(answer[0]), float(answer[1])
+
+
+def shares_of(problem: Problem, groups: Groups, values: Any, paying: Any, column: Any) -> Shares:
+    """The payments that these values of the variables are."""
+    amounts = np.maximum(values[2:2 + len(paying)], 0.0) / groups.sizes[paying]
+    return Shares(groups, paying, np.array(problem.funded, np.int64)[column], amounts)
 
 
 def _answer(programme: Programme, solver: Helper, clock: Clock) -> Any:
