@@ -135,6 +135,17 @@ class Found(Commands):
             if PROGRAM.exists():
                 subprocess.run([PROGRAM, *shlex.split(line)], check=True, stdout=subprocess.DEVNULL, cwd=self.room)
 
+    def test_where_files_lie(self):
+        """Beside the election; but where that is no regular file, in the current folder."""
+        os.mkdir(self.room / "towns")
+        self.put("towns/town.pb", TIE)
+        self.run_find("towns/town.pb", "--prices")
+        self.assertEqual(sorted(self.files("towns")), ["town.pb", "town.prices.csv"])
+        done = subprocess.run(words_of("/dev/stdin", "--prices"), input=TIE.file(), cwd=self.room, capture_output=True,
+                              check=True)
+        self.assertEqual(done.stdout.splitlines()[0], b"stdin.prices.csv: supported priceable")
+        self.assertEqual(list(self.files()), ["stdin.prices.csv"])
+
     def test_nothing_found(self):
         done = self.run_find(self.put("town.pb", PASSED_OVER), "--prices", status=1)
         self.assertIn("No prices were found: ", done.stdout)

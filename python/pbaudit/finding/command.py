@@ -71,7 +71,7 @@ def _seconds(text: str) -> float:
 def answer(given: argparse.Namespace) -> Answer:
     """Looks for certificates of one election, and writes them. Raises Refusal, OSError where a file can't be read,
     MemoryError and ImportError."""
-    stem = stem_of(given.election, given.output or os.path.dirname(given.election))
+    stem = stem_of(given.election, given.output)
     _check_paths(given, stem)
     found = Found()
     is_stopped = _search(found, given)

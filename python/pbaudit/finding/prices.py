@@ -7,6 +7,7 @@ from dataclasses import dataclass
 from fractions import Fraction
 from typing import Iterator, Optional, Tuple
 
+from ..amounts import common_denominator
 from ..auditing import audit_prices
 from ..certificates import DENOMINATORS, certified
 from ..rounding import CannotKeep
@@ -53,49 +54,48 @@ def _found(given: Given, stable: bool, covered: bool, solver: Helper,
            clock: Clock) -> Tuple[Optional[FoundPrices], str]:
     problem, with_cover, without = given.problem, Need(stable, True), Need(stable, False)
     shares, failed = by_water(problem, with_cover, clock)
-    found = shares and _exact(given, shares, with_cover)
+    found = shares and _exact(given, shares, with_cover, clock)
     if found or covered:
-        found = found or _exact(given, by_programme(problem, with_cover, failed, solver, clock), with_cover)
+        found = found or _exact(given, by_programme(problem, with_cover, failed, solver, clock), with_cover, clock)
         return found, "" if found else ROUNDING
     # Where there are none without Cover there are none with it.
     shares, failed = by_water(problem, without, clock)
-    spare = shares and _exact(given, shares, without)
+    spare = shares and _exact(given, shares, without, clock)
     if not spare:
         shares = by_programme(problem, without, failed, solver, clock)
-        found = _exact(given, shares, with_cover)
-        spare = None if found else _exact(given, shares, without)
+        found = _exact(given, shares, with_cover, clock)
+        spare = None if found else _exact(given, shares, without, clock)
     try:
-        found = found or _exact(given, by_programme(problem, with_cover, failed, solver, clock), with_cover)
+        found = found or _exact(given, by_programme(problem, with_cover, failed, solver, clock), with_cover, clock)
     except (NoPrices, OutOfTime, Unsolved):
         pass
     return found or spare, "" if found or spare else ROUNDING
 
 
-def _exact(given: Given, shares: Shares, need: Need) -> Optional[FoundPrices]:
-    """A certificate near these payments that the auditor accepts, or None."""
+def _exact(given: Given, shares: Shares, need: Need, clock: Clock) -> Optional[FoundPrices]:
+    """A certificate near these payments that the auditor accepts, or None. One is tried even where time is over."""
+    clock.tell(f"{need}: rounding")
     payments = Payments(payments_of(given.problem, shares))
-    unit = _unit(given.problem)
+    unit = common_denominator(given.problem.town.costs[project] for project in given.problem.funded)
     for budget in _voter_budgets(given.problem, shares, need):
+        # A finer denominator may keep Cover where the first that keeps all else doesn't.
         for wanted in (None, *(-(-each // unit) * unit for each in DENOMINATORS[1:-1])):
-            try:
-                made = certified(given.problem.town, given.projects, budget, payments, need.stable, given.exhaustive,
-                                 wanted)
-            except CannotKeep:
-                continue
-            verdict = audit_prices(given.election, made.file, given.outcome, stable=need.stable,
-                                   exhaustive=given.exhaustive, cover=need.cover)
-            if verdict:
-                return FoundPrices(made, verdict, need.stable, given.exhaustive, need.cover)
+            found = _rounded(given, payments, budget, wanted, need)
+            if found or not clock.left():
+                return found
     return None
 
 
-def _unit(problem: Problem) -> int:
-    """What a denominator has to be a multiple of, so that funded projects can be paid for exactly."""
-    unit = 1
-    for project in problem.funded:
-        part = problem.town.costs[project].denominator
-        unit = max(unit, part) if not unit % part or not part % unit else unit * part
-    return unit
+def _rounded(given: Given, payments: Payments, budget: Optional[Fraction], denominator: Optional[int],
+             need: Need) -> Optional[FoundPrices]:
+    town = given.problem.town
+    try:
+        made = certified(town, given.projects, budget, payments, need.stable, given.exhaustive, denominator)
+    except CannotKeep:
+        return None
+    verdict = audit_prices(given.election, made.file, given.outcome, stable=need.stable, exhaustive=given.exhaustive,
+                           cover=need.cover)
+    return FoundPrices(made, verdict, need.stable, given.exhaustive, need.cover) if verdict else None
 
 
 def _voter_budgets(problem: Problem, shares: Shares, need: Need) -> Iterator[Optional[Fraction]]:

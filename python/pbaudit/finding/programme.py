@@ -77,25 +77,28 @@ class Entries:
 
 
 class Variables:
-    """Where the variables stand: the voter budget, the margin, what groups pay, what they have left, and for the stable
-    form what they can offer. Amounts are those of all voters of a group together."""
+    """Where the variables stand: the voter budget, the margin, what groups pay, and what they have left; and for the
+    stable form what those can offer that support a project that is looked at. Amounts are those of all voters of a
+    group together."""
 
     BUDGET, MARGIN = 0, 1
 
-    def __init__(self, groups: Groups, paying: Any, stable: bool):
+    def __init__(self, groups: Groups, paying: Any, offering: Any):
         self.payments = 2 + np.arange(len(paying))
         self.left = 2 + len(paying) + np.arange(len(groups))
-        self.offers = self.left + len(groups) if stable else self.left
-        self.count = 2 + len(paying) + len(groups) * (2 if stable else 1)
+        self.offers = self.left.copy()
+        self.count = 2 + len(paying) + len(groups) + len(offering)
+        self.offers[offering] = np.arange(self.count - len(offering), self.count)
 
 
 def programme_of(problem: Problem, groups: Groups, seen: List[int], need: Need) -> Tuple[Programme, Any, Any]:
     """The programme over merged groups, whose columns are the funded projects and then those that are looked at; and
     the groups and the columns of payments."""
     funded = len(problem.funded)
-    pairs = groups.approvals[:, :funded].tocoo()
+    pairs, approving = (part.tocoo() for part in (groups.approvals[:, :funded], groups.approvals[:, funded:]))
     paying, column = pairs.row.astype(np.int64), pairs.col.astype(np.int64)
-    at = Variables(groups, paying, need.stable)
+    offering = np.unique(approving.row) if need.stable else np.zeros(0, np.int64)
+    at = Variables(groups, paying, offering)
     every = np.arange(len(groups))
     equal = Entries()
     # C2: a group's budgets are what it pays and what it has left.
@@ -106,18 +109,18 @@ def programme_of(problem: Problem, groups: Groups, seen: List[int], need: Need) 
     equal.add(len(groups) + column, at.payments, 1)
     sums = np.concatenate([np.zeros(len(groups)), problem.costs[problem.funded]])
     # C5 or S5, with a margin that is a part of the cost.
-    rows, costs = Entries(), problem.costs[seen]
-    approving = groups.approvals[:, funded:].tocoo()
+    rows, costs, count = Entries(), problem.costs[seen], len(seen)
     rows.add(approving.col, at.offers[approving.row], 1)
-    rows.add(np.arange(len(seen)), at.MARGIN, costs)
-    most, count = costs, len(seen)
-    if need.stable:
-        rows.add(count + every, at.left, 1)
-        rows.add(count + every, at.offers, -1)
-        paid = count + len(groups) + np.arange(len(paying))
-        rows.add(paid, at.payments, 1)
-        rows.add(paid, at.offers[paying], -1)
-        most, count = np.concatenate([costs, np.zeros(len(groups) + len(paying))]), count + len(groups) + len(paying)
+    rows.add(np.arange(count), at.MARGIN, costs)
+    # An offer is what is left, or a payment where that is more.
+    rows.add(count + np.arange(len(offering)), at.left[offering], 1)
+    rows.add(count + np.arange(len(offering)), at.offers[offering], -1)
+    dear = np.flatnonzero(np.isin(paying, offering))
+    count += len(offering)
+    rows.add(count + np.arange(len(dear)), at.payments[dear], 1)
+    rows.add(count + np.arange(len(dear)), at.offers[paying[dear]], -1)
+    count += len(dear)
+    most = np.concatenate([costs, np.zeros(count - len(seen))])
     low, high, objective = np.zeros(at.count), np.full(at.count, np.inf), np.zeros(at.count)
     low[at.BUDGET] = problem.share + COVERED if need.cover else 0.0
     low[at.MARGIN], high[at.MARGIN] = -np.inf, 1.0
@@ -135,13 +138,19 @@ def by_programme(problem: Problem, need: Need, seen: List[int], solver: Helper, 
         shares, budget, margin = _solved(problem, need, seen, solver, clock)
         if margin < -TOLERANCE:
             raise NoPrices
-        over = excesses(problem, shares, budget, need.stable) + max(margin, 0.0) * problem.costs[problem.unfunded]
-        room = TOLERANCE * (1 + problem.costs[problem.unfunded])
-        worst = [(-float(by), project) for project, by, most in zip(problem.unfunded, over, room)
-                 if by > most and project not in seen]
-        if not worst:
+        more = unseen(problem, need, shares, budget, margin, seen)
+        if not more:
             return shares
-        seen = sorted({*seen, *(project for _, project in sorted(worst)[:max(5, len(problem.unfunded) // 8)])})
+        seen = sorted({*seen, *more})
+
+
+def unseen(problem: Problem, need: Need, shares: Shares, budget: float, margin: float, seen: List[int]) -> List[int]:
+    """The projects to look at besides: those whose margin is less, the worst first."""
+    over = excesses(problem, shares, budget, need.stable) + max(margin, 0.0) * problem.costs[problem.unfunded]
+    room = TOLERANCE * (1 + problem.costs[problem.unfunded])
+    worst = sorted((-float(by), project) for project, by, most in zip(problem.unfunded, over, room)
+                   if by > most and project not in seen)
+    return [project for _, project in worst[:max(5, len(problem.unfunded) // 8)]]
 
 
 def _solved(problem: Problem, need: Need, seen: List[int], solver: Helper, clock: Clock) -> Tuple[Shares, float, float]:
@@ -149,9 +158,13 @@ def _solved(problem: Problem, need: Need, seen: List[int], solver: Helper, clock
     groups = problem.groups.merged([*problem.funded, *seen])
     programme, paying, column = programme_of(problem, groups, seen, need)
     answer = _answer(programme, solver, clock)
-    amounts = np.maximum(answer[2:2 + len(paying)], 0.0) / groups.sizes[paying]
-    funded = np.array(problem.funded, np.int64)
-    return Shares(groups, paying, funded[column], amounts), float(answer[0]), float(answer[1])
+    return shares_of(problem, groups, answer, paying, column), float(answer[0]), float(answer[1])
+
+
+def shares_of(problem: Problem, groups: Groups, values: Any, paying: Any, column: Any) -> Shares:
+    """The payments that these values of the variables are."""
+    amounts = np.maximum(values[2:2 + len(paying)], 0.0) / groups.sizes[paying]
+    return Shares(groups, paying, np.array(problem.funded, np.int64)[column], amounts)
 
 
 def _answer(programme: Programme, solver: Helper, clock: Clock) -> Any:

@@ -1,7 +1,7 @@
 """The files that a search writes: `NAME.prices.csv`, and `NAME.violation.csv`; where there is a violation by each
 measure, the one by cost is `NAME.cost.violation.csv`."""
 import os
-from typing import List, Tuple
+from typing import List, Optional, Tuple
 
 from ..auditing import Verdict
 from .results import Found
@@ -9,9 +9,12 @@ from .results import Found
 PRICES, VIOLATION, BY_COST = ".prices.csv", ".violation.csv", ".cost.violation.csv"
 
 
-def stem_of(election: str, folder: str) -> str:
-    """The paths of what is found begin with this."""
+def stem_of(election: str, folder: Optional[str]) -> str:
+    """The paths of what is found begin with this: those of files in this folder; without one, in that of the election,
+    or in the current one where the election is no regular file."""
     name = os.path.basename(election)
+    if folder is None:
+        folder = os.path.dirname(election) if os.path.isfile(election) else ""
     return os.path.join(folder, name[:-3] if name.endswith(".pb") and name != ".pb" else name)
 
 
