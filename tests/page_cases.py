@@ -11,7 +11,9 @@ WORDS = [
     "Park", "Sprachcafé für Neuzugezogene", "Plac zabaw „Pod Lipą”", "Radbügel; 24 Stück", "a", "<b>bold</b>", "&lt;",
     "\"><script>document.title='x'</script>", "{project}", "{", "%s", "\u202eevil", "a\u200bb", "tab\tinside", "\u00a0",
     "z" * 80, "z" * 81, "ź" * 2000, "ź" * 2001, "e\u0301", "🌳", "', '", "-", "0", "</bdi></th>", "Yes", "\\u{202e}",
-    "line\nbreak", "''", "« guillemets »", "x" * 79 + "\u202e",
+    "line\nbreak", "''", "« guillemets »", "x" * 79 + "\u202e", "\u3000", "a\u2800b", "\ufe0f", "s\u00adoft", "\u115f",
+    "\U000e0041", "क\u094d\u200dष", "می\u200cخواهم", "👩\u200d👧", "a\u200db", "a\u200cb", "ا\u200cب", "❤\ufe0f\u200d🔥",
+    "\u200d", "क\u094d\u200d", "👩🏽\u200d🌾",
 ]  # fmt: skip
 FACTS = {
     "description": WORDS, "unit": ["Warszawa", *WORDS], "district": ["Mitte", *WORDS],
@@ -23,7 +25,8 @@ FACTS = {
 COLUMNS = [b"project_id", b"cost", b"selected", b"name"]
 # Names of files: some need quotes in a command, and some can't stand in one.
 TOWNS = [
-    "town.pb", "a town.pb", "it's.pb", "-town.pb", "ü.pb", "$(touch x).pb", "x;y.pb", "a" * 90 + ".pb", "--.pb", "q\".pb",
+    "town.pb", "a town.pb", "it's.pb", "-town.pb", "ü.pb", "$(touch x).pb", "x;y.pb", "a" * 90 + ".pb", "--.pb",
+    "q\".pb", "👩\u200d👧.pb",
 ]  # fmt: skip
 CLAIMS = [
     "claim.csv", "; touch PWNED #.csv", "'.csv", "-c.csv", "a_B-9.csv", "b" * 81 + ".csv", "`id`.csv", "z" * 255,
