@@ -70,6 +70,35 @@ ends 3 nothing some page sample.pb sample.prices.csv --language xx
 ends 4 full 'fault write' read sample.pb
 ends 4 full 'fault write' folder .
 
+# A school that all 100 want costs 90,000, and of the limit, 100,000, a bench for 10 of them was bought. Voter budgets of 10
+# come to 1,000, so that little can be said against it, and the yes has a note; not where the limit is 1,000 as well.
+{
+  printf 'META\nkey;value\nbudget;100000\nvote_type;approval\nPROJECTS\nproject_id;cost;selected\n'
+  printf 'bench;100;1\nschool;90000;0\nVOTES\nvoter_id;vote\n'
+  for voter in {1..10}; do printf '%s;bench,school\n' "$voter"; done
+  for voter in {11..100}; do printf '%s;school\n' "$voter"; done
+} > "$work/town.pb"
+sed 's/^budget;.*/budget;1000/' "$work/town.pb" > "$work/poor.pb"
+{
+  printf 'pb-prices,1\ndenominator,1\nvoter_budget,10\nvoter,project,payment\n'
+  for voter in {1..10}; do printf '%s,bench,10\n' "$voter"; done
+} > "$work/bench.csv"
+{
+  printf 'pb-violation,1\nproject,school\n'
+  for voter in {11..100}; do printf 'voter,%s\n' "$voter"; done
+} > "$work/school.csv"
+note="$work/town.pb: note: the voter budgets together are less than the limit, so this yes says little"
+ends 0 'supported priceable' "$note" prices "$work/town.pb" "$work/bench.csv" --no-exhaustive
+ends 0 'supported stable' "$note" prices "$work/town.pb" "$work/bench.csv" --no-exhaustive --stable
+ends 0 some "$note" explain "$work/town.pb" "$work/bench.csv" --no-exhaustive
+ends 0 some "$note" both "$work/town.pb" "$work/bench.csv" "$work/school.csv" --no-exhaustive --stable
+ends 1 'failed Exhaustive project school' nothing prices "$work/town.pb" "$work/bench.csv"
+ends 1 'failed Cover' nothing prices "$work/town.pb" "$work/bench.csv" --no-exhaustive --cover
+ends 0 violation nothing violation "$work/town.pb" "$work/school.csv"
+ends 0 some nothing margins "$work/town.pb" "$work/bench.csv"
+ends 0 'supported priceable' nothing prices "$work/poor.pb" "$work/bench.csv" --no-exhaustive
+ends 0 some nothing explain "$work/poor.pb" "$work/bench.csv"
+
 # Files that never end, and that give an error once they are open.
 long='the file has more than 268,435,456 bytes (2^28)'
 ends 2 'refused election 19 TooLong record 0' "/dev/zero: $long" read /dev/zero

@@ -45,6 +45,9 @@ class Browser:
     def go(self, url):
         self.command("Navigate", {"url": url})
 
+    def back(self):
+        self.command("Back", {})
+
     def ask(self, script, *words):
         """What a script answers; one that answers a promise is waited for."""
         return self.command("ExecuteScript", {"script": script, "args": list(words)})
@@ -89,7 +92,8 @@ class Chromium(Browser):
 
     name = "Chromium"
     PATHS = {
-        "Navigate": ("POST", "/url"), "ExecuteScript": ("POST", "/execute/sync"), "FindElement": ("POST", "/element"),
+        "Navigate": ("POST", "/url"), "Back": ("POST", "/back"),
+        "ExecuteScript": ("POST", "/execute/sync"), "FindElement": ("POST", "/element"),
         "ElementClick": ("POST", "/element/{id}/click"), "ElementSendKeys": ("POST", "/element/{id}/value"),
         "SetWindowRect": ("POST", "/window/rect"), "TakeScreenshot": ("GET", "/screenshot"),
         "PerformActions": ("POST", "/actions"), "GetComputedRole": ("GET", "/element/{id}/computedrole"),

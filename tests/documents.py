@@ -13,7 +13,7 @@ from pathlib import Path
 
 TOP = Path(__file__).resolve().parent.parent
 LENGTHS = {"README.md": 150, "docs/STATEMENT.md": 400}
-SAID = {"docs/COUNCILS.md": ["crates/pb_page/src/wording/en.rt", "crates/pb_page/src/headlines.rt"]}
+SAID = {"docs/COUNCILS.md": ["crates/pb_words/src/wording/en.rt", "crates/pb_words/src/headlines.rt"]}
 FOLDERS = "bench|crates|docs|examples|include|packaging|python|tests|web"
 
 

@@ -194,7 +194,7 @@ def is_refused(words, how, told, said, ordinary):
         (name, path), opens = inputs[index], index + 1
     else:
         name, path, opens = "election", "standard input", 0
-    notes = b"".join(line for line in ordinary.errors.splitlines(keepends=True) if b": note: " in line)
+    notes = b"".join(line for line in ordinary.errors.splitlines(keepends=True) if re.search(b": note: (num|sel)", line))
     hint = f"{path}: {os.strerror(int(how))}\n".encode()
     errors = hint if name == "election" else notes + hint
     return said == Said(refused(name).encode() + b"\n", errors, 2) and told.opens == opens

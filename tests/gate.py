@@ -1,15 +1,18 @@
 #!/usr/bin/env python3
 """Tries the scripts of .ci/ with stand-ins for what they call: which packages are installed, and what is said where that
-can't be done; that a part which fails ends the gate, and that it tells what its parts left out.
+can't be done; that a part which fails ends the gate, and that it tells what its parts left out; and the whole gate, each
+of whose parts stands in by a script that proves and tries nothing.
 
 The last line is 'N passed, M failed'.
 """
 import os
 import pathlib
 import shutil
+import re
 import subprocess
 import sys
 import tempfile
+import time
 
 TOP = pathlib.Path(__file__).resolve().parent.parent
 # What .ci/packages calls beside the stand-ins.
@@ -144,15 +147,91 @@ def check_parts():
     for name, (does, is_well, lines) in GATES.items():
         with tempfile.TemporaryDirectory() as folder:
             words = ["bash", "-c", PARTS + does, "gate", folder, TOP]
-            ran = subprocess.run(words, capture_output=True, text=True, timeout=60)
+            ran = subprocess.run(words, capture_output=True, text=True, timeout=300)
         said = ran.stdout.splitlines()
         wrong = [it for it in lines if (it.removeprefix("!") in said) == it.startswith("!")]
         right = (ran.returncode == 0) == is_well and not wrong
         yield "" if right else f"parts, {name}: status {ran.returncode}, {wrong}, said {ran.stdout + ran.stderr!r}"
 
 
+# What stands in for a part. It notes that it begins, and fails if it is the one that is to fail. The edits end once a test of
+# the library has begun. Where all edits were refused before, they end at once.
+STAND_IN = """#!/usr/bin/env bash
+name=$(basename "$0") folder=${2:-}
+echo "$name" >> "$NOTES"
+case $name in
+  pbaudit-web) [ "$FAILS" != binaryen ] || { echo 'pbaudit-web: wasm-opt is missing' >&2; exit 69; } ;;
+  bare.py) echo 'lintian was not run: it is not installed' ;;
+esac
+[ "$FAILS" != "$name" ] || { echo '1 passed, 1 failed'; exit 1; }
+case $name in
+  rt) mkdir -p crates/pbaudit/out; touch crates/pbaudit/out/pbaudit; [ "$FAILS" = object ] || touch crates/pbaudit/out/pbaudit.o ;;
+  edits.py) [ "$FAILS" = kept ] || { echo 'the crates are proved'; until grep -qx library.py "$NOTES"; do sleep 0.1; done; } ;;
+  pbaudit) mkdir -p "$(dirname "$0")/crates/pbaudit/out"; touch "$(dirname "$0")/crates/pbaudit/out/pbaudit.o" ;;
+  pbaudit-web) mkdir -p "$1"; touch "$1/pbaudit.html" ;;
+esac
+echo '1 passed, 0 failed'
+"""
+# The parts of the gate, as often as each is run.
+BUILDERS = ["packages", "rt", "edits.py", "pbaudit-library", "pbaudit-web", "release"]
+PARTS_RUN = [
+    *BUILDERS, "statement.py", "documents.py", "sentences.py", "lemmas.py", "scripts.py", "gate.py", "try_edits.py", "limits.py",
+    "compare.py", "failing.py", "check.sh", "check.sh", "tour.sh", "launcher.sh", "web.py", "library.py", "python.sh",
+    "browser.py", "install.py", "release.py", "bare.py",
+]  # fmt: skip
+
+
+def whole_gate(folder, fails):
+    """Runs the gate with stand-ins, of which one fails: its status, what it says, and which parts were begun."""
+    folder = pathlib.Path(folder)
+    top, notes = folder / "top", folder / "notes"
+    places = {"rt": "../tools", "packages": ".ci", "release": "packaging", "check.sh": "examples", "tour.sh": "docs"}
+    for name in {*PARTS_RUN, "pbaudit"}:
+        place = top / places.get(name, "." if name.startswith("pbaudit") else "tests")
+        place.mkdir(parents=True, exist_ok=True)
+        (place / name).write_text(STAND_IN)
+        (place / name).chmod(0o755)
+    for name in ("run", "parts"):
+        shutil.copy(TOP / ".ci" / name, top / ".ci")
+    environment = {**os.environ, "PATH": f"{folder}/tools:{os.environ['PATH']}", "NOTES": str(notes), "FAILS": fails}
+    ran = subprocess.run([top / ".ci/run"], env={**environment, "TMPDIR": str(folder)}, capture_output=True, text=True, timeout=300)
+    return ran.returncode, ran.stdout + ran.stderr, sorted(notes.read_text().split())
+
+
+def is_left(folder):
+    """Whether a process is left that was started from a folder."""
+    for file in pathlib.Path("/proc").glob("[0-9]*/cmdline"):
+        try:
+            if str(folder).encode() in file.read_bytes():
+                return True
+        except OSError:
+            pass
+    return False
+
+
+def check_whole():
+    """What is wrong with the gate as a whole, or nothing: it runs each part, and fails where one does."""
+    for fails in ["nothing", "binaryen", "object", "kept", *sorted({*PARTS_RUN})]:
+        with tempfile.TemporaryDirectory() as folder:
+            status, said, begun = whole_gate(folder, fails)
+            deadline = time.monotonic() + 60
+            while is_left(folder) and time.monotonic() < deadline:
+                time.sleep(0.1)
+            left = is_left(folder)
+        wanted = sorted([*PARTS_RUN, *(["pbaudit"] if fails == "object" else [])])
+        wanted = [it for it in wanted if not (fails == "binaryen" and it == "web.py")]
+        if fails in PARTS_RUN:
+            right = status != 0 and fails in begun and "How long" not in said
+        else:
+            lines = ["What was left out:", "  lintian was not run: it is not installed"]
+            lines += ["  tests/web.py was not run: pbaudit-web: wasm-opt is missing"] * (fails == "binaryen")
+            times = re.findall(r"(?m)^ +[0-9]+:[0-9]{2}  (.*)$", said)
+            right = status == 0 and begun == wanted and {*lines} <= {*said.splitlines()} and {"rt ci", "edits", "built"} <= {*times}
+        yield "" if right and not left else f"the gate, {fails} fails: status {status}, left {left}, {begun}\n{said}"
+
+
 def main():
-    told = [*check_packages(), *check_parts()]
+    told = [*check_packages(), *check_parts(), *check_whole()]
     failed = [it for it in told if it]
     print(*failed, sep="\n", end="\n" if failed else "")
     print(f"{len(told) - len(failed)} passed, {len(failed)} failed")

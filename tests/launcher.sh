@@ -149,7 +149,7 @@ built_below 'nothing is built on what failed' pb_money
 rm -f "$log.below"
 wants 'the first call builds' 7 1 'pbaudit: proving pb_run' build read 'a b' '' '*' -- -x $'two\nlines'
 built_below 'each crate below is built once' pb_audit pb_certificate pb_cohesion pb_command pb_election pb_explain \
-  pb_hints pb_money pb_page pb_price pb_records pb_reply pb_run pb_visible
+  pb_figures pb_hints pb_markup pb_money pb_page pb_price pb_records pb_reply pb_run pb_visible pb_words
 isnt_there 'a first build leaves its rooms behind' "$copy/out"
 rm "$log.below"
 wants 'the second call does not build' 7 0 nothing build read town.pb

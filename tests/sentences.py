@@ -1,8 +1,8 @@
 #!/usr/bin/env python3
 """Compares the sentences of the page in its languages: that each has the placeholders of the English one, and is used.
 
-That each language has each sentence is seen by the compiler. The sentences are read from crates/pb_page/src/wording, and
-the placeholders, in braces, are those that the parts of the page fill.
+That each language has each sentence is seen by the compiler. The sentences are read from crates/pb_words/src/wording, and
+the placeholders, in braces, are those that the parts of the page, in crates/pb_page, fill.
 
 usage: tests/sentences.py
 """
@@ -12,7 +12,8 @@ import sys
 
 from score import Score
 
-SOURCE = pathlib.Path(__file__).resolve().parent.parent / "crates" / "pb_page" / "src"
+CRATES = pathlib.Path(__file__).resolve().parent.parent / "crates"
+WORDS, PAGE = CRATES / "pb_words" / "src", CRATES / "pb_page" / "src"
 LANGUAGES = ("en", "pl", "de", "fr")
 ARM = re.compile(r'Sentence::(\w+)(\([^)]*\))? =>\s*"((?:[^"\\]|\\.)*)"', re.DOTALL)
 PLACEHOLDER = re.compile(r"(?<!\\u)\{(\w+)\}")
@@ -20,7 +21,7 @@ PLACEHOLDER = re.compile(r"(?<!\\u)\{(\w+)\}")
 
 def sentences(language):
     """The sentences of a language, each with its name and the form for a number of things."""
-    text = (SOURCE / "wording" / f"{language}.rt").read_text(encoding="utf-8")
+    text = (WORDS / "wording" / f"{language}.rt").read_text(encoding="utf-8")
     return [(name, form or "", words) for name, form, words in ARM.findall(text)]
 
 
@@ -39,7 +40,7 @@ def main():
             score.check(words.strip() and "  " not in re.sub(r"\\\n\s*", "", words), f"{language}: {name}{form}: {words!r}")
             braces = PLACEHOLDER.sub("", re.sub(r"\\u\{\w+\}", "", words))
             score.check("{" not in braces and "}" not in braces, f"{language}: a brace is left in {name}{form}")
-    parts = "".join(path.read_text(encoding="utf-8") for path in SOURCE.rglob("*.rt") if "wording" not in path.parts)
+    parts = "".join(path.read_text(encoding="utf-8") for path in PAGE.rglob("*.rt"))
     filled = set(re.findall(r'"(\w+)"', parts))
     for name, names in wanted.items():
         score.check(len(re.findall(rf"Sentence::{name}\b", parts)) > 0, f"{name} isn't used")

@@ -26,7 +26,7 @@ import os, pathlib, re, sys, time
 state, crate = pathlib.Path(os.environ["STATE"]), pathlib.Path.cwd().name
 
 def wait(holds):
-    for _ in range(300):
+    for _ in range(1200):
         if holds():
             return True
         time.sleep(0.1)
@@ -105,7 +105,7 @@ class Repository:
     def run(self, *words):
         """The status, what is said, and the calls of rt since the last run."""
         (self.state / "calls").write_text("")
-        ran = subprocess.run(self.words(*words), env=self.environment, capture_output=True, text=True, timeout=100)
+        ran = subprocess.run(self.words(*words), env=self.environment, capture_output=True, text=True, timeout=300)
         return ran.returncode, ran.stdout + ran.stderr, (self.state / "calls").read_text().splitlines()
 
 
@@ -194,16 +194,19 @@ def try_line_of_proofs(score):
         score.check(running.returncode == 0 and "the crates are proved\n" in told, f"the crates are proved: {told}")
 
 
-def most_at_once(count, memory):
-    """How many of six calls go on at once, in so many lanes, with so much memory."""
-    lanes, lock, now, most = edits.Lanes(count, lambda: memory), threading.Lock(), [], []
+def most_at_once(count, memory, wanted):
+    """How many of six calls go on at once, in so many lanes, with so much memory. Each goes on until as many as are wanted
+    have been at it together, and a little longer, so that more would be seen."""
+    lanes, change, now, most = edits.Lanes(count, lambda: memory), threading.Condition(), [], []
 
     def call(number):
-        with lock:
+        with change:
             now.append(number)
             most.append(len(now))
-        time.sleep(0.2)
-        with lock:
+            change.notify_all()
+            change.wait_for(lambda: max(most) >= wanted, 60)
+        time.sleep(0.1)
+        with change:
             now.remove(number)
 
     for number in range(6):
@@ -213,10 +216,10 @@ def most_at_once(count, memory):
 
 
 def try_memory(score):
-    score.same(1, most_at_once(4, 0), "one goes on where no memory is left")
-    score.same(1, most_at_once(4, edits.ROOM), "a second needs room beside one that has just begun")
-    score.same(2, most_at_once(4, 2 * edits.ROOM), "room for a second")
-    score.same(3, most_at_once(3, 100 * edits.ROOM), "as many as there are lanes")
+    score.same(1, most_at_once(4, 0, 1), "one goes on where no memory is left")
+    score.same(1, most_at_once(4, edits.ROOM, 1), "a second needs room beside one that has just begun")
+    score.same(2, most_at_once(4, 2 * edits.ROOM, 2), "room for a second")
+    score.same(3, most_at_once(3, 100 * edits.ROOM, 3), "as many as there are lanes")
     score.check(edits.free_memory() > 2**20, "the memory that is left")
     lanes = edits.Lanes(1, edits.free_memory)
     lanes.add(1, int, "no number")

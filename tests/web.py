@@ -22,6 +22,7 @@ import assemble  # noqa: E402
 import browsers  # noqa: E402
 import web_cases  # noqa: E402
 import web_pages  # noqa: E402
+import web_trust  # noqa: E402
 from score import Score  # noqa: E402
 
 
@@ -85,6 +86,7 @@ def main():
     score = Score()
     if shutil.which("node"):
         check_sources(score)
+        web_trust.check_scripts(score)
         web_cases.compare(score, page, program, given.cases, given.seed)
         web_cases.starve(score, page)
     else:

@@ -11,7 +11,10 @@ import threading
 import traceback
 
 import browsers
+import web_boxes
+import web_given
 import web_reach
+import web_trust
 import web_variants
 
 TOP = pathlib.Path(__file__).resolve().parent.parent
@@ -132,6 +135,11 @@ const choice = document.querySelector(arguments[0]);
 choice.selectedIndex = [...choice.options].findIndex(option => option.textContent === arguments[1]);
 choice.dispatchEvent(new Event('change'));
 """
+SPEAK = """
+const choice = document.querySelector('#language');
+choice.value = arguments[0];
+choice.dispatchEvent(new Event('change'));
+"""
 LOOKS = {"too wide": TOO_WIDE, "faint": FAINT, "without a name": UNNAMED, "out of reach": FOCUSABLE}
 
 
@@ -186,6 +194,10 @@ class Visit:
     def choose(self, selector, word):
         """Chooses a word of a list."""
         self.browser.ask(CHOOSE, selector, word)
+
+    def speak(self, code):
+        """Chooses a language."""
+        self.browser.ask(SPEAK, code)
 
     def shown(self):
         """The page in the frame, in which attributes of style go by another name."""
@@ -398,7 +410,8 @@ def try_corrected(visit):
     visit.same([("Yes", "supported priceable"), "one.pb"], claimed(2), "the chosen election, corrected again")
     visit.browser.click("[aria-label='Remove one.pb']")
     found = [(name, word) for name, word, _ in visit.answers(2)]
-    visit.same([("claim.csv", "\u2013"), ("two.pb", "Read")], found, "the chosen election is removed, and no other taken")
+    wanted = [("claim.csv", "\u2013"), ("two.pb", "Read")]
+    visit.same(wanted, found, "the chosen election is removed, and no other taken")
 
 
 def try_corrected_outcome(visit):
@@ -857,34 +870,27 @@ def try_looks(visit, pictures):
             visit.answers(1)
 
 
-SPEAK = """
-const choice = document.querySelector('#language');
-choice.value = arguments[0];
-choice.dispatchEvent(new Event('change'));
-"""
-
-
 def try_languages(visit):
     """Each language of the page, and the answer in it."""
     visit.open()
     visit.give(EXAMPLES / "sample.pb", EXAMPLES / "sample.prices.csv")
     visit.answers(1)
     for code, head in HEADS.items():
-        visit.browser.ask(SPEAK, code)
+        visit.speak(code)
         visit.answers(1)
         visit.same(head, visit.text("h1"), f"the head in {code}")
         wanted = visit.says("page", "sample.pb", "sample.prices.csv", "--language", code)
         visit.same(wanted, visit.shown(), f"the answer in {code}")
         visit.same([], visit.browser.ask(WORDLESS), f"words that {code} lacks")
-    visit.browser.ask(SPEAK, "en")
+    visit.speak("en")
     visit.give(EXAMPLES / "district.pb", EXAMPLES / "district.voter-id.violation.csv")
     visit.answers(2)
-    visit.browser.ask(SPEAK, "fr")
+    visit.speak("fr")
     visit.answers(2)
     wanted = visit.says("page", "sample.pb", "sample.prices.csv", "--language", "fr")
     visit.same(wanted, visit.shown(), "the answer that was shown, of several")
     visit.browser.click("[aria-label='Montrer la réponse sur district.voter-id.violation.csv']")
-    visit.browser.ask(SPEAK, "de")
+    visit.speak("de")
     told = visit.browser.ask("return document.querySelector('#refusal').innerText")
     visit.holds("enthält einen Fehler" in told, f"a refusal that was shown: {told}")
 
@@ -923,9 +929,13 @@ def tests(page, server, downloads, pictures):
         try_answers, try_frame, try_drops, try_folder_drop, try_choices, try_corrected, try_corrected_outcome,
         try_replacing, try_refusal, try_folder, try_hostile_names, try_many, try_stop, try_bad_files, try_languages,
         try_totals, try_unused, try_no_kind, try_no_certificate, try_names_of_files, try_changes_while_busy,
-        try_printing, web_reach.try_names,
+        try_printing, web_reach.try_names, web_boxes.try_restored, web_boxes.try_boxes, web_boxes.try_example,
+        web_trust.try_no_webassembly, web_trust.try_stop_of_silence, *web_given.TESTS,
+        *[functools.partial(test, page=page) for test in
+          (web_trust.try_no_engine, web_trust.try_no_script, web_trust.try_charset, web_trust.try_ways_out)],
         functools.partial(try_while_busy, downloads=downloads),
         functools.partial(web_reach.try_keyboard, downloads=downloads),
+        functools.partial(web_given.try_changed, downloads=downloads),
         functools.partial(try_connections, server=server),
         functools.partial(try_faults, page=page),
         functools.partial(try_brought, page=page),

@@ -25,6 +25,9 @@
 
 /** @typedef {{module: Promise<WebAssembly.Module>, script: string}} Engine */
 
+/** A worker that tells nothing for so many milliseconds was never let run. */
+const LONGEST_START = 30_000;
+
 /** The browser doesn't run the auditor. */
 class NoEngine extends Error {}
 
@@ -91,6 +94,7 @@ class Runner {
     const isFirst = (/** @type {Told} */ data) => data.tells === "answer" && "notes" in order && order.notes;
     let isReady = false, answer = {};
     return new Promise((resolve, reject) => {
+      setTimeout(() => isReady || reject(new NoEngine("Worker")), LONGEST_START);
       worker.onmessage = ({ data }) => {
         isReady = true;
         if (isFirst(data)) answer = data;

@@ -2,6 +2,9 @@
 "use strict";
 /* What a file is, as the auditor tells it: the kind whose first record it takes. */
 
+/** The refusals of a file that doesn't begin as an election. */
+const NOT_UTF8 = 1, NO_META = 2;
+
 /** Of a longer file this much is shown to the auditor. */
 const FRONT = 1 << 20;
 const KIND_ROOM = 1 << 12;
@@ -19,33 +22,34 @@ class Teller {
   }
 
   /**
-   * The record at which the file is refused where it is taken for one of a kind.
+   * The number of the refusal, and of its record, where the file is taken for one of a kind. Other answers have none.
    * @param {string} command
    * @param {Question} asked
    */
-  refusedAt(command, asked) {
+  refusal(command, asked) {
     const { status, bytes } = this.auditor.ask(command, asked, KIND_ROOM);
-    const text = new TextDecoder().decode(bytes);
-    return status === REFUSED ? Number(/ record (\d+)/.exec(text)?.[1]) : Infinity;
+    const [, number, record] = /^refused \w+ (\d+) \w+ record (\d+)/.exec(new TextDecoder().decode(bytes)) ?? [];
+    return status === REFUSED ? { number: Number(number), record: Number(record) } : { number: 0, record: Infinity };
   }
 
   /**
-   * The kind of a file. Each reader refuses the first record of the other kinds, and all refuse a file of none at one
-   * record.
+   * The kind of a file. The readers of certificates and outcomes refuse the first record of each other's files, and all
+   * three refuse a file that is of none of these kinds, at one record.
    * @param {Place} file
    * @returns {Kind}
    */
   kindOf(file) {
     const front = { at: file.at, length: file.length < FRONT ? file.length : BigInt(FRONT) };
     const { election, certificate } = this;
+    const read = this.refusal("read", { election: front });
+    const isOther = read.number === NO_META || (read.number === NOT_UTF8 && read.record === 1);
+    if (!isOther) return "election";
     const records = /** @type {[Kind, number][]} */ ([
-      ["election", this.refusedAt("read", { election: front })],
-      ["prices", this.refusedAt("prices", { election, certificate: front })],
-      ["violation", this.refusedAt("violation", { election, certificate: front })],
-      ["outcome", this.refusedAt("violation", { election, outcome: front, certificate })],
+      ["prices", this.refusal("prices", { election, certificate: front }).record],
+      ["violation", this.refusal("violation", { election, certificate: front }).record],
+      ["outcome", this.refusal("violation", { election, outcome: front, certificate }).record],
     ]);
     const first = Math.min(...records.map(([, record]) => record));
-    const [found, ...others] = records.filter(([, record]) => record > first);
-    return found && others.length === 0 ? found[0] : "unknown";
+    return records.find(([, record]) => record > first)?.[0] ?? "unknown";
   }
 }

@@ -109,7 +109,9 @@ function noteLine({ words, language }, note) {
 function lineOf(page, audit) {
   const { words } = page, { task, line, sentence, problem } = audit, { certificate, election } = task;
   if (problem) return make("span", {}, ...problemText(words, problem));
-  if (!election) return make("span", { class: "soft" }, page.hasElections() ? words.asksElection : words.wantsElection);
+  if (!election) {
+    return make("span", { class: "soft" }, page.hasElections() ? words.asksElection : words.wantsElection);
+  }
   if (task.asks === "outcome") return make("span", { class: "soft" }, words.asksOutcome);
   if (isRead(audit)) {
     const wants = page.audits.some(each => each.task.asks === "election") ? "" : ` ${words.noCertificate}`;
@@ -185,7 +187,7 @@ function candidates({ pieces }, kind, chosen, isAsked = false) {
   return chosen ? [chosen] : kind === "election" ? all : [];
 }
 
-/** @typedef {[string, Piece | null | undefined]} Option a word, and what it stands for: undefined leaves all as it is */
+/** @typedef {[string, Piece | null | undefined]} Option a word, and what it stands for; undefined changes nothing */
 
 /**
  * A list of files to choose from, with words ahead of them that stand for no file.
@@ -217,8 +219,9 @@ function choicesOf(page, { task }) {
   const outcomes = election ? candidates(page, "outcome", outcome, asks === "outcome") : [];
   const choices = [];
   if (elections.length > 1 || (elections.length === 1 && !election)) {
-    choices.push(pieceChoice(words.against, election ? [] : [[words.noElection, undefined]], elections,
-                             election ?? undefined, chosen => chosen && page.choose(certificate, { election: chosen })));
+    const none = /** @type {Option[]} */ (election ? [] : [[words.noElection, undefined]]);
+    choices.push(pieceChoice(words.against, none, elections, election ?? undefined,
+                             chosen => chosen && page.choose(certificate, { election: chosen })));
   }
   if (outcomes.length > 0) {
     const none = /** @type {Option[]} */ (asks ? [[words.noOutcome, undefined]] : []);

@@ -8,7 +8,8 @@ const MAKES_PRICES = "python -m pbaudit equal-shares NAME.pb --completion add1 -
 
 /** @type {(words: Words, names: string[]) => string} */
 const someOf = (words, names) =>
-  names.slice(0, MOST_NAMED).map(toldName).join(", ") + (names.length > MOST_NAMED ? words.more(names.length - MOST_NAMED) : "");
+  names.slice(0, MOST_NAMED).map(toldName).join(", ")
+  + (names.length > MOST_NAMED ? words.more(names.length - MOST_NAMED) : "");
 
 /**
  * @param {Page} page

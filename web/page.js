@@ -240,7 +240,8 @@ class Page {
    */
   answer(audit) {
     const isOnly = this.audits.length === 1;
-    return this.do(audit, isOnly ? "page" : audit.task.certificate?.kind ?? "read", done => isOnly && this.reveal(done));
+    const command = isOnly ? "page" : audit.task.certificate?.kind ?? "read";
+    return this.do(audit, command, done => isOnly && this.reveal(done));
   }
 
   /**

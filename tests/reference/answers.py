@@ -24,6 +24,7 @@ NAMES = {
 }
 MODE = ["--stable", "--no-exhaustive", "--cover"]
 WITH_MODE = ["prices", "folder", "both", "explain"]
+SAYS_LITTLE = "note: the voter budgets together are less than the limit, so this yes says little"
 
 
 class RefusedInput(Exception):
@@ -117,6 +118,14 @@ class Commands:
         self.beside = b"".join(os.fsencode(path) + b": " + note for note in notes(election).splitlines(keepends=True))
         return election
 
+    def verdict_on_prices(self, path, election, funded, prices, mode):
+        """The verdict on prices. It is noted of a yes that all voter budgets together are less than the limit."""
+        text, status = verdict_on_prices(election, funded, prices, mode)
+        claim = conditions.Claim(election, funded, prices)
+        if status == YES and len(election.ballots) * claim.budget < claim.limit:
+            self.beside += os.fsencode(path) + b": " + line(SAYS_LITTLE)
+        return text, status
+
     def read(self, paths, mode, outcome):
         election = take("election", read_election, paths[0] if paths else None)
         return read_line(election) + notes(election), YES
@@ -124,7 +133,8 @@ class Commands:
     def prices(self, paths, mode, outcome):
         election = self.noted_election(paths[0])
         funded = take_outcome(election, outcome)
-        return verdict_on_prices(election, funded, take("certificate", read_prices, paths[1], election), mode)
+        prices = take("certificate", read_prices, paths[1], election)
+        return self.verdict_on_prices(paths[0], election, funded, prices, mode)
 
     def violation(self, paths, mode, outcome):
         election = self.noted_election(paths[0])
@@ -141,7 +151,7 @@ class Commands:
         funded = take_outcome(election, outcome)
         prices = take("prices", read_prices, paths[1], election)
         violation = take("violation", read_violation, paths[2], election)
-        first, first_status = verdict_on_prices(election, funded, prices, mode)
+        first, first_status = self.verdict_on_prices(paths[0], election, funded, prices, mode)
         second, second_status = verdict_on_violation(election, funded, violation)
         return first + second, max(first_status, second_status)
 
@@ -161,7 +171,7 @@ class Commands:
             lines = violation_lines(election, funded, violation)
         else:
             prices = take("certificate", read_prices, paths[1], election)
-            text, status = verdict_on_prices(election, funded, prices, mode)
+            text, status = self.verdict_on_prices(paths[0], election, funded, prices, mode)
             lines = price_lines(conditions.Claim(election, funded, prices), mode)
         return text + b"\n" + b"".join(map(line, lines)), status
 

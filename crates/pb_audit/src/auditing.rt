@@ -39,6 +39,16 @@ pub(crate) trait Audit {
         requires { OutcomeFits outcome.now election.now }
         ensures reply { IfTold Self.Told.told (AnswersCertificate (rules self.now).states (rules self.now).reply election.now (outcome.now).marks (lent certificate.entry)) result }
         ensures promised { Promised (rules self.now) };
+
+    /// Adds the notes on what is told of a certificate for an election that was accepted.
+    fn push_notes_on(
+        &self,
+        alloc: Global,
+        notes: &mut Vec<String>,
+        election: &Election,
+        certificate: File<'_>,
+        told: &Result<Self::Told, Stop>,
+    ) -> Result<(), AllocError>;
 }
 
 /// What is told of the reply on an election, an outcome file where one is given, and a certificate, all in memory.
@@ -62,7 +72,7 @@ pub(crate) fn audit_in_memory<A: Audit>(
 }
 
 /// Reads an election, an outcome file where one is given, and a certificate, and writes the text of the reply. The notes
-/// on the election, each as `read` prints it, are added to `notes`.
+/// on the election, each as `read` prints it, are added to `notes`, and behind them those on what is told.
 pub(crate) fn run_audit<A: Audit, E: Source, O: Source, C: Source, W: Sink>(
     alloc: Global,
     audit: &A,
@@ -122,5 +132,7 @@ fn audit_readers<A: Audit, E: Source, O: Source, C: Source>(
     push_notes(alloc, notes, &election)?;
     let outcome = take_outcome(alloc, outcome, &election)?;
     let certificate = Loaded::load(alloc, certificate)?;
-    audit.reply_on(alloc, &election, &outcome, certificate.lend())
+    let told = audit.reply_on(alloc, &election, &outcome, certificate.lend());
+    audit.push_notes_on(alloc, notes, &election, certificate.lend(), &told)?;
+    told
 }

@@ -14,6 +14,7 @@ ghost use Rattle.pb_election.specs.Outcome.{OutcomeFits};
 
 use crate::auditing::{Audit, audit_in_memory};
 use crate::prices::{price_verdict, verdict_reply};
+use crate::says_little::push_note;
 use crate::violation::group_reply;
 use pb_election::{Election, Outcome, Sink, Source};
 use pb_price::{Mode, Verdict};
@@ -63,7 +64,26 @@ pub fn run_both<E: Source, O: Source, P: Source, V: Source, W: Sink>(
     // reply is that of `both_reply`, with what its status promises.
     ensures { WritesReply W.Sink (ReadsBoth mode (audit_readings E.Source election.old election.new O.Source outcome.old outcome.new P.Source prices.old prices.new) (reading V.Source violation.old violation.new)) result out.old out.new }
 {
-    let work = take_work(alloc, election, outcome, prices, violation, mode);
+    let mut notes = Vec::new(alloc);
+    run_both_with_notes(
+        alloc, election, outcome, prices, violation, mode, &mut notes, out,
+    )
+}
+
+/// Does what `run_both` does, and adds to `notes` the note on a yes to prices that says little.
+pub fn run_both_with_notes<E: Source, O: Source, P: Source, V: Source, W: Sink>(
+    alloc: Global,
+    election: &mut E,
+    outcome: &mut Option<O>,
+    prices: &mut P,
+    violation: &mut V,
+    mode: Mode,
+    notes: &mut Vec<String>,
+    out: &mut W,
+) -> Result<Status, Fault>
+    ensures { WritesReply W.Sink (ReadsBoth mode (audit_readings E.Source election.old election.new O.Source outcome.old outcome.new P.Source prices.old prices.new) (reading V.Source violation.old violation.new)) result out.old out.new }
+{
+    let work = take_work(alloc, election, outcome, prices, violation, mode, notes);
     let reply = settled(alloc, work)?;
     write_reply(alloc, &reply, out)
 }
@@ -94,6 +114,17 @@ impl<'a> Audit for BothAudit<'a> {
         let verdict = price_verdict(alloc, election, outcome, input, certificate, self.mode)?;
         beside(alloc, election, outcome, verdict, self.violation, self.mode)
     }
+
+    fn push_notes_on(
+        &self,
+        _alloc: Global,
+        _notes: &mut Vec<String>,
+        _election: &Election,
+        _certificate: File<'_>,
+        _told: &Result<Reply, Stop>,
+    ) -> Result<(), AllocError> {
+        Ok(())
+    }
 }
 
 /// The reply on what readers deliver.
@@ -104,37 +135,60 @@ fn take_work<E: Source, O: Source, P: Source, V: Source>(
     prices: &mut P,
     violation: &mut V,
     mode: Mode,
+    notes: &mut Vec<String>,
 ) -> Result<Reply, Stop>
     ensures { IfSome (settled (λ r. r) result) (ReadsBoth mode (audit_readings E.Source election.old election.new O.Source outcome.old outcome.new P.Source prices.old prices.new) (reading V.Source violation.old violation.new)) }
 {
     let election = take_election(alloc, election)?;
     let outcome = take_outcome(alloc, outcome, &election)?;
-    let verdict = take_verdict(alloc, &election, &outcome, prices, mode)?;
+    let mut on_prices = Vec::new(alloc);
+    let verdict = take_verdict(alloc, &election, &outcome, prices, mode, &mut on_prices)?;
     let violation = Loaded::load(alloc, violation)?;
-    beside(alloc, &election, &outcome, verdict, violation.lend(), mode)
+    let reply = beside(alloc, &election, &outcome, verdict, violation.lend(), mode);
+    push_where_told(notes, on_prices, &reply)?;
+    reply
 }
 
-/// The verdict on the prices that a reader delivers. Their bytes are let go.
+/// Adds these notes where a reply is told, and no refusal.
+fn push_where_told(
+    notes: &mut Vec<String>,
+    more: Vec<String>,
+    told: &Result<Reply, Stop>,
+) -> Result<(), AllocError> {
+    if told.is_ok() {
+        for note in more {
+            notes.push(note)?;
+        }
+    }
+    Ok(())
+}
+
+/// The verdict on the prices that a reader delivers, with the note on it. Their bytes are let go.
 fn take_verdict<P: Source>(
     alloc: Global,
     election: &Election,
     outcome: &Outcome,
     prices: &mut P,
     mode: Mode,
+    notes: &mut Vec<String>,
 ) -> Result<Verdict, Stop>
     requires { OutcomeFits outcome.now election.now }
     ensures verdict { IfTaken result (Gives (JudgesPrices InputName.Prices mode election.now (outcome.now).marks) (reading P.Source prices.old prices.new)) }
     ensures projects { IfOk result (PricesNameProject election.now) }
 {
     let loaded = Loaded::load(alloc, prices)?;
-    price_verdict(
+    let verdict = price_verdict(
         alloc,
         election,
         outcome,
         InputName::Prices,
         loaded.lend(),
         mode,
-    )
+    );
+    if let Ok(Verdict::Supported) = verdict {
+        push_note(alloc, notes, election, loaded.lend())?;
+    }
+    verdict
 }
 
 /// The reply on a violation certificate beside a verdict on prices, for an election and an outcome that were accepted.

@@ -19,6 +19,7 @@ ghost use Rattle.pb_price.specs.Told.{first_told};
 
 use crate::auditing::{Audit, audit_in_memory, run_audit};
 use crate::prices::verdict_reply;
+use crate::says_little::push_note_on_yes;
 use crate::violation::group_verdict_reply;
 use pb_certificate::{Violation, is_violation};
 use pb_cohesion::violation_findings;
@@ -98,6 +99,17 @@ impl Audit for ExplainAudit {
         } else {
             prices_on(alloc, election, outcome, certificate, self.mode)
         }
+    }
+
+    fn push_notes_on(
+        &self,
+        alloc: Global,
+        notes: &mut Vec<String>,
+        election: &Election,
+        certificate: File<'_>,
+        told: &Result<Reply, Stop>,
+    ) -> Result<(), AllocError> {
+        push_note_on_yes(alloc, notes, election, certificate, told)
     }
 }
 

@@ -13,11 +13,12 @@ mod margin_table;
 mod margins;
 mod prices;
 mod read;
+mod says_little;
 mod tidy;
 mod total;
 mod violation;
 
-pub use both::{both_reply, run_both};
+pub use both::{both_reply, run_both, run_both_with_notes};
 pub use explain::{explained_reply, run_explain};
 pub use folder::{Entry, folder_text};
 pub use folder_report::FolderReport;

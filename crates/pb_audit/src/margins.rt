@@ -83,6 +83,17 @@ impl Audit for MarginAudit {
             status: Status::Yes,
         })
     }
+
+    fn push_notes_on(
+        &self,
+        _alloc: Global,
+        _notes: &mut Vec<String>,
+        _election: &Election,
+        _certificate: File<'_>,
+        _told: &Result<Answer<Status>, Stop>,
+    ) -> Result<(), AllocError> {
+        Ok(())
+    }
 }
 
 /// The figures of each project by the prices that a certificate states.

@@ -12,6 +12,7 @@ ghost use Rattle.pb_certificate.specs.Prices.{Prices};
 ghost use Rattle.pb_election.specs.Outcome.{OutcomeFits};
 
 use crate::auditing::{Audit, audit_in_memory, run_audit};
+use crate::says_little::push_note_on_yes;
 use pb_election::{Election, Outcome, Sink, Source};
 use pb_price::{Mode, Verdict, check_rows};
 use pb_reply::{
@@ -84,6 +85,17 @@ impl Audit for PriceAudit {
         let input = InputName::Certificate;
         let verdict = price_verdict(alloc, election, outcome, input, certificate, self.mode)?;
         Ok(verdict_reply(alloc, election, verdict, self.mode)?)
+    }
+
+    fn push_notes_on(
+        &self,
+        alloc: Global,
+        notes: &mut Vec<String>,
+        election: &Election,
+        certificate: File<'_>,
+        told: &Result<Reply, Stop>,
+    ) -> Result<(), AllocError> {
+        push_note_on_yes(alloc, notes, election, certificate, told)
     }
 }
 

@@ -86,6 +86,17 @@ impl Audit for ViolationAudit {
         let violation = violation_of(alloc, InputName::Certificate, certificate, election)?;
         Ok(group_reply(alloc, election, outcome, &violation)?)
     }
+
+    fn push_notes_on(
+        &self,
+        _alloc: Global,
+        _notes: &mut Vec<String>,
+        _election: &Election,
+        _certificate: File<'_>,
+        _told: &Result<Reply, Stop>,
+    ) -> Result<(), AllocError> {
+        Ok(())
+    }
 }
 
 /// The line of the verdict on a group and its demand.

@@ -11,7 +11,7 @@ ghost use Rattle.pb_audit.specs.Margins.{AnswersMarginFiles};
 ghost use Rattle.std.specs.Prelude.{◌≡◌, IfNone, IfSome, option_map};
 ghost use Rattle.pb_reply.specs.Inputs.{in_memory};
 ghost use Rattle.pb_page.specs.Answers.{AnswersPage};
-ghost use Rattle.pb_page.specs.Languages.{language_of};
+ghost use Rattle.pb_words.specs.Languages.{language_of};
 ghost use Rattle.pb_reply.specs.Replies.{TellsReply};
 ghost use Rattle.pb_reply.specs.declared.status.Status.TheVariants.{Yes};
 ghost use Rattle.pb_c.specs.Files.{given_file, given_mode};

@@ -14,10 +14,10 @@ use Rattle.pb_reply.specs.Certificates.{Certificate, OfPrices, OfViolation, Stat
 use Rattle.pb_page.specs.Answers.{AnswersPage, IsPage, PageOnOutcome, Tells}
 use Rattle.pb_page.specs.Sums.{files_of, sums_of}
 use Rattle.pb_page.specs.Taken.{RendersTold, TellsCertificate}
-use Rattle.pb_page.specs.Told.{status_of}
-use Rattle.pb_page.specs.declared.language.Language.{Language}
-use Rattle.pb_page.specs.declared.told.CertificateFigures.{CertificateFigures}
-use Rattle.pb_page.specs.declared.told.Told.{Told}
+use Rattle.pb_page.specs.Taken.{status_of}
+use Rattle.pb_words.specs.declared.language.Language.{Language}
+use Rattle.pb_figures.specs.declared.told.CertificateFigures.{CertificateFigures}
+use Rattle.pb_figures.specs.declared.told.Told.{Told}
 
 -- where the election is refused, the others may state anything
 pub stopped-at-election : (m : Mode) (l : Language) (election : Delivery) (outcome : Option Delivery)

@@ -2,13 +2,13 @@
 use Rattle.std.proofs.Common.{◌≡◌, ◌∙◌, ◌+◌, ◌<◌, ◌++◌, ℕ, List, [], ◌∷◌, ap, append_assoc, get_or, length, map, subst, sym, take}
 use Rattle.std.proofs.lemmas.List.{map-append, take_more}
 use Rattle.pb_price.specs.declared.Mode.{Mode}
-use Rattle.pb_page.specs.InOrder.{HasParts}
-use Rattle.pb_page.specs.Pieces.{Piece}
+use Rattle.pb_markup.specs.InOrder.{HasParts}
+use Rattle.pb_markup.specs.Pieces.{Piece}
 use Rattle.pb_page.specs.Rows.{ListsProjects, amount_piece}
-use Rattle.pb_page.specs.declared.figure.Figure.{Figure}
-use Rattle.pb_page.specs.declared.told.CertificateFigures.{CertificateFigures}
-use Rattle.pb_page.specs.declared.told.CertificateFigures.TheVariants as found
-use Rattle.pb_page.proofs.InOrder.{in-order-before, in-order-behind, in-order-next}
+use Rattle.pb_figures.specs.declared.figure.Figure.{Figure}
+use Rattle.pb_figures.specs.declared.told.CertificateFigures.{CertificateFigures}
+use Rattle.pb_figures.specs.declared.told.CertificateFigures.TheVariants as found
+use Rattle.pb_markup.proofs.InOrder.{in-order-before, in-order-behind, in-order-next}
 
 -- with one more row: what stands in it before its amount, the amount, and what stands behind it
 pub rows-next : {X : Type 0} (shown : X → Figure) (xs : List X) (k : ℕ) (d : X) (page front back first second new : List Piece)

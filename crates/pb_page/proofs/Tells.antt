@@ -21,9 +21,9 @@ use Rattle.pb_reply.specs.Certificates.{OfPrices, is_violation}
 use Rattle.pb_reply.proofs.Culprits.{denominator-low}
 use Rattle.pb_page.specs.Shown.{ShowsLine}
 use Rattle.pb_page.specs.Taken.{TellsCertificate}
-use Rattle.pb_page.specs.declared.told.CertificateFigures.TheVariants as found
-use Rattle.pb_page.specs.declared.told.PriceFigures.{PriceFigures}
-use Rattle.pb_page.specs.declared.told.Told.{Told}
+use Rattle.pb_figures.specs.declared.told.CertificateFigures.TheVariants as found
+use Rattle.pb_figures.specs.declared.told.PriceFigures.{PriceFigures}
+use Rattle.pb_figures.specs.declared.told.Told.{Told}
 
 -- one more cost
 pub costs-next : (e : Instance) (k x : ℕ) (xs ys : List ℕ) → ys ≡ xs ++ (x ∷ [])

@@ -17,17 +17,17 @@ use Rattle.pb_reply.specs.Lines.{price_line, violation_line}
 use Rattle.pb_reply.specs.Replies.{Answer, answer_of, refused}
 use Rattle.pb_reply.specs.declared.status.Status.{Status}
 use Rattle.pb_reply.specs.Certificates.{Certificate, OfPrices, OfViolation, StatesCertificate, certificate_status}
-use Rattle.pb_page.specs.Pieces.{Close, Headline, Line, Open, Piece, rendering}
+use Rattle.pb_markup.specs.Pieces.{Close, Headline, Line, Open, Piece, rendering}
 use Rattle.pb_page.specs.Rows.{ListsProjects}
 use Rattle.pb_page.specs.Shown.{ShowsLine}
 use Rattle.pb_page.specs.Sums.{HasInOrder, files_of, sums_of}
-use Rattle.pb_page.specs.Told.{shows_of}
-use Rattle.pb_page.specs.declared.language.Language.{Language}
-use Rattle.pb_page.specs.declared.tag.Tag.TheVariants as tag
-use Rattle.pb_page.specs.declared.told.CertificateFigures.TheVariants as found
-use Rattle.pb_page.specs.declared.told.PriceFigures.{PriceFigures}
-use Rattle.pb_page.specs.declared.told.Told.{Told}
-use Rattle.pb_page.specs.declared.told.ViolationFigures.{ViolationFigures}
+use Rattle.pb_markup.specs.Shown.{shows_of}
+use Rattle.pb_words.specs.declared.language.Language.{Language}
+use Rattle.pb_markup.specs.declared.tag.Tag.TheVariants as tag
+use Rattle.pb_figures.specs.declared.told.CertificateFigures.TheVariants as found
+use Rattle.pb_figures.specs.declared.told.PriceFigures.{PriceFigures}
+use Rattle.pb_figures.specs.declared.told.Told.{Told}
+use Rattle.pb_figures.specs.declared.told.ViolationFigures.{ViolationFigures}
 
 -- What a page tells of prices in a mode: the line that the program prints, as it is shown, the findings, and the
 -- figures of each project.

@@ -1,15 +1,5 @@
-pub mod Amounts
 pub mod Answers
-pub mod Escapes
-pub mod Headlines
-pub mod InOrder
-pub mod Languages
-pub mod Names
-pub mod PieceList
-pub mod Pieces
-pub mod Ranking
 pub mod Rows
 pub mod Shown
 pub mod Sums
 pub mod Taken
-pub mod Told

@@ -2,14 +2,14 @@
 use Rattle.std.specs.Prelude.{⊤, ◌^◌, nat_lt, if◌then◌else◌, ℕ, ℤ, Bool, List, [], ◌∷◌, map, take}
 use Rattle.pb_price.specs.declared.Mode.{Mode}
 use Rattle.pb_price.specs.declared.ProjectMargins.{ProjectMargins}
-use Rattle.pb_page.specs.InOrder.{HasParts}
-use Rattle.pb_page.specs.Pieces.{Amount, Piece}
-use Rattle.pb_page.specs.Ranking as ranking
-use Rattle.pb_page.specs.Ranking.{AreRanked, by_missing, by_size}
-use Rattle.pb_page.specs.declared.figure.Figure.{Figure}
-use Rattle.pb_page.specs.declared.figure.Figure.TheVariants as figure
-use Rattle.pb_page.specs.declared.told.CertificateFigures.{CertificateFigures}
-use Rattle.pb_page.specs.declared.told.CertificateFigures.TheVariants as found
+use Rattle.pb_markup.specs.InOrder.{HasParts}
+use Rattle.pb_markup.specs.Pieces.{Amount, Piece}
+use Rattle.pb_figures.specs.Ranking as ranking
+use Rattle.pb_figures.specs.Ranking.{AreRanked, by_missing, by_size}
+use Rattle.pb_figures.specs.declared.figure.Figure.{Figure}
+use Rattle.pb_figures.specs.declared.figure.Figure.TheVariants as figure
+use Rattle.pb_figures.specs.declared.told.CertificateFigures.{CertificateFigures}
+use Rattle.pb_figures.specs.declared.told.CertificateFigures.TheVariants as found
 
 -- an amount as a piece
 abbrev pub amount_piece : Figure → List Piece

@@ -3,9 +3,9 @@ use Rattle.std.specs.Prelude.{ℕ, List, [], ◌∷◌, ◌++◌, ◌/◌, ◌%�
 use Rattle.std.specs.List.{flat_map}
 use Rattle.sha2.specs.Sha256.{sha256}
 use Rattle.pb_records.specs.Loading.{Delivery, Bytes, Read, TooLong}
-use Rattle.pb_page.specs.InOrder.{HasParts}
-use Rattle.pb_page.specs.Pieces.{Close, Open, Piece, Words}
-use Rattle.pb_page.specs.declared.tag.Tag.TheVariants as tag
+use Rattle.pb_markup.specs.InOrder.{HasParts}
+use Rattle.pb_markup.specs.Pieces.{Close, Open, Piece, Words}
+use Rattle.pb_markup.specs.declared.tag.Tag.TheVariants as tag
 
 -- a hexadecimal digit, and a byte as two of them, the high one first
 abbrev pub digit : ℕ → ℕ

@@ -14,15 +14,20 @@ use Rattle.pb_reply.specs.declared.status.Status.{Status}
 use Rattle.pb_reply.specs.declared.input.InputName.TheVariants as name
 use Rattle.pb_reply.specs.Certificates.{Certificate, StatesCertificate}
 use Rattle.pb_page.specs.Answers.{HasAnswer, Tells}
-use Rattle.pb_page.specs.Pieces.{Piece, rendering}
+use Rattle.pb_markup.specs.Pieces.{Piece, rendering}
 use Rattle.pb_page.specs.Rows.{ListsProjects}
 use Rattle.pb_page.specs.Sums.{HasInOrder}
-use Rattle.pb_page.specs.Told.{shows_of, status_of}
+use Rattle.pb_markup.specs.Shown.{shows_of}
 use Rattle.pb_page.specs.declared.case.Files.{Files}
 use Rattle.pb_page.specs.declared.case.InputFile.{InputFile}
 use Rattle.pb_page.specs.declared.entry.PageFile.{PageFile}
-use Rattle.pb_page.specs.declared.told.PriceFigures.{PriceFigures}
-use Rattle.pb_page.specs.declared.told.Told.{Told}
+use Rattle.pb_price.specs.First.{verdict_of}
+use Rattle.pb_price.specs.Told.{first_told}
+use Rattle.pb_reply.specs.Replies.{price_status, violation_status}
+use Rattle.pb_figures.specs.declared.told.CertificateFigures.{CertificateFigures}
+use Rattle.pb_figures.specs.declared.told.CertificateFigures.TheVariants as found
+use Rattle.pb_figures.specs.declared.told.PriceFigures.{PriceFigures}
+use Rattle.pb_figures.specs.declared.told.Told.{Told}
 
 -- what is found of the prices that a certificate states
 abbrev pub FindsFigures : Instance → List Bool → Delivery → Stated PriceFigures → Type 0
@@ -47,6 +52,11 @@ sum_of file = string_bytes file.sum
 abbrev pub sums_shown : Files → List (List ℕ)
 sums_shown files =
     sum_of files.election ∷ (map sum_of (option_to_list files.outcome) ++ sum_of files.certificate ∷ [])
+
+-- how the answer ends
+abbrev pub status_of : Mode → CertificateFigures → Status
+status_of m (found.Prices p) = price_status (verdict_of (first_told m p.findings))
+status_of m (found.Violation v) = violation_status v.verdict
 
 -- the page shows what is told, the projects in their orders, and these sums
 pub record RendersTold (t : Told) (sums : List (List ℕ)) (a : Answer Status) : Type 0 where

@@ -1,10 +1,9 @@
 //! What a page is about: the files, and what was found of them.
-use crate::amounts::{Balance, push_amount};
 use crate::labels::Labels;
 use crate::saying::Words;
-use crate::sentence::Sentence;
-use crate::told::Told;
 use pb_election::{Election, Outcome};
+use pb_figures::{Balance, Told, push_amount};
+use pb_words::Sentence;
 use std::alloc::AllocError;
 
 /// What a page is about. Names and facts of files are there as they are shown: with what can't be seen made visible.

@@ -1,6 +1,6 @@
 //! The conditions on prices and the tests of a violation, as the page names them.
-use crate::sentence::Sentence;
 use pb_price::{Failure, Findings, Mode};
+use pb_words::Sentence;
 
 /// A condition on prices.
 #[derive(Clone, Copy, Debug, PartialEq, Eq)]

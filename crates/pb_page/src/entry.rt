@@ -8,21 +8,19 @@ ghost use Rattle.pb_page.specs.Sums.{bytes_of, files_of, sum_text, sums_of};
 ghost use Rattle.pb_page.specs.Taken as spec;
 ghost use Rattle.pb_page.specs.Taken.{RendersTold, file_of, sums_shown};
 
-use crate::amounts::Style;
 use crate::case::{Case, Files, InputFile};
-use crate::decimals::decimals_of;
 use crate::digest::sum_of;
 use crate::labels::{Labels, labels_of};
-use crate::language::Language;
 use crate::naming::{currency_of, language_of};
 use crate::parts::whole_page;
 use crate::saying::Words;
 use crate::shown::visible;
-use crate::telling::told_of;
-use crate::told::Told;
+use crate::telling::{status_of, told_of};
 use pb_election::{Election, Outcome};
+use pb_figures::{Style, Told, decimals_of};
 use pb_price::Mode;
 use pb_reply::{Answer, File, Status, Stop, election_of, outcome_of, settled};
+use pb_words::Language;
 use std::alloc::{AllocError, Global};
 
 /// A file that a page is asked for, with the name that the page shows.
@@ -140,7 +138,7 @@ pub(crate) fn page_with(
     let page = whole_page(alloc, &case)?;
     Ok(Answer {
         text: page.into_text(&case.told)?,
-        status: case.told.status(),
+        status: status_of(&case.told),
     })
 }
 

@@ -5,14 +5,12 @@ ghost use Rattle.std.specs.Prelude.{◌≡◌, IfOk, string_bytes};
 ghost use Rattle.pb_page.specs.Shown as spec;
 ghost use Rattle.pb_page.specs.Shown.{ShowsLine};
 
-use crate::attributes::Attributes;
 use crate::case::Case;
 use crate::labels::Labels;
-use crate::markup::Page;
 use crate::saying::Fillings;
-use crate::sentence::Sentence;
 use crate::shown::visible;
-use crate::tag::{Name, Tag};
+use pb_markup::{Attributes, Name, Page, Tag};
+use pb_words::Sentence;
 use std::alloc::{AllocError, Global};
 
 // A label is cut behind so many characters, and what it shows under the pointer behind so many.

@@ -21,12 +21,10 @@ mod tests_of_group;
 mod top;
 mod unfunded;
 
-use crate::attributes::Attributes;
 use crate::case::Case;
-use crate::markup::Page;
 use crate::style::STYLE;
-use crate::tag::{Name, Tag};
-use crate::told::{CertificateFigures, PriceFigures, ViolationFigures};
+use pb_figures::{CertificateFigures, PriceFigures, ViolationFigures};
+use pb_markup::{Attributes, Name, Page, Tag};
 use std::alloc::{AllocError, Global};
 
 // Nothing may be fetched and nothing may run, whatever stands in the page.

@@ -1,14 +1,13 @@
 //! The page on files that readers deliver.
-use crate::amounts::Style;
 use crate::case::{Files, InputFile};
-use crate::decimals::decimals_of;
 use crate::entry::{PageFile, input_file, its_labels, page_with};
 use crate::labels::Labels;
-use crate::language::Language;
 use crate::telling::told_of;
 use pb_election::{Election, Sink, Source};
+use pb_figures::{Style, decimals_of};
 use pb_price::Mode;
 use pb_reply::{Answer, Fault, File, Loaded, Status, Stop, election_of, outcome_of, settled};
+use pb_words::Language;
 use std::alloc::{AllocError, Global};
 
 /// The names of the files that a page shows.

@@ -1,13 +1,9 @@
 //! Sentences in a language, with their placeholders filled.
-use crate::amounts::{Balance, push_grouped};
 use crate::case::Case;
-use crate::figure::Figure;
-use crate::language::Language;
-use crate::markup::Page;
 use crate::naming::{push_label, shortened};
-use crate::sentence::{Plural, Sentence};
-use crate::tag::Tag;
-use crate::wording::wording;
+use pb_figures::{Balance, Figure, push_grouped};
+use pb_markup::{Page, Tag};
+use pb_words::{Language, Plural, Sentence, wording_of};
 use std::alloc::{AllocError, Global};
 
 /// The words of a language.
@@ -48,7 +44,7 @@ enum Content {
 impl Words {
     /// What a sentence without placeholders says.
     pub(crate) fn say(self, sentence: Sentence) -> &'static str {
-        wording(self.language, sentence)
+        wording_of(self.language, sentence)
     }
 
     /// How the language speaks of so many things.

@@ -7,16 +7,13 @@ ghost use Rattle.pb_reply.specs.Inside.Loaded.{lent};
 ghost use Rattle.pb_reply.specs.Inside.Taking.{IfTaken};
 ghost use Rattle.pb_reply.specs.Certificates.{is_violation};
 ghost use Rattle.pb_page.specs.Answers.{TellsGroup};
-ghost use Rattle.pb_page.specs.Taken.{FindsFigures, TellsCertificate};
-ghost use Rattle.pb_page.specs.Told as spec;
+ghost use Rattle.pb_page.specs.Taken.{FindsFigures, TellsCertificate, status_of};
 
-use crate::amounts::Style;
-use crate::extremes::extremes_of;
 use crate::naming::shown_line;
-use crate::told::{CertificateFigures, PriceFigures, Told, ViolationFigures};
 use pb_certificate::{Violation, is_violation};
 use pb_cohesion::violation_findings;
 use pb_election::{Election, Outcome};
+use pb_figures::{CertificateFigures, PriceFigures, Style, Told, ViolationFigures, extremes_of};
 use pb_price::{Mode, findings_and_margins_of};
 use pb_reply::{
     File, InputFault, InputName, Status, Stop, bytes_of, price_line, price_status, stop_at,
@@ -163,16 +160,12 @@ fn costs_of(alloc: Global, election: &Election) -> Result<Vec<u64>, AllocError>
     Ok(costs)
 }
 
-impl Told {
-    /// How the answer ends.
-    pub(crate) fn status(&self) -> Status
-        ensures { result ≡ spec.status_of (self.now).mode (self.now).found }
-    {
-        match &self.found {
-            CertificateFigures::Prices(figures) => price_status(
-                figures.findings.verdict(self.mode),
-            ),
-            CertificateFigures::Violation(figures) => violation_status(figures.verdict),
-        }
+/// How the answer ends.
+pub(crate) fn status_of(told: &Told) -> Status
+    ensures { result ≡ status_of (told.now).mode (told.now).found }
+{
+    match &told.found {
+        CertificateFigures::Prices(figures) => price_status(figures.findings.verdict(told.mode)),
+        CertificateFigures::Violation(figures) => violation_status(figures.verdict),
     }
 }

@@ -2,6 +2,7 @@
 ghost use Rattle.std.specs.Prelude.{◌≡◌};
 ghost use Rattle.pb_run.specs.Endings.{HasStatus, WritesNothingUnlessHelp};
 
+use crate::seen::tell_seen;
 use pb_audit::{Fault, FolderStatus, Status};
 use pb_command::UsageFault;
 use pb_election::{Output, put};
@@ -61,7 +62,7 @@ impl End {
 fn tell_usage<E: Write>(text: &str, err: &mut E) -> u8
     ensures { result ≡ 3 }
 {
-    let _ = err.write_all(text.as_bytes());
+    tell_seen(err, text);
     3
 }
 

@@ -2,9 +2,10 @@
 use crate::file::FileReader;
 use crate::watched::WatchedReader;
 use pb_audit::{
-    Fault, Status, run_both, run_explain, run_margins, run_prices, run_read, run_tidy,
-    run_violation,
+    Fault, Status, run_both_with_notes, run_explain, run_margins, run_prices, run_read,
+    run_tidy, run_violation,
 };
+use pb_command::Inputs;
 use pb_election::{Input, Sink};
 use pb_page::{Language, PageNames, run_page};
 use pb_price::Mode;
@@ -58,7 +59,7 @@ impl<'a> Files<'a> {
         run_read(self.rt.alloc(), &mut self.open(election), out)
     }
 
-    /// Answers `prices`, and adds the notes on the election to `notes`.
+    /// Answers `prices`, and adds the notes on the election, and on a yes that says little, to `notes`.
     pub fn prices<O: Sink>(
         self,
         inputs: &'a Inputs,
@@ -104,12 +105,13 @@ impl<'a> Files<'a> {
         )
     }
 
-    /// Answers `both`.
+    /// Answers `both`, and adds the note on a yes to prices that says little to `notes`.
     pub fn both<O: Sink>(
         self,
         inputs: &'a Inputs,
         violation: &'a str,
         mode: Mode,
+        notes: &mut Vec<String>,
         out: &mut O,
     ) -> Result<Status, Fault> {
         let Opened {
@@ -117,18 +119,19 @@ impl<'a> Files<'a> {
             mut outcome,
             mut certificate,
         } = self.open_shared(inputs);
-        run_both(
+        run_both_with_notes(
             self.rt.alloc(),
             &mut election,
             &mut outcome,
             &mut certificate,
             &mut self.open(violation),
             mode,
+            notes,
             out,
         )
     }
 
-    /// Answers `explain`, and adds the notes on the election to `notes`.
+    /// Answers `explain`, and adds the notes on the election, and on a yes that says little, to `notes`.
     pub fn explain<O: Sink>(
         self,
         inputs: &'a Inputs,

@@ -10,6 +10,7 @@ mod folder;
 mod listing;
 mod progress;
 mod refusals;
+mod seen;
 mod task;
 mod watched;
 mod whole_run;

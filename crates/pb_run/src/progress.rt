@@ -1,4 +1,5 @@
 //! Telling people who wait how far the work is.
+use crate::seen::tell_seen;
 use std::io::{IsTerminal, Write};
 
 // So many letters of a name are shown that the line fits a terminal, since a line that is broken can't be cleared.
@@ -25,7 +26,9 @@ impl<'a, E: Write + IsTerminal> Progress<'a, E> {
                 None => name,
             };
             let number = done.saturating_add(1);
-            let _ = write!(self.err, "\r\x1b[K{number} of {total}: {shown}.pb");
+            let _ = write!(self.err, "\r\x1b[K{number} of {total}: ");
+            tell_seen(self.err, shown);
+            let _ = self.err.write_all(b".pb");
         }
     }
 

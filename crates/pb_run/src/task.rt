@@ -36,7 +36,7 @@ pub fn run_task<I: Read, O: Write, E: Write + IsTerminal>(
             inputs,
             violation,
             mode,
-        } => files.both(inputs, violation, *mode, &mut out)?,
+        } => files.both(inputs, violation, *mode, &mut notes, &mut out)?,
         Task::Explain { inputs, mode } => files.explain(inputs, *mode, &mut notes, &mut out)?,
         Task::Page {
             inputs,

@@ -1,8 +1,25 @@
 //! Readers and writers whose calls are counted, called directly: each call is handed on whole, and each answer as it is.
 use pb_records::{Input, Output, Sink, Source};
 use pb_samples::fakes::{FakeReader, InterruptedReader, Lapse, LapsingWriter};
-use std::io::ErrorKind;
+use std::io;
+use std::io::{ErrorKind, Write};
 use std::test::Fail;
+
+/// Takes all, and can't be flushed: the error is of this kind.
+#[derive(Drop)]
+struct Unflushable {
+    kind: ErrorKind,
+}
+
+impl Write for Unflushable {
+    fn write(&mut self, buf: &[u8]) -> io::Result<usize> {
+        Ok(buf.len())
+    }
+
+    fn flush(&mut self) -> io::Result<()> {
+        Err(io::Error::from(self.kind))
+    }
+}
 
 /// More than any buffer that one might put between.
 const LONG: usize = 100_000;
@@ -68,6 +85,22 @@ fn output_hands_on_the_kind_of_an_error(rt: HostRuntime) {
         let mut writer = LapsingWriter::new(rt.alloc(), 1, lapse);
         match Sink::write(&mut Output::new(&mut writer), b"a") {
             Ok(_) => assert!(rt; false),
+            Err(error) => assert!(rt; error.kind() == kind),
+        }
+    }
+}
+
+#[test]
+fn output_hands_on_that_nothing_was_taken(rt: HostRuntime) {
+    let mut writer = LapsingWriter::new(rt.alloc(), 1, Lapse::TakesNone(1));
+    assert!(rt; matches!(Sink::write(&mut Output::new(&mut writer), b"a"), Ok(0)));
+}
+
+#[test]
+fn output_hands_on_the_kind_of_an_error_of_a_flush(rt: HostRuntime) {
+    for kind in [ErrorKind::Other, ErrorKind::Interrupted] {
+        match Sink::flush(&mut Output::new(Unflushable { kind })) {
+            Ok(()) => assert!(rt; false),
             Err(error) => assert!(rt; error.kind() == kind),
         }
     }

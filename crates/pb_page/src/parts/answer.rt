@@ -1,17 +1,15 @@
 //! The answer box.
 use crate::case::Case;
 use crate::condition::Condition;
-use crate::figure::Figure;
-use crate::markup::Page;
 use crate::parts::asked::push_asked;
 use crate::parts::found::push_found;
 use crate::parts::places::push_places;
 use crate::parts::tests_of_group::push_failed_test;
 use crate::saying::Fillings;
-use crate::sentence::Sentence;
-use crate::tag::Tag;
-use crate::told::{CertificateFigures, Headline, PriceFigures};
+use pb_figures::{CertificateFigures, Figure, PriceFigures};
+use pb_markup::{Page, Tag};
 use pb_price::Verdict;
+use pb_words::{Headline, Sentence};
 use std::alloc::AllocError;
 
 /// Begins the box, up to the answer in a sentence.

@@ -1,12 +1,11 @@
 //! What was asked, in plain words, and what the stable form would answer.
 use crate::case::Case;
-use crate::markup::Page;
 use crate::saying::Fillings;
-use crate::sentence::Sentence;
-use crate::tag::Tag;
-use crate::told::{CertificateFigures, PriceFigures};
 use pb_certificate::Measure;
+use pb_figures::{CertificateFigures, PriceFigures};
+use pb_markup::{Page, Tag};
 use pb_price::{Mode, Verdict};
+use pb_words::Sentence;
 use std::alloc::AllocError;
 
 /// Adds what was asked.

@@ -1,10 +1,8 @@
 //! Bars.
-use crate::attributes::Attributes;
-use crate::markup::Page;
 use crate::saying::Words;
-use crate::sentence::Sentence;
-use crate::tag::{Name, Tag};
 use itoa::Buffer;
+use pb_markup::{Attributes, Name, Page, Tag};
+use pb_words::Sentence;
 use std::alloc::{AllocError, Global};
 
 /// The whole width of a bar, in hundredths of a percent.

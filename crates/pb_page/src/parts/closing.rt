@@ -1,14 +1,13 @@
 //! What the answer doesn't say, what it lets one say in public, and the words of the page.
 use crate::case::Case;
 use crate::condition::Condition;
-use crate::markup::Page;
 use crate::parts::answer::says_little;
 use crate::parts::asked::fails_as_stable_alone;
-use crate::sentence::Sentence;
-use crate::tag::Tag;
-use crate::told::{CertificateFigures, Headline, PriceFigures};
 use pb_certificate::Measure;
+use pb_figures::{CertificateFigures, PriceFigures};
+use pb_markup::{Page, Tag};
 use pb_price::Verdict;
+use pb_words::{Headline, Sentence};
 use std::alloc::AllocError;
 
 /// Adds the parts behind the figures.

@@ -1,12 +1,11 @@
 //! The conditions on prices, one by one.
 use crate::case::Case;
 use crate::condition::{Condition, State};
-use crate::markup::Page;
 use crate::parts::found::push_found;
 use crate::parts::places::push_places;
-use crate::sentence::Sentence;
-use crate::tag::Tag;
-use crate::told::PriceFigures;
+use pb_figures::PriceFigures;
+use pb_markup::{Page, Tag};
+use pb_words::Sentence;
 use std::alloc::AllocError;
 
 /// Adds the conditions on prices.

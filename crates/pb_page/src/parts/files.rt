@@ -5,12 +5,11 @@ ghost use Rattle.pb_page.specs.Taken as spec;
 ghost use Rattle.pb_page.specs.Taken.{sums_shown};
 
 use crate::case::{Case, Files, InputFile};
-use crate::markup::Page;
 use crate::naming::push_label;
 use crate::saying::Fillings;
-use crate::sentence::Sentence;
-use crate::tag::Tag;
-use crate::told::CertificateFigures;
+use pb_figures::CertificateFigures;
+use pb_markup::{Page, Tag};
+use pb_words::Sentence;
 use std::alloc::{AllocError, Global};
 
 const VERSION: &str = "0.1.0";

@@ -1,11 +1,10 @@
 //! What each condition on prices comes to, in a sentence with its figures.
 use crate::case::Case;
 use crate::condition::Condition;
-use crate::figure::{Compared, Figure};
-use crate::markup::Page;
 use crate::saying::Fillings;
-use crate::sentence::Sentence;
-use crate::told::PriceFigures;
+use pb_figures::{Compared, Figure, PriceFigures};
+use pb_markup::Page;
+use pb_words::Sentence;
 use std::alloc::AllocError;
 
 /// Adds what a condition comes to.

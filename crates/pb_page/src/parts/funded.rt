@@ -1,22 +1,18 @@
 //! The projects that were funded, by the part of the limit that they take.
 ghost use Rattle.std.specs.Prelude.{IfOk, map};
-ghost use Rattle.pb_page.specs.InOrder.{HasParts};
+ghost use Rattle.pb_markup.specs.InOrder.{HasParts};
 ghost use Rattle.pb_page.specs.Rows.{ListsFunded, amount_piece, funded_amount};
 
-use crate::amounts::{Balance, push_amount};
 use crate::case::Case;
-use crate::figure::Figure;
-use crate::markup::Page;
 use crate::parts::bars::{Look, WIDTH, length_of, part_in_words, push_bar};
 use crate::parts::rows::{
     Column, ColumnKind, MOST_ROWS, begin_cell, begin_row, begin_table, behind_rows, narrow,
 };
-use crate::ranking::wrongly_paid_first;
 use crate::saying::{Fillings, grouped};
-use crate::sentence::Sentence;
-use crate::tag::Tag;
-use crate::told::PriceFigures;
+use pb_figures::{Balance, Figure, PriceFigures, push_amount, wrongly_paid_first};
+use pb_markup::{Page, Tag};
 use pb_price::ProjectMargins;
+use pb_words::Sentence;
 use std::alloc::AllocError;
 
 const COLUMNS: [Column; 5] = [

@@ -1,12 +1,10 @@
 //! The summary: how much of the limit is used, and by prices of the budgets.
 use crate::case::Case;
-use crate::figure::Figure;
-use crate::markup::Page;
 use crate::parts::bars::{Look, WIDTH, length_of, push_bar};
 use crate::saying::{Fillings, grouped};
-use crate::sentence::Sentence;
-use crate::tag::Tag;
-use crate::told::CertificateFigures;
+use pb_figures::{CertificateFigures, Figure};
+use pb_markup::{Page, Tag};
+use pb_words::Sentence;
 use std::alloc::AllocError;
 
 /// Adds the summary.

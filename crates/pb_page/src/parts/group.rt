@@ -1,17 +1,15 @@
 //! The group of a violation certificate, what it may claim, and what it demands.
 use crate::case::Case;
-use crate::figure::Figure;
-use crate::markup::Page;
 use crate::parts::bars::{Look, MARK, WIDTH, length_of, part_in_words, push_bar};
 use crate::parts::glance::{begin_tile, end_tile, push_money_tile};
 use crate::parts::rows::{
     Column, ColumnKind, MOST_ROWS, begin_cell, begin_row, begin_table, end_table, push_left_out,
 };
 use crate::saying::Fillings;
-use crate::sentence::Sentence;
-use crate::tag::Tag;
-use crate::told::ViolationFigures;
 use pb_certificate::Measure;
+use pb_figures::{Figure, ViolationFigures};
+use pb_markup::{Page, Tag};
+use pb_words::Sentence;
 use std::alloc::AllocError;
 
 const COLUMNS: [Column; 4] = [

@@ -1,13 +1,11 @@
 //! At how many places a condition on prices fails, and where by most.
 use crate::case::Case;
 use crate::condition::Condition;
-use crate::extremes::{Payment, Spender};
-use crate::figure::{Compared, Figure};
-use crate::markup::Page;
 use crate::saying::Fillings;
-use crate::sentence::Sentence;
-use crate::told::PriceFigures;
+use pb_figures::{Compared, Figure, Payment, PriceFigures, Spender};
+use pb_markup::Page;
 use pb_price::ProjectMargins;
+use pb_words::Sentence;
 use std::alloc::AllocError;
 
 /// Adds at how many places a condition fails, where these are several, and at which by most.

@@ -2,13 +2,11 @@
 ghost use Rattle.std.specs.Prelude.{◌≡◌};
 ghost use Rattle.pb_page.specs.Rows as spec;
 
-use crate::attributes::Attributes;
 use crate::case::Case;
-use crate::markup::Page;
 use crate::naming::push_label;
 use crate::saying::Fillings;
-use crate::sentence::Sentence;
-use crate::tag::{Name, Tag};
+use pb_markup::{Attributes, Name, Page, Tag};
+use pb_words::Sentence;
 use std::alloc::AllocError;
 
 /// A table is cut behind so many rows, so that a browser can show it.

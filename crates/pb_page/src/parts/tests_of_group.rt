@@ -1,14 +1,13 @@
 //! The tests of a violation, one by one.
 use crate::case::Case;
 use crate::condition::State;
-use crate::markup::Page;
 use crate::parts::conditions::push_name;
 use crate::parts::group::{share_fillings, with_worths};
 use crate::saying::Fillings;
-use crate::sentence::Sentence;
-use crate::tag::Tag;
-use crate::told::ViolationFigures;
 use pb_cohesion::{ViolationFailure, ViolationVerdict};
+use pb_figures::ViolationFigures;
+use pb_markup::{Page, Tag};
+use pb_words::Sentence;
 use std::alloc::AllocError;
 
 // A test of a violation.

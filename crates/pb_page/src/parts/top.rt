@@ -1,10 +1,9 @@
 //! The head of the page: what the vote was, where and when.
 use crate::case::Case;
-use crate::markup::Page;
 use crate::naming::push_label;
 use crate::saying::Fillings;
-use crate::sentence::Sentence;
-use crate::tag::Tag;
+use pb_markup::{Page, Tag};
+use pb_words::Sentence;
 use std::alloc::AllocError;
 
 /// Adds the title that a browser shows of the page.

@@ -1,23 +1,19 @@
 //! The projects that weren't funded, by what their supporters have left or can offer.
 ghost use Rattle.std.specs.Prelude.{◌≡◌, if◌then◌else◌, IfOk, map};
-ghost use Rattle.pb_page.specs.InOrder.{HasParts};
+ghost use Rattle.pb_markup.specs.InOrder.{HasParts};
 ghost use Rattle.pb_page.specs.Rows.{ListsUnfunded, amount_piece, unfunded_amount};
-ghost use Rattle.pb_page.specs.declared.figure.Figure.TheVariants as figure;
+ghost use Rattle.pb_figures.specs.declared.figure.Figure.TheVariants as figure;
 
-use crate::attributes::Attributes;
 use crate::case::Case;
-use crate::figure::Figure;
-use crate::markup::Page;
 use crate::parts::bars::{Look, MARK, length_of, push_bar};
 use crate::parts::rows::{
     Column, ColumnKind, MOST_ROWS, Order, begin_cell, begin_row, begin_table, behind_rows, narrow,
 };
-use crate::ranking::{Size, closest_first, has, missing, places_by};
 use crate::saying::{Fillings, grouped};
-use crate::sentence::Sentence;
-use crate::tag::{Name, Tag};
-use crate::told::PriceFigures;
+use pb_figures::{Figure, PriceFigures, Size, closest_first, has, missing, places_by};
+use pb_markup::{Attributes, Name, Page, Tag};
 use pb_price::ProjectMargins;
+use pb_words::Sentence;
 use std::alloc::{AllocError, Global};
 
 const COST: Column = Column {

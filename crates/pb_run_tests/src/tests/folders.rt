@@ -345,6 +345,18 @@ fn long_names_are_cut_on_a_terminal(rt: HostRuntime) -> Result<(), Fail> {
 }
 
 #[test]
+fn nothing_hidden_of_a_name_is_told_to_a_terminal(rt: HostRuntime) -> Result<(), Fail> {
+    let mut err = FakeTerminal {
+        written: Vec::new(rt.alloc()),
+    };
+    Progress::new(&mut err).tell(0, 1, "a\u{9b}2J\u{202e}\u{2028}b");
+    let shown = String::from_utf8(err.written)?;
+    let wanted = "\r\u{1b}[K1 of 1: a\u{fffd}2J\u{fffd}\u{fffd}b.pb";
+    assert!(rt; shown.as_str() == wanted, "{shown:?}");
+    Ok(())
+}
+
+#[test]
 fn want_of_memory_in_a_listing_is_told_apart(rt: HostRuntime) -> Result<(), Fail> {
     for (error, fault) in [
         (io::Error::from(ErrorKind::OutOfMemory), ListFault::Memory),

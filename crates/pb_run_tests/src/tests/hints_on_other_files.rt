@@ -134,6 +134,15 @@ fn hint_shows_bytes_that_are_not_seen(rt: HostRuntime) -> Result<(), Fail> {
         ": the text may be in an older encoding, such as Windows-1252; save it as UTF-8",
     ];
     let line = "certificate 20 NotUtf8 record 5";
+    expect_hint(&rt, &["prices", &election, &path], line, &path, &hint)?;
+
+    // Ends of lines but those of ASCII, spaces that look alike, a joiner, and what fonts show as nothing.
+    let row = "1,x\u{2028}y\u{85}z\u{a0}\u{200d}\u{ad}\u{2800}\u{3164}\u{e0041},2\n";
+    let path = room.write("g.csv", &with_lines(alloc, PRICES, 4, 1, row.as_bytes())?)?;
+    let hint = [
+        ":5: no project has the id 'x\\u{2028}y\\u{85}z\\u{a0}\\u{200d}\\u{ad}\\u{2800}\\u{3164}\\u{e0041}'",
+    ];
+    let line = "certificate 25 UnknownProject record 5";
     expect_hint(&rt, &["prices", &election, &path], line, &path, &hint)
 }
 

@@ -1,7 +1,7 @@
-//! Notes on an election, which people are told beside an answer.
+//! Notes on an election, and on a yes that says little, which people are told beside an answer.
 use super::room::Room;
 use super::runs::told;
-use pb_samples::files::{ELECTION, FAIR_VIOLATION, PRICES, with_lines};
+use pb_samples::files::{ELECTION, FAIR_VIOLATION, NO_MONEY, PRICES, with_lines};
 use std::test::Fail;
 
 /// A line of the sample election, by how many lines stand before it, another in its place, and the note on that.
@@ -52,4 +52,87 @@ fn tells(rt: &HostRuntime, line: &str, status: u8, wanted: &str) -> Result<(), F
         "{line}: status {}, told {}, wanted {wanted}",
         told.status, told.complaint
     )))
+}
+
+/// Prices for the sample election by which each voter spends all of its budget, 10/3: together they have the limit, 10.
+const TIGHT_PRICES: &str = "\
+pb-prices,1
+denominator,3
+voter_budget,10
+voter,project,payment
+1,a,8
+1,b,2
+2,a,10
+3,b,10
+";
+
+/// Commands on a yes to these prices, with their exit statuses.
+const ON_A_YES: [(&str, u8); 5] = [
+    ("prices e.pb p.csv", 0),
+    ("prices e.pb p.csv --stable", 0),
+    ("explain e.pb p.csv", 0),
+    ("both e.pb p.csv v.csv", 1),
+    ("both e.pb p.csv v.csv --no-exhaustive", 1),
+];
+
+/// Commands on the same files, and on prices by which nobody has anything, that tell no yes to prices.
+const ON_NO_YES: [(&str, u8); 9] = [
+    ("margins e.pb p.csv", 0),
+    ("tidy e.pb p.csv", 0),
+    ("page e.pb p.csv", 0),
+    ("violation e.pb v.csv", 1),
+    ("explain e.pb v.csv", 1),
+    ("prices e.pb n.csv", 1),
+    ("explain e.pb n.csv", 1),
+    ("both e.pb n.csv v.csv", 1),
+    ("prices e.pb p.csv --cover", 1),
+];
+
+#[test]
+fn yes_with_budgets_below_the_limit_is_noted(rt: HostRuntime) -> Result<(), Fail> {
+    let room = Room::new(&rt, "says-little")?;
+    room.write("p.csv", TIGHT_PRICES.as_bytes())?;
+    room.write("n.csv", NO_MONEY.as_bytes())?;
+    room.write("v.csv", FAIR_VIOLATION.as_bytes())?;
+    let election = with_lines(rt.alloc(), ELECTION, 5, 1, b"budget;10.000001\n")?;
+    let path = room.write("e.pb", &election)?;
+    let note = format!(in rt.alloc();
+        "{path}: note: the voter budgets together are less than the limit, so this yes says little\n"
+    )?;
+    for (command, status) in ON_A_YES {
+        tells(&rt, &room.line_of(command)?, status, &note)?;
+    }
+    for (command, status) in ON_NO_YES {
+        tells(&rt, &room.line_of(command)?, status, "")?;
+    }
+    Ok(())
+}
+
+#[test]
+fn yes_with_budgets_of_the_limit_is_not_noted(rt: HostRuntime) -> Result<(), Fail> {
+    let room = Room::new(&rt, "says-enough")?;
+    room.write("p.csv", TIGHT_PRICES.as_bytes())?;
+    room.write("v.csv", FAIR_VIOLATION.as_bytes())?;
+    room.write("e.pb", ELECTION.as_bytes())?;
+    for (command, status) in ON_A_YES {
+        tells(&rt, &room.line_of(command)?, status, "")?;
+    }
+    Ok(())
+}
+
+#[test]
+fn yes_beside_a_refused_violation_is_not_noted(rt: HostRuntime) -> Result<(), Fail> {
+    let room = Room::new(&rt, "says-nothing")?;
+    room.write("p.csv", TIGHT_PRICES.as_bytes())?;
+    let election = with_lines(rt.alloc(), ELECTION, 5, 1, b"budget;10.000001\n")?;
+    room.write("e.pb", &election)?;
+    let line = room.line_of("both e.pb p.csv p.csv")?;
+    let words: Vec<&str> = line.split(' ').collect(rt.alloc())?;
+    let told = told(&rt, &words)?;
+    assert!(rt;
+        told.status == 2 && !told.complaint.contains("note: "),
+        "{}",
+        told.complaint
+    );
+    Ok(())
 }

@@ -387,5 +387,12 @@ fn usage_is_on_standard_error(rt: HostRuntime) -> Result<(), Fail> {
         assert!(rt; told.printed.is_empty(), "{}", told.printed);
         assert!(rt; !told.complaint.is_empty());
     }
+    let told = told(&rt, &["--\u{1b}[2J\u{9b}\u{202e}"])?;
+    let shown = told.complaint.contains("--\u{fffd}[2J\u{fffd}\u{fffd}");
+    assert!(rt;
+        shown && told.complaint.contains('\n'),
+        "{}",
+        told.complaint
+    );
     Ok(())
 }

@@ -29,10 +29,10 @@ returns-in_err-outcome g c =
 pub returns : goal.returns
 returns g c =
     readers_settled (g.A.Audit.rules c.args.audit.now) _
-    c.reply_on.ensures.promised _ _ _ _ _
+    c.reply_on-told.ensures.promised _ _ _ _ _
     c.in_ok-election.ensures c.in_ok-outcome.ensures.taken c.in_ok-certificate.ensures
     (subst
     (λ (d : Delivery). IfTold g.A.Told.Telling.told
     (AnswersCertificate (g.A.Audit.rules c.args.audit.now).states (g.A.Audit.rules c.args.audit.now).reply
     c.in_ok-election.election
-    c.in_ok-outcome.outcome.marks d) c.reply_on.result) c.lend.ensures c.reply_on.ensures.reply)
+    c.in_ok-outcome.outcome.marks d) c.reply_on-told.result) c.lend.ensures c.reply_on-told.ensures.reply)

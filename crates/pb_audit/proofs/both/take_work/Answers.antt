@@ -8,6 +8,7 @@ use Rattle.pb_reply.specs.Readings.{reading}
 use Rattle.pb_audit.specs.Inside.Certificates.{AnswersCertificate}
 use Rattle.pb_reply.specs.Inside.Taking.{settled}
 use Rattle.pb_reply.specs.declared.input.InputName.TheVariants.{Violation}
+use Rattle.pb_reply.specs.declared.input.Stop.TheVariants.{Memory}
 use Rattle.pb_audit.proofs.Boths.{both_read_settled, both_stopped_at_election, both_stopped_at_outcome, both_stopped_at_prices}
 use Rattle.pb_audit.proofs.both.take_work.Goals as goal
 
@@ -51,7 +52,12 @@ returns g c =
     both_read_settled c.args.mode _ _ _ _ c.in_ok-verdict.verdict _ _
     c.in_ok-election.ensures c.in_ok-outcome.ensures.taken c.in_ok-verdict.ensures.verdict c.in_ok-violation.ensures
     (subst
-    (λ (d : Delivery). IfSome (settled (λ r. r) c.beside.result)
+    (λ (d : Delivery). IfSome (settled (λ r. r) c.beside-reply.result)
     (AnswersCertificate (StatesViolation Violation) (beside c.args.mode c.in_ok-verdict.verdict)
     c.in_ok-election.election c.in_ok-outcome.outcome.marks d))
-    c.lend.ensures c.beside.ensures)
+    c.lend.ensures c.beside-reply.ensures)
+
+pub returns-in_err-push_where_told : goal.returns-in_err-push_where_told
+returns-in_err-push_where_told g c =
+    let is : c.from_residual-in_err-push_where_told.result ≡ Err Memory = search rules in
+    rw is tt

@@ -4,7 +4,7 @@ use Rattle.pb_records.specs.Loading.{Delivery}
 use Rattle.pb_reply.specs.Inside.Loaded.{lent}
 use Rattle.pb_reply.specs.Inside.Taking.{AuditsOutcome, IfTaken}
 use Rattle.pb_page.specs.Taken.{file_of}
-use Rattle.pb_page.specs.declared.amounts.Style.{Style}
+use Rattle.pb_figures.specs.declared.amounts.Style.{Style}
 use Rattle.pb_page.proofs.Pages.{page-answered, stopped-at-certificate, stopped-at-election, stopped-at-outcome}
 use Rattle.pb_page.proofs.entry.page_work.Goals as goal
 

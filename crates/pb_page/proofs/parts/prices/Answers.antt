@@ -1,8 +1,8 @@
 use Rattle.std.proofs.Common.{◌≡◌, ◌∙◌, ◌++◌, List, ap, map, subst, sym, take}
-use Rattle.pb_page.specs.InOrder.{HasParts}
-use Rattle.pb_page.specs.Pieces.{Piece}
+use Rattle.pb_markup.specs.InOrder.{HasParts}
+use Rattle.pb_markup.specs.Pieces.{Piece}
 use Rattle.pb_page.specs.Rows.{amount_piece, funded_amount, most_rows, unfunded_amount}
-use Rattle.pb_page.proofs.InOrder.{in-order-before, in-order-within}
+use Rattle.pb_markup.proofs.InOrder.{in-order-before, in-order-within}
 use Rattle.pb_page.proofs.parts.prices.Goals as goal
 
 pub returns-clause-unfunded : goal.returns-clause-unfunded

@@ -1,9 +1,9 @@
 use Rattle.std.proofs.Common.{List, subst, sym}
-use Rattle.pb_page.specs.Pieces.{Piece}
+use Rattle.pb_markup.specs.Pieces.{Piece}
 use Rattle.pb_page.specs.Rows.{ListsProjects}
 use Rattle.pb_page.specs.Sums.{HasInOrder, code_box}
 use Rattle.pb_page.specs.Taken.{sums_shown}
-use Rattle.pb_page.proofs.InOrder.{in-order-before, in-order-behind}
+use Rattle.pb_markup.proofs.InOrder.{in-order-before, in-order-behind}
 use Rattle.pb_page.proofs.Rows.{lists-before, lists-behind}
 use Rattle.pb_page.proofs.parts.whole_page.Goals as goal
 

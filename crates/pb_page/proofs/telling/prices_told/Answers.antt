@@ -1,11 +1,13 @@
-use Rattle.std.proofs.Common.{◌∙◌, ap, refl, subst, sym}
+use Rattle.std.proofs.Common.{◌∙◌, ℕ, List, ap, refl, subst, sym}
+use Rattle.std.specs.Prelude.{string_bytes}
 use Rattle.pb_price.specs.declared.Verdict.{Verdict}
 use Rattle.pb_reply.specs.Inside.Loaded.{lent}
 use Rattle.pb_reply.specs.Lines.{price_line}
 use Rattle.pb_reply.specs.Named.{PricesNameProject}
 use Rattle.pb_reply.specs.declared.input.InputName.TheVariants.{Certificate}
 use Rattle.pb_reply.proofs.Culprits.{denominator-low, told_names_project}
-use Rattle.pb_page.specs.declared.told.CertificateFigures.TheVariants.{Prices}
+use Rattle.pb_figures.specs.declared.told.CertificateFigures.TheVariants.{Prices}
+use Rattle.pb_page.specs.Shown.{ShowsLine}
 use Rattle.pb_page.proofs.Tells.{tells-prices}
 use Rattle.pb_page.proofs.telling.prices_told.Goals as goal
 
@@ -29,6 +31,6 @@ returns-clause-told c kind =
     })
     c.in_ok-figures.figures found.1 refl refl
     (subst (λ (l : List ℕ). ShowsLine l (string_bytes c.in_ok-shown_line.field-0))
-    (c.in_ok-price_line.ensures ∙ ap (price_line c.args.mode.stable c.args.election.now) c.verdict-verdict.ensures)
+    (c.deref.ensures ∙ c.in_ok-price_line.ensures ∙ ap (price_line c.args.mode.stable c.args.election.now) c.verdict-verdict.ensures)
     c.in_ok-shown_line.ensures)
     found.2 found.3 kind

@@ -1,10 +1,10 @@
 use Rattle.std.proofs.Common.{◌≡◌, List, [], ◌∷◌, ◌++◌, arith, subst, sym}
 use Rattle.std.proofs.lemmas.Grind.{common_steps}
 use Rattle.std.proofs.lemmas.Result.{on_ok_weaker}
-use Rattle.pb_page.specs.Pieces.{Close, Piece}
+use Rattle.pb_markup.specs.Pieces.{Close, Piece}
 use Rattle.pb_page.specs.Sums.{HasInOrder, code_box}
 use Rattle.pb_page.specs.Taken as spec
-use Rattle.pb_page.proofs.InOrder.{in-order-next}
+use Rattle.pb_markup.proofs.InOrder.{in-order-next}
 use Rattle.pb_page.proofs.parts.files.push_file.Goals as goal
 
 pub returns : goal.returns

@@ -1,10 +1,10 @@
 use Rattle.std.proofs.Common.{◌∙◌, ap, List, [], ◌∷◌, ◌++◌, map, subst, sym}
 use Rattle.std.specs.Prelude.{option_to_list}
 use Rattle.std.proofs.lemmas.Result.{on_ok_weaker}
-use Rattle.pb_page.specs.Pieces.{Close, Piece}
+use Rattle.pb_markup.specs.Pieces.{Close, Piece}
 use Rattle.pb_page.specs.Sums.{HasInOrder, code_box}
 use Rattle.pb_page.specs.Taken.{sum_of, sums_shown}
-use Rattle.pb_page.proofs.InOrder.{in-order-before}
+use Rattle.pb_markup.proofs.InOrder.{in-order-before}
 use Rattle.pb_page.proofs.parts.files.push_files.Goals as goal
 
 pub returns : goal.returns

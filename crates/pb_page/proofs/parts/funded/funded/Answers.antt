@@ -1,10 +1,10 @@
 use Rattle.std.proofs.Common.{◌≡◌, ◌∙◌, ◌++◌, ℕ, List, ap, map, subst, sym, take}
 use Rattle.pb_price.specs.declared.ProjectMargins.{ProjectMargins}
-use Rattle.pb_page.specs.InOrder.{HasParts}
-use Rattle.pb_page.specs.Pieces.{Piece}
-use Rattle.pb_page.specs.Ranking.{AreRanked, by_size, funded}
+use Rattle.pb_markup.specs.InOrder.{HasParts}
+use Rattle.pb_markup.specs.Pieces.{Piece}
+use Rattle.pb_figures.specs.Ranking.{AreRanked, by_size, funded}
 use Rattle.pb_page.specs.Rows.{amount_piece, funded_amount, most_rows}
-use Rattle.pb_page.proofs.InOrder.{in-order-within}
+use Rattle.pb_markup.proofs.InOrder.{in-order-within}
 use Rattle.pb_page.proofs.parts.funded.funded.Goals as goal
 
 pub returns : goal.returns

@@ -1,7 +1,7 @@
 use Rattle.std.proofs.Common.{◌∙◌, ◌++◌, [], ◌∷◌, ℕ, ap, arith}
-use Rattle.pb_page.specs.Pieces.{Amount}
+use Rattle.pb_markup.specs.Pieces.{Amount}
 use Rattle.pb_page.specs.Rows.{funded_amount}
-use Rattle.pb_page.specs.declared.figure.Figure.TheVariants as figure
+use Rattle.pb_figures.specs.declared.figure.Figure.TheVariants as figure
 use Rattle.pb_page.proofs.Rows.{rows-next}
 use Rattle.pb_page.proofs.parts.funded.rows.Goals as goal
 

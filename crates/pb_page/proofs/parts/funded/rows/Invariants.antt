@@ -1,5 +1,5 @@
 use Rattle.std.proofs.Common.{map, take}
-use Rattle.pb_page.specs.InOrder.{HasParts}
+use Rattle.pb_markup.specs.InOrder.{HasParts}
 use Rattle.pb_page.specs.Rows.{amount_piece, funded_amount}
 use Rattle.pb_page.proofs.parts.funded.rows.Given as goal
 

@@ -1,9 +1,9 @@
 use Rattle.std.proofs.Common.{◌∙◌, ◌++◌, [], ◌∷◌, ℕ, ap, arith}
 use Rattle.std.specs.Prelude.{if◌then◌else◌}
-use Rattle.pb_page.specs.Pieces.{Amount}
+use Rattle.pb_markup.specs.Pieces.{Amount}
 use Rattle.pb_page.specs.Rows.{unfunded_amount}
-use Rattle.pb_page.specs.declared.figure.Figure.{Figure}
-use Rattle.pb_page.specs.declared.figure.Figure.TheVariants as figure
+use Rattle.pb_figures.specs.declared.figure.Figure.{Figure}
+use Rattle.pb_figures.specs.declared.figure.Figure.TheVariants as figure
 use Rattle.pb_page.proofs.Rows.{rows-next}
 use Rattle.pb_page.proofs.parts.unfunded.rows.Goals as goal
 

@@ -1,5 +1,5 @@
 use Rattle.std.proofs.Common.{map, take}
-use Rattle.pb_page.specs.InOrder.{HasParts}
+use Rattle.pb_markup.specs.InOrder.{HasParts}
 use Rattle.pb_page.specs.Rows.{amount_piece, unfunded_amount}
 use Rattle.pb_page.proofs.parts.unfunded.rows.Given as goal
 

@@ -1,11 +1,11 @@
 use Rattle.std.proofs.Common.{◌≡◌, ◌∙◌, ◌++◌, ℕ, List, ap, map, subst, sym, take}
 use Rattle.std.specs.Prelude.{ℤ}
 use Rattle.pb_price.specs.declared.ProjectMargins.{ProjectMargins}
-use Rattle.pb_page.specs.InOrder.{HasParts}
-use Rattle.pb_page.specs.Pieces.{Piece}
-use Rattle.pb_page.specs.Ranking.{AreRanked, by_missing, unfunded}
+use Rattle.pb_markup.specs.InOrder.{HasParts}
+use Rattle.pb_markup.specs.Pieces.{Piece}
+use Rattle.pb_figures.specs.Ranking.{AreRanked, by_missing, unfunded}
 use Rattle.pb_page.specs.Rows.{amount_piece, unfunded_amount, most_rows}
-use Rattle.pb_page.proofs.InOrder.{in-order-within}
+use Rattle.pb_markup.proofs.InOrder.{in-order-within}
 use Rattle.pb_page.proofs.parts.unfunded.unfunded.Goals as goal
 
 pub returns : goal.returns

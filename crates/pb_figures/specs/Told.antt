@@ -1,0 +1,146 @@
+-- What a page tells: the answer, and amounts by their names.
+use Rattle.std.specs.Prelude.{◌==◌, ◌-◌, ◌+◌, ◌*◌, ◌^◌, min, max, if◌then◌else◌, ℕ, ℤ, pos, int_lt, List, Bool, Option, Some, None, fold, slice_get, unsigned_abs}
+use Rattle.std.specs.Int.{abs_diff}
+use Rattle.pb_certificate.specs.declared.violations.measure.Measure.{Measure}
+use Rattle.pb_certificate.specs.declared.violations.measure.Measure.TheVariants.{ByCost, ByCount}
+use Rattle.pb_cohesion.specs.declared.ViolationVerdict.{ViolationVerdict}
+use Rattle.pb_cohesion.specs.declared.ViolationVerdict.TheVariants as violation_verdict
+use Rattle.pb_price.specs.First.{verdict_of}
+use Rattle.pb_price.specs.Told.{first_told}
+use Rattle.pb_price.specs.declared.Comparison.{Comparison}
+use Rattle.pb_price.specs.declared.Finding.{Finding}
+use Rattle.pb_price.specs.declared.Findings.{Findings}
+use Rattle.pb_price.specs.declared.Mode.{Mode}
+use Rattle.pb_price.specs.declared.ProjectMargins.{ProjectMargins}
+use Rattle.pb_price.specs.declared.Verdict.{Verdict}
+use Rattle.pb_price.specs.declared.Verdict.TheVariants as verdict
+use Rattle.pb_figures.specs.Amounts.{nothing, of, signed}
+use Rattle.pb_figures.specs.declared.amounts.Balance.{Balance}
+use Rattle.pb_figures.specs.declared.figure.Compared.{Compared}
+use Rattle.pb_figures.specs.declared.figure.Compared.TheVariants as compared
+use Rattle.pb_figures.specs.declared.figure.Figure.{Figure}
+use Rattle.pb_figures.specs.declared.figure.Figure.TheVariants as figure
+use Rattle.pb_figures.specs.declared.told.CertificateFigures.{CertificateFigures}
+use Rattle.pb_figures.specs.declared.told.CertificateFigures.TheVariants as found
+use Rattle.pb_words.specs.declared.headlines.Headline.{Headline}
+use Rattle.pb_words.specs.declared.headlines.Headline.TheVariants as headline
+use Rattle.pb_figures.specs.declared.told.PriceFigures.{PriceFigures}
+use Rattle.pb_figures.specs.declared.told.ViolationFigures.{ViolationFigures}
+
+-- the answers in a sentence
+abbrev pub price_headline : Bool → Verdict → Headline
+price_headline stable verdict.Supported = if stable then headline.SupportedStable else headline.Supported
+price_headline stable (verdict.Failed f) = headline.NotSupported
+
+abbrev pub violation_headline : ViolationVerdict → Headline
+violation_headline violation_verdict.Violation = headline.Violation
+violation_headline (violation_verdict.Failed f) = headline.NoViolation
+
+abbrev pub headline_of : Mode → CertificateFigures → Headline
+headline_of m (found.Prices p) = price_headline m.stable (verdict_of (first_told m p.findings))
+headline_of m (found.Violation v) = violation_headline v.verdict
+
+-- the largest number that sums are counted to, which no sum of an election comes near
+abbrev pub capped : ℕ → ℕ
+capped x = min x (2 ^ 128 - 1)
+
+-- how far an amount is from a bound
+abbrev pub distance : ℤ → ℕ → ℕ
+distance amount bound =
+    if int_lt amount (pos 0) then capped (bound + unsigned_abs amount)
+    else abs_diff bound (unsigned_abs amount)
+
+-- what is paid for all projects together
+abbrev pub spent : List ProjectMargins → ℕ
+spent projects = fold (λ sum project. capped (sum + project.paid)) 0 projects
+
+-- the place of a number that begins with 1, in a list
+abbrev pub at : {A : Type 0} → List A → ℕ → Option A
+at xs j = if j == 0 then None else slice_get xs (j - 1)
+
+-- an amount of what is there
+abbrev pub amount_in : {A : Type 0} → (A → Balance) → Option A → Balance
+amount_in amount None = nothing
+amount_in amount (Some a) = amount a
+
+abbrev pub of_project : (ProjectMargins → Balance) → PriceFigures → ℕ → Balance
+of_project amount p j = amount_in amount (at p.margins.projects.items j)
+
+-- the finding of a condition, and an amount of the two sums that it shows
+abbrev pub finding : Findings → Compared → Finding
+finding f compared.Exhaustive = f.exhaustive
+finding f compared.C2 = f.c2
+finding f compared.C3 = f.c3
+finding f compared.C4 = f.c4
+finding f compared.C5 = f.c5
+finding f compared.S5 = f.s5
+
+abbrev pub shown : (Comparison → Balance) → PriceFigures → Compared → Balance
+shown amount p condition = amount_in amount (finding p.findings condition).shown
+
+-- the amounts of prices
+abbrev pub price_amount : PriceFigures → Figure → Balance
+price_amount p figure.Limit = of p.findings.limit
+price_amount p figure.Funded = of p.findings.total
+price_amount p figure.Remains = of (abs_diff p.findings.limit p.findings.total)
+price_amount p figure.VoterBudget = of p.findings.voter_budget
+price_amount p figure.Budgets = of p.findings.budgets
+price_amount p figure.Spent = of (spent p.margins.projects.items)
+price_amount p figure.Unspent = of (abs_diff p.findings.budgets (spent p.margins.projects.items))
+price_amount p (figure.Cost j) = of_project (λ m. of m.cost) p j
+price_amount p (figure.Paid j) = of_project (λ m. of m.paid) p j
+price_amount p (figure.Left j) = of_project (λ m. signed m.left) p j
+price_amount p (figure.Offer j) = of_project (λ m. signed m.offer) p j
+price_amount p (figure.PaidOff j) = of_project (λ m. of (abs_diff m.paid m.cost)) p j
+price_amount p (figure.LeftOff j) = of_project (λ m. of (distance m.left m.cost)) p j
+price_amount p (figure.OfferOff j) = of_project (λ m. of (distance m.offer m.cost)) p j
+price_amount p (figure.Bound c) = shown (λ s. of s.bound) p c
+price_amount p (figure.Amount c) = shown (λ s. signed s.amount) p c
+price_amount p (figure.AmountOff c) = shown (λ s. of (distance s.amount s.bound)) p c
+price_amount p figure.Demand = nothing
+price_amount p figure.Share = nothing
+price_amount p figure.ShareOff = nothing
+price_amount p figure.Gets = nothing
+price_amount p figure.Worth = nothing
+
+-- On a violation a millionth of the currency has as many grains as there are voters, or one where there are none. So
+-- what falls to a group is a whole number of them.
+abbrev pub grains_of : ViolationFigures → ℕ → ℕ
+grains_of v millionths = capped (millionths * max v.voters 1)
+
+abbrev pub grains_of_violation : ViolationFigures → ℕ
+grains_of_violation v = 10 ^ 6 * max v.voters 1
+
+-- the group's share of the limit: the limit by the number of voters, for each of its members
+abbrev pub share : ViolationFigures → ℕ
+share v = v.limit * v.findings.members
+
+-- what projects are worth, where that is an amount
+abbrev pub amount_by : Measure → ℕ → Balance
+amount_by ByCost grains = of grains
+amount_by ByCount grains = nothing
+
+abbrev pub worth : ViolationFigures → ℕ → Balance
+worth v projects = amount_by v.violation.measure (grains_of v projects)
+
+-- the amounts of a violation
+abbrev pub violation_amount : ViolationFigures → Figure → Balance
+violation_amount v figure.Limit = of (grains_of v v.limit)
+violation_amount v figure.Funded = of (grains_of v v.funded)
+violation_amount v figure.Remains = of (grains_of v (abs_diff v.limit v.funded))
+violation_amount v (figure.Cost j) = amount_in (λ cost. of (grains_of v cost)) (at v.costs.items j)
+violation_amount v figure.Demand = of (grains_of v v.findings.cost)
+violation_amount v figure.Share = of (share v)
+violation_amount v figure.ShareOff = of (abs_diff (grains_of v v.findings.cost) (share v))
+violation_amount v figure.Gets = worth v v.findings.gets
+violation_amount v figure.Worth = worth v v.findings.demanded
+violation_amount v _ = nothing
+
+abbrev pub amount_of : CertificateFigures → Figure → Balance
+amount_of (found.Prices p) f = price_amount p f
+amount_of (found.Violation v) f = violation_amount v f
+
+-- how many grains one unit of the currency has
+abbrev pub grains_per_unit : CertificateFigures → ℕ
+grains_per_unit (found.Prices p) = p.findings.grains_per_unit
+grains_per_unit (found.Violation v) = grains_of_violation v

@@ -1,0 +1,16 @@
+//! The figures of the page about a certificate: amounts by name, how they are written, and the orders of projects.
+#![tactic(auto)]
+
+mod amounts;
+mod decimals;
+mod extremes;
+mod figure;
+mod ranking;
+mod told;
+
+pub use amounts::{Balance, Style, push_amount, push_grouped};
+pub use decimals::decimals_of;
+pub use extremes::{Payment, Spender, extremes_of};
+pub use figure::{Compared, Figure};
+pub use ranking::{Size, closest_first, has, missing, places_by, wrongly_paid_first};
+pub use told::{CertificateFigures, PriceFigures, Told, ViolationFigures};

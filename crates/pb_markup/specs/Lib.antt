@@ -1,0 +1,6 @@
+pub mod Escapes
+pub mod InOrder
+pub mod Names
+pub mod PieceList
+pub mod Pieces
+pub mod Shown

@@ -1,4 +1,0 @@
-use Rattle.pb_page.proofs.amounts.+push_groups.Given as goal
-
-abbrev pub decreases-push_groups : goal.decreases-push_groups
-decreases-push_groups l = l.count

@@ -1,5 +1,0 @@
-use Rattle.pb_page.proofs.Texts.{same-markup}
-use Rattle.pb_page.proofs.laws.text_is_no_markup.Goals as goal
-
-pub returns : goal.returns
-returns c = same-markup

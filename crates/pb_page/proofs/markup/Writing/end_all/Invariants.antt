@@ -1,6 +1,0 @@
-use Rattle.std.proofs.Common.{◌≡◌}
-use Rattle.pb_page.specs.Pieces.{close_innermost}
-use Rattle.pb_page.proofs.markup.Writing.end_all.Given as goal
-
-abbrev pub invariant-loop : goal.invariant-loop
-invariant-loop l = l.self ≡ close_innermost l.counter l.initial.self

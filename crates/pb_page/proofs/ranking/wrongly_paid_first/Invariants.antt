@@ -1,6 +1,0 @@
-use Rattle.std.proofs.Common.{◌≡◌, take}
-use Rattle.pb_page.specs.Ranking.{funded}
-use Rattle.pb_page.proofs.ranking.wrongly_paid_first.Given as goal
-
-abbrev pub invariant-loop-k : goal.invariant-loop-k
-invariant-loop-k l = l.order.items ≡ funded (take l.k l.projects)

@@ -1,6 +1,0 @@
-use Rattle.std.proofs.Common.{◌≡◌, take}
-use Rattle.pb_page.specs.Told as spec
-use Rattle.pb_page.proofs.told.spent.Given as goal
-
-abbrev pub invariant-loop-project : goal.invariant-loop-project
-invariant-loop-project l = l.spent ≡ spec.spent (take l.project-index l.projects)

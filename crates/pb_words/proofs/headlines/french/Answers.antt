@@ -1,0 +1,19 @@
+use Rattle.std.proofs.Common.{rules}
+use Rattle.std.specs.Char.{encode_utf8}
+use Rattle.pb_words.proofs.headlines.french.Goals as goal
+
+pub returns-in-Supported : goal.returns-in-Supported
+unfolding encode_utf8
+returns-in-Supported c = search rules
+
+pub returns-in-SupportedStable : goal.returns-in-SupportedStable
+unfolding encode_utf8
+returns-in-SupportedStable c = search rules
+
+pub returns-in-NotSupported : goal.returns-in-NotSupported
+unfolding encode_utf8
+returns-in-NotSupported c = search rules
+
+pub returns-in-Violation : goal.returns-in-Violation
+unfolding encode_utf8
+returns-in-Violation c = search rules

@@ -1,0 +1,41 @@
+-- The answer in a sentence, in each language.
+use Rattle.std.specs.Prelude.{ℕ, List, codes, encode_utf8_all}
+use Rattle.pb_words.specs.declared.language.Language.{Language}
+use Rattle.pb_words.specs.declared.language.Language.TheVariants as language
+use Rattle.pb_words.specs.declared.headlines.Headline.{Headline}
+use Rattle.pb_words.specs.declared.headlines.Headline.TheVariants.{NoViolation, NotSupported, Supported, SupportedStable, Violation}
+
+abbrev pub english : Headline → List ℕ
+english Supported = encode_utf8_all (codes "The prices support this outcome")
+english SupportedStable = encode_utf8_all (codes "The prices support this outcome in the stable form")
+english NotSupported = encode_utf8_all (codes "The prices don’t support this outcome")
+english Violation = encode_utf8_all (codes "This group was treated worse than it deserves")
+english NoViolation = encode_utf8_all (codes "This certificate doesn’t prove unfair treatment")
+
+abbrev pub polish : Headline → List ℕ
+polish Supported = encode_utf8_all (codes "Ceny uzasadniają ten wynik")
+polish SupportedStable = encode_utf8_all (codes "Ceny uzasadniają ten wynik w wersji stabilnej")
+polish NotSupported = encode_utf8_all (codes "Ceny nie uzasadniają tego wyniku")
+polish Violation = encode_utf8_all (codes "Tę grupę potraktowano gorzej, niż na to zasługuje")
+polish NoViolation = encode_utf8_all (codes "Ten certyfikat nie dowodzi niesprawiedliwego potraktowania")
+
+abbrev pub german : Headline → List ℕ
+german Supported = encode_utf8_all (codes "Die Preise stützen dieses Ergebnis")
+german SupportedStable = encode_utf8_all (codes "Die Preise stützen dieses Ergebnis in der stabilen Form")
+german NotSupported = encode_utf8_all (codes "Die Preise stützen dieses Ergebnis nicht")
+german Violation = encode_utf8_all (codes "Diese Gruppe wurde schlechter behandelt, als ihr zusteht")
+german NoViolation = encode_utf8_all (codes "Eine ungerechte Behandlung ist damit nicht bewiesen")
+
+abbrev pub french : Headline → List ℕ
+french Supported = encode_utf8_all (codes "Les prix justifient ce résultat")
+french SupportedStable = encode_utf8_all (codes "Les prix justifient ce résultat sous sa forme stable")
+french NotSupported = encode_utf8_all (codes "Les prix ne justifient pas ce résultat")
+french Violation = encode_utf8_all (codes "Ce groupe a été traité moins bien qu’il ne le mérite")
+french NoViolation = encode_utf8_all (codes "Ce certificat ne prouve aucun traitement injuste")
+
+-- what an answer says in a language, in UTF-8
+abbrev pub headline_words : Language → Headline → List ℕ
+headline_words language.English h = english h
+headline_words language.Polish h = polish h
+headline_words language.German h = german h
+headline_words language.French h = french h
