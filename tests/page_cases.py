@@ -209,6 +209,23 @@ def of_offers(count):
     return of_prices(random.Random(count), town, making.Claim(1, 10, {(0, 0): 10}), True)
 
 
+def of_strangers(count):
+    """A case of so many voters who each pay too much for a funded project that they don't approve."""
+    funded = set(range(count))
+    ids, costs = [b"%d" % number for number in range(count + 1)], [7 * making.MILLION] * (count + 1)
+    town = making.Town(ids, costs, sum(costs) - 1, funded, [{count} for _ in range(count)])
+    claim = making.Claim(3, 25, {(number, number): 20 + 7 * number for number in range(count)})
+    return of_prices(random.Random(count), town, claim, True)
+
+
+def of_members(count):
+    """A case of a group of so many who all get enough, and don't approve what the group demands."""
+    town = making.Town([b"a", b"b"], [making.MILLION] * 2, making.MILLION, {0}, [{0}] * count)
+    claim = making.violation_file(random.Random(count), town, set(range(count)), {1}, True)
+    files = {"town.pb": dressed(random.Random(count), town, True), "claim.csv": claim}
+    return Case(["violation", "town.pb", "claim.csv"], files)
+
+
 # Large cases, and those of which the page is compared in one language alone.
 LARGE = {
     "1001 unfunded": lambda: of_rows(1001, False), "1005 demanded": lambda: of_demand(1005),
@@ -222,8 +239,9 @@ def fixed_cases():
     examples, and files that aren't there or say nothing."""
     for name, case in LARGE.items():
         yield renamed(random.Random(name), case(), name)
-    for count in (1, 3, 5):
-        yield renamed(random.Random(count), of_offers(count), f"offers {count}")
+    for count in (1, 2, 5):
+        for made in (of_offers, of_strangers, of_members):
+            yield renamed(random.Random(count), made(count), f"{made.__name__} {count}")
     for words in (["district.prices.csv", "--stable"], ["district.violation.csv"], ["district.stable.prices.csv"]):
         names = ["district.pb", words[0]]
         files = {name: (EXAMPLES / name).read_bytes() for name in names}
