@@ -100,22 +100,23 @@ class Chromium(Browser):
         "GetComputedLabel": ("GET", "/element/{id}/computedlabel"), "DevTools": ("POST", "/goog/cdp/execute"),
     }  # fmt: skip
 
-    def __init__(self, folder, downloads, language="en"):
+    def __init__(self, folder, downloads, language="en", has_wasm=True):
         with tempfile.TemporaryFile() as told:
             words = [shutil.which("chromedriver"), "--port=0"]
             self.driver = subprocess.Popen(words, stdout=told, stderr=subprocess.DEVNULL)
             try:
                 port = until(lambda: self.port_in(told), START_SECONDS, "chromedriver")
                 self.address = f"http://127.0.0.1:{port}"
-                self.session = f"/session/{self.started(folder, downloads, language)}"
+                self.session = f"/session/{self.started(folder, downloads, language, has_wasm)}"
             except Exception:
                 self.driver.kill()
                 raise
 
-    def started(self, folder, downloads, language):
+    def started(self, folder, downloads, language, has_wasm):
         """The number of a session that begins."""
         options = ["--headless=new", "--no-sandbox", "--disable-gpu", "--disable-dev-shm-usage",
-                   f"--user-data-dir={folder}", f"--accept-lang={language}", f"--lang={language}"]
+                   f"--user-data-dir={folder}", f"--accept-lang={language}", f"--lang={language}",
+                   *([] if has_wasm else ["--js-flags=--jitless"])]
         settings = {"args": options, "binary": program(CHROMIUM),
                     "prefs": {"download.default_directory": str(downloads), "intl.accept_languages": language}}
         asked = {"capabilities": {"alwaysMatch": {"goog:chromeOptions": settings}}}
@@ -167,11 +168,11 @@ class Firefox(Browser):
 
     name = "Firefox"
 
-    def __init__(self, folder, downloads, language="en"):
+    def __init__(self, folder, downloads, language="en", has_wasm=True):
         folder = pathlib.Path(folder)
         folder.mkdir(exist_ok=True)
         # A page may read a folder that a hand chose. Here none does, so Firefox is told to let it be read without.
-        settings = {"marionette.port": 0, "intl.accept_languages": language, "browser.download.folderList": 2,
+        settings = {"marionette.port": 0, "javascript.options.wasm": has_wasm, "intl.accept_languages": language, "browser.download.folderList": 2,
                     "dom.filesystem.pathcheck.disabled": True, "browser.download.alwaysOpenPanel": False,
                     "browser.download.dir": str(downloads), "browser.download.useDownloadDir": True,
                     "browser.shell.checkDefaultBrowser": False, "datareporting.policy.dataSubmissionEnabled": False,

@@ -2,6 +2,7 @@
 
    library once COMMAND SWITCHES ELECTION [CERTIFICATE [OUTCOME]]
    library once both SWITCHES ELECTION PRICES VIOLATION [OUTCOME]
+   library once note SWITCHES ELECTION CERTIFICATE
    library once hint INPUT:NUMBER:RECORD FILE [ELECTION]
                      prints the text, and ends with the status; each buffer is as large as it has to be, and no larger
    library memory ..  makes the Nth allocation fail, and then it and all later ones, for each N; prints how many failed.
@@ -72,6 +73,8 @@ static void call(void) {
                                  files[1].length, out, room, &needed);
     else if (!strcmp(command, "hint"))
         call_hint();
+    else if (!strcmp(command, "note"))
+        status = pbaudit_note(files[0].at, files[0].length, files[1].at, files[1].length, out, room, &needed);
     else if (!strcmp(command, "tidy"))
         status = pbaudit_tidy(files[0].at, files[0].length, files[1].at, files[1].length, out, room, &needed);
     else if (!strcmp(command, "violation"))

@@ -134,6 +134,9 @@ def try_examples(score, folder, room, library, program):
         if place_of(text):
             told = library.hint(question(words, files), place_of(text))
             score.check(told == hint_in(ran.stderr), f"the hint, {words}: {told}, and the program: {ran}")
+        if words[0] == "prices" and status == 0:
+            told = library.says_little(question(words, files))
+            score.check(told == (b"note: the voter budgets" in ran.stderr), f"the note, {words}: {told}, {ran}")
         if words[0] == "prices" and not {"--no-exhaustive", "--cover"} & set(words):
             for caller in callers:
                 ran = run([caller, *words[1:]])
@@ -198,6 +201,15 @@ def numbers_of(score, words):
     return [int(number) for number in told.stdout.split()] if told.returncode == 0 else []
 
 
+def note_calls():
+    """Calls for notes of library.c, each with its text: of small voter budgets, of larger ones, and of refused files."""
+    yield ["note", "-", "school.pb", "school.prices.csv"], (
+        b"note: the voter budgets together are less than the limit, so this yes says little\n")
+    yield ["note", "-", "district.pb", "district.prices.csv"], b""
+    yield ["note", "-", "school.pb", "school.violation.csv"], b""
+    yield ["note", "-", "school.prices.csv", "school.prices.csv"], b""
+
+
 def hint_calls():
     """Calls for hints of library.c, each with its text: the words and what the file has to be, as the header says."""
     yield ["hint", "3:24:4", "district.voter-id.violation.csv", "district.pb"], (
@@ -230,7 +242,7 @@ def try_failures(score, folder, room):
     else:
         print("the sanitizers aren't installed")
     calls = [(caller_words(words), text, status) for words, text, status in commands()]
-    calls += [(words, text, 0) for words, text in hint_calls()]
+    calls += [(words, text, 0) for words, text in [*note_calls(), *hint_calls()]]
     for words, text, status in calls:
         once = run([caller, "once", *words])
         score.check((once.returncode, once.stdout) == (status, text), f"library.c, {words}: {once}")

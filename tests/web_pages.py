@@ -896,7 +896,8 @@ def try_languages(visit):
 
 
 def drive(score, engine, page, program, pictures):
-    """All of this in a browser, from the disk and from a server; and in a browser that speaks Polish."""
+    """All of this in a browser, from the disk and from a server; and in one that speaks Polish and has no
+    WebAssembly."""
     with tempfile.TemporaryDirectory() as room:
         room = pathlib.Path(room)
         served, downloads = room / "served", room / "downloads"
@@ -915,11 +916,12 @@ def drive(score, engine, page, program, pictures):
         finally:
             browser.close()
             server.close()
-        polish = engine(room / "polish", downloads, "pl")
+        polish = engine(room / "polish", downloads, "pl", has_wasm=False)
         try:
             visit = Visit(score, polish, (served / "pbaudit.html").as_uri(), program, room)
             visit.open()
             visit.same(HEADS["pl"], visit.text("h1"), "the head in a browser that speaks Polish")
+            attempt(visit, web_trust.try_no_webassembly)
         finally:
             polish.close()
 
@@ -930,7 +932,7 @@ def tests(page, server, downloads, pictures):
         try_replacing, try_refusal, try_folder, try_hostile_names, try_many, try_stop, try_bad_files, try_languages,
         try_totals, try_unused, try_no_kind, try_no_certificate, try_names_of_files, try_changes_while_busy,
         try_printing, web_reach.try_names, web_boxes.try_restored, web_boxes.try_boxes, web_boxes.try_example,
-        web_trust.try_no_webassembly, web_trust.try_stop_of_silence, *web_given.TESTS,
+        web_trust.try_stop_of_silence, *web_given.TESTS,
         *[functools.partial(test, page=page) for test in
           (web_trust.try_no_engine, web_trust.try_no_script, web_trust.try_charset, web_trust.try_ways_out)],
         functools.partial(try_while_busy, downloads=downloads),

@@ -6,7 +6,6 @@ import re
 import threading
 
 import assemble
-import browsers
 
 EXAMPLES = pathlib.Path(__file__).resolve().parent.parent / "examples"
 FILES = [EXAMPLES / "sample.pb", EXAMPLES / "sample.prices.csv"]
@@ -135,18 +134,14 @@ def try_no_engine(visit, page):
         visit.same([("sample.prices.csv", "Yes", None)], visit.answers(1), "the header that WEB.md names")
 
 
-WITHOUT = "Object.defineProperty(window, 'WebAssembly', {value: undefined});"
-
-
 def try_no_webassembly(visit):
-    """A browser without WebAssembly."""
-    if isinstance(visit.browser, browsers.Chromium):
-        added = visit.browser.tools("Page.addScriptToEvaluateOnNewDocument", source=WITHOUT)
-        try:
-            visit.open()
-            ends_with_reason(visit, "no WebAssembly")
-        finally:
-            visit.browser.tools("Page.removeScriptToEvaluateOnNewDocument", **added)
+    """A browser that speaks Polish and has no WebAssembly."""
+    visit.holds(visit.browser.ask("return typeof WebAssembly === 'undefined'"), "the browser has no WebAssembly")
+    visit.holds("Program nie może tu działać" in visit.text("#broken"), f"it is told at once: {visit.text('#broken')}")
+    visit.give(*FILES)
+    visit.same([("sample.prices.csv", "Brak odpowiedzi")], [each[:2] for each in visit.answers(1)], "an audit then")
+    told = visit.text("#audit-list")
+    visit.holds("Program nie może tu działać" in told and "WebAssembly" in told, f"the reason: {told}")
 
 
 NEVER = "window.Worker = class { postMessage() {} terminate() {} };"
@@ -193,11 +188,18 @@ def try_charset(visit, page):
 
 def try_ways_out(visit, page):
     """No way to load or to send anything comes through to a server that would answer."""
-    with Host(page) as host:
+    bare = visit.new_room() / "bare.html"
+    text = pathlib.Path(page).read_text(encoding="utf-8")
+    bare.write_text(text.replace(policy_of(page), "base-uri 'none'", 1), encoding="utf-8")
+    with Host(page) as host, Host(bare) as other:
         visit.open()
         count = visit.browser.ask(TRIES, host.address)
         visit.holds(count >= 20, f"{count} ways were tried")
         visit.same([], host.asked, "what came through")
+        visit.open(other.address)
+        visit.browser.ask(TRIES, host.address)
+        came = {path.split("/")[1].split(".")[0] for path in host.asked}
+        visit.holds(len(came) >= 12, f"what comes through without the policy: {sorted(came)}")
     visit.holds("webrtc 'block'" in policy_of(page), "the policy names WebRTC, for browsers that know it")
 
 

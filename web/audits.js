@@ -27,6 +27,8 @@
 
 /** A worker that tells nothing for so many milliseconds was never let run. */
 const LONGEST_START = 30_000;
+/** What is told where the browser says nothing of its own. */
+const NO_WORKER = "the worker was not let run";
 
 /** The browser doesn't run the auditor. */
 class NoEngine extends Error {}
@@ -94,7 +96,7 @@ class Runner {
     const isFirst = (/** @type {Told} */ data) => data.tells === "answer" && "notes" in order && order.notes;
     let isReady = false, answer = {};
     return new Promise((resolve, reject) => {
-      setTimeout(() => isReady || reject(new NoEngine("Worker")), LONGEST_START);
+      setTimeout(() => isReady || reject(new NoEngine(NO_WORKER)), LONGEST_START);
       worker.onmessage = ({ data }) => {
         isReady = true;
         if (isFirst(data)) answer = data;
@@ -103,7 +105,7 @@ class Runner {
         else resolve(data);
       };
       worker.onerror = ({ message }) =>
-        isReady ? resolve({ tells: "nothing", why: "trap" }) : reject(new NoEngine(message || "Worker"));
+        isReady ? resolve({ tells: "nothing", why: "trap" }) : reject(new NoEngine(message || NO_WORKER));
       worker.postMessage({ ...order, module });
     });
   }

@@ -109,6 +109,8 @@ _INPUTS = {"election": 0, "outcome": 1, "prices": 2, "violation": 3}
 _KINDS = {"prices": 2, "violation": 3, "margins": 2, "tidy": 2, "explain": _ANY_CERTIFICATE,
           "page": _ANY_CERTIFICATE}
 _OUT_OF_MEMORY = "pbaudit: fault memory"
+# How the program's note ends that stands beside a yes to prices with small voter budgets.
+_SAYS_LITTLE = b"so this yes says little"
 
 
 class _Library:
@@ -131,10 +133,12 @@ class _Library:
     }
     _HINT: List[Any] = [ctypes.c_uint8, ctypes.c_uint32, ctypes.c_uint64, *_FILE, *_OUTCOME,
                         ctypes.POINTER(ctypes.c_uint64)]
+    _NOTE: List[Any] = [*_FILE, *_FILE]
 
     def __init__(self, path: Union[str, pathlib.Path]):
         library = ctypes.CDLL(str(path))
         self._functions = {command: self._function(library, command, types) for command, types in self._TYPES.items()}
+        self._note = self._function(library, "note", self._NOTE)
         # An older library has none.
         self._hint = self._function(library, "hint", self._HINT) if hasattr(library, "pbaudit_hint") else None
 
@@ -146,6 +150,12 @@ class _Library:
 
     def ask(self, question: Question) -> Tuple[int, bytes]:
         return self._call(self._functions[question.command], self.words(question), self.room(question))
+
+    def says_little(self, question: Question) -> bool:
+        words: List[Any] = []
+        for file in (question.election, question.certificate or b""):
+            words += [file, len(file)]
+        return self._call(self._note, words, 4096)[1] != b""
 
     def hint(self, question: Question, place: Place) -> Optional[Hint]:
         if self._hint is None:
@@ -206,6 +216,10 @@ class _Program:
     def ask(self, question: Question) -> Tuple[int, bytes]:
         status, text, _, _ = self._answer(question)
         return status, text
+
+    def says_little(self, question: Question) -> bool:
+        _, _, told, _ = self._answer(question)
+        return any(line.endswith(_SAYS_LITTLE) for line in told.split(b"\n"))
 
     def hint(self, question: Question, place: Place) -> Optional[Hint]:
         _, _, told, folder = self._answer(question)
@@ -335,3 +349,9 @@ def ask(question: Question) -> Tuple[int, bytes]:
 def hint(question: Question, place: Place) -> Optional[Hint]:
     """What a person is told of a refusal, or None where there is nothing to tell. Raises as `ask`."""
     return auditor().hint(question, place)
+
+
+def says_little(question: Question) -> bool:
+    """Of a question on prices that was answered by a yes, whether the voter budgets together are less than the limit.
+    Raises as `ask`."""
+    return auditor().says_little(question)

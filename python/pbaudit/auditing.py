@@ -14,7 +14,7 @@ from dataclasses import dataclass, replace
 from fractions import Fraction
 from typing import Any, ClassVar, Dict, List, Optional, Tuple
 
-from ._auditor import Mode, PageWords, Place, Question, ask, hint
+from ._auditor import Mode, PageWords, Place, Question, ask, hint, says_little
 from .files import MOST_BYTES, File, bytes_of, path_of
 from .kept import Kept, keep, source_of, stamp_of
 from .records import records
@@ -68,7 +68,9 @@ class Verdict:
     Where something fails, `condition` names the first that does, as "C3" or "V4", and `voter` (numbered from 1, by the
     ballots) and `project` (the id) say where, each None where the condition names none. `moved` is None but where
     `validate_price_system` was asked for prices near the given ones: then it is how far the payment that moved farthest
-    did, in the currency of the costs. A notebook shows a verdict as the page about its certificate.
+    did, in the currency of the costs. `says_little` is true of a yes to prices whose voter budgets together are less than
+    the limit: then nearly any outcome that costs little is supported. A notebook shows a verdict as the page about its
+    certificate.
     """
 
     holds: bool
@@ -77,6 +79,7 @@ class Verdict:
     voter: Optional[int] = None
     project: Optional[str] = None
     moved: Optional[Fraction] = None
+    says_little: bool = False
     # What was asked; and of a verdict that was pickled the page. They are no fields, and so no part of it.
     _kept: ClassVar[Optional[Kept]] = None
     _page: ClassVar[Optional[str]] = None
@@ -226,7 +229,7 @@ def explain(election: File, certificate: File, outcome: Optional[File] = None, *
 def _explained(question: Question, kept: Optional[Kept]) -> Explanation:
     """The explanation that answers a question, whose files were accepted before."""
     status, text = answered(question)
-    found = _verdict(text.decode("utf-8").split("\n")[0], kept)
+    found = _verdict(text.decode("utf-8").split("\n")[0], question, kept)
     _check_status(status, [found])
     return _explanation(found, text)
 
@@ -274,7 +277,7 @@ def _judge_ahead(election: File, outcome: Optional[File]) -> None:
 def verdict(question: Question) -> Verdict:
     """The verdict that answers a question on prices or on a violation, with files that were made of values."""
     status, text = answered(question)
-    found = _verdict(text.decode("utf-8").rstrip("\n"), keep(question))
+    found = _verdict(text.decode("utf-8").rstrip("\n"), question, keep(question))
     _check_status(status, [found])
     return found
 
@@ -292,13 +295,13 @@ def _lines_of(asked: "_Asked", number: int) -> List[str]:
     return lines
 
 
-def _verdict(line: str, kept: Optional[Kept]) -> Verdict:
+def _verdict(line: str, question: Question, kept: Optional[Kept]) -> Verdict:
     failed = re.fullmatch(r"failed (\w+)(?: voter (\d+))?(?: project (.*))?", line)
     if failed:
         condition, voter, project = failed.groups()
         found = Verdict(False, line, condition, None if voter is None else int(voter), project)
     elif line in _YES:
-        found = Verdict(True, line)
+        found = Verdict(True, line, says_little=line != "violation" and says_little(question))
     else:
         raise RuntimeError(f"pbaudit answers {line!r}")
     object.__setattr__(found, "_kept", kept)
@@ -356,7 +359,7 @@ class _Asked:
                          Question("violation", election, second, None, outcome)]
         kept = [keep(each, {**self._sources, "certificate": self._sources[name]})
                 for name, each in zip(certificates, questions)]
-        verdicts = [_verdict(*each) for each in zip(lines, kept)]
+        verdicts = [_verdict(*each) for each in zip(lines, questions, kept)]
         _check_status(self.answer()[0], verdicts)
         return verdicts
 

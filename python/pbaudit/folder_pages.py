@@ -10,7 +10,7 @@ from urllib.parse import quote
 from ._auditor import Mode, PageWords, Question, ask
 from .folders import Entry, FolderReport, Line, audit_read, bytes_of_entry, entries_of, report_on
 from .files import Path
-from .pages import checked_language
+from .pages import Language, checked_language
 
 INDEX = "index.html"
 # What stands in each page that the auditor makes, and in the index, near the begin.
@@ -51,7 +51,7 @@ class _Pages:
 
 
 def write_folder_pages(folder: Path, path: Path, *, stable: bool = False, exhaustive: bool = True,
-                       cover: bool = False, language: str = "en") -> FolderReport:
+                       cover: bool = False, language: Language = "en") -> FolderReport:
     """Audits a folder as `audit_folder` does, and answers what it answers. Writes to the folder at `path`, which is
     made where it isn't there, a page for each certificate that is answered yes or no, NAME.prices.html or
     NAME.violation.html, and index.html, which has the answers and links to the pages.

@@ -1,7 +1,7 @@
 """Matrices in the place of ballots and of payments, as numpy has them: a row for each voter, and a column for each
 project in the order of the instance; and tables of pandas, whose columns have the names of projects. They are taken by
 their shape, so that neither is needed."""
-from typing import Any, Callable, Dict, Iterator, List, Sequence
+from typing import Any, Callable, Dict, Iterator, List, Sequence, Set, Tuple
 
 
 def is_matrix(values: object) -> bool:
@@ -68,18 +68,48 @@ def mapping_of(series: Any, what: str) -> Dict[Any, Any]:
 def ballots_in(matrix: Any, ids: Sequence[str]) -> Iterator[List[int]]:
     """The places of the projects that each voter approves, which are those of the ones in its row; the rest is 0.
     Raises TypeError and ValueError."""
-    for voter, row in enumerate(_rows(matrix, ids, "the profile"), 1):
-        places = row.nonzero()[0]
-        approved = row[places]
-        if not (approved == 1).all():
-            odd = next(entry for entry in approved if entry != 1)
-            raise TypeError(f"the row of voter {voter} has {odd}, not only 0 and 1: only approvals are audited")
-        yield places.tolist()
+    for first, ends, places, approved in _blocks(matrix, ids, "the profile"):
+        is_one = approved == 1
+        if not is_one.all():
+            at = is_one.tolist().index(False)
+            voter = first + next(row for row, end in enumerate(ends) if at < end)
+            raise TypeError(f"the row of voter {voter} has {approved[at]}, not only 0 and 1: only approvals are audited")
+        for start, end in zip([0, *ends], ends):
+            yield places[start:end]
 
 
-class PaymentRows(Sequence[Dict[str, Any]]):
-    """The rows of a matrix of payments, each as a mapping from ids to what isn't 0. They are made anew each time, so
-    that they take no memory."""
+class PlacedRow:
+    """A row of a matrix of payments: a mapping from ids to what isn't 0, whose places are known."""
+
+    __slots__ = ("places", "_amounts", "_ids")
+
+    def __init__(self, places: List[int], amounts: Sequence[Any], ids: Sequence[str]):
+        self.places, self._amounts, self._ids = places, amounts, ids
+
+    def __len__(self) -> int:
+        return len(self.places)
+
+    def __iter__(self) -> Iterator[str]:
+        return map(self._ids.__getitem__, self.places)
+
+    def __getitem__(self, name: str) -> Any:
+        return dict(self.items())[name]
+
+    def keys(self) -> List[str]:
+        """The ids."""
+        return list(self)
+
+    def values(self) -> Sequence[Any]:
+        """The amounts, in the order of the ids."""
+        return self._amounts
+
+    def items(self) -> Iterator[Tuple[str, Any]]:
+        """The ids with the amounts."""
+        return zip(self, self._amounts)
+
+
+class PaymentRows(Sequence[PlacedRow]):
+    """The rows of a matrix of payments. They are made anew each time, so that they take no memory."""
 
     # Numbers of Python are taken faster than those of numpy, and are the same where they have as many bits.
     _SAME_IN_PYTHON = "biuO"
@@ -91,25 +121,46 @@ class PaymentRows(Sequence[Dict[str, Any]]):
     def __len__(self) -> int:
         return int(self._matrix.shape[0])
 
-    def __iter__(self) -> Iterator[Dict[str, Any]]:
-        return map(self._function, _rows(self._matrix, self._ids, "the matrix of payments"))
+    def kinds(self) -> Set[type]:
+        """The types of the amounts: one, but where the matrix has objects."""
+        kinds: Set[type] = set()
+        for _, numbers in self._numbers():
+            kinds.update(map(type, numbers))
+            if kinds and self._matrix.dtype.kind != "O":
+                break
+        return kinds
+
+    def _numbers(self) -> Iterator[Tuple[Tuple[List[int], List[int]], Sequence[Any]]]:
+        """Where rows that are looked at together end, and the columns and the numbers of what isn't 0 in them."""
+        kind = self._matrix.dtype
+        is_same = kind.kind in self._SAME_IN_PYTHON or kind.kind == "f" and kind.itemsize == self._SIZE_OF_A_FLOAT
+        for _, ends, places, amounts in _blocks(self._matrix, self._ids, "the matrix of payments"):
+            yield (ends, places), amounts.tolist() if is_same else list(amounts)
+
+    def __iter__(self) -> Iterator[PlacedRow]:
+        for (ends, places), numbers in self._numbers():
+            for start, end in zip([0, *ends], ends):
+                yield PlacedRow(places[start:end], numbers[start:end], self._ids)
 
     def __getitem__(self, voter: Any) -> Any:
-        return self._function(self._matrix[voter])
-
-    def _function(self, row: Any) -> Dict[str, Any]:
-        places = row.nonzero()[0]
-        amounts, kind = row[places], row.dtype
-        is_same = kind.kind in self._SAME_IN_PYTHON or kind.kind == "f" and kind.itemsize == self._SIZE_OF_A_FLOAT
-        return dict(zip(map(self._ids.__getitem__, places.tolist()), amounts.tolist() if is_same else amounts))
+        return list(self)[voter]
 
 
-def _rows(matrix: Any, ids: Sequence[str], what: str) -> Iterator[Any]:
+# How many rows are looked at together.
+_AT_ONCE = 4096
+
+
+def _blocks(matrix: Any, ids: Sequence[str], what: str) -> Iterator[Tuple[int, List[int], List[int], Any]]:
+    """Rows that are looked at together: the number of the first voter, where each row ends among the entries that aren't 0,
+    and the columns and the values of these."""
     columns = matrix.shape[1]
     if columns != len(ids):
         raise ValueError(f"{what} has {columns} columns, and the instance has {len(ids)} projects")
-    for row in matrix:
-        if getattr(row, "ndim", None) != 1:
+    for start in range(0, matrix.shape[0], _AT_ONCE):
+        block = matrix[start:start + _AT_ONCE]
+        if getattr(block[0], "ndim", None) != 1:
             raise TypeError(f"{what} is a {type(matrix).__name__}, whose rows aren't arrays: give it as an array of "
                             "numpy")
-        yield row
+        rows, places = block.nonzero()
+        ends = rows.searchsorted(range(1, block.shape[0] + 1)).tolist()
+        yield start + 1, ends, places.tolist(), block[rows, places]

@@ -1,17 +1,18 @@
 """The page about a certificate, for readers who know no file formats. The auditor makes it."""
 import os
 import stat
-from typing import Mapping, Optional
+from typing import Literal, Mapping, Optional
 
 from ._auditor import Mode, PageWords
 from .auditing import page_bytes
 from .files import File, Path, checked_path, path_of, write_to
 
+Language = Literal["en", "pl", "de", "fr"]
 LANGUAGES = ("en", "pl", "de", "fr")
 
 
 def page(election: File, certificate: File, outcome: Optional[File] = None, *, stable: bool = False,
-         exhaustive: bool = True, cover: bool = False, language: str = "en") -> str:
+         exhaustive: bool = True, cover: bool = False, language: Language = "en") -> str:
     """A page on a price or a violation certificate, as one HTML file. The outcome and the switches are as for
     `explain`, and the language is "en", "pl", "de" or "fr". Raises Refusal, OSError and MemoryError, and a ValueError
     for another language."""
@@ -19,7 +20,7 @@ def page(election: File, certificate: File, outcome: Optional[File] = None, *, s
 
 
 def write_page(election: File, certificate: File, outcome: Optional[File] = None, *, path: Optional[Path] = None,
-               stable: bool = False, exhaustive: bool = True, cover: bool = False, language: str = "en") -> bytes:
+               stable: bool = False, exhaustive: bool = True, cover: bool = False, language: Language = "en") -> bytes:
     """The bytes of `page`, written to `path` as well where one is given. Raises as `page`, and a ValueError where the
     page would replace one of these files, and then writes nothing."""
     files = {"election": election, "certificate": certificate, "outcome": outcome}

@@ -66,16 +66,18 @@ def _validated(instance: AnyInstance, profile: Profile, budget_allocation: Itera
     ballots, funded = ballots_of(profile, projects), funded_of(budget_allocation, projects)
     payments = Payments(payment_functions, projects)
     check_count(len(ballots), len(payments.functions))
-    town = Town(projects.ids, costs, limit, set(funded), ballots)
+
+    def town() -> Town:
+        return Town(projects.ids, costs, limit, set(funded), ballots)
     if is_near and (is_float(voter_budget) or payments.has_floats):
-        return verdict_near(town, projects, voter_budget, payments, mode)
+        return verdict_near(town(), projects, voter_budget, payments, mode)
     budget = exact_price(voter_budget, "the voter budget")
     payments.check_exact()
     try:
-        factor, denominator = _scale([limit, *town.costs], chain([budget.denominator], payments.denominators()))
+        factor, denominator = _scale([limit, *costs], chain([budget.denominator], payments.denominators()))
     except TooManyDenominators:
-        return _beyond_certificates(town, projects, budget, payments, mode, is_near)
-    election = election_file(projects, [cost * factor for cost in town.costs], limit * factor, ballots, funded)
+        return _beyond_certificates(town(), projects, budget, payments, mode, is_near)
+    election = election_file(projects, [cost * factor for cost in costs], limit * factor, ballots, funded)
     scaled = denominator * factor
     numerator = budget.numerator * (scaled // budget.denominator)
     certificate = price_file(denominator, numerator, projects, payers_of(payments, projects, scaled))

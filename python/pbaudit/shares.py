@@ -10,13 +10,14 @@ from dataclasses import dataclass, field
 from fractions import Fraction
 from heapq import heapify, heappop, heappush
 from math import gcd
-from typing import Callable, Dict, Iterator, List, Optional, Sequence, Set, Tuple
+from typing import Callable, Dict, Iterator, List, Literal, Optional, Sequence, Set, Tuple
 
 from .amounts import Amount, exact_cost, least_multiple
 from .values import AnyInstance, Ballots, Profile, Projects, ballots_of, projects_of
 
-MEASURES = ("cost", "count")
-COMPLETIONS = ("none", "add1")
+Measure = Literal["cost", "count"]
+Completion = Literal["none", "add1"]
+MEASURES, COMPLETIONS = ("cost", "count"), ("none", "add1")
 
 
 @dataclass(frozen=True)
@@ -55,7 +56,7 @@ class Purchase:
     rests: Dict[int, Fraction]
 
 
-def equal_shares(instance: AnyInstance, profile: Profile, *, by: str = "cost", completion: str = "none",
+def equal_shares(instance: AnyInstance, profile: Profile, *, by: Measure = "cost", completion: Completion = "none",
                  increment: Amount = 1) -> EqualShares:
     """The outcome and the payments of the Method of Equal Shares, exactly.
 

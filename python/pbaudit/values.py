@@ -10,19 +10,19 @@ built in. Where one of these stumbles, the values are gone through one by one, w
 """
 import reprlib
 from array import array
-from collections.abc import Mapping as AnyMapping, Set as AnySet
+from collections.abc import Collection as AnyCollection, Mapping as AnyMapping, Set as AnySet
 from decimal import Decimal
 from fractions import Fraction
 from functools import lru_cache
 from numbers import Rational, Real
 from operator import attrgetter, index
 from typing import (
-    Any, Collection, Dict, Iterable, Iterator, List, Mapping, Optional, Protocol, Sequence, Set, Tuple, Union,
+    Any, Collection, Dict, Iterable, Iterator, List, Mapping, Optional, Protocol, Sequence, Set, Tuple, Union, cast,
 )
 
 from .amounts import Amount, NearAmount, exact_cost, exact_price, near, ratio
 from .elections import Instance
-from .matrices import PaymentRows, array_of, ballots_in, is_matrix, is_series, mapping_of
+from .matrices import PaymentRows, PlacedRow, array_of, ballots_in, is_matrix, is_series, mapping_of
 
 BLANKS = " \t\n\v\f\r"
 PROJECTS = "projects or their ids"
@@ -78,6 +78,8 @@ class Projects:
 
     def places(self, projects: Collection[AnyProject], what: str) -> List[int]:
         """The places of projects, in their order. Raises TypeError and ValueError, which begin with `what`."""
+        if isinstance(projects, PlacedRow):
+            return projects.places
         first = next(iter(projects), None)
         try:
             if type(first) is str:
@@ -143,20 +145,30 @@ class Payments:
         """A matrix is taken where its columns are those of projects. Raises TypeError where what is given is no list of
         mappings from projects to amounts."""
         self.functions: Sequence[NearPaymentFunction]
+        self.kinds: Set[type]
         if projects is not None and is_matrix(payment_functions):
             matrix = array_of(payment_functions, projects.ids, projects.columns, "the matrix of payments")
-            self.functions = PaymentRows(matrix, projects.ids)
+            # They have what is asked of mappings here.
+            rows = PaymentRows(matrix, projects.ids)
+            self.functions, self.kinds = cast(Sequence[NearPaymentFunction], rows), rows.kinds()
         else:
             self.functions = functions_of(payment_functions)
-        self.kinds: Set[type] = set()
-        for voter, function in enumerate(self.functions, 1):
-            if not callable(getattr(function, "values", None)):
-                raise TypeError(f"the payment function of voter {voter} is {reprlib.repr(function)}, not a mapping "
-                                "from projects to amounts")
-            self.kinds.update(map(type, function.values()))
+            self.kinds = self._kinds()
         self._is_whole, self._is_own = self.kinds <= {int}, self.kinds <= {int, float, Decimal}
         self._is_rational = all(issubclass(kind, Rational) and not issubclass(kind, bool) for kind in self.kinds)
         self._is_exact = self.kinds <= {int, Fraction, Decimal}
+
+    def _kinds(self) -> Set[type]:
+        """The types of all amounts. Raises TypeError where a function is no mapping."""
+        kinds: Set[type] = set()
+        known: Set[type] = set()
+        for voter, function in enumerate(self.functions, 1):
+            if type(function) not in known and not callable(getattr(function, "values", None)):
+                raise TypeError(f"the payment function of voter {voter} is {reprlib.repr(function)}, not a mapping "
+                                "from projects to amounts")
+            known.add(type(function))
+            kinds.update(map(type, function.values()))
+        return kinds
 
     @property
     def has_floats(self) -> bool:
@@ -204,7 +216,8 @@ class Payments:
     def numerators(self, voter: int, function: NearPaymentFunction, denominator: int) -> List[int]:
         """The amounts of a voter as numerators over a common denominator."""
         if self._is_whole:
-            return [amount * denominator for amount in function.values()]  # type: ignore[misc, operator]
+            values: Collection[Any] = function.values()
+            return list(values) if denominator == 1 else [amount * denominator for amount in values]
         return [numerator * (denominator // part) for numerator, part in self.ratios(voter, function)]
 
 
@@ -267,12 +280,19 @@ def _ballots(profile: Profile) -> Iterator[Collection[AnyProject]]:
         raise ValueError(MERGED)
     if isinstance(profile, (set, frozenset)):
         raise ValueError("the profile is a set, whose voters have no order that payments could be in: give a list")
+    # Most are of one type, which needs to be looked at once.
+    known: Set[type] = set()
     for voter, ballot in enumerate(listed(profile, "the profile is", "ballots"), 1):
+        if type(ballot) in known:
+            yield ballot
+            continue
         if isinstance(ballot, AnyMapping):
             raise TypeError(f"the ballot of voter {voter} is {reprlib.repr(ballot)}, a mapping as cardinal ballots "
                             f"are, not a list of {PROJECTS}: only approvals are audited")
         approved = listed(ballot, f"the ballot of voter {voter} is", PROJECTS)
-        yield approved if isinstance(approved, Collection) else list(approved)
+        if isinstance(approved, AnyCollection):
+            known.add(type(approved))
+        yield approved if isinstance(approved, AnyCollection) else list(approved)
 
 
 def functions_of(payment_functions: Iterable[NearPaymentFunction]) -> List[NearPaymentFunction]:

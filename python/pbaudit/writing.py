@@ -6,7 +6,7 @@ by a TypeError. Values are taken by their shape, as values.py says.
 """
 import io
 from fractions import Fraction
-from typing import Collection, Iterable, List, Mapping, Optional, Sequence, Tuple
+from typing import Collection, Iterable, List, Literal, Mapping, Optional, Sequence, Tuple
 
 from .amounts import (
     MOST_DENOMINATOR, MOST_NUMERATOR, Amount, TooManyDenominators, exact_price, least_multiple, money, own,
@@ -17,6 +17,7 @@ from .values import (
     listed, once, projects_of,
 )
 
+Satisfaction = Literal["count", "cost"]
 # How many of each an election has at most, and how many rows a price certificate.
 MOST_PROJECTS, MOST_VOTERS, MOST_APPROVALS = 20_000, 10**6, 2 * 10**7
 MOST_PAYMENTS = 10**7
@@ -54,8 +55,8 @@ def write_prices(voter_budget: Amount, payment_functions: Iterable[PaymentFuncti
     return write_to(path, price_file(denominator, numerator, projects, payers_of(payments, projects, denominator)))
 
 
-def write_violation(voters: Iterable[int], projects: Iterable[AnyProject], satisfaction: Optional[str] = None,
-                    path: Optional[Path] = None) -> bytes:
+def write_violation(voters: Iterable[int], projects: Iterable[AnyProject],
+                    satisfaction: Optional[Satisfaction] = None, path: Optional[Path] = None) -> bytes:
     """A violation certificate: the group, by the numbers of its voters (from 1, in the order of the profile), and the
     projects that it demands. `satisfaction` is "count" or "cost"; None is "count" in the older version of the file.
     Raises ValueError, TypeError and OSError."""
@@ -116,7 +117,8 @@ def price_file(denominator: int, voter_budget: int, projects: Projects, payers: 
     count = last = 0
     fields: List[str] = []
     for voter, places, numerators in payers:
-        fields += (_field(name, ",") for name in projects.ids[len(fields):])
+        if len(fields) < len(projects.ids):
+            fields += (_field(name, ",") for name in projects.ids[len(fields):])
         if numerators and not (min(numerators) >= 0 and max(numerators) <= MOST_NUMERATOR):
             raise _beyond(voter, [projects.ids[at] for at in places], numerators, denominator)
         rows = [f"{voter},{fields[at]},{numerator}" for at, numerator in zip(places, numerators) if numerator]

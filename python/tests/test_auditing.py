@@ -55,6 +55,23 @@ class Answers(unittest.TestCase):
                 count += 1
         self.assertGreater(count, 15)
 
+    def test_a_yes_that_says_little(self):
+        school = [EXAMPLES / f"school.{end}" for end in ("pb", "prices.csv", "violation.csv")]
+        district = [EXAMPLES / f"district.{end}" for end in ("pb", "prices.csv")]
+        for auditor in (_auditor._find(), _auditor._Program(str(PROGRAM))):
+            with self.subTest(auditor=auditor), mock.patch.object(_auditor, "_found", auditor):
+                self.assertTrue(pbaudit.audit_prices(*school[:2], exhaustive=False).says_little)
+                self.assertFalse(pbaudit.audit_prices(*school[:2]).says_little, "a no")
+                self.assertFalse(pbaudit.audit_prices(*district).says_little)
+                of_prices, of_violation = pbaudit.audit_both(*school, exhaustive=False)
+                self.assertEqual((of_prices.says_little, of_violation.says_little), (True, False))
+                self.assertTrue(pbaudit.explain(*school[:2], exhaustive=False).verdict.says_little)
+        bench, voters = pbaudit.Project("bench", 1), [{"bench"}] * 3
+        for budget, limit, little in ((Fraction(1, 3), 1, False), (Fraction(1, 3), 2, True), (Fraction(2, 3), 2, False)):
+            verdict = pbaudit.validate_price_system(
+                pbaudit.Instance([bench], limit), voters, ["bench"], budget, [{"bench": Fraction(1, 3)}] * 3)
+            self.assertEqual((bool(verdict), verdict.says_little), (True, little), (budget, limit))
+
     def test_library_is_asked_once(self):
         """Answers of tidy and margins are about as long as the files."""
         asked, answer = [], b"x" * 90_000

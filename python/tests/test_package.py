@@ -37,9 +37,14 @@ class Types(unittest.TestCase):
         with tempfile.TemporaryDirectory() as room:
             wrong = pathlib.Path(room, "wrong.py")
             wrong.write_text("from pbaudit import audit_prices, read\nread(7)\naudit_prices('a', 'b', stable='no')\n"
-                             "number: int = read('a').funded\n")
+                             "number: int = read('a').funded\n"
+                             "from pbaudit import equal_shares, page, write_folder_pages, write_page, write_violation\n"
+                             "equal_shares([], [], by='votes')\nequal_shares([], [], completion='add2')\n"
+                             "page('a', 'b', language='xx')\nwrite_page('a', 'b', language='xx')\n"
+                             "write_folder_pages('a', 'b', language='xx')\nwrite_violation([], [], 'share')\n")
             done = self.run_mypy(wrong)
-        self.assertEqual([int(line) for line in re.findall(r"wrong.py:(\d+): error", done.stdout)], [2, 3, 4])
+        found = [int(line) for line in re.findall(r"wrong.py:(\d+): error", done.stdout)]
+        self.assertEqual(sorted(set(found)), [2, 3, 4, *range(6, 12)])
 
     def test_the_package(self):
         done = self.run_mypy("-p", "pbaudit")
@@ -136,7 +141,7 @@ class Kept(unittest.TestCase):
     def test_files_are_no_part_of_it(self):
         verdict = pbaudit.audit_prices(*(file.read_bytes() for file in self.FILES))
         self.assertEqual(dataclasses.asdict(verdict), {"holds": True, "line": "supported priceable", "condition": None,
-                                                       "voter": None, "project": None, "moved": None})
+                                                       "voter": None, "project": None, "moved": None, "says_little": False})
         self.assertNotIn("META", repr(vars(pickle.loads(pickle.dumps(verdict)))).replace("&lt;META", ""))
 
     def test_files_that_have_changed(self):

@@ -26,6 +26,7 @@ pub use margins::{margins_answer, run_margins};
 pub use pb_reply::{Answer, Fault, InputFault, InputName, InputRefusal, Loaded, Reply, Status};
 pub use prices::{prices_reply, run_prices};
 pub use read::{read_reply, run_read};
+pub use says_little::notes_on_yes;
 pub use tidy::{run_tidy, tidy_answer};
 pub use total::FolderStatus;
 pub use violation::{run_violation, violation_reply};

@@ -1,6 +1,6 @@
 //! The note on a yes to prices that says little: with voter budgets that are together less than the limit, supporters
 //! have little left, whatever is funded.
-ghost use Rattle.std.specs.Prelude.{◌*◌, ◌<◌, ◌≤◌, ◌^◌, ◌↔◌, IsTrue};
+ghost use Rattle.std.specs.Prelude.{◌*◌, ◌<◌, ◌≤◌, ◌↔◌, IsTrue};
 ghost use Rattle.pb_certificate.specs.Prices.{most_denominator, most_numerator};
 ghost use Rattle.pb_election.specs.Instance.{voters};
 ghost use Rattle.pb_money.specs.Grains.{cost_grains, payment_grains};
@@ -8,11 +8,28 @@ ghost use Rattle.pb_money.specs.Grains.{cost_grains, payment_grains};
 use pb_certificate::{CertFault, Rows};
 use pb_election::Election;
 use pb_money::{cost_grains, payment_grains};
-use pb_reply::{File, Reply, Status, Stop};
+use pb_reply::{File, Reply, Status, Stop, election_of};
 use std::alloc::{AllocError, Global};
 
 const SAYS_LITTLE: &str =
     "note: the voter budgets together are less than the limit, so this yes says little";
+
+/// What is told beside a yes to a price certificate, whose files are in memory: a note where its voter budgets together
+/// are less than the limit. It isn't looked whether the answer is a yes; of files that are refused nothing is told. An
+/// error means out of memory.
+pub fn notes_on_yes(
+    alloc: Global,
+    election: &[u8],
+    certificate: &[u8],
+) -> Result<Vec<String>, AllocError> {
+    let mut notes = Vec::new(alloc);
+    match election_of(alloc, File::in_memory(election)) {
+        Ok(election) => push_note(alloc, &mut notes, &election, File::in_memory(certificate))?,
+        Err(Stop::Memory) => return Err(AllocError {}),
+        Err(_) => {}
+    }
+    Ok(notes)
+}
 
 /// Adds the note where a yes is told of a price certificate whose voter budgets together are less than the limit.
 pub(crate) fn push_note_on_yes(

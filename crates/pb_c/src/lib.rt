@@ -20,6 +20,7 @@ ghost use Rattle.pb_c.specs.Reports.{Reports};
 mod answers;
 mod faults;
 mod hints;
+mod notes;
 mod page;
 mod report;
 
@@ -28,6 +29,7 @@ use answers::{
     violation_answer,
 };
 use hints::hint_answer;
+use notes::note_answer;
 use page::{Named, page_of};
 use pb_audit::tidy_answer;
 use pb_page::Language;
@@ -196,6 +198,22 @@ pub extern "C" fn pbaudit_tidy(
     ensures { Reports (AnswersTidyFiles election.now certificate.now) result out.old out.new needed.new }
 {
     report(&tidy_answer(alloc, election, certificate), out, needed)
+}
+
+/// Tells what a yes to a price certificate leaves open: 0, and the note that the voter budgets together are less than the
+/// limit, or an empty text; or 4 where memory ran out. It isn't looked whether the prices support an outcome, and of
+/// files that are refused nothing is told. The text and its length are given as by `pbaudit_read`.
+#[unsafe(no_mangle)]
+pub extern "C" fn pbaudit_note(
+    alloc: Global,
+    election: &[u8],
+    certificate: &[u8],
+    out: &mut [u8],
+    needed: &mut usize,
+) -> u8
+    ensures { Reports (λ answer. answer.status ≡ Yes) result out.old out.new needed.new }
+{
+    report(&note_answer(alloc, election, certificate), out, needed)
 }
 
 /// Tells a person why a file is refused, by its bytes and by the number and the record (`place`) of its refusal: 0 where it is

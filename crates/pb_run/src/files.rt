@@ -2,8 +2,8 @@
 use crate::file::FileReader;
 use crate::watched::WatchedReader;
 use pb_audit::{
-    Fault, Status, run_both_with_notes, run_explain, run_margins, run_prices, run_read,
-    run_tidy, run_violation,
+    Fault, Status, run_both_with_notes, run_explain, run_margins, run_prices, run_read, run_tidy,
+    run_violation,
 };
 use pb_command::Inputs;
 use pb_election::{Input, Sink};

@@ -1,8 +1,8 @@
 //! What people are told beside an answer: notes on the election, and why a file is refused.
 use crate::file::FileReader;
 use pb_audit::{InputFault, InputName, InputRefusal, Loaded};
-use pb_command::Task;
 use pb_certificate::CertFault;
+use pb_command::Task;
 use pb_election::Input;
 use pb_hints::{FileKind, Remark, hint, push_shown};
 use std::alloc::AllocError;

@@ -2,6 +2,7 @@
 use Rattle.std.proofs.Common.{◌≡◌, ◌<◌, ◌⊎◌, inl, inr, ℕ, zero, suc, Bool, true, false, List, [], ◌∷◌, ◌++◌, arith, codes, encode_utf8_all, get_or, refl, ap, sym, ◌∙◌, Result, Ok, Err, String, string_bytes, IfOk}
 use Rattle.std.specs.Prelude.{◌&&◌, ◌||◌, not, nat_lt, if◌then◌else◌, chars, IsUtf8}
 use Rattle.std.specs.Char.{digit_value}
+use Rattle.std.specs.Cmp.{first_so, second_so}
 use Rattle.std.specs.Fmt.{digits}
 use Rattle.std.specs.Str.{NoCharPasses, NonePass}
 use Rattle.std.specs.Str.Parse.{AllDigits}
@@ -14,10 +15,6 @@ use Rattle.pb_visible.specs.Hidden.{is_hidden}
 use Rattle.pb_visible.specs.Joiners.{are_conjoined, are_cursive, are_emoji, is_joiner, is_non_joiner, is_spelling}
 use Rattle.pb_visible.specs.Visible.{is_lost, number, shown, visible_behind, visible_chars}
 use Rattle.pb_visible.proofs.Numbers.{digit_small, digits_are}
-
-both : (s t : Bool) → (s && t) ≡ true → (s ≡ true) × (t ≡ true)
-both true t h = (refl, h)
-both false t h = absurd cc
 
 neither : (s t : Bool) → s ≡ true → not (s && t) ≡ true → t ≡ false
 neither true true h k = absurd cc
@@ -36,10 +33,9 @@ below : (test : ℕ → Bool) (n d : ℕ) → passes_below test n ≡ true → d
 unfolding passes_below
 below test zero d h l = absurd (omega arith)
 below test (suc n) d h l =
-    let parts = both (test n) (passes_below test n) h in
     elim (either d n l) as (λ _. test d ≡ true) [
-      | inl e ↦ rw e parts.0
-      | inr k ↦ below test n d parts.1 k
+      | inl e ↦ rw e (first_so (test n) (passes_below test n) h)
+      | inr k ↦ below test n d (second_so (test n) (passes_below test n) h) k
     ]
 
 -- no digit of a number is hidden
@@ -119,9 +115,9 @@ kept_chars : (before : ℕ) (cs : List ℕ) → scalars cs ≡ true → NonePass
 unfolding visible_behind
 kept_chars before [] h = tt
 kept_chars before (c ∷ cs) h =
-    let parts = both (scalar c) (scalars cs) h in
     none_append is_lost (shown before c (get_or cs 0 0)) (visible_behind c cs)
-    (kept_shown before c (get_or cs 0 0) parts.0) (kept_chars c cs parts.1)
+    (kept_shown before c (get_or cs 0 0) (first_so (scalar c) (scalars cs) h))
+    (kept_chars c cs (second_so (scalar c) (scalars cs) h))
 
 -- a text that is shown has no hidden character but joiners
 pub none_lost : (given t : List ℕ) → IsUtf8 given → t ≡ encode_utf8_all (visible_chars (chars given))

@@ -1,5 +1,5 @@
 //! Texts that others wrote, as they are shown.
-ghost use Rattle.std.specs.Prelude.{◌≡◌, ◌++◌, IfOk, IsUtf8, OnOk, chars, encode_utf8_all, slice_index_or, string_bytes};
+ghost use Rattle.std.specs.Prelude.{◌≡◌, ◌++◌, IfOk, IsUtf8, OnOk, chars, encode_utf8_all, string_bytes};
 ghost use Rattle.std.specs.Str.{NoCharPasses};
 ghost use Rattle.std.specs.Str.Lossy.{utf8_lossy};
 ghost use Rattle.pb_visible.specs.Hidden.{is_hidden};
@@ -18,27 +18,26 @@ pub fn visible(alloc: Global, bytes: &[u8]) -> Result<String, AllocError>
     ensures same { IfOk result (λ t. IsUtf8 bytes.now → NoCharPasses is_hidden bytes.now → string_bytes t ≡ bytes.now) }
 {
     let given = String::from_utf8_lossy(alloc, bytes)?;
-    let letters: Vec<char> = given.chars().collect(alloc)?;
-    visible_letters(alloc, &letters)
+    visible_text(alloc, &given)
 }
 
-fn visible_letters(alloc: Global, letters: &[char]) -> Result<String, AllocError>
-    ensures { IfOk result (λ t. string_bytes t ≡ encode_utf8_all (visible_chars letters.now)) }
+// Each character is written once the one behind it is known.
+fn visible_text(alloc: Global, given: &str) -> Result<String, AllocError>
+    ensures { IfOk result (λ t. string_bytes t ≡ encode_utf8_all (visible_chars (chars given.now))) }
 {
     let mut text = String::new(alloc);
-    let mut before = '\0';
-    for i in 0..letters.len() {
-        let c = letters[i];
-        push_shown(&mut text, before, c, letter_at(letters, i + 1))?;
-        before = c;
+    let mut letters = given.chars();
+    let Some(first) = letters.next() else {
+        return Ok(text);
+    };
+    let (mut before, mut letter) = ('\0', first);
+    for after in letters {
+        push_shown(&mut text, before, letter, after)?;
+        before = letter;
+        letter = after;
     }
+    push_shown(&mut text, before, letter, '\0')?;
     Ok(text)
-}
-
-fn letter_at(letters: &[char], i: usize) -> char
-    ensures { result ≡ slice_index_or letters.now i 0 }
-{
-    letters.get(i).copied().unwrap_or('\0')
 }
 
 // Adds a character that stands between two others.
