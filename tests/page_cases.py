@@ -11,7 +11,9 @@ WORDS = [
     "Park", "Sprachcafé für Neuzugezogene", "Plac zabaw „Pod Lipą”", "Radbügel; 24 Stück", "a", "<b>bold</b>", "&lt;",
     "\"><script>document.title='x'</script>", "{project}", "{", "%s", "\u202eevil", "a\u200bb", "tab\tinside", "\u00a0",
     "z" * 80, "z" * 81, "ź" * 2000, "ź" * 2001, "e\u0301", "🌳", "', '", "-", "0", "</bdi></th>", "Yes", "\\u{202e}",
-    "line\nbreak", "''", "« guillemets »", "x" * 79 + "\u202e",
+    "line\nbreak", "''", "« guillemets »", "x" * 79 + "\u202e", "\u3000", "a\u2800b", "\ufe0f", "s\u00adoft", "\u115f",
+    "\U000e0041", "क\u094d\u200dष", "می\u200cخواهم", "👩\u200d👧", "a\u200db", "a\u200cb", "ا\u200cب", "❤\ufe0f\u200d🔥",
+    "\u200d", "क\u094d\u200d", "👩🏽\u200d🌾",
 ]  # fmt: skip
 FACTS = {
     "description": WORDS, "unit": ["Warszawa", *WORDS], "district": ["Mitte", *WORDS],
@@ -23,7 +25,8 @@ FACTS = {
 COLUMNS = [b"project_id", b"cost", b"selected", b"name"]
 # Names of files: some need quotes in a command, and some can't stand in one.
 TOWNS = [
-    "town.pb", "a town.pb", "it's.pb", "-town.pb", "ü.pb", "$(touch x).pb", "x;y.pb", "a" * 90 + ".pb", "--.pb", "q\".pb",
+    "town.pb", "a town.pb", "it's.pb", "-town.pb", "ü.pb", "$(touch x).pb", "x;y.pb", "a" * 90 + ".pb", "--.pb",
+    "q\".pb", "👩\u200d👧.pb",
 ]  # fmt: skip
 CLAIMS = [
     "claim.csv", "; touch PWNED #.csv", "'.csv", "-c.csv", "a_B-9.csv", "b" * 81 + ".csv", "`id`.csv", "z" * 255,
@@ -206,6 +209,23 @@ def of_offers(count):
     return of_prices(random.Random(count), town, making.Claim(1, 10, {(0, 0): 10}), True)
 
 
+def of_strangers(count):
+    """A case of so many voters who each pay too much for a funded project that they don't approve."""
+    funded = set(range(count))
+    ids, costs = [b"%d" % number for number in range(count + 1)], [7 * making.MILLION] * (count + 1)
+    town = making.Town(ids, costs, sum(costs) - 1, funded, [{count} for _ in range(count)])
+    claim = making.Claim(3, 25, {(number, number): 20 + 7 * number for number in range(count)})
+    return of_prices(random.Random(count), town, claim, True)
+
+
+def of_members(count):
+    """A case of a group of so many who all get enough, and don't approve what the group demands."""
+    town = making.Town([b"a", b"b"], [making.MILLION] * 2, making.MILLION, {0}, [{0}] * count)
+    claim = making.violation_file(random.Random(count), town, set(range(count)), {1}, True)
+    files = {"town.pb": dressed(random.Random(count), town, True), "claim.csv": claim}
+    return Case(["violation", "town.pb", "claim.csv"], files)
+
+
 # Large cases, and those of which the page is compared in one language alone.
 LARGE = {
     "1001 unfunded": lambda: of_rows(1001, False), "1005 demanded": lambda: of_demand(1005),
@@ -219,8 +239,9 @@ def fixed_cases():
     examples, and files that aren't there or say nothing."""
     for name, case in LARGE.items():
         yield renamed(random.Random(name), case(), name)
-    for count in (1, 3, 5):
-        yield renamed(random.Random(count), of_offers(count), f"offers {count}")
+    for count in (1, 2, 5):
+        for made in (of_offers, of_strangers, of_members):
+            yield renamed(random.Random(count), made(count), f"{made.__name__} {count}")
     for words in (["district.prices.csv", "--stable"], ["district.violation.csv"], ["district.stable.prices.csv"]):
         names = ["district.pb", words[0]]
         files = {name: (EXAMPLES / name).read_bytes() for name in names}

@@ -162,7 +162,9 @@ SHOWN = [
         language, count % 10 + 20 if language == "pl" and count > 9 else count)))),
 ]
 NAMES = [
-    Turn("hidden characters stay", (labels, "shown", instead(lambda text: text))),
+    Turn("hidden characters stay", (labels, "is_hidden", instead(lambda c: False))),
+    Turn("every joiner is hidden", (labels, "is_spelling", instead(lambda *three: False))),
+    Turn("every joiner stays", (labels, "is_spelling", instead(lambda before, c, after: c in "\u200c\u200d"))),
     Turn("names cut elsewhere", (case_of_page, "cut", lambda old: lambda text, most=79: old(text, most))),
     Turn("less under the pointer",
          (Case, "words_of_others", asked(lambda self, text, *class_: (self, text[:100], *class_)))),

@@ -51,8 +51,9 @@ def said_of_c2(case, figures, meaning):
 
 
 def said_of_spender(case, figures, meaning, voter):
-    spent, budget = case.money(figures.claim.spends(voter)), case.money(figures.claim.budget)
-    return case.filled(meaning, voter=case.voter(voter), spent=spent, budget=budget)
+    spent, budget = figures.claim.spends(voter), figures.claim.budget
+    named = {"spent": case.money(spent), "budget": case.money(budget), "over": case.money(abs(spent - budget))}
+    return case.filled(meaning, voter=case.voter(voter), **named)
 
 
 def said_of_payments(name):

@@ -1,8 +1,9 @@
 """What an election's file says for people: the facts of META and the names of projects; and how others' words are
 shown."""
 from ..election import marker
-from ..hidden import shown
+from ..hidden import is_hidden, number
 from ..records import lower, records
+from .joiners import is_spelling
 
 MOST_SHOWN, MOST_UNDER_POINTER, MOST_OF_A_CURRENCY = 80, 2000, 12
 LANGUAGE_OF = {
@@ -19,8 +20,14 @@ LANGUAGE_OF = {
 
 
 def visible(data):
-    """What others wrote, with each character that can't be seen as its number."""
-    return shown(data.decode("utf-8", "replace"))
+    """What others wrote, with each character that can't be seen as its number, but joiners in words and emoji."""
+    text = data.decode("utf-8", "replace")
+    return "".join(map(shown_between, ["", *text], text, [*text[1:], ""]))
+
+
+def shown_between(before, c, after):
+    """A character as it is shown between two others."""
+    return number(c) if is_hidden(c) and not is_spelling(before, c, after) else c
 
 
 def cut(text, most=MOST_SHOWN):

@@ -10,8 +10,8 @@ WRAPPERS = {
 }  # fmt: skip
 # Classes by which something is told: the colour of news, what a patch or a bar is, an order, words of others.
 TELLING = {
-    "answer", "bad", "neither", "caution", "state", "fails", "unasked", "bar", "over", "beyond", "rest", "patch", "part",
-    "mark", "cut", "named", "stable", "closest", "dearest", "supported", "sorted", "claim", "head",
+    "answer", "bad", "neither", "caution", "state", "fails", "unasked", "bar", "over", "beyond", "rest", "patch",
+    "part", "mark", "cut", "named", "stable", "closest", "dearest", "supported", "sorted", "claim", "head",
 }  # fmt: skip
 
 
