@@ -8,7 +8,7 @@ use Rattle.pb_price.specs.declared.Mode.{Mode}
 use Rattle.pb_reply.specs.Replies.{Answer, Reply, answer_of, refused, with_input, TellsReply}
 use Rattle.pb_audit.specs.Answers.{AnswersAudit, AnswersElection, AnswersPrices, AnswersTidy, AnswersViolation, AuditRules, audit_reply, price_rules, read_reply, tidy_answer, violation_rules}
 use Rattle.pb_audit.specs.Both.{AnswersBoth, Both, GroupAndDemand, StatesBoth, both_rules}
-use Rattle.pb_reply.specs.Inputs.{Stated, StatesElection, StatesOutcome, StatesPrices, audited}
+use Rattle.pb_reply.specs.Inputs.{FilesState, Stated, StatesElection, StatesOutcome, StatesPrices, audited}
 use Rattle.pb_audit.specs.Margins.{AnswersMargins, margin_rules}
 use Rattle.pb_audit.specs.OneAnswer.{JustOne}
 use Rattle.pb_reply.specs.Inside.Taking.{AuditsOutcome}
