@@ -237,8 +237,6 @@ IN_ONE_LANGUAGE = {"1003 funded": "pl", "1000 unfunded": "en"}
 def fixed_cases():
     """What chance doesn't meet: tables that are cut, numbers of projects of which Polish speaks in its own way, the
     examples, and files that aren't there or say nothing."""
-    for name, case in LARGE.items():
-        yield renamed(random.Random(name), case(), name)
     for count in (1, 2, 5):
         for made in (of_offers, of_strangers, of_members):
             yield renamed(random.Random(count), made(count), f"{made.__name__} {count}")
@@ -252,3 +250,5 @@ def fixed_cases():
     yield Case(["page", "town.pb", "claim.csv"], {}, name="nothing")
     files = {"town.pb": town, "claim.csv": b""}
     yield Case(["page", "--outcome", "o.csv", "town.pb", "claim.csv"], files, name="no outcome")
+    for name, case in LARGE.items():
+        yield renamed(random.Random(name), case(), name)
