@@ -6,6 +6,10 @@ import making
 from cases import Case, a_price_check, a_violation_check, random_case, some_mode, some_outcome
 
 EXAMPLES = pathlib.Path(__file__).resolve().parent.parent / "examples"
+EXAMPLE_WORDS = [
+    ["--stable", "district.prices.csv"], ["district.violation.csv"],
+    ["--stable", "--cover", "--outcome", "district.stable.outcome.csv", "district.stable.prices.csv"],
+]  # fmt: skip
 # What may stand in META and in the column 'name': markup, quotes, marks that turn what follows, and long words.
 WORDS = [
     "Park", "Sprachcafé für Neuzugezogene", "Plac zabaw „Pod Lipą”", "Radbügel; 24 Stück", "a", "<b>bold</b>", "&lt;",
@@ -237,18 +241,18 @@ IN_ONE_LANGUAGE = {"1003 funded": "pl", "1000 unfunded": "en"}
 def fixed_cases():
     """What chance doesn't meet: tables that are cut, numbers of projects of which Polish speaks in its own way, the
     examples, and files that aren't there or say nothing."""
-    for name, case in LARGE.items():
-        yield renamed(random.Random(name), case(), name)
     for count in (1, 2, 5):
         for made in (of_offers, of_strangers, of_members):
             yield renamed(random.Random(count), made(count), f"{made.__name__} {count}")
-    for words in (["district.prices.csv", "--stable"], ["district.violation.csv"], ["district.stable.prices.csv"]):
-        names = ["district.pb", words[0]]
-        files = {name: (EXAMPLES / name).read_bytes() for name in names}
-        yield Case(["page", *words[1:], *names], files, name=f"example {words[0]}")
+    for *options, certificate in EXAMPLE_WORDS:
+        words = [*options, "district.pb", certificate]
+        files = {word: (EXAMPLES / word).read_bytes() for word in words if not word.startswith("-")}
+        yield Case(["page", *words], files, name=f"example {certificate}")
     town = a_price_check(random.Random(5), dressed).files["town.pb"]
     for name, files in (("none", {"claim.csv": b""}), ("a byte", {"claim.csv": b"x"}), ("no claim", {})):
         yield Case(["page", "town.pb", "claim.csv"], {"town.pb": town, **files}, name=name)
     yield Case(["page", "town.pb", "claim.csv"], {}, name="nothing")
     files = {"town.pb": town, "claim.csv": b""}
     yield Case(["page", "--outcome", "o.csv", "town.pb", "claim.csv"], files, name="no outcome")
+    for name, case in LARGE.items():
+        yield renamed(random.Random(name), case(), name)

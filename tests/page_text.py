@@ -13,6 +13,7 @@ import argparse
 import collections
 import concurrent.futures
 import functools
+import itertools
 import os
 import sys
 import tempfile
@@ -30,7 +31,8 @@ from reference.page.whole import Audit
 LANGUAGES = ("en", "pl", "de", "fr")
 # Of those that turned references answer, so many are made.
 TURNED_CASES = 150
-AROUND = 3
+# Of those that failed so many are shown, each with so many pieces before the difference.
+MOST_REPORTED, AROUND = 5, 3
 
 
 def audit_of(case, room):
@@ -125,8 +127,9 @@ class Compared:
 
 
 def compared(program, seed, number):
-    """Compares a fixed case, which has a negative number, or one that is made by chance."""
-    return Compared(program, list(fixed_cases())[-number - 1] if number < 0 else page_case(seed, number))
+    """Compares a case that is made by chance, or a fixed one, which has a negative number."""
+    case = page_case(seed, number) if number >= 0 else next(itertools.islice(fixed_cases(), -number - 1, None))
+    return Compared(program, case)
 
 
 @functools.cache
@@ -182,13 +185,14 @@ def main():
     given = words.parse_args()
     kinds, said, passed, failed = collections.Counter(), set(), 0, 0
     with concurrent.futures.ProcessPoolExecutor(os.cpu_count()) as processes:
+        # The last of the fixed cases take longest, so they are the first.
         numbers = range(-len(list(fixed_cases())), given.cases)
-        for each in processes.map(functools.partial(compared, given.program, given.seed), numbers, chunksize=4):
+        for each in processes.map(functools.partial(compared, given.program, given.seed), numbers):
             kinds[each.kind] += 1
             said |= each.said
             passed, failed = (passed, failed + 1) if each.faults else (passed + 1, failed)
-            if each.faults and (keep := failed <= 5 or given.keep):
-                report(each, given.keep if keep else None)
+            if each.faults and (failed <= MOST_REPORTED or given.keep):
+                report(each, given.keep)
         caught = list(processes.map(functools.partial(is_caught, given.program, given.seed), range(len(TURNS))))
     for kind, count in sorted(kinds.items()):
         print(f"{count:6} {kind}")

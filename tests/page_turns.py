@@ -180,9 +180,10 @@ ROWS = [
     Turn("the furthest first", (projects, "closest_first", answers(lambda projects: projects[::-1]))),
     Turn("funded projects as in the file",
          (projects, "wrongly_paid_first", instead(lambda found: found.claim.funded()))),
-    Turn("two orders exchanged", (projects, "places_in_orders", answers(lambda places: {
-        project: place.translate(str.maketrans("cs", "sc")) for project, place in places.items()}))),
-    Turn("the cheapest first", (Case, "supporters", lambda old: lambda self, project: -old(self, project))),
+    Turn("two orders exchanged",
+         (projects, "places_in_orders", answers(lambda places: {each: two[::-1] for each, two in places.items()}))),
+    Turn("the smallest first", (projects, "largest_first", answers(lambda listed: listed[::-1]))),
+    Turn("all voters as supporters", (Case, "supporters", instead(lambda self, project: len(self.election.ballots)))),
     Turn("cells exchanged", (tables, "row", asked(lambda *given: (*given[:4], *given[:3:-1])))),
     Turn("cells without heads", (tables, "cell", instead(lambda case, column, told: element("td", told, role="cell")))),
     Turn("nothing paid in vain", (prices.SummedClaim, "paid", instead(lambda self, project: 0))),

@@ -49,17 +49,22 @@ def orders(case, count):
 
 
 def places_in_orders(case, projects):
-    """The places of each project in the other orders, from 1; of two that are alike the first one keeps its place."""
-    dearest = sorted(projects, key=lambda each: -case.cost(each))
-    supported = sorted(projects, key=lambda each: -case.supporters(each))
+    """The places of each project, from 1, by its cost and by how many supporters it has."""
+    dearest, supported = largest_first(projects, case.cost), largest_first(projects, case.supporters)
     places = [{project: place for place, project in enumerate(order, 1)} for order in (dearest, supported)]
-    return {each: f"--cost:{places[0][each]};--supporters:{places[1][each]}" for each in projects}
+    return {project: (places[0][project], places[1][project]) for project in projects}
+
+
+def largest_first(projects, size):
+    """The projects by a size of theirs; of two that are alike the first one is the first."""
+    return sorted(projects, key=lambda each: -size(each))
 
 
 def unfunded_row(case, figures, project, places):
+    order = f"--cost:{places[0]};--supporters:{places[1]}"
     supporters = amounts.grouped(case.supporters(project))
     has, cost = case.amount(figures.has(project)), case.amount(case.cost(project))
-    return project, places, cost, supporters, has, against(case, figures, project)
+    return project, order, cost, supporters, has, against(case, figures, project)
 
 
 def against(case, figures, project):
