@@ -13,6 +13,9 @@ before and after isn't proved.
 Voters are numbered from 1, in the order of the profile. Amounts are in the currency of the costs. Files are given by
 their paths (`str` or `os.PathLike`), as bytes, or as binary files that are open. Where Python values are taken, what no
 file can say is a ValueError, and a value of another kind than is wanted a TypeError.
+
+In the examples town.pb and town.prices.csv are examples/sample.pb and examples/sample.prices.csv of the repository, and
+the folder elections has both.
 """
 from typing import TYPE_CHECKING, List
 

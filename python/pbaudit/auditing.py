@@ -37,6 +37,12 @@ class Refusal(ValueError):
     which the first fault stands, numbered from 1, or 0 where it stands at none; `line` is the line of the file on which
     that record begins, from 1, or None; `reason` is what is wrong, in sentences of a line each, or None where the
     auditor is older and doesn't say; and `printed` is the line that the program prints.
+
+    >>> try:
+    ...     read(b"PROJECTS")
+    ... except Refusal as why:
+    ...     print(why.printed)
+    refused election 2 NoMeta record 1
     """
 
     def __init__(self, printed: str, file: Optional[str] = None, line: Optional[int] = None,
@@ -71,6 +77,12 @@ class Verdict:
     did, in the currency of the costs. `says_little` is true of a yes to prices whose voter budgets together are less than
     the limit: then nearly any outcome that costs little is supported. A notebook shows a verdict as the page about its
     certificate.
+
+    >>> verdict = audit_prices("town.pb", write_prices(4, [{"a": 2, "b": 2}, {"a": 4}, {"b": 1}]))
+    >>> bool(verdict), verdict.condition, verdict.project
+    (False, 'C3', 'b')
+    >>> [finding.name for finding in verdict.explain().findings if finding.state == "fails"]
+    ['C3']
     """
 
     holds: bool
@@ -110,7 +122,12 @@ class Verdict:
 
 @dataclass(frozen=True)
 class Summary:
-    """What an election has. `funded` is None where it states no outcome; `notes` are without their `note: `."""
+    """What an election has. `funded` is None where it states no outcome; `notes` are without their `note: `.
+
+    >>> summary = read("town.pb")
+    >>> summary.voters, summary.projects, summary.funded
+    (3, 3, 2)
+    """
 
     voters: int
     projects: int
@@ -125,7 +142,12 @@ class Summary:
 @dataclass(frozen=True)
 class Finding:
     """What a condition or test comes to: its name, as "C3"; "holds", "fails" or "not asked"; and a sentence with the
-    amounts that it compares."""
+    amounts that it compares.
+
+    >>> first, *_ = explain("town.pb", "town.prices.csv").findings
+    >>> first.name, first.state
+    ('Feasible', 'holds')
+    """
 
     name: str
     state: str
@@ -134,8 +156,12 @@ class Finding:
 
 @dataclass(frozen=True)
 class Explanation:
-    """What each condition comes to, in their order, with the answer to the audit itself, and true where that is.
-    `str` is the text that the program prints."""
+    r"""What each condition comes to, in their order, with the answer to the audit itself, and true where that is.
+    `str` is the text that the program prints.
+
+    >>> str(explain("town.pb", "town.prices.csv")).split("\n")[0]
+    'supported priceable'
+    """
 
     verdict: Verdict
     findings: Tuple[Finding, ...]
@@ -156,7 +182,11 @@ class Explanation:
 class ProjectMargins:
     """The figures of a project by a price certificate: its id, whether it is funded, how many voters approve it, and
     exact amounts in the currency of the election. `left` is what its supporters have left together, which may be less
-    than 0, and `offer` the same where for each supporter the largest single payment counts if it is more."""
+    than 0, and `offer` the same where for each supporter the largest single payment counts if it is more.
+
+    >>> [(each.project, each.left) for each in margins("town.pb", "town.prices.csv") if not each.funded]
+    [('c', Fraction(2, 1))]
+    """
 
     project: str
     funded: bool
@@ -168,7 +198,11 @@ class ProjectMargins:
 
 
 def read(election: File) -> Summary:
-    """Reads an election. Raises Refusal, OSError and MemoryError."""
+    """Reads an election. Raises Refusal, OSError and MemoryError.
+
+    >>> print(read("town.pb"))
+    read 3 voters 3 projects 2 funded
+    """
     line, *notes = _Asked("read", election).lines()
     form = re.fullmatch(r"read (\d+) voters (\d+) projects (?:(\d+) funded|no outcome)", line)
     if form is None:
@@ -182,14 +216,23 @@ def audit_prices(election: File, certificate: File, outcome: Optional[File] = No
                  exhaustive: bool = True, cover: bool = False) -> Verdict:
     """Whether the payments of a price certificate support the outcome: that of the outcome file, and where that is None
     the election's own, the column `selected`. `stable` asks for S5 in place of C5; without `exhaustive` the condition
-    Exhaustive is left out; `cover` adds Cover. Raises Refusal, OSError and MemoryError."""
+    Exhaustive is left out; `cover` adds Cover. Raises Refusal, OSError and MemoryError.
+
+    >>> print(audit_prices("town.pb", "town.prices.csv"))
+    supported priceable
+    """
     mode = Mode(stable, exhaustive, cover)
     return _only_verdict(_Asked("prices", election, certificate=certificate, outcome=outcome, mode=mode))
 
 
 def audit_violation(election: File, certificate: File, outcome: Optional[File] = None) -> Verdict:
     """Whether the group and its demand are a violation of EJR, by the measure that the certificate states. The outcome
-    is as for `audit_prices`. Raises Refusal, OSError and MemoryError."""
+    is as for `audit_prices`. Raises Refusal, OSError and MemoryError.
+
+    >>> claim, nothing = write_violation([1, 2], ["a"]), write_outcome([])
+    >>> print(audit_violation("town.pb", claim, nothing))
+    violation
+    """
     return _only_verdict(_Asked("violation", election, certificate=certificate, outcome=outcome))
 
 
@@ -197,7 +240,12 @@ def audit_both(election: File, prices: File, violation: File, outcome: Optional[
                exhaustive: bool = True, cover: bool = False) -> Tuple[Verdict, Verdict]:
     """The verdict on a price certificate and then that on a violation certificate, for one outcome. The switches are
     those of `audit_prices`. In the stable form with Cover, prices that support the outcome never stand beside a
-    violation by counting. Raises Refusal, OSError and MemoryError."""
+    violation by counting. Raises Refusal, OSError and MemoryError.
+
+    >>> prices, violation = audit_both("town.pb", "town.prices.csv", write_violation([1, 2], ["a"]))
+    >>> bool(prices), violation.condition
+    (True, 'V4')
+    """
     mode = Mode(stable, exhaustive, cover)
     asked = _Asked("both", election, prices=prices, violation=violation, outcome=outcome, mode=mode)
     of_prices, of_violation = asked.verdicts(*_lines_of(asked, 2))
@@ -206,7 +254,12 @@ def audit_both(election: File, prices: File, violation: File, outcome: Optional[
 
 def margins(election: File, certificate: File, outcome: Optional[File] = None) -> Tuple[ProjectMargins, ...]:
     """What each project costs, is paid and could be offered by a price certificate, in the order of the election;
-    amounts are in its currency. The outcome is as for `audit_prices`. Raises Refusal, OSError and MemoryError."""
+    amounts are in its currency. The outcome is as for `audit_prices`. Raises Refusal, OSError and MemoryError.
+
+    >>> first, *_ = margins("town.pb", "town.prices.csv")
+    >>> first.project, first.cost == first.paid
+    ('a', True)
+    """
     text = _Asked("margins", election, certificate=certificate, outcome=outcome).text()
     _, (_, grains_per_unit), _, *rows = records(text, b",")
     return tuple(
@@ -220,7 +273,12 @@ def explain(election: File, certificate: File, outcome: Optional[File] = None, *
             exhaustive: bool = True, cover: bool = False) -> Explanation:
     """What each condition comes to by a price certificate, or each test by a violation certificate, with the verdict of
     `audit_prices` or `audit_violation`. The outcome and the switches are as for `audit_prices`; a violation doesn't
-    depend on the switches. Raises Refusal, OSError and MemoryError."""
+    depend on the switches. Raises Refusal, OSError and MemoryError.
+
+    >>> told = explain("town.pb", "town.prices.csv")
+    >>> [finding.name for finding in told.findings if finding.state != "holds"]
+    ['Cover', 'S5']
+    """
     asked = _Asked("explain", election, certificate=certificate, outcome=outcome, mode=Mode(stable, exhaustive, cover))
     found, = asked.verdicts(asked.lines()[0])
     return _explanation(found, asked.text())
@@ -242,7 +300,11 @@ def _explanation(found: Verdict, text: bytes) -> Explanation:
 
 
 def tidy(election: File, certificate: File) -> bytes:
-    """The canonical form of a price certificate. Raises Refusal, OSError and MemoryError."""
+    r"""The canonical form of a price certificate. Raises Refusal, OSError and MemoryError.
+
+    >>> tidy("town.pb", b"pb-prices,1\ndenominator,1\nvoter_budget,4\nvoter,project,payment\n 1 , a ,02\n").splitlines()[-1]
+    b'1,a,2'
+    """
     return _Asked("tidy", election, certificate=certificate).text()
 
 

@@ -33,6 +33,10 @@ class PriceCertificate:
     (from 1), a project's id and a numerator. `moved` is the farthest that a payment moved from what was given, and
     `raised` by how much the voter budget rose (or fell, where it is below 0), in the currency of the costs. `file` is
     the certificate as a file.
+
+    >>> made = price_certificate(Instance([Project("a", 1)], 1), [["a"]], ["a"], None, [{"a": 1}])
+    >>> made.moved, made.raised
+    (Fraction(0, 1), Fraction(0, 1))
     """
 
     denominator: int
@@ -68,6 +72,11 @@ def price_certificate(instance: AnyInstance, profile: Profile, budget_allocation
 
     What comes out was audited. That CannotKeep is raised doesn't say that there is no such certificate. Raises
     ValueError, TypeError and MemoryError too.
+
+    >>> town = Instance([Project("a", 1)], 1)
+    >>> made = price_certificate(town, [["a"]] * 3, ["a"], None, [{"a": 0.33333333}] * 3, denominator=3)
+    >>> made.rows
+    [(1, 'a', 1), (2, 'a', 1), (3, 'a', 1)]
     """
     check_rows(profile, payment_functions)
     projects, costs, limit = projects_of(instance)

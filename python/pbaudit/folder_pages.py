@@ -38,7 +38,16 @@ _TITLES = {
 
 
 class NotReplaced(ValueError):
-    """A file stands where a page is to be written, and isn't one that pbaudit made."""
+    """A file stands where a page is to be written, and isn't one that pbaudit made.
+
+    >>> with open("mine/index.html", "w") as file:
+    ...     print("my page", file=file)
+    >>> try:
+    ...     write_folder_pages("elections", "mine")
+    ... except NotReplaced:
+    ...     print("it stays")
+    it stays
+    """
 
 
 @dataclass(frozen=True)
@@ -57,7 +66,11 @@ def write_folder_pages(folder: Path, path: Path, *, stable: bool = False, exhaus
     NAME.violation.html, and index.html, which has the answers and links to the pages.
     Raises what `audit_folder` and `page` raise, and NotReplaced, a ValueError, where something stands at a place of
     these that pbaudit didn't make; nothing is written then. Each page is written as soon as it is made, and the index
-    last."""
+    last.
+
+    >>> bool(write_folder_pages("elections", "pages"))
+    True
+    """
     mode = Mode(stable, exhaustive, cover)
     checked_language(language)
     entries = entries_of(folder, mode)

@@ -35,7 +35,11 @@ CERTIFICATES = {".prices.csv": "prices", ".violation.csv": "violation"}
 class FileResult(NamedTuple):
     """What was found of a file of a folder: the name of its election, without `.pb`, and its own; its `kind`, "election",
     "prices" or "violation"; the `answer`, "read" of an election, "yes" or "no" of a certificate, "refused", or "lost"; of a
-    no the condition that fails first with the voter and the project that it names; and the line that the program prints."""
+    no the condition that fails first with the voter and the project that it names; and the line that the program prints.
+
+    >>> [(result.file, result.answer) for result in audit_folder("elections").results]
+    [('town.pb', 'read'), ('town.prices.csv', 'yes')]
+    """
 
     election: str
     file: str
@@ -52,7 +56,11 @@ class FolderReport:
     """The report on a folder: its text, and a status as that of `pbaudit folder`: 2 where a file is refused, else 1
     where a certificate is answered no, else 0. It is true where the status is 0. Where the workers on an election were
     lost three times, the line on it ends in `fault worker`, its name (without `.pb`) is in `lost`, and the status is
-    4. `results` has a row for each file in the order of the text, as `pandas.DataFrame(report.results)` takes them."""
+    4. `results` has a row for each file in the order of the text, as `pandas.DataFrame(report.results)` takes them.
+
+    >>> audit_folder("elections").status
+    0
+    """
 
     text: str
     status: int
@@ -104,6 +112,11 @@ def audit_folder(path: Path, executor: Optional[Executor] = None, *, stable: boo
     again by itself, by the same executor where that still works and else in a process of its own, three times in all;
     then its line says so, and it is never left out. Raises OSError where the folder can't be listed, or lists a name
     that isn't UTF-8 (errno.EILSEQ): `pbaudit folder` refuses it then, as `refused folder 18 Read record 0`.
+
+    >>> print(audit_folder("elections"), end="")
+    town.pb: read 3 voters 3 projects 2 funded
+    town.prices.csv: supported priceable
+    total 1 elections 1 yes 0 no 0 refused
     """
     if executor is not None and not callable(getattr(executor, "submit", None)):
         raise TypeError(f"the executor is {executor!r}, which has no submit: give one of concurrent.futures, such as a "

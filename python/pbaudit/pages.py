@@ -15,14 +15,24 @@ def page(election: File, certificate: File, outcome: Optional[File] = None, *, s
          exhaustive: bool = True, cover: bool = False, language: Language = "en") -> str:
     """A page on a price or a violation certificate, as one HTML file. The outcome and the switches are as for
     `explain`, and the language is "en", "pl", "de" or "fr". Raises Refusal, OSError and MemoryError, and a ValueError
-    for another language."""
+    for another language.
+
+    >>> page("town.pb", "town.prices.csv", language="de").startswith("<!DOCTYPE html>")
+    True
+    """
     return _made(election, certificate, outcome, Mode(stable, exhaustive, cover), language).decode("utf-8")
 
 
 def write_page(election: File, certificate: File, outcome: Optional[File] = None, *, path: Optional[Path] = None,
                stable: bool = False, exhaustive: bool = True, cover: bool = False, language: Language = "en") -> bytes:
     """The bytes of `page`, written to `path` as well where one is given. Raises as `page`, and a ValueError where the
-    page would replace one of these files, and then writes nothing."""
+    page would replace one of these files, and then writes nothing.
+
+    >>> made = write_page("town.pb", "town.prices.csv", path="town.html")
+    >>> with open("town.html", "rb") as file:
+    ...     file.read() == made
+    True
+    """
     files = {"election": election, "certificate": certificate, "outcome": outcome}
     over = None if path is None else replaced(checked_path(path), files)
     if over:

@@ -48,6 +48,13 @@ def validate_price_system(instance: AnyInstance, profile: Profile, budget_alloca
 
     `relaxation` is there for callers of pabutools, and has to be None: relaxed forms aren't audited, so another is a
     ValueError. `verbose` prints what each condition comes to, as `explain` of the verdict has it.
+
+    >>> town = Instance([Project("a", 6), Project("b", 4)], 10)
+    >>> ballots, payments = [["a", "b"], ["a"], ["b"]], [{"a": 2, "b": 2}, {"a": 4}, {"b": 2}]
+    >>> print(validate_price_system(town, ballots, ["a", "b"], 4, payments))
+    supported priceable
+    >>> print(validate_price_system(town, ballots, ["a", "b"], 3.5, payments, near=True))
+    failed C2 voter 1
     """
     mode, is_near, is_told = Mode(stable, exhaustive), switch("near", near), switch("verbose", verbose)
     if relaxation is not None:

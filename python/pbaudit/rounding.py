@@ -17,7 +17,14 @@ from .town import Town
 
 class CannotKeep(ValueError):
     """No certificate near the given payments keeps `condition`; `voter` (from 1) and `project` (an id) say where, and
-    are None where no single one is to blame."""
+    are None where no single one is to blame.
+
+    >>> try:
+    ...     price_certificate(Instance([Project("a", 6)], 6), [["a"]], ["a"], 6, [{"a": 5}])
+    ... except CannotKeep as why:
+    ...     print(why)
+    C3: 5 is paid for a, which costs 6
+    """
 
     def __init__(self, condition: str, text: str, voter: Optional[int] = None, project: Optional[str] = None):
         super().__init__(condition, text, voter, project)

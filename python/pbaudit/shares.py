@@ -38,7 +38,12 @@ Tell = Callable[[Progress], None]
 class EqualShares:
     """What the Method of Equal Shares comes to: the ids of the funded projects in the order of their purchase, the
     budget of each voter, and for each voter what it pays, by the ids of projects. Amounts are exact, in the currency
-    of the costs. `runs` is how often the rule was run, which is once without a completion."""
+    of the costs. `runs` is how often the rule was run, which is once without a completion.
+
+    >>> shares = equal_shares(Instance([Project("a", 6)], 10), [["a"], ["a"]])
+    >>> shares.payments
+    [{'a': Fraction(3, 1)}, {'a': Fraction(3, 1)}]
+    """
 
     funded: List[str]
     voter_budget: Fraction
@@ -65,6 +70,11 @@ def equal_shares(instance: AnyInstance, profile: Profile, *, by: Measure = "cost
     other project fits within the limit or the next outcome would cost more than the limit. `increment` is another step
     than 1: a larger one is quicker where costs are large, and may end at another outcome. Ties go to the project that
     stands first. A project that costs nothing is bought where it has a supporter. Raises ValueError and TypeError.
+
+    >>> town = Instance([Project("a", 6), Project("b", 4)], 10)
+    >>> shares = equal_shares(town, [["a", "b"], ["a"]])
+    >>> shares.funded, shares.voter_budget
+    (['a'], Fraction(5, 1))
     """
     step = checked_increment(increment)
     projects, costs, limit = projects_of(instance)

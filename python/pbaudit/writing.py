@@ -29,7 +29,12 @@ def write_election(instance: AnyInstance, profile: Profile, budget_allocation: O
                    path: Optional[Path] = None) -> bytes:
     """An election file; its outcome is the budget allocation, and without one it states none. Costs and the limit are
     in the currency of the election, from 0 to 10^12 with at most six decimals. Raises ValueError, TypeError and
-    OSError."""
+    OSError.
+
+    >>> made = write_election(Instance([Project("a", 6)], 10), [["a"], []], ["a"])
+    >>> print(read(made))
+    read 2 voters 1 projects 1 funded
+    """
     projects, costs, limit = projects_of(instance)
     ballots = ballots_of(profile, projects)
     funded = None if budget_allocation is None else funded_of(budget_allocation, projects)
@@ -37,7 +42,11 @@ def write_election(instance: AnyInstance, profile: Profile, budget_allocation: O
 
 
 def write_outcome(budget_allocation: Iterable[AnyProject], path: Optional[Path] = None) -> bytes:
-    """An outcome file of the funded projects. Raises ValueError, TypeError and OSError."""
+    r"""An outcome file of the funded projects. Raises ValueError, TypeError and OSError.
+
+    >>> write_outcome(["a", "b"])
+    b'pb-outcome,1\nproject,a\nproject,b\n'
+    """
     ids = ids_of(budget_allocation, "the budget allocation is", "the outcome names")
     return write_to(path, _written([["pb-outcome", "1"]] + [["project", project] for project in ids]))
 
@@ -46,7 +55,17 @@ def write_prices(voter_budget: Amount, payment_functions: Iterable[PaymentFuncti
                  path: Optional[Path] = None) -> bytes:
     """A price certificate: the budget of each voter, and for each voter, in the order of the profile, a mapping from
     projects to what the voter pays, in the currency of the costs. Amounts are exact, over a common denominator of at
-    most 10^9. Raises ValueError, TypeError and OSError."""
+    most 10^9. Raises ValueError, TypeError and OSError.
+
+    >>> print(write_prices(4, [{"a": 2, "b": 2}, {"a": 4}]).decode(), end="")
+    pb-prices,1
+    denominator,1
+    voter_budget,4
+    voter,project,payment
+    1,a,2
+    1,b,2
+    2,a,4
+    """
     budget, payments = exact_price(voter_budget, "the voter budget"), Payments(payment_functions)
     payments.check_exact()
     denominator = least_multiple((budget.denominator, *payments.denominators()))
@@ -59,7 +78,11 @@ def write_violation(voters: Iterable[int], projects: Iterable[AnyProject],
                     satisfaction: Optional[Satisfaction] = None, path: Optional[Path] = None) -> bytes:
     """A violation certificate: the group, by the numbers of its voters (from 1, in the order of the profile), and the
     projects that it demands. `satisfaction` is "count" or "cost"; None is "count" in the older version of the file.
-    Raises ValueError, TypeError and OSError."""
+    Raises ValueError, TypeError and OSError.
+
+    >>> write_violation([1, 2], ["a"], "cost").split()
+    [b'pb-violation,2', b'satisfaction,cost', b'project,a', b'voter,1', b'voter,2']
+    """
     if satisfaction not in (None, "count", "cost"):
         raise ValueError(f"the satisfaction is {satisfaction!r}, not 'count' or 'cost'")
     head = [["pb-violation", "1"]] if satisfaction is None else [["pb-violation", "2"], ["satisfaction", satisfaction]]

@@ -43,6 +43,10 @@ class Library(unittest.TestCase):
         with contextlib.redirect_stdout(out):
             exec(block("from pbaudit import Instance"), values)
         self.assertEqual(out.getvalue(), block("supported priceable\nFalse"))
+        with contextlib.redirect_stdout(io.StringIO()) as near:
+            exec(block("five = "), values)
+        self.assertEqual(near.getvalue(), "failed C3 project a\n")
+        self.assertIn("\nprints `failed C3 project a`", (REPOSITORY / "docs" / "LIBRARY.md").read_text(encoding="utf-8"))
         rounds = block("from pbaudit import price_certificate").replace("town.prices.csv", f"{self.room}/town.prices.csv")
         exec(rounds, values)
         town = pbaudit.write_election(values["instance"], values["profile"], [values["a"], values["b"]])

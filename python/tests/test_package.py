@@ -1,6 +1,8 @@
 """The package as its users have it: types, help, the time of an import, and notebooks."""
 import dataclasses
+import doctest
 import html
+import io
 import os
 import pathlib
 import pickle
@@ -11,6 +13,7 @@ import subprocess
 import sys
 import tempfile
 import unittest
+from fractions import Fraction
 
 import pbaudit
 
@@ -88,6 +91,31 @@ class Loading(unittest.TestCase):
                 self.assertIn(value.__doc__.split("\n")[0], text)
                 if not isinstance(value, type):
                     self.assertRegex(value.__doc__, r"Raises|is a\s+ValueError|is a\s+TypeError")
+
+
+class Examples(unittest.TestCase):
+    def test_each_docstring_has_one_that_is_so(self):
+        """After `from pbaudit import *`, with the files that the package's own docstring names."""
+        given = {name: getattr(pbaudit, name) for name in pbaudit.__all__}
+        given.update(Fraction=Fraction)
+        finder, runner = doctest.DocTestFinder(recurse=False), doctest.DocTestRunner(verbose=False)
+        before = os.getcwd()
+        for name in pbaudit.__all__:
+            with self.subTest(name=name), tempfile.TemporaryDirectory() as room:
+                example, = finder.find(getattr(pbaudit, name), name, globs=dict(given))
+                self.assertGreater(len(example.examples), 0)
+                for folder in (room, f"{room}/elections", f"{room}/mine"):
+                    os.makedirs(folder, exist_ok=True)
+                for folder in (room, f"{room}/elections"):
+                    for file in ("pb", "prices.csv"):
+                        shutil.copy(EXAMPLES / f"sample.{file}", f"{folder}/town.{file}")
+                told = io.StringIO()
+                os.chdir(room)
+                try:
+                    failed, _ = runner.run(example, out=told.write)
+                finally:
+                    os.chdir(before)
+                self.assertEqual(failed, 0, told.getvalue())
 
 
 class Notebooks(unittest.TestCase):
