@@ -6,7 +6,7 @@ search and of its solver.
 
 The library or the program has to be built, and scipy installed. The invented elections are Euclidean (voters and
 projects are points, and a voter approves what is near), clustered and random, with outcomes of greedy by votes, of
-greedy by votes per cost, and of Equal Shares completed by greedy: 3,000 voters and 60 projects; 10,000 voters and 100
+greedy by votes per cost, and of Equal Shares completed by greedy: 1,000 voters and 60 projects; 10,000 voters and 100
 projects, of which the clustered and the random ones have no equal ballots; and 100,000 voters and 200 projects with
 15,000 different ballots.
 """
@@ -24,9 +24,9 @@ from pbaudit import Instance, Project  # noqa: E402
 
 # More than the command's own, since what else the machine does takes its time too.
 SECONDS = 600
-SIZES = [(3_000, 60, 3_000), (10_000, 100, 10_000), (100_000, 200, 15_000)]
+SIZES = [(1_000, 60, 1_000), (10_000, 100, 10_000), (100_000, 200, 15_000)]
 # Stable prices are looked for in elections of up to so many voters.
-MOST_STABLE = 3_000
+MOST_STABLE = 1_000
 SEARCHES = [("prices", {"violation": False}), ("stable", {"violation": False, "stable": True}),
             ("violation", {"prices": False})]
 
