@@ -176,8 +176,8 @@ echo '1 passed, 0 failed'
 BUILDERS = ["packages", "rt", "edits.py", "pbaudit-library", "pbaudit-web", "release"]
 PARTS_RUN = [
     *BUILDERS, "statement.py", "documents.py", "sentences.py", "lemmas.py", "scripts.py", "gate.py", "try_edits.py", "limits.py",
-    "compare.py", "failing.py", "check.sh", "check.sh", "tour.sh", "launcher.sh", "web.py", "library.py", "python.sh",
-    "browser.py", "install.py", "release.py", "bare.py",
+    "compare.py", "failing.py", "page_text.py", "hidden.py", "page_commands.py", "check.sh", "check.sh", "tour.sh",
+    "launcher.sh", "web.py", "library.py", "python.sh", "browser.py", "install.py", "release.py", "bare.py",
 ]  # fmt: skip
 
 
