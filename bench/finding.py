@@ -10,6 +10,8 @@ greedy by votes per cost, and of Equal Shares completed by greedy: 1,000 voters 
 projects, of which the clustered and the random ones have no equal ballots; and 100,000 voters and 200 projects with
 15,000 different ballots.
 """
+import argparse
+import importlib.util
 import json
 import os
 import random
@@ -124,6 +126,19 @@ def measure(name, path, voters=0):
         print(f"  {what:10}{search(path, switches)}", flush=True)
 
 
+def paths_given():
+    """The elections that the words name. Ends with a line on what is missing where nothing can be measured."""
+    words = argparse.ArgumentParser(description=__doc__, formatter_class=argparse.RawDescriptionHelpFormatter)
+    words.add_argument("elections", metavar="FILE", nargs="*")
+    paths = words.parse_args().elections
+    for path in paths:
+        if not os.path.isfile(path):
+            words.error(f"there is no file {path}")
+    if importlib.util.find_spec("scipy") is None:
+        words.error("scipy is not installed")
+    return paths
+
+
 def main(paths):
     for path in paths:
         measure(path, path)
@@ -142,4 +157,4 @@ if __name__ == "__main__":
     if sys.argv[1:2] == ["--one"]:
         one(sys.argv[2], json.loads(sys.argv[3]))
     else:
-        main(sys.argv[1:])
+        main(paths_given())

@@ -22,6 +22,7 @@ WRONG = {
                  [sys.executable, "10", "10", "--plain=missing"]],
     "certificates.py": [["word"], ["--voters", "0"], ["--elections", "many"]],
     "files.py": [["pb_none"]],
+    "finding.py": [["missing"], ["/"], ["--unknown"]],
     "hostile.py": [[], ["missing"], ["/"]],
     "prices.py": [[], ["one"], ["--unknown"]],
     "python_values.py": [["10"], ["0", "10"], ["a", "b"], ["10", "7"], ["--unknown"]],
