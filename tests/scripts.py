@@ -66,7 +66,8 @@ def try_closed_pipe(score):
         first = running.stdout.readline()
         running.stdout.close()
         said = running.stderr.read()
-    score.check((first, said) == ("crates/pb_money\n", ""), f"docs/files.py | head -n 1: {first} {said}")
+    lowest = next(it for it in (TOP / "crates.txt").read_text().splitlines() if not it.startswith("#")).split(":")[0]
+    score.check((first, said) == (f"crates/{lowest}\n", ""), f"docs/files.py | head -n 1: {first} {said}")
 
 
 def main():
