@@ -45,8 +45,8 @@ pub struct PageFiles<'a> {
 /// HTML file. The status is that of `explain`. Where the first record of the certificate that is not blank is the head
 /// of a violation certificate, it is taken as one, and then the mode counts for nothing; any other is taken as prices.
 /// Without an outcome file the outcome is the election's own. Where a file is refused, the text is the line of the
-/// refusal: the first that is refused decides, in this order; more than 2^28 bytes are refused as too long. An error
-/// means out of memory.
+/// refusal: the first that is refused decides, in this order. A `File::Bytes` is audited however long it is;
+/// `File::in_memory` makes one of more than 2^28 bytes a `File::TooLong`, which is refused. An error means out of memory.
 pub fn page_answer(
     alloc: Global,
     files: PageFiles<'_>,
