@@ -140,13 +140,13 @@ def try_notes(visit):
     text = ELECTION.replace("num_votes;3", "num_votes;9990").replace("num_projects;3", "num_projects;4")
     (room / "a.pb").write_text(text.replace("c;9;Pool;0", "c;9;Pool;2"), encoding="utf-8")
     (room / "a.prices.csv").write_text(PRICES, encoding="utf-8")
-    english = ["Note: the election says that it has 4 projects, and has 3.",
-               "Note: the election says that it has 9,990 votes, and has 3.",
-               "Note: “selected” is neither 0 nor 1 in 1 projects, which count as not funded."]
+    english = ["Note: the election gives 4 as its number of projects, and has 3.",
+               "Note: the election gives 9,990 as its number of votes, and has 3.",
+               "Note: projects in which “selected” is neither 0 nor 1: 1. They count as not funded."]
     visit.same(3, visit.says("read", "a.pb", folder=room).count("note: "), "the notes of the program")
-    others = {"de": ["9.990 als Zahl der Stimmen", "4 als Zahl der Projekte", "bei 1 Projekten"],
-              "pl": ["liczbę głosów 9990", "liczbę projektów 4", "projektach: 1"],
-              "fr": ["9\u202f990 votes", "4 projets", "pour 1 projets"]}  # fmt: skip
+    others = {"de": ["9.990 als Zahl der Stimmen", "4 als Zahl der Projekte", "weder 0 noch 1 ist: 1"],
+              "pl": ["liczbę głosów 9990", "liczbę projektów 4", "ani 0, ani 1: 1"],
+              "fr": ["9\u202f990 comme nombre de votes", "4 comme nombre de projets", "ni 0 ni 1 : 1"]}  # fmt: skip
     visit.open()
     for files in (["a.pb"], ["a.prices.csv"]):
         visit.give(*[room / name for name in files])
