@@ -140,13 +140,13 @@ def try_notes(visit):
     text = ELECTION.replace("num_votes;3", "num_votes;9990").replace("num_projects;3", "num_projects;4")
     (room / "a.pb").write_text(text.replace("c;9;Pool;0", "c;9;Pool;2"), encoding="utf-8")
     (room / "a.prices.csv").write_text(PRICES, encoding="utf-8")
-    english = ["Note: the election says that it has 4 projects, and has 3.",
-               "Note: the election says that it has 9,990 votes, and has 3.",
-               "Note: “selected” is neither 0 nor 1 in 1 projects, which count as not funded."]
+    english = ["Note: the election gives 4 as its number of projects, and has 3.",
+               "Note: the election gives 9,990 as its number of votes, and has 3.",
+               "Note: projects in which “selected” is neither 0 nor 1: 1. They count as not funded."]
     visit.same(3, visit.says("read", "a.pb", folder=room).count("note: "), "the notes of the program")
-    others = {"de": ["9.990 als Zahl der Stimmen", "4 als Zahl der Projekte", "bei 1 Projekten"],
-              "pl": ["liczbę głosów 9990", "liczbę projektów 4", "projektach: 1"],
-              "fr": ["9\u202f990 votes", "4 projets", "pour 1 projets"]}  # fmt: skip
+    others = {"de": ["9.990 als Zahl der Stimmen", "4 als Zahl der Projekte", "weder 0 noch 1 ist: 1"],
+              "pl": ["liczbę głosów 9990", "liczbę projektów 4", "ani 0, ani 1: 1"],
+              "fr": ["9\u202f990 comme nombre de votes", "4 comme nombre de projets", "ni 0 ni 1 : 1"]}  # fmt: skip
     visit.open()
     for files in (["a.pb"], ["a.prices.csv"]):
         visit.give(*[room / name for name in files])
@@ -220,7 +220,13 @@ def try_long_and_hidden(visit):
 
 BIDI = {"a\u202egpj.pb": "a\\u{202e}gpj.pb", "b\u200b.pb": "b\\u{200b}.pb",
         "c\u3164\u2800\ufe0f.pb": "c\\u{3164}\\u{2800}\\u{fe0f}.pb",
-        "d\U000e0041\u00ad.pb": "d\\u{e0041}\\u{ad}.pb"}  # fmt: skip
+        "d\U000e0041\u00ad.pb": "d\\u{e0041}\\u{ad}.pb",
+        "e\u00a0\u3000\u200d\ue000.pb": "e\\u{a0}\\u{3000}\\u{200d}\\u{e000}.pb",
+        # Joiners that belong to how a word or an emoji is written.
+        "\u0645\u06cc\u200c\u062e.pb": "\u0645\u06cc\u200c\u062e.pb",
+        "\u0627\u200c\u062e.pb": "\u0627\\u{200c}\u062e.pb",
+        "\u0915\u094d\u200d\u0937.pb": "\u0915\u094d\u200d\u0937.pb",
+        "\U0001f468\u200d\U0001f469.pb": "\U0001f468\u200d\U0001f469.pb"}  # fmt: skip
 LOOSE = """
 return [...document.querySelectorAll('bdi, code')]
   .filter(each => getComputedStyle(each).unicodeBidi !== 'isolate').length;
@@ -236,10 +242,11 @@ def try_names_shown(visit):
         (room / name).write_text(ELECTION, encoding="utf-8")
     visit.open()
     visit.give(*[room / name for name in BIDI])
-    visit.same(sorted(BIDI.values()), sorted(name for name, _, _ in visit.answers(4)), "names with hidden characters")
+    found = sorted(name for name, _, _ in visit.answers(len(BIDI)))
+    visit.same(sorted(BIDI.values()), found, "names with hidden characters")
     labels = visit.browser.ask("return [...document.querySelectorAll('[aria-label]')].map(e => e.ariaLabel).join()")
     visit.holds(not set("".join(BIDI)) & set(labels) & set("\u202e\u200b\u3164\u2800"), "labels with hidden characters")
-    visit.browser.click("#clear")
+    visit.open()
     (room / "a\u202egpj.prices.csv").write_text(PRICES, encoding="utf-8")
     visit.give(room / "a\u202egpj.pb", room / "a\u202egpj.prices.csv")
     visit.same([("a\\u{202e}gpj.prices.csv", "Yes", None)], visit.answers(1), "a certificate with such a name")

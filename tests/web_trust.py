@@ -137,11 +137,12 @@ def try_no_engine(visit, page):
 def try_no_webassembly(visit):
     """A browser that speaks Polish and has no WebAssembly."""
     visit.holds(visit.browser.ask("return typeof WebAssembly === 'undefined'"), "the browser has no WebAssembly")
-    visit.holds("Program nie może tu działać" in visit.text("#broken"), f"it is told at once: {visit.text('#broken')}")
+    wanted = "Program nie może tu działać"
+    visit.holds(wanted in visit.text("#broken"), f"it is told at once: {visit.text('#broken')}")
     visit.give(*FILES)
     visit.same([("sample.prices.csv", "Brak odpowiedzi")], [each[:2] for each in visit.answers(1)], "an audit then")
     told = visit.text("#audit-list")
-    visit.holds("Program nie może tu działać" in told and "WebAssembly" in told, f"the reason: {told}")
+    visit.holds(wanted in told and "WebAssembly" in told, f"the reason: {told}")
 
 
 NEVER = "window.Worker = class { postMessage() {} terminate() {} };"

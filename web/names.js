@@ -3,14 +3,33 @@
 /* How the page shows what others wrote: names of files, lines of the program, records of a file. */
 
 const LONGEST_NAME = 120, LONGEST_LINE = 300;
-/** Characters that can't be seen, that look like a space and are none, or that turn the order of what follows. */
-const HIDDEN = /[\p{Cc}\p{Cf}\p{Cs}\p{Zl}\p{Zp}\p{Default_Ignorable_Code_Point}\u2800]|(?! )\p{Zs}/gu;
-/** Joiners belong to words and to emoji, where they stand between two of their characters. */
-const JOINERS = "\u200c\u200d";
-const IS_JOINED = /[\p{L}\p{M}\p{Emoji}\ufe0f]/u;
+/**
+ * Characters that can't be seen as themselves: controls, marks of format, spaces other than U+0020, ends of lines, code
+ * points that are private or have no character, what is ignored where it isn't known, and blanks.
+ */
+const HIDDEN = /(?! )(?:[\p{C}\p{Z}\p{Default_Ignorable_Code_Point}\u2800\ufffc]|\u{16fe4}|\u{1d159})/gu;
+const NO_JOIN = "\u200c", JOIN = "\u200d";
+/** Signs of the scripts of India, and of their neighbours, by which a letter sounds no vowel. */
+const VIRAMAS = "\u094d\u09cd\u0a4d\u0acd\u0b4d\u0bcd\u0c4d\u0ccd\u0d4d\u0dca\u1039\u17d2";
+/** Arabic letters, and those that aren't joined with the next. */
+const ARABIC = /(?=\p{L})[\u0620-\u06d3]/u;
+const UNJOINED =
+  /[\u0621-\u0625\u0627\u0629\u062f-\u0632\u0648\u0671-\u0677\u0688-\u0699\u06c0-\u06cb\u06cd\u06cf\u06d2\u06d3]/u;
+const LETTER = /\p{L}/u, EMOJI = /\p{Emoji_Presentation}/u;
 /** Letters that are written from right to left. */
 const FROM_THE_RIGHT = /[\u0590-\u08ff\ufb1d-\ufdff\ufe70-\ufefc\u{10800}-\u{10fff}\u{1e800}-\u{1efff}]/u;
 const ISOLATE = "\u2068", END_OF_ISOLATE = "\u2069";
+
+/**
+ * Whether a character is a joiner that belongs to what stands before and after it.
+ * @type {(before: string, character: string, after: string) => boolean}
+ */
+function isSpelling(before, character, after) {
+  const isConjoined = before !== "" && VIRAMAS.includes(before) && LETTER.test(after);
+  const isCursive = ARABIC.test(before) && !UNJOINED.test(before) && ARABIC.test(after);
+  if (character === NO_JOIN) return isConjoined || isCursive;
+  return character === JOIN && (isConjoined || (EMOJI.test(before) && EMOJI.test(after)));
+}
 
 /**
  * A text with each hidden character as its number, as `\u{202e}`, like the names on the library's page. Characters of
@@ -22,8 +41,7 @@ function visible(text, kept = "") {
   return text.replace(HIDDEN, (character, at) => {
     const after = String.fromCodePoint(text.codePointAt(at + character.length) ?? 0);
     const before = [...text.slice(Math.max(0, at - 2), at)].pop() ?? "";
-    const isJoiner = JOINERS.includes(character) && IS_JOINED.test(before) && IS_JOINED.test(after);
-    if (isJoiner || kept.includes(character)) return character;
+    if (isSpelling(before, character, after) || kept.includes(character)) return character;
     return `\\u{${/** @type {number} */ (character.codePointAt(0)).toString(16)}}`;
   });
 }

@@ -66,6 +66,7 @@ class Page {
    */
   take(found, isExample = false) {
     this.taking = this.taking.then(async () => {
+      if (isExample && this.pieces.some(piece => !piece.isExample)) return;
       if (found.length > 0) element("broken").hidden = true;
       const kinds = await this.kindsOf(found);
       const added = found.map((each, at) => ({ ...pieceOf(each, kinds[at]), isExample }));

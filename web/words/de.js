@@ -62,7 +62,7 @@ WORDS.de = {
   noneSaid: "nicht angegeben",
   otherVotes: (said, counted) => `Hinweis: Die Abstimmung nennt ${said} als Zahl der Stimmen, und es sind ${counted}.`,
   otherProjects: (said, counted) => `Hinweis: Die Abstimmung nennt ${said} als Zahl der Projekte, und es sind ${counted}.`,
-  oddSelected: count => `Hinweis: „selected“ ist bei ${count} Projekten weder 0 noch 1; sie zählen als nicht gefördert.`,
+  oddSelected: count => `Hinweis: Projekte, bei denen „selected“ weder 0 noch 1 ist: ${count}. Sie zählen als nicht gefördert.`,
   isStopped: "Angehalten",
   isFailed: "Keine Antwort",
   isWaiting: "Wartet",

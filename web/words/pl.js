@@ -62,7 +62,7 @@ WORDS.pl = {
   noneSaid: "nie podano",
   otherVotes: (said, counted) => `Uwaga: plik głosowania podaje liczbę głosów ${said}, a jest ich ${counted}.`,
   otherProjects: (said, counted) => `Uwaga: plik głosowania podaje liczbę projektów ${said}, a jest ich ${counted}.`,
-  oddSelected: count => `Uwaga: „selected” nie jest ani 0, ani 1 w tylu projektach: ${count}. Liczą się jako niewybrane.`,
+  oddSelected: count => `Uwaga: projekty, w których „selected” nie jest ani 0, ani 1: ${count}. Liczą się jako niewybrane.`,
   isStopped: "Zatrzymano",
   isFailed: "Brak odpowiedzi",
   isWaiting: "Czeka",
