@@ -76,6 +76,8 @@ def near(amount: object, what: str) -> Fraction:
 def ratio(amount: object, what: str) -> Tuple[int, int]:
     """The numerator and the denominator of an amount of any kind. They are Python's own numbers: those of others, also
     within a Fraction, may have no room for a product. Those of a float needn't be in lowest terms."""
+    if type(amount) is int:
+        return amount, 1
     if isinstance(amount, bool):
         raise TypeError(f"{what} is {amount!r}, not a number")
     try:

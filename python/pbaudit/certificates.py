@@ -345,7 +345,7 @@ def _farthest(rounding: Rounding, given: Given) -> Fraction:
     # A number of parts of the denominator.
     away, part_away = 0, 1
     for numerator, amount, move in zip(paid, given.amounts, moves):
-        if move >= least:
+        if move >= least and not (type(amount) is int and amount * denominator == numerator):
             whole, part = ratio(amount, "a payment")
             moved = abs(numerator * part - whole * denominator)
             if moved * part_away > away * part:

@@ -297,9 +297,12 @@ def _ballots(profile: Profile) -> Iterator[Collection[AnyProject]]:
 
 def functions_of(payment_functions: Iterable[NearPaymentFunction]) -> List[NearPaymentFunction]:
     """The payment functions as a list, also where they are an iterator. Series of pandas are mappings as well."""
-    functions = listed(payment_functions, "the payment functions are", "mappings, one for each voter", AnyMapping)
-    return [mapping_of(function, f"voter {voter} pays for") if is_series(function) else function
-            for voter, function in enumerate(functions, 1)]
+    functions = list(listed(payment_functions, "the payment functions are", "mappings, one for each voter", AnyMapping))
+    one_of_each = {type(function): function for function in functions}
+    series = {kind for kind, one in one_of_each.items() if is_series(one)}
+    return functions if not series else [
+        mapping_of(function, f"voter {voter} pays for") if type(function) in series else function
+        for voter, function in enumerate(functions, 1)]
 
 
 def check_count(ballots: int, functions: int) -> None:
