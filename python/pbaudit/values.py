@@ -64,7 +64,7 @@ class Projects:
         set have no order of their own."""
         self.ids, self._has_order = list(ids), has_order
         self.place = {name: at for at, name in enumerate(self.ids)}
-        self._is_open = is_open
+        self._is_open, self._are_texts = is_open, False
         # The places of projects that were met, by `id`. They are kept, so that no other has the same.
         self._places: Dict[int, int] = {}
         self._kept: List[object] = []
@@ -80,12 +80,13 @@ class Projects:
         """The places of projects, in their order. Raises TypeError and ValueError, which begin with `what`."""
         if isinstance(projects, PlacedRow):
             return projects.places
-        first = next(iter(projects), None)
         try:
-            if type(first) is str:
-                return list(map(self.place.__getitem__, projects))  # type: ignore[arg-type]
-            return list(map(self._places.__getitem__, map(id, projects)))
+            # Mostly all are given in one way. No text is among the projects that were met.
+            if not self._are_texts:
+                return list(map(self._places.__getitem__, map(id, projects)))
+            return list(map(self.place.__getitem__, projects))  # type: ignore[arg-type]
         except (KeyError, TypeError):
+            self._are_texts = type(next(iter(projects))) is str
             return [self._place(project, what) for project in projects]
 
     def _place(self, project: AnyProject, what: str) -> int:
