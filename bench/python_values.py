@@ -5,9 +5,9 @@ the best of three, and the greatest memory that is taken on top, beside the size
     python3 bench/python_values.py [VOTERS PROJECTS]     100000 and 150 unless they are given
 
 The library or the program has to be built. Every voter approves 8 projects and pays an equal part of each that is
-funded, as whole numbers, as Fractions, and as floats with the noise of a solver. Then the Method of Equal Shares on an
-election of that size, and a folder of 500 elections of 300 voters: in one process, by a pool, and by Dask where it is
-installed.
+funded, as whole numbers, as Fractions, as rational numbers of gmpy2, in matrices, and as floats with the noise of a
+solver. Then the Method of Equal Shares on an election of that size, and a folder of 500 elections of 300 voters: in one
+process, by a pool, and by Dask where it is installed.
 """
 import os
 import random
@@ -97,10 +97,23 @@ def measure_values(voters, projects):
     measure("plain Fractions", lambda: plain_check(*words, exact))
     measure("validate_price_system, whole numbers", lambda: pbaudit.validate_price_system(*words, whole), files)
     measure("validate_price_system, Fractions", lambda: pbaudit.validate_price_system(*words, exact), files)
+    measure_rationals(*words, whole, files)
     measure_matrices(*words, whole, files)
     measure("price_certificate, whole numbers", lambda: pbaudit.price_certificate(*words, whole), files)
     measure("price_certificate, floats", lambda: pbaudit.price_certificate(*words, floats), files)
     measure("price_certificate, floats, stable", lambda: pbaudit.price_certificate(*words, floats, True), files)
+
+
+def measure_rationals(instance, profile, funded, budget, payments, files):
+    """The rational numbers of gmpy2, which pabutools uses."""
+    try:
+        from gmpy2 import mpq
+    except ImportError:
+        print("          gmpy2 isn't installed")
+        return
+    rational = [{project: mpq(amount) for project, amount in mine.items()} for mine in payments]
+    words = instance, profile, funded, mpq(budget), rational
+    measure("validate_price_system, mpq of gmpy2", lambda: pbaudit.validate_price_system(*words), files)
 
 
 def measure_matrices(instance, profile, funded, budget, payments, files):

@@ -95,8 +95,8 @@ def _add_equal_shares(commands: "argparse._SubParsersAction[_Parser]") -> None:
                         "cost, which is the default, or 1")
     shares.add_argument("--completion", choices=COMPLETIONS, default="none", help="add1 raises the budget of each "
                         "voter by 1 until no other project fits, or the next outcome costs more than the limit")
-    shares.add_argument("--increment", type=_increment, default=Fraction(1), metavar="AMOUNT", help="what add1 raises the "
-                        "budget by in the place of 1, such as 1000 where costs are in millions, or 0.01")
+    shares.add_argument("--increment", type=_increment, default=Fraction(1), metavar="AMOUNT", help="what add1 raises "
+                        "the budget by in the place of 1, such as 1000 where costs are in millions, or 0.01")
     shares.set_defaults(run=_equal_shares, end_by_usage=shares.error)
 
 

@@ -16,8 +16,8 @@ _TENS = tuple(10**decimals for decimals in range(40))
 
 
 class TooManyDenominators(ValueError):
-    """Exact amounts whose common denominator is larger than one that a certificate has, as with shares of many costs. The
-    check of prices near these may answer: `validate_price_system` with `near=True`, or `price_certificate`.
+    """Exact amounts whose common denominator is larger than one that a certificate has, as with shares of many costs.
+    The check of prices near these may answer: `validate_price_system` with `near=True`, or `price_certificate`.
 
     >>> try:
     ...     write_prices(1, [{"a": Fraction(1, 10**9 + 7)}])
@@ -76,6 +76,8 @@ def near(amount: object, what: str) -> Fraction:
 def ratio(amount: object, what: str) -> Tuple[int, int]:
     """The numerator and the denominator of an amount of any kind. They are Python's own numbers: those of others, also
     within a Fraction, may have no room for a product. Those of a float needn't be in lowest terms."""
+    if type(amount) is int:
+        return amount, 1
     if isinstance(amount, bool):
         raise TypeError(f"{what} is {amount!r}, not a number")
     try:

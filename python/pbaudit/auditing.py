@@ -302,7 +302,8 @@ def _explanation(found: Verdict, text: bytes) -> Explanation:
 def tidy(election: File, certificate: File) -> bytes:
     r"""The canonical form of a price certificate. Raises Refusal, OSError and MemoryError.
 
-    >>> tidy("town.pb", b"pb-prices,1\ndenominator,1\nvoter_budget,4\nvoter,project,payment\n 1 , a ,02\n").splitlines()[-1]
+    >>> untidy = b"pb-prices,1\ndenominator,1\nvoter_budget,4\nvoter,project,payment\n 1 , a ,02\n"
+    >>> tidy("town.pb", untidy).splitlines()[-1]
     b'1,a,2'
     """
     return _Asked("tidy", election, certificate=certificate).text()

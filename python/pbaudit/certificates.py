@@ -147,8 +147,8 @@ def _given(town: Town, projects: Projects, voter_budget: Optional[NearAmount], p
 
 def _amounts_by_slot(town: Town, projects: Projects, payments: Payments,
                      noise: Fraction) -> Tuple[List[Any], "array[float]", Fraction]:
-    """What is paid in each slot, as it was given and as a float; and the most that is left out as noise. More than noise
-    in a wrong place is a CannotKeep."""
+    """What is paid in each slot, as it was given and as a float; and the most that is left out as noise. More than
+    noise in a wrong place is a CannotKeep."""
     amounts: List[Any] = []
     floats, dropped = array("d"), Fraction(0)
     for voter, function in enumerate(payments.functions):
@@ -222,8 +222,8 @@ def _most(town: Town, amounts: Sequence[Any], spent: List[float]) -> Fraction:
 
 
 def _check_unfunded(town: Town, given: Given, stable: bool, is_near: bool) -> None:
-    """C5 or S5 of the given payments, by the lowest voter budget that they allow, or near the given one. What fails by more
-    than noise isn't a matter of rounding."""
+    """C5 or S5 of the given payments, by the lowest voter budget that they allow, or near the given one. What fails by
+    more than noise isn't a matter of rounding."""
     spent = _spent(town, given.floats)
     budget = float(given.budget) if is_near else min(float(given.budget), max(spent, default=0.0))
     shares = [budget - each for each in spent]
@@ -239,8 +239,8 @@ def _check_unfunded(town: Town, given: Given, stable: bool, is_near: bool) -> No
 
 
 def _rounded(town: Town, given: Given, stable: bool, denominator: Optional[int], is_near: bool) -> Rounding:
-    """The first denominator by which all conditions can be kept, with numerators over it; the finest first where they are
-    to be as near as can be."""
+    """The first denominator by which all conditions can be kept, with numerators over it; the finest first where they
+    are to be as near as can be."""
     # Funded projects are paid for exactly, so their costs are whole numbers over each denominator.
     unit = common_denominator(town.costs[project] for project in town.funded)
     if denominator is not None:
@@ -345,7 +345,7 @@ def _farthest(rounding: Rounding, given: Given) -> Fraction:
     # A number of parts of the denominator.
     away, part_away = 0, 1
     for numerator, amount, move in zip(paid, given.amounts, moves):
-        if move >= least:
+        if move >= least and not (type(amount) is int and amount * denominator == numerator):
             whole, part = ratio(amount, "a payment")
             moved = abs(numerator * part - whole * denominator)
             if moved * part_away > away * part:

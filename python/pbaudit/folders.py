@@ -33,9 +33,10 @@ CERTIFICATES = {".prices.csv": "prices", ".violation.csv": "violation"}
 
 
 class FileResult(NamedTuple):
-    """What was found of a file of a folder: the name of its election, without `.pb`, and its own; its `kind`, "election",
-    "prices" or "violation"; the `answer`, "read" of an election, "yes" or "no" of a certificate, "refused", or "lost"; of a
-    no the condition that fails first with the voter and the project that it names; and the line that the program prints.
+    """What was found of a file of a folder: the name of its election, without `.pb`, and its own; its `kind`,
+    "election", "prices" or "violation"; the `answer`, "read" of an election, "yes" or "no" of a certificate, "refused",
+    or "lost"; of a no the condition that fails first with the voter and the project that it names; and the line that
+    the program prints.
 
     >>> [(result.file, result.answer) for result in audit_folder("elections").results]
     [('town.pb', 'read'), ('town.prices.csv', 'yes')]
@@ -282,8 +283,8 @@ def _named(task: List[Entry]) -> str:
 
 
 def _alone(entries: List[Entry], workers: int, found: Found, tell: Tell) -> None:
-    """Audits each entry in a process of its own, so many at a time, so that the one that ends its process takes no other
-    along."""
+    """Audits each entry in a process of its own, so many at a time, so that the one that ends its process takes no
+    other along."""
     with ThreadPoolExecutor(workers) as threads:
         for entry, lines in zip(entries, threads.map(_in_a_process, entries)):
             if lines is not None:

@@ -1,4 +1,4 @@
-"""What is kept of an audit, so that the page about it can be shown and each condition told, without all bytes of its files.
+"""What is kept of an audit for its page and its explanation, without all bytes of its files.
 
 A file that was read at a path is read there again, where it is as it was. The bytes of others are kept where they are
 few; those of files that this package made of values are pressed where they are many, since nobody else has them.

@@ -55,7 +55,7 @@ def is_series(values: Any) -> bool:
 
 
 def mapping_of(series: Any, what: str) -> Dict[Any, Any]:
-    """A series as a mapping from its labels to Python's own values. Raises ValueError for a label that is there twice."""
+    """A series as a mapping from its labels to Python's own values. Raises ValueError for one that is there twice."""
     made: Dict[Any, Any] = {}
     for label, value in zip(series.index, series.tolist()):
         name = label if isinstance(label, str) or hasattr(label, "name") else label_of(label)
@@ -73,7 +73,8 @@ def ballots_in(matrix: Any, ids: Sequence[str]) -> Iterator[List[int]]:
         if not is_one.all():
             at = is_one.tolist().index(False)
             voter = first + next(row for row, end in enumerate(ends) if at < end)
-            raise TypeError(f"the row of voter {voter} has {approved[at]}, not only 0 and 1: only approvals are audited")
+            raise TypeError(f"the row of voter {voter} has {approved[at]}, not only 0 and 1: only approvals are "
+                            "audited")
         for start, end in zip([0, *ends], ends):
             yield places[start:end]
 
@@ -151,8 +152,8 @@ _AT_ONCE = 4096
 
 
 def _blocks(matrix: Any, ids: Sequence[str], what: str) -> Iterator[Tuple[int, List[int], List[int], Any]]:
-    """Rows that are looked at together: the number of the first voter, where each row ends among the entries that aren't 0,
-    and the columns and the values of these."""
+    """Rows that are looked at together: the number of the first voter, where each row ends among the entries that
+    aren't 0, and the columns and the values of these."""
     columns = matrix.shape[1]
     if columns != len(ids):
         raise ValueError(f"{what} has {columns} columns, and the instance has {len(ids)} projects")

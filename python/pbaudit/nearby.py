@@ -1,7 +1,7 @@
 """The check of prices near the given ones: where they are floats, or have denominators that no certificate has.
 
-A yes is the auditor's to exact prices that keep all conditions, as `price_certificate` makes them. A no is its answer to
-prices that are only rounded, and counts where the given ones fail at that place by more than rounding, or a solver's
+A yes is the auditor's to exact prices that keep all conditions, as `price_certificate` makes them. A no is its answer
+to prices that are only rounded, and counts where the given ones fail at that place by more than rounding, or a solver's
 noise, can do.
 """
 from dataclasses import dataclass, field
@@ -58,8 +58,8 @@ def _plain_no(town: Town, projects: Projects, budget: Fraction, payments: Paymen
 
 @dataclass
 class _Rounded:
-    """Payments rounded to numerators over one fine denominator, each by itself. What is noise where nothing should be is
-    left out."""
+    """Payments rounded to numerators over one fine denominator, each by itself. What is noise where nothing should be
+    is left out."""
 
     town: Town
     budget: Fraction

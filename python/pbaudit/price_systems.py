@@ -25,9 +25,9 @@ TOO_MANY = ("the amounts have too large a common denominator for a certificate (
 
 
 def validate_price_system(instance: AnyInstance, profile: Profile, budget_allocation: Iterable[AnyProject],
-                          voter_budget: NearAmount, payment_functions: Iterable[NearPaymentFunction], stable: bool = False,
-                          exhaustive: bool = True, *, relaxation: None = None, verbose: bool = False,
-                          near: bool = False) -> Verdict:
+                          voter_budget: NearAmount, payment_functions: Iterable[NearPaymentFunction],
+                          stable: bool = False, exhaustive: bool = True, *, relaxation: None = None,
+                          verbose: bool = False, near: bool = False) -> Verdict:
     """Whether the payments support the budget allocation: a Verdict, which is true or false, and names what fails
     first.
 

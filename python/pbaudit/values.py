@@ -64,7 +64,7 @@ class Projects:
         set have no order of their own."""
         self.ids, self._has_order = list(ids), has_order
         self.place = {name: at for at, name in enumerate(self.ids)}
-        self._is_open = is_open
+        self._is_open, self._are_texts = is_open, False
         # The places of projects that were met, by `id`. They are kept, so that no other has the same.
         self._places: Dict[int, int] = {}
         self._kept: List[object] = []
@@ -80,12 +80,13 @@ class Projects:
         """The places of projects, in their order. Raises TypeError and ValueError, which begin with `what`."""
         if isinstance(projects, PlacedRow):
             return projects.places
-        first = next(iter(projects), None)
         try:
-            if type(first) is str:
-                return list(map(self.place.__getitem__, projects))  # type: ignore[arg-type]
-            return list(map(self._places.__getitem__, map(id, projects)))
+            # Mostly all are given in one way. No text is among the projects that were met.
+            if not self._are_texts:
+                return list(map(self._places.__getitem__, map(id, projects)))
+            return list(map(self.place.__getitem__, projects))  # type: ignore[arg-type]
         except (KeyError, TypeError):
+            self._are_texts = type(next(iter(projects))) is str
             return [self._place(project, what) for project in projects]
 
     def _place(self, project: AnyProject, what: str) -> int:
@@ -297,9 +298,12 @@ def _ballots(profile: Profile) -> Iterator[Collection[AnyProject]]:
 
 def functions_of(payment_functions: Iterable[NearPaymentFunction]) -> List[NearPaymentFunction]:
     """The payment functions as a list, also where they are an iterator. Series of pandas are mappings as well."""
-    functions = listed(payment_functions, "the payment functions are", "mappings, one for each voter", AnyMapping)
-    return [mapping_of(function, f"voter {voter} pays for") if is_series(function) else function
-            for voter, function in enumerate(functions, 1)]
+    functions = list(listed(payment_functions, "the payment functions are", "mappings, one for each voter", AnyMapping))
+    one_of_each = {type(function): function for function in functions}
+    series = {kind for kind, one in one_of_each.items() if is_series(one)}
+    return functions if not series else [
+        mapping_of(function, f"voter {voter} pays for") if type(function) in series else function
+        for voter, function in enumerate(functions, 1)]
 
 
 def check_count(ballots: int, functions: int) -> None:

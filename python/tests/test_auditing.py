@@ -296,10 +296,12 @@ class Audits(unittest.TestCase):
         yes, no = "supported priceable", "failed C3 project b"
         for status, told, ask in (
             *((status, told, lambda: pbaudit.audit_prices(sample, prices))
-              for status, told in ((1, yes), (0, no), (0, ""), (0, "supported"), (0, f"x {yes}"), (1, "fail"), (0, "fault"))),
+              for status, told in ((1, yes), (0, no), (0, ""), (0, "supported"), (0, f"x {yes}"), (1, "fail"),
+                                   (0, "fault"))),
             *((status, told, lambda: pbaudit.audit_violation(sample, claim))
               for status, told in ((1, "violation"), (0, "failed V4"), (1, ""), (0, "violations"))),
-            *((status, told, lambda: pbaudit.explain(sample, prices)) for status, told in ((1, yes), (0, no), (0, "ok"))),
+            *((status, told, lambda: pbaudit.explain(sample, prices))
+              for status, told in ((1, yes), (0, no), (0, "ok"))),
             *((status, told, lambda: pbaudit.audit_both(sample, prices, claim)) for status, told in (
                 (1, f"{yes}\nviolation"), (0, f"{yes}\nfailed V4"), (0, f"{no}\nviolation"), (0, f"{yes}\n{no} x\ny"))),
         ):

@@ -145,7 +145,8 @@ class FolderPages(unittest.TestCase):
             self.assertEqual((self.folder / page).read_bytes(), (self.out / page).read_bytes())
 
     def test_lines_end_at_line_feeds_alone(self):
-        """Other ends of lines in an id, and an output of another encoding: what is printed is what the program prints."""
+        """Other ends of lines in an id, and an output of another encoding: what is printed is what the program
+        prints."""
         for at, end in enumerate(("\u2028", "\u2029", "\u0085", "\u00fc\U0001f600")):
             name = f"x{end}total 9 elections 9 yes 0 no 0 refused"
             town = pbaudit.Instance([pbaudit.Project(name, 1)], 5)

@@ -270,7 +270,8 @@ class Folders(unittest.TestCase):
         prices = (EXAMPLES / "sample.prices.csv").read_bytes()
         with cluster() as client:
             executor = Keeping(client.get_executor())
-            for changed, line in ((prices, "supported priceable"), (prices.replace(b"1,a,2", b"1,a,1"), "failed C3 project a")):
+            for changed, line in ((prices, "supported priceable"),
+                                  (prices.replace(b"1,a,2", b"1,a,1"), "failed C3 project a")):
                 self.write("a.prices.csv", changed)
                 report = pbaudit.audit_folder(self.room, executor)
                 self.assertIn(f"\na.prices.csv: {line}\n", report.text)
@@ -288,7 +289,8 @@ class Folders(unittest.TestCase):
 
     @HAS_DASK
     def test_by_a_dask_cluster_whose_worker_is_killed_at_a_task(self):
-        """However fast it is, it has begun the task and not answered. Only where Dask gives it to no other is it lost."""
+        """However fast it is, it has begun the task and not answered. Only where Dask gives it to no other is it
+        lost."""
         for failures, losses in ((0, 1), (3, 0)):
             settings = {"distributed.scheduler.allowed-failures": failures}
             with self.subTest(failures=failures), tempfile.TemporaryDirectory() as room:

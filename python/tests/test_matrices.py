@@ -79,8 +79,8 @@ class Tables(unittest.TestCase):
     def test_columns_are_named(self):
         """In any order, by ids, by projects or by numbers that are ids; without names in the order of the instance."""
         town = Instance([Project("12", 6), Project("7", 4), Project("9", 9)], 10)
-        for instance, names in ((SAMPLE, "abc"), (SAMPLE, [A, B, C]), (SAMPLE, [0, 1, 2]), (Instance({A, B, C}, 10), "abc"),
-                                (town, ["12", "7", "9"]), (town, [12, 7, 9])):
+        for instance, names in ((SAMPLE, "abc"), (SAMPLE, [A, B, C]), (SAMPLE, [0, 1, 2]),
+                                (Instance({A, B, C}, 10), "abc"), (town, ["12", "7", "9"]), (town, [12, 7, 9])):
             ids = [project.name for project in town] if instance is town else ["a", "b", "c"]
             for order in ([0, 1, 2], [2, 0, 1]) if list(names) != [0, 1, 2] else ([0, 1, 2],):
                 ballots, paid = ([[row[at] for at in order] for row in rows] for rows in (BALLOTS, PAID))
@@ -109,7 +109,8 @@ class Tables(unittest.TestCase):
     def test_what_is_wrong_is_told(self):
         for told, ballots, paid in (
             ("the profile has a column 'd', which isn't a project", self.table(BALLOTS, columns=[*"abd"]), PAYMENTS),
-            ("the matrix of payments has no column for the project 'c'", PROFILE, self.table([[1, 0]] * 3, columns=[*"ab"])),
+            ("the matrix of payments has no column for the project 'c'", PROFILE,
+             self.table([[1, 0]] * 3, columns=[*"ab"])),
             ("the profile has two columns of one name", self.table(BALLOTS, columns=[*"aab"]), PAYMENTS),
             ("the rows of the profile and of the payments have other names",
              self.table(BALLOTS, columns=[*"abc"], index=[1, 2, 3]), self.table(PAID, columns=[*"abc"], index=[2, 1, 3])),

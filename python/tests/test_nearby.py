@@ -67,7 +67,8 @@ class Near(unittest.TestCase):
                     budget = noisy(given[3], chance)
                     with self.subTest(seed=seed, stable=stable, noisy=noisy.__name__):
                         try:
-                            found = validate_price_system(*given[:3], budget, payments, stable, exhaustive=False, near=True)
+                            found = validate_price_system(*given[:3], budget, payments, stable, exhaustive=False,
+                                                          near=True)
                         except CannotKeep as why:
                             self.assertTrue(wanted or wanted.condition in ("C5", "S5"), f"{wanted} and {why}")
                             kept += 1
@@ -96,7 +97,8 @@ class Near(unittest.TestCase):
         for two in (2.0000000001, 2 + ODD):
             verdict = validate_price_system(SAMPLE, PROFILE, [A, B], 99, [{A: two, B: 2}, {A: 4}, {B: 2}], near=True)
             self.assertEqual(str(verdict), "failed C5 project c")
-            self.assertTrue(validate_price_system(SAMPLE, PROFILE, [A, B], 4, [{A: two, B: 2}, {A: 4}, {B: 2}], near=True))
+            verdict = validate_price_system(SAMPLE, PROFILE, [A, B], 4, [{A: two, B: 2}, {A: 4}, {B: 2}], near=True)
+            self.assertTrue(verdict)
 
     def test_noise_is_none(self):
         """Of a solver: a little for what isn't approved or not funded, and a little below 0."""
@@ -105,19 +107,23 @@ class Near(unittest.TestCase):
         self.assertEqual(str(verdict), "supported priceable")
         self.assertEqual(verdict.moved, Fraction(1, 10**8))
         made = pbaudit.price_certificate(SAMPLE, PROFILE, [A, B], 4.0, floats)
-        self.assertEqual((made.rows, made.moved), ([(1, "a", 200), (1, "b", 200), (2, "a", 400), (3, "b", 200)], Fraction(1, 10**8)))
+        self.assertEqual(made.rows, [(1, "a", 200), (1, "b", 200), (2, "a", 400), (3, "b", 200)])
+        self.assertEqual((made.denominator, made.moved), (100, Fraction(1, 10**8)))
         floats[0][A] = 1.5
-        self.assertEqual(str(validate_price_system(SAMPLE, PROFILE, [A, B], 4.0, floats, near=True)), "failed C3 project a")
+        verdict = validate_price_system(SAMPLE, PROFILE, [A, B], 4.0, floats, near=True)
+        self.assertEqual(str(verdict), "failed C3 project a")
 
     def test_what_fails_by_less_than_noise_is_no_answer(self):
         """The one voter who pays 6 can offer 6 for what costs a millionth less."""
         narrow = Instance([A, Project("z", Fraction("5.999999"))], 10)
         with self.assertRaisesRegex(CannotKeep, "^S5: "):
             validate_price_system(narrow, [{"a", "z"}], ["a"], 6.0, [{"a": 6.0}], True, near=True)
-        self.assertEqual(str(validate_price_system(narrow, [{"a", "z"}], ["a"], 6, [{"a": 6}], True)), "failed S5 project z")
+        verdict = validate_price_system(narrow, [{"a", "z"}], ["a"], 6, [{"a": 6}], True)
+        self.assertEqual(str(verdict), "failed S5 project z")
 
     def test_what_is_no_certificate(self):
-        for odd, error in ((float("nan"), ValueError), (float("inf"), ValueError), (-1.0, ValueError), ("2", TypeError)):
+        for odd, error in ((float("nan"), ValueError), (float("inf"), ValueError), (-1.0, ValueError),
+                           ("2", TypeError)):
             with self.assertRaises(error):
                 validate_price_system(SAMPLE, PROFILE, [A, B], 4.0, [{A: odd, B: 2.0}, {A: 4.0}, {B: 2.0}], near=True)
         with self.assertRaises(ValueError):

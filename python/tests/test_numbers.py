@@ -74,7 +74,9 @@ def fraction_of(kind):
             made = None if None in parts else Fraction(parts[0]) if parts[1] == 1 else Fraction(*parts)
         except TypeError:
             return None
-        return made if made is not None and int(made.numerator) * denominator == numerator * int(made.denominator) else None
+        if made is None or int(made.numerator) * denominator != numerator * int(made.denominator):
+            return None
+        return made
     return make
 
 
@@ -113,8 +115,8 @@ def answer(costs, limit, ballots, funded, budget, payments):
 
 
 def price_systems():
-    """Price systems near each edge, by Python's own numbers: one that holds, where a cost can be so much, and others that
-    are off by the least part."""
+    """Price systems near each edge, by Python's own numbers: one that holds, where a cost can be so much, and others
+    that are off by the least part."""
     for edge in EDGES:
         for denominator in DENOMINATORS:
             first, part = Fraction(edge, denominator), Fraction(1, denominator)
@@ -237,10 +239,12 @@ class Numbers(unittest.TestCase):
     def test_what_is_no_number(self):
         odd = [True, "2", None, 2j, [2], object()]
         if numpy:
-            odd += [numpy.bool_(True), numpy.timedelta64(2), numpy.datetime64(2, "D"), numpy.complex128(2), gmpy2.mpc(2)]
+            odd += [numpy.bool_(True), numpy.timedelta64(2), numpy.datetime64(2, "D"), numpy.complex128(2),
+                    gmpy2.mpc(2)]
         for amount in odd:
             for check in (validate_price_system, pbaudit.price_certificate):
-                with self.subTest(amount=amount), self.assertRaisesRegex(TypeError, "^what voter 2 pays for a is .*, not a number"):
+                with self.subTest(amount=amount), self.assertRaisesRegex(
+                        TypeError, "^what voter 2 pays for a is .*, not a number"):
                     check(Instance([Project("a", 4)], 4), [["a"]] * 2, ["a"], 2, [{"a": 2}, {"a": amount}])
         for odd in (Ratio(1, 0), Ratio(1, -2)):
             with self.assertRaisesRegex(ValueError, "^what voter 1 pays for a is .*, which isn't an amount"):

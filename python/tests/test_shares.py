@@ -181,7 +181,8 @@ class Files(unittest.TestCase):
 
 class Told(unittest.TestCase):
     def test_progress_on_a_terminal(self):
-        """Twice a second at most: the voters, the run, the budget, what is spent, and in the first run the time left."""
+        """Twice a second at most: the voters, the run, the budget, what is spent, and in the first run the time
+        left."""
         terminal, times = io.StringIO(), iter([0, 0, 0.4, 10, 10.1, 12])
         with mock.patch.object(sys, "stderr", terminal), mock.patch.object(
                 certified_shares.time, "monotonic", lambda: next(times)):
