@@ -102,6 +102,27 @@ class Refutations(unittest.TestCase):
             return
         self.fail("no outcome is refuted")
 
+    def test_what_holds_by_hand(self):
+        """Sums that just do, and just don't."""
+        from pbaudit.finding.refutations import Refutation, holds
+
+        def answer(costs, limit, ballots, weights, cover):
+            return holds(town_of(Case("by hand", costs, limit, ballots, [0])), Refutation(weights, cover))
+        # 2 * 6 - 4 is over 7, and not over 8; and with the other ballot 4 is more than 1.
+        for cost, ballot, wanted in ((7, [2], True), (8, [2], False), (7, [0], False)):
+            town = town_of(Case("by hand", [6, 4, cost], 10, [[0, 1], ballot, [1, 2]], [0, 1]))
+            self.assertEqual(holds(town, Refutation({0: 2, 1: -1, 2: 1}, 0)), wanted)
+        # 10 - 2 is at least 3 and 8, and not 9; without Cover nothing is over it, and twice is too much.
+        both = [[0, 1], [0, 1]]
+        for cost, cover, wanted in ((3, 1, True), (8, 1, True), (9, 1, False), (3, 0, False), (3, 2, False)):
+            self.assertEqual(answer([2, cost], 10, both, {0: -1, 1: 1}, cover), wanted)
+        # A group of three of five that is passed over; the other who pays doesn't make up for a greater weight.
+        passed = [[0, 1]] * 3 + [[0], []]
+        for limit, cover, wanted in ((10, 3, True), (Fraction("8.333334"), 3, True), (Fraction("8.333333"), 3, False),
+                                     (10, 4, False)):
+            self.assertEqual(answer([2, 3], limit, passed, {0: -5, 1: 5}, cover), wanted)
+        self.assertFalse(answer([2, 3], 10, passed, {0: -5, 1: -5}, 0))
+
     def test_what_holds(self):
         """As it is defined, also where one weight is changed by one."""
         from pbaudit.finding.refutations import Refutation, holds
