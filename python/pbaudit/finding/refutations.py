@@ -19,7 +19,9 @@ from .clock import Clock
 from .groups import groups_of
 from .helpers import Helper, Late, Lost
 from .needs import needed
-from .programme import FIRST, GRACE, SMALL, SOLVED, TOLERANCE, Programme, Variables, programme_of, shares_of, unseen
+from .programme import (
+    FIRST, GRACE, SMALL, SOLVED, TOLERANCE, Programme, Variables, by_highs, programme_of, shares_of, unseen,
+)
 from .shares import Need, Problem, problem_of, unpaid
 
 np, sparse = needed("numpy"), needed("scipy.sparse")
@@ -140,11 +142,9 @@ def _solved(programme: Programme, solver: Helper, clock: Clock) -> Tuple[int, An
 
 
 def marginals_by_highs(programme: Programme, seconds: float) -> Tuple[int, Any, Any, Any, float]:
-    """Solves a programme by HiGHS: its status, the values, the marginals of equal and of other rows, and that of the
+    """Solves a programme: its status, the values, the marginals of equal and of other rows, and that of the
     least voter budget."""
-    found = needed("scipy.optimize").linprog(
-        programme.objective, A_ub=programme.rows, b_ub=programme.most, A_eq=programme.equal, b_eq=programme.sums,
-        bounds=np.column_stack([programme.low, programme.high]), method="highs", options={"time_limit": seconds})
+    found = by_highs(programme, seconds)
     if found.status != SOLVED:
         return found.status, None, None, None, 0.0
     return SOLVED, found.x, found.eqlin.marginals, found.ineqlin.marginals, float(found.lower.marginals[0])
