@@ -193,7 +193,10 @@ class Edges(unittest.TestCase):
         budget is the share of a voter in the limit, neither more nor less, and the group's share covers its demand
         with nothing to spare."""
         for voters, limit in ((10, 10), (6, 4), (14, 1), (2, Fraction(1, 10**6) * 2)):
-            found = self.find([limit / Fraction(2)] * 2, limit, [[0]] * (voters // 2) + [[1]] * (voters // 2), [1])
+            town = [limit / Fraction(2)] * 2, limit, [[0]] * (voters // 2) + [[1]] * (voters // 2), [1]
+            with NO_WATER:
+                self.assertFalse(self.find(*town, violation=False).prices.cover)
+            found = self.find(*town)
             made = found.prices.certificate
             self.assertEqual(Fraction(made.voter_budget, made.denominator) * voters, limit)
             self.assertFalse(found.prices.cover)

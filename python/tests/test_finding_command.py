@@ -20,7 +20,7 @@ from unittest import mock
 import pbaudit
 from finding_cases import Case, cases
 from pbaudit._auditor import Mode
-from pbaudit.finding import command, folders, helpers, telling
+from pbaudit.finding import command, folders, helpers, telling, writing
 from pbaudit.finding.results import Wanted
 from pbaudit.folders import entries_of
 from test_documents import block
@@ -167,6 +167,14 @@ class Found(Commands):
         self.assertTrue(self.files()["town.violation.csv"].startswith(b"pb-violation,2\n"))
         os.symlink("elsewhere", self.room / "out.pb.prices.csv")
         self.run_find(self.put("out.pb.pb", TIE), status=3)
+
+    def test_a_file_that_comes_meanwhile(self):
+        path = self.put("town.prices.csv", b"theirs")
+        with self.assertRaises(FileExistsError):
+            writing.write_new(str(path), b"mine", replace=False)
+        self.assertEqual(path.read_bytes(), b"theirs")
+        writing.write_new(str(path), b"mine", replace=True)
+        self.assertEqual(path.read_bytes(), b"mine")
 
     def test_its_own_files_arent_replaced(self):
         town, outcome = self.put("town.pb", TIE), self.put("town.violation.csv", b"pb-outcome,1\nproject,p1\n")

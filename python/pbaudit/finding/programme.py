@@ -44,8 +44,10 @@ class Unsolved(Exception):
 
 @dataclass(frozen=True)
 class Programme:
-    """Minimise `objective` by `rows @ x <= most` and `equal @ x == sums`, each x from `low` to `high`."""
+    """Minimise `objective` by `rows @ x <= most` and `equal @ x == sums`, each x from `low` to `high`, by a method of
+    HiGHS."""
 
+    method: str
     objective: Any
     rows: Any
     most: Any
@@ -121,18 +123,26 @@ def programme_of(problem: Problem, groups: Groups, seen: List[int], need: Need) 
     rows.add(count + np.arange(len(dear)), at.offers[paying[dear]], -1)
     count += len(dear)
     most = np.concatenate([costs, np.zeros(count - len(seen))])
-    low, high, objective = np.zeros(at.count), np.full(at.count, np.inf), np.zeros(at.count)
+    objective, low, high = _bounds(problem, at, need)
+    made = Programme("highs-ipm" if need.stable else "highs-ds", objective, rows.matrix(count, at.count), most,
+                     equal.matrix(len(sums), at.count), sums, low, high)
+    return made, paying, column
+
+
+def _bounds(problem: Problem, at: Variables, need: Need) -> Tuple[Any, Any, Any]:
+    """The objective, and the least and the greatest values of the variables."""
+    objective, low, high = np.zeros(at.count), np.zeros(at.count), np.full(at.count, np.inf)
+    objective[at.MARGIN], objective[at.BUDGET] = -1.0, PREFER
     low[at.BUDGET] = problem.share + COVERED if need.cover else 0.0
     low[at.MARGIN], high[at.MARGIN] = -np.inf, 1.0
-    objective[at.MARGIN], objective[at.BUDGET] = -1.0, PREFER
-    made = Programme(objective, rows.matrix(count, at.count), most, equal.matrix(len(sums), at.count), sums, low, high)
-    return made, paying, column
+    return objective, low, high
 
 
 def by_programme(problem: Problem, need: Need, seen: List[int], solver: Helper, clock: Clock) -> Shares:
     """Prices by the programme, which first looks at the first of these unfunded projects. Raises NoPrices, OutOfTime
     and Unsolved."""
-    seen = sorted(seen[:FIRST] or problem.unfunded[:1])
+    # By offers nearly all groups differ, so that to look at few projects saves nothing.
+    seen = problem.unfunded if need.stable else sorted(seen[:FIRST] or problem.unfunded[:1])
     while True:
         clock.tell(f"{need}: linear programme over {len(seen)} of {len(problem.unfunded)} unfunded projects")
         shares, budget, margin = _solved(problem, need, seen, solver, clock)
@@ -187,8 +197,14 @@ def _answer(programme: Programme, solver: Helper, clock: Clock) -> Any:
 
 
 def solve(programme: Programme, seconds: float) -> Tuple[int, Any]:
-    """Solves a programme by HiGHS: its status, and the values of the variables."""
-    found = needed("scipy.optimize").linprog(
-        programme.objective, A_ub=programme.rows, b_ub=programme.most, A_eq=programme.equal, b_eq=programme.sums,
-        bounds=np.column_stack([programme.low, programme.high]), method="highs", options={"time_limit": seconds})
+    """Solves a programme: its status, and the values of the variables."""
+    found = by_highs(programme, seconds)
     return found.status, found.x
+
+
+def by_highs(programme: Programme, seconds: float) -> Any:
+    """What scipy answers on a programme by HiGHS."""
+    return needed("scipy.optimize").linprog(
+        programme.objective, A_ub=programme.rows, b_ub=programme.most, A_eq=programme.equal, b_eq=programme.sums,
+        bounds=np.column_stack([programme.low, programme.high]), method=programme.method,
+        options={"time_limit": seconds})

@@ -137,7 +137,7 @@ class Search:
         """A group without the members who by cost get no less than what the group's share can cover."""
         if self._is_count or not group:
             return group
-        share = -(-_members(group) * self.limit // len(self.got))
+        share = _members(group) * self.limit // len(self.got)
         return group & ((1 << bisect_left(self.got, share)) - 1)
 
     def _judge(self, demand: List[int], group: int, cost: int) -> None:
