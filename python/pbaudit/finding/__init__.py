@@ -22,6 +22,9 @@ def find(election: File, outcome: Optional[File] = None, *, stable: bool = False
 
     What is found was audited. That nothing is found proves nothing. Raises Refusal, OSError, MemoryError, ValueError
     where nothing is asked for, and ImportError where scipy isn't installed.
+
+    >>> print(find("town.pb").sentences[0])
+    There are prices that support this outcome. The voter budgets together are more than the limit.
     """
     if not prices and not violation:
         raise ValueError("neither prices nor violations are looked for")

@@ -4,6 +4,7 @@ from typing import List, Optional
 
 from ..auditing import Verdict
 from ..certificates import PriceCertificate
+from ..writing import Satisfaction
 
 SECONDS = 60.0
 
@@ -11,7 +12,12 @@ SECONDS = 60.0
 @dataclass(frozen=True)
 class FoundPrices:
     """A price certificate that was found, with the auditor's verdict on it, which is a yes, and the mode in which that
-    was asked."""
+    was asked.
+
+    >>> prices = find("town.pb").prices
+    >>> str(prices.verdict), prices.cover
+    ('supported priceable', True)
+    """
 
     certificate: PriceCertificate
     verdict: Verdict
@@ -34,9 +40,17 @@ class FoundPrices:
 @dataclass(frozen=True)
 class FoundViolation:
     """A violation certificate that was found, with the auditor's verdict on it, which is a yes: the group, by the
-    numbers of its voters, from 1, and the ids of the projects that it demands; and the measure, "count" or "cost"."""
+    numbers of its voters, from 1, and the ids of the projects that it demands; and the measure, "count" or "cost".
 
-    by: str
+    >>> park, bench, school = Project("park", 2), Project("bench", 2), Project("school", 8)
+    >>> town = write_election(Instance([park, bench, school], 8), [{park, bench}] * 2 + [{school}] * 2, [school])
+    >>> for violation in find(town, prices=False).violations:
+    ...     print(violation.by, violation.voters, violation.verdict)
+    count [1, 2] violation
+    cost [1, 2] violation
+    """
+
+    by: Satisfaction
     voters: List[int] = field(repr=False)
     projects: List[str]
     verdict: Verdict
@@ -47,7 +61,12 @@ class FoundViolation:
 class Found:
     """What a search found: prices, or None; violations, at most one by each measure; and sentences on what was found
     and on what wasn't, which `str` shows. It is true where anything was found. `unfinished` is what was looked for when
-    the search was stopped, or None."""
+    the search was stopped, or None.
+
+    >>> found = find("town.pb", violation=False)
+    >>> bool(found), found.violations, found.unfinished
+    (True, [], None)
+    """
 
     prices: Optional[FoundPrices] = None
     violations: List[FoundViolation] = field(default_factory=list)

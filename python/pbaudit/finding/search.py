@@ -7,7 +7,7 @@ from ..election_files import election_of
 from ..files import File, bytes_of
 from ..records import records
 from ..town import Town
-from ..writing import write_violation
+from ..writing import Satisfaction, write_violation
 from .clock import Clock, Tell
 from .groups import groups_of
 from .helpers import Helper
@@ -90,7 +90,7 @@ class Seeker:
             return f"No prices can support this outcome: {name} is funded, it costs something, and nobody approves it."
         return f"No {_form(self.wanted.stable)}{' with Cover' if self.wanted.cover else ''} were found: {REASONS[why]}"
 
-    def _look_for_violation(self, by: str) -> None:
+    def _look_for_violation(self, by: Satisfaction) -> None:
         clock = Clock(self.wanted.seconds / (6 if self.wanted.prices else 2), self._tell)
 
         def go_on(size: int) -> bool:

@@ -11,8 +11,9 @@ from typing import Callable, Dict, List, Optional, Sequence, Set, Tuple
 
 from ..amounts import common_denominator
 from ..town import Town
+from ..writing import Satisfaction
 
-MEASURES = ("count", "cost")
+MEASURES: Tuple[Satisfaction, ...] = ("count", "cost")
 # How many sets are looked at between two looks at the clock.
 BETWEEN = 2000
 
