@@ -6,10 +6,10 @@ use std::alloc::Global;
 use std::test::Fail;
 
 /// The text of the page in English on an election and a certificate of these names.
-pub(super) fn page_named(
+pub(super) fn page_named<'a>(
     alloc: Global,
-    election: (&[u8], &str),
-    certificate: (&[u8], &str),
+    election: (&'a [u8], &'a str),
+    certificate: (&'a [u8], &'a str),
     mode: Mode,
 ) -> Result<String, Fail> {
     let files = PageFiles {
