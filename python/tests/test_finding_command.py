@@ -294,7 +294,7 @@ class Stopped(Commands):
     def test_progress_is_for_terminals(self):
         done = self.run_find(self.put("town.pb", ENDLESS), "--time", "8")
         self.assertEqual(done.stderr, "")
-        self.assertRegex(done.stdout, "No violation by counting was found: all demands of up to .* were tried. That "
+        self.assertRegex(done.stdout, "No violation by counting was found: .*all demands of .* were tried. That "
                          "is no proof")
 
 
@@ -325,6 +325,15 @@ class Helpers(unittest.TestCase):
             with self.assertRaises(KeyboardInterrupt):
                 helper.call(time.sleep, 10**6, tick=tick)
             self.assertEqual(process.wait(), -signal.SIGKILL)
+
+    def test_one_that_is_stopped_does_nothing_more(self):
+        with helpers.Helper() as helper:
+            helper.call(os.path.join, "a")
+            helper.stop()
+            for _ in range(2):
+                with self.assertRaises(helpers.Lost):
+                    helper.call(os.path.join, "a")
+            self.assertIsNone(helper._process)
 
     def test_what_it_prints_isnt_an_answer(self):
         with helpers.Helper() as helper:
@@ -382,10 +391,16 @@ class Folders(Commands):
     def test_nothing_is_overwritten(self):
         self.put("fair.prices.csv", b"mine")
         self.put("none.violation.csv", b"mine")
+        self.put("a tie.cost.violation.csv", b"mine")
+        self.run_find("--folder", self.room, "--output", "elsewhere")
+        self.assertEqual(len(self.files("elsewhere")), 7)
         self.run_find("--folder", self.room, "--prices", status=1)
         rows = {row[0]: row[2:5] for row in self.rows()[1:]}
         self.assertEqual(rows["fair.pb"], ["there already", "", ""])
-        self.assertEqual(self.files()["fair.prices.csv"], b"mine")
+        self.assertEqual([rows[name][2] for name in ("a tie.pb", "none.pb")], ["there already"] * 2)
+        self.assertEqual({data for name, data in self.files().items() if name in (
+            "fair.prices.csv", "none.violation.csv", "a tie.cost.violation.csv")}, {b"mine"})
+        self.assertNotIn("a tie.violation.csv", self.files())
         done = self.run_find("--folder", self.room, status=3)
         self.assertIn("found.csv is there already", done.stderr)
         self.run_find("--folder", self.room, "--replace")
