@@ -10,7 +10,7 @@ from finding_cases import Case, cases
 from pbaudit.election_files import election_of
 from pbaudit.town import Town
 
-ELECTIONS = int(os.environ.get("PBAUDIT_ELECTIONS", "100")) // 5
+ELECTIONS = int(os.environ.get("PBAUDIT_ELECTIONS", "60")) // 5
 HAS_SCIPY = unittest.skipUnless(importlib.util.find_spec("scipy"), "scipy isn't installed")
 
 
