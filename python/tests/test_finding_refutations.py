@@ -1,5 +1,6 @@
 """The search for refutations: each is checked as it is defined, voter by voter, and every outcome has prices or one."""
 import importlib.util
+import math
 import os
 import pathlib
 import unittest
@@ -67,7 +68,7 @@ class Refutations(unittest.TestCase):
                 self.assertEqual(found is None, by_weights is not None)
                 tally["prices" if found else "refuted"] += 1
                 if by_weights:
-                    self.assertEqual(by_weights.cover, 0)
+                    self.assertEqual((by_weights.cover, math.gcd(*by_weights.weights.values())), (0, 1))
                     self.assertTrue(is_refutation(case, rows_of(case, by_weights), 0))
                 elif found.cover:
                     self.assertIsNone(refuted(case, cover=True))

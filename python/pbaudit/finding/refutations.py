@@ -9,6 +9,8 @@ be taken for what it is: a claim that `holds` computed, exactly, in code that is
 """
 from dataclasses import dataclass, replace
 from fractions import Fraction
+from functools import reduce
+from math import gcd
 from typing import Any, Dict, Iterator, Optional, Tuple
 
 from ..amounts import common_denominator
@@ -23,6 +25,7 @@ from .programme import (
     FIRST, GRACE, SMALL, SOLVED, TOLERANCE, Programme, Variables, by_highs, programme_of, shares_of, unseen,
 )
 from .shares import Need, Problem, problem_of, unpaid
+from .water import by_water
 
 np, sparse = needed("numpy"), needed("scipy.sparse")
 
@@ -100,7 +103,11 @@ def _sampled(problem: Problem, step: int) -> Problem:
 def _marginals(problem: Problem, cover: bool, solver: Helper, clock: Clock) -> Optional[Tuple[Any, float]]:
     """The weights of projects and of Cover by the programme for prices, as floats of at most 1; None where its best
     margin isn't below 0, or it isn't solved."""
-    need, seen = Need(False, cover), problem.unfunded[:FIRST]
+    need = Need(False, cover)
+    shares, worst = by_water(problem, need, clock)
+    if shares is not None:
+        return None
+    seen = sorted(worst[:FIRST])
     while True:
         clock.tell(f"refutation: linear programme over {len(seen)} of {len(problem.unfunded)} unfunded projects")
         groups = problem.groups.merged([*problem.funded, *seen])
@@ -161,10 +168,17 @@ def _rounded(problem: Problem, weights: Any, cover: float, parts: Tuple[float, .
                 whole = np.where(funded, np.floor(scaled + near), np.ceil(scaled - near))
                 share = float(np.floor(cover * part * scale + near))
                 if _may_hold(problem, whole, share):
-                    found = Refutation({at: int(whole[at]) for at in np.flatnonzero(whole).tolist()}, int(share))
+                    found = _lowest(whole, int(share))
                     if holds(problem.town, found):
                         return found
     return None
+
+
+def _lowest(weights: Any, cover: int) -> Refutation:
+    """The refutation of these weights, over what divides all of them: only their proportions matter."""
+    whole = {at: int(weights[at]) for at in np.flatnonzero(weights).tolist()}
+    part = reduce(gcd, whole.values(), cover) or 1
+    return Refutation({at: weight // part for at, weight in whole.items()}, cover // part)
 
 
 def _may_hold(problem: Problem, weights: Any, cover: float) -> bool:
