@@ -1,6 +1,7 @@
 """The command that looks for certificates: what it writes and tells, how it ends, and what stops it."""
 import contextlib
 import csv
+import importlib
 import importlib.util
 import io
 import os
@@ -20,7 +21,7 @@ from unittest import mock
 import pbaudit
 from finding_cases import Case, cases
 from pbaudit._auditor import Mode
-from pbaudit.finding import command, folders, helpers, telling, writing
+from pbaudit.finding import command, helpers, telling, writing
 from pbaudit.finding.results import Wanted
 from pbaudit.folders import entries_of
 from test_documents import block
@@ -28,7 +29,8 @@ from test_documents import block
 REPOSITORY = pathlib.Path(__file__).resolve().parents[2]
 EXAMPLES = REPOSITORY / "examples"
 PROGRAM = REPOSITORY / "crates" / "pbaudit" / "out" / "pbaudit"
-HAS_SCIPY = unittest.skipUnless(importlib.util.find_spec("scipy"), "scipy isn't installed")
+folders = importlib.import_module("pbaudit.finding.folders") if importlib.util.find_spec("scipy") else None
+HAS_SCIPY = unittest.skipUnless(folders, "scipy isn't installed")
 # Half of the voters can just pay for what is funded, and the others could just pay for what isn't.
 TIE = Case("tie", [5, 5], 10, [[0]] * 5 + [[1]] * 5, [1])
 # A group is passed over, so that there are no prices.
@@ -37,7 +39,7 @@ PASSED_OVER = Case("passed over", [4, 5], 10, [[0]] * 5 + [[1]] * 5, [1])
 ENDLESS = Case("endless", [1] * 60, 50, [[(7 * voter + at) % 60 for at in range(30)] for voter in range(60)], range(50))
 
 
-searched = folders.searched
+searched = getattr(folders, "searched", None)
 
 
 def killed_at_fair(asked):
@@ -460,7 +462,7 @@ class Wheel(unittest.TestCase):
         sys.path.append(str(REPOSITORY / "python" / "backend"))
         import wheel_writer
         files = wheel_writer.files_of(b"", ["py3-none-any"])
-        here = pathlib.Path(folders.__file__).parent
+        here = pathlib.Path(helpers.__file__).parent
         self.assertEqual({name for name in files if name.startswith("pbaudit/finding/")},
                          {f"pbaudit/finding/{path.name}" for path in here.glob("*.py")})
         self.assertIn("Provides-Extra: find\nRequires-Dist: scipy>=1.7; extra == 'find'\n", wheel_writer.metadata())
