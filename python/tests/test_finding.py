@@ -1,5 +1,5 @@
 """Searches for certificates of invented elections, and of such at the edges. PBAUDIT_ELECTIONS says how many are
-invented, in the place of 100."""
+invented, in the place of 60."""
 import importlib.util
 import os
 import pathlib
@@ -15,7 +15,7 @@ from finding_cases import Case, best_margin, cases, odd_cases, smallest_violatio
 REPOSITORY = pathlib.Path(__file__).resolve().parents[2]
 EXAMPLES = REPOSITORY / "examples"
 PROGRAM = REPOSITORY / "crates" / "pbaudit" / "out" / "pbaudit"
-ELECTIONS = int(os.environ.get("PBAUDIT_ELECTIONS", "100"))
+ELECTIONS = int(os.environ.get("PBAUDIT_ELECTIONS", "60"))
 HAS_SCIPY = unittest.skipUnless(importlib.util.find_spec("scipy"), "scipy isn't installed")
 # Below this, what is left to spare may be lost by rounding.
 SPARE = 1e-4

@@ -7,13 +7,12 @@ import threading
 import time
 from collections import deque
 from dataclasses import astuple, dataclass, fields, replace
-from typing import Deque, Dict, List, Optional, Tuple
+from typing import Callable, Deque, Dict, List, Optional, Tuple
 
 from ..auditing import Refusal, audit_prices
 from ..files import bytes_of
 from ..folders import UNREAD, Entry
 from ..records import records
-from .clock import Tell
 from .helpers import TICK, Helper, Lost
 from .results import Found, Wanted
 from .search import NAMES, Seeker
@@ -56,14 +55,24 @@ class Asked:
     wanted: Wanted
     there: Tuple[str, ...] = ()
 
+    @property
+    def has_prices(self) -> bool:
+        """Whether prices are there already."""
+        return PRICES in self.there
+
+    @property
+    def has_violation(self) -> bool:
+        """Whether a violation by any measure is there already."""
+        return VIOLATION in self.there or BY_COST in self.there
+
 
 def searched(asked: Asked) -> Result:
     """What is found for an election. This is what a helper does."""
     began, path, wanted = time.monotonic(), os.path.join(asked.folder, asked.name + ".pb"), asked.wanted
-    row = Row(f"{asked.name}.pb", prices=THERE if PRICES in asked.there else NOT_ASKED,
-              violation=THERE if VIOLATION in asked.there else NOT_ASKED)
-    wanted = replace(wanted, prices=wanted.prices and PRICES not in asked.there,
-                     violation=wanted.violation and VIOLATION not in asked.there)
+    row = Row(f"{asked.name}.pb", prices=THERE if asked.has_prices else NOT_ASKED,
+              violation=THERE if asked.has_violation else NOT_ASKED)
+    wanted = replace(wanted, prices=wanted.prices and not asked.has_prices,
+                     violation=wanted.violation and not asked.has_violation)
     try:
         data = bytes_of(path)
         row = replace(row, rule=rule_of(data))
@@ -112,10 +121,9 @@ class Folder:
         self._waiting: Deque[Tuple[int, Asked]] = deque()
         self.entries, self._output, self._is_replaced = entries, output, is_replaced
         for number, entry in enumerate(entries):
-            there = () if is_replaced else tuple(
-                {".prices.csv": PRICES}.get(ending, VIOLATION) for ending in (PRICES, VIOLATION, BY_COST)
-                if os.path.lexists(self._path(entry.name, ending)))
-            self._waiting.append((number, Asked(entry.folder, entry.name, wanted, there)))
+            there = [] if is_replaced else [ending for ending in (PRICES, VIOLATION, BY_COST)
+                                            if os.path.lexists(self._path(entry.name, ending))]
+            self._waiting.append((number, Asked(entry.folder, entry.name, wanted, tuple(there))))
         self.results: Dict[int, Result] = {}
         self.fault: Optional[str] = None
         self._done: "queue.Queue[Tuple[int, Result]]" = queue.Queue()
@@ -125,7 +133,7 @@ class Folder:
     def _path(self, name: str, ending: str) -> str:
         return os.path.join(self._output, name + ending)
 
-    def run(self, tell: Tell) -> None:
+    def run(self, tell: Callable[[str], None]) -> None:
         """Searches, and writes what is found. What raises, as the keyboard does, stops the helpers."""
         threads = [threading.Thread(target=self._work, args=(helper,), daemon=True) for helper in self._helpers]
         try:
@@ -133,7 +141,7 @@ class Folder:
                 thread.start()
             while len(self.results) < len(self.entries):
                 self._take()
-                tell(f"{len(self.results)} of {len(self.entries)} elections", 0.0)
+                tell(f"{len(self.results)} of {len(self.entries)} elections")
         finally:
             self._is_stopped = True
             for helper in self._helpers:

@@ -31,13 +31,16 @@ class Helper:
 
     def __init__(self) -> None:
         self._process: Optional["subprocess.Popen[bytes]"] = None
-        self._leads = not _is_helper
+        self._leads, self._is_stopped = not _is_helper, False
 
     def call(self, function: Callable[..., Any], *given: Any, seconds: float = float("inf"),
              tick: Callable[[], None] = lambda: None) -> Any:
         """What a function of a module answers, or raises. Raises Lost and Late as well; then a new process is started
         for the next call."""
         process = self._started()
+        if self._is_stopped:
+            self.close()
+            raise Lost
         assert process.stdin and process.stdout
         ends = time.monotonic() + seconds
         try:
@@ -67,14 +70,18 @@ class Helper:
         return self._process
 
     def stop(self) -> None:
-        """Stops what the process does, so that a call of another thread ends."""
+        """Stops what the process does, so that a call of another thread ends, and has every later call fail as Lost."""
+        self._is_stopped = True
+        self._kill()
+
+    def _kill(self) -> None:
         process = self._process
         if process is not None and self._leads:
             _kill_group(process.pid)
 
     def close(self) -> None:
         """Ends the process, and its own helpers."""
-        self.stop()
+        self._kill()
         process, self._process = self._process, None
         if process is None:
             return

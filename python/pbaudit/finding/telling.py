@@ -2,7 +2,7 @@
 import shlex
 import sys
 import time
-from typing import Iterable
+from typing import Iterable, Optional
 
 # How long nothing is told on a terminal.
 PAUSE = 0.5
@@ -36,11 +36,12 @@ class Teller:
     def __init__(self) -> None:
         self._told, self._is_terminal = time.monotonic(), sys.stderr.isatty()
 
-    def __call__(self, what: str, seconds: float) -> None:
+    def __call__(self, what: str, seconds: Optional[float] = None) -> None:
         now = time.monotonic()
         if self._is_terminal and now - self._told >= PAUSE:
             self._told = now
-            self._write(f"\r{shown(what)}, {seconds:.0f} s left\033[K")
+            left = "" if seconds is None else f", {seconds:.0f} s left"
+            self._write(f"\r{shown(what)}{left}\033[K")
 
     def clear(self) -> None:
         """Takes the line away."""
