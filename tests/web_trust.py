@@ -25,7 +25,7 @@ UNSTOPPED = {
     "navigation": r"\blocation\b|\bnavigation\b|\bhistory\b|http-equiv|\.submit\b|\.assign\("
                   r"|(window|self|globalThis)\.open|(?<![.\w])open\((?!audit)",
     "greeting": r"preconnect|dns-prefetch|prerender|speculation|\.rel\b|\brel:|\bping\b|\"link\"",
-    "direct calls": r"RTC|WebTransport|Presentation|Bluetooth|\busb\b|\bserial\b|\bcredentials\b",
+    "direct calls": r"RTC|WebTransport|\bPresentation|\bpresentation\b|Bluetooth|\busb\b|\bserial\b|\bcredentials\b",
     "other scripts": r"\beval\b|\bFunction\(|importScripts|serviceWorker|SharedWorker|\bimport\(",
 }
 REQUESTS = r"\bfetch\(|XMLHttpRequest|WebSocket|EventSource|sendBeacon"
