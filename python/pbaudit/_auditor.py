@@ -97,6 +97,9 @@ class Auditor(Protocol):
     def ask(self, question: Question) -> Tuple[int, bytes]:
         """The status and the text that answer a question."""
 
+    def says_little(self, question: Question) -> bool:
+        """Whether the voter budgets of prices, to which the answer is yes, are together less than the limit."""
+
     def hint(self, question: Question, place: Place) -> Optional[Hint]:
         """What is told of a refusal, or None where this auditor has no hints."""
 
