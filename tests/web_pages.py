@@ -906,11 +906,14 @@ def drive(score, engine, page, program, pictures):
         shutil.copy(page, served / "pbaudit.html")
         server = Server(served)
         browser = engine(room / "profile", downloads)
+        urls = ((served / "pbaudit.html").as_uri(), f"{server.address}/pbaudit.html")
         try:
-            for url in ((served / "pbaudit.html").as_uri(), f"{server.address}/pbaudit.html"):
+            for url in urls:
                 visit = Visit(score, browser, url, program, room)
                 for test in tests(page, server, downloads, pictures):
                     attempt(visit, test)
+            for at, url in enumerate(urls):
+                try_apart(score, engine, url, page, program, room / f"apart{at}")
             strange = sorted(set(server.asked) - {"GET /pbaudit.html", "GET /favicon.ico"})
             score.check(not strange, f"{engine.name} asked the server for {strange}")
         finally:
@@ -926,6 +929,16 @@ def drive(score, engine, page, program, pictures):
             polish.close()
 
 
+def try_apart(score, engine, url, page, program, room):
+    """The ways out, in a browser of its own: some open windows, after which the keys no longer reach the page."""
+    room.mkdir()
+    browser = engine(room / "profile", room)
+    try:
+        attempt(Visit(score, browser, url, program, room), functools.partial(web_trust.try_ways_out, page=page))
+    finally:
+        browser.close()
+
+
 def tests(page, server, downloads, pictures):
     return [
         try_answers, try_frame, try_drops, try_folder_drop, try_choices, try_corrected, try_corrected_outcome,
@@ -934,7 +947,7 @@ def tests(page, server, downloads, pictures):
         try_printing, web_reach.try_names, web_boxes.try_restored, web_boxes.try_boxes, web_boxes.try_example,
         web_trust.try_stop_of_silence, *web_given.TESTS,
         *[functools.partial(test, page=page) for test in
-          (web_trust.try_no_engine, web_trust.try_no_script, web_trust.try_charset, web_trust.try_ways_out)],
+          (web_trust.try_no_engine, web_trust.try_no_script, web_trust.try_charset)],
         functools.partial(try_while_busy, downloads=downloads),
         functools.partial(web_reach.try_keyboard, downloads=downloads),
         functools.partial(web_given.try_changed, downloads=downloads),
