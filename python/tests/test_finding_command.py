@@ -244,7 +244,9 @@ class Stopped(Commands):
     def stopped(self, words, at):
         """Interrupts a command, as the keyboard does, once its progress tells this: the output and the status."""
         master, slave = pty.openpty()
-        given = {"stdout": subprocess.PIPE, "stderr": slave, "cwd": self.room, "start_new_session": True}
+        # A shell has what it begins in the background ignore the keyboard.
+        given = {"stdout": subprocess.PIPE, "stderr": slave, "cwd": self.room, "start_new_session": True,
+                 "preexec_fn": lambda: signal.signal(signal.SIGINT, signal.SIG_DFL)}
         with subprocess.Popen(words, **given) as command:
             os.close(slave)
             seen = b""
