@@ -100,6 +100,13 @@ uint8_t pbaudit_page(const uint8_t *election, size_t election_length,
                      const uint8_t *language, size_t language_length,
                      uint8_t *out, size_t room, size_t *needed);
 
+/* What a yes to a price certificate leaves open: the line `note: the voter budgets together are less than the limit, so
+ * this yes says little`, or an empty text where they are not. The note holds of the files, whatever the answer is; where
+ * one of them is refused, the text is empty. 0 or 4. */
+uint8_t pbaudit_note(const uint8_t *election, size_t election_length,
+                     const uint8_t *certificate, size_t certificate_length,
+                     uint8_t *out, size_t room, size_t *needed);
+
 /* Why a file is refused, for a person: as an example, for the refusal `refused certificate 24 UnknownVoter record 5`
  *   there is no voter '7010'; the election has 3 voters
  *   voters are numbered by their rows in VOTES, from 1, and not by voter_id; ..
