@@ -1,8 +1,9 @@
 #!/usr/bin/env python3
 """Which characters can't be seen as themselves, by the data of Unicode that Python has; and that pbaudit shows these by
-their numbers and no others. It goes over all characters by names of files that aren't there, many in each, and reads the
-names in what the program says of them. A character without one in Python's version of Unicode may have become one since:
-these aren't compared. Where Node is installed, its data has to say the same. The last line is 'N passed, M failed'.
+their numbers and no others, and its Python package too. It goes over all characters by names of files that aren't
+there, many in each, and reads the names in what the program says of them. A character without one in Python's version
+of Unicode may have become one since: these aren't compared. Where Node is installed, its data has to say the same.
+The last line is 'N passed, M failed'.
 
 usage: tests/hidden.py PROGRAM
 """
@@ -13,6 +14,9 @@ import sys
 import unicodedata
 
 from reference.hidden import BLANK, is_hidden, number
+
+sys.path.append(os.path.join(os.path.dirname(os.path.dirname(os.path.abspath(__file__))), "python"))
+from pbaudit import shown as package  # noqa: E402
 
 IN_WORDS = {"\t": "\\t", "\n": "\\n", "\r": "\\r"}
 # How many characters a name has, so that it is short enough for an argument.
@@ -76,10 +80,20 @@ def check_node(node):
     return not differ
 
 
+def check_package():
+    """Whether the Python package says the same of all characters."""
+    differ = [c for c in known() if package.is_hidden(c) != is_hidden(c)]
+    for c in differ[:10]:
+        print(f"the package says otherwise of U+{ord(c):04X} {unicodedata.name(c, '')}")
+    return not differ
+
+
 def main():
     if len(sys.argv) != 2:
         sys.exit(__doc__)
     passed, failed = check_names(os.path.abspath(sys.argv[1]))
+    is_same = check_package()
+    passed, failed = passed + is_same, failed + (not is_same)
     node = shutil.which("node") or shutil.which("nodejs")
     if node is None:
         print("Node's data was not compared: node isn't installed")
