@@ -5,26 +5,25 @@ import re
 LIGHTHOUSE = "devtools://devtools/bundled/third_party/lighthouse/lighthouse-dt-bundle.js"
 TEXT = re.compile(r"`/\*! axe v(?:[^`\\]|\\.)*`", re.DOTALL)
 RUN = """
-const done = arguments[0];
-axe.run({resultTypes: ['violations', 'incomplete']}).then(
-  found => done({passes: found.passes.length, wrong: [...found.violations, ...found.incomplete].map(
+return axe.run({resultTypes: ['violations', 'incomplete']}).then(
+  found => ({passes: found.passes.length, wrong: [...found.violations, ...found.incomplete].map(
     rule => rule.id + ' ' + rule.nodes[0].html.slice(0, 200))}),
-  why => done({passes: 0, wrong: [String(why)]}));
+  why => ({passes: 0, wrong: [String(why)]}));
 """
 
 
-def source_of_axe(driver):
+def source_of_axe(browser):
     """The script, or None where this Chromium doesn't have it."""
-    driver.get(LIGHTHOUSE)
-    found = TEXT.search(driver.execute_script("return document.body ? document.body.textContent : ''"))
+    browser.go(LIGHTHOUSE)
+    found = TEXT.search(browser.ask("return document.body ? document.body.textContent : ''"))
     if found is None:
         return None
-    driver.get("about:blank")
-    return driver.execute_script("return eval(arguments[0])", found[0])
+    browser.go("about:blank")
+    return browser.ask("return eval(arguments[0])", found[0])
 
 
-def faults_by_axe(driver, source):
+def faults_by_axe(browser):
     """What axe finds on the open page, and how many rules it found kept."""
-    driver.execute_script(source)
-    found = driver.execute_async_script(RUN)
+    browser.ask(browser.axe)
+    found = browser.ask(RUN)
     return found["wrong"], found["passes"]

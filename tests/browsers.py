@@ -1,23 +1,21 @@
-"""Chromium and Firefox without windows, driven by the commands of WebDriver: Chromium through its driver, and Firefox
-through its own protocol, Marionette. Each starts with an empty profile."""
+"""Chromium and Firefox without windows, driven by the commands of WebDriver: Chromium by Selenium, and Firefox, for which Debian has
+no driver, through its own protocol, Marionette. Each starts with an empty profile."""
 import base64
 import json
-import os
 import pathlib
-import re
 import shutil
 import socket
 import subprocess
-import tempfile
 import time
-import urllib.request
 
 CHROMIUM = ("chromium", "chromium-browser", "google-chrome")
 FIREFOX = ("firefox-esr", "firefox")
 START_SECONDS, ANSWER_SECONDS = 60, 120
+# For how long a script may run, in milliseconds: also where the machine does other work.
+TIMEOUTS = {"script": 1000 * ANSWER_SECONDS}
 ELEMENT = "element-6066-11e4-a52e-4f735466cecf"
 # Keys as WebDriver names them.
-TAB, ENTER, SPACE = "\ue004", "\ue007", " "
+TAB, ENTER, SPACE, RIGHT = "\ue004", "\ue007", " ", "\ue014"
 
 
 class BrowserError(Exception):
@@ -88,62 +86,51 @@ class Browser:
 
 
 class Chromium(Browser):
-    """Chromium through chromedriver, which takes WebDriver's commands over HTTP."""
+    """Chromium, driven by Selenium."""
 
     name = "Chromium"
-    PATHS = {
-        "Navigate": ("POST", "/url"), "Back": ("POST", "/back"),
-        "ExecuteScript": ("POST", "/execute/sync"), "FindElement": ("POST", "/element"),
-        "ElementClick": ("POST", "/element/{id}/click"), "ElementSendKeys": ("POST", "/element/{id}/value"),
-        "SetWindowRect": ("POST", "/window/rect"), "TakeScreenshot": ("GET", "/screenshot"),
-        "PerformActions": ("POST", "/actions"), "GetComputedRole": ("GET", "/element/{id}/computedrole"),
-        "GetComputedLabel": ("GET", "/element/{id}/computedlabel"), "DevTools": ("POST", "/goog/cdp/execute"),
+    # WebDriver's commands, by Selenium's names for them.
+    COMMANDS = {
+        "Navigate": "get", "Back": "goBack", "ExecuteScript": "w3cExecuteScript", "FindElement": "findElement",
+        "ElementClick": "clickElement", "ElementSendKeys": "sendKeysToElement", "SetWindowRect": "setWindowRect",
+        "TakeScreenshot": "screenshot", "PerformActions": "actions", "GetComputedRole": "getElementAriaRole",
+        "GetComputedLabel": "getElementAriaLabel",
     }  # fmt: skip
 
-    def __init__(self, folder, downloads, language="en", has_wasm=True):
-        with tempfile.TemporaryFile() as told:
-            words = [shutil.which("chromedriver"), "--port=0"]
-            self.driver = subprocess.Popen(words, stdout=told, stderr=subprocess.DEVNULL)
-            try:
-                port = until(lambda: self.port_in(told), START_SECONDS, "chromedriver")
-                self.address = f"http://127.0.0.1:{port}"
-                self.session = f"/session/{self.started(folder, downloads, language, has_wasm)}"
-            except Exception:
-                self.driver.kill()
-                raise
-
-    def started(self, folder, downloads, language, has_wasm):
-        """The number of a session that begins."""
-        options = ["--headless=new", "--no-sandbox", "--disable-gpu", "--disable-dev-shm-usage",
-                   f"--user-data-dir={folder}", f"--accept-lang={language}", f"--lang={language}",
-                   *([] if has_wasm else ["--js-flags=--jitless"])]
-        settings = {"args": options, "binary": program(CHROMIUM),
-                    "prefs": {"download.default_directory": str(downloads), "intl.accept_languages": language}}
-        asked = {"capabilities": {"alwaysMatch": {"goog:chromeOptions": settings}}}
-        return self.call("POST", "/session", asked)["sessionId"]
-
-    @staticmethod
-    def port_in(told):
-        """The port that the driver chose, which it tells once it listens there."""
-        found = re.search(rb"successfully on port (\d+)", os.pread(told.fileno(), 4096, 0))
-        return found and int(found[1])
-
-    def call(self, method, path, words=None):
-        body = None if words is None else json.dumps(words).encode()
-        asked = urllib.request.Request(self.address + path, body, {"Content-Type": "application/json"}, method=method)
-        try:
-            with urllib.request.urlopen(asked, timeout=START_SECONDS + ANSWER_SECONDS) as told:
-                return json.load(told)["value"]
-        except urllib.error.HTTPError as refused:
-            raise BrowserError(json.load(refused)["value"]["message"].splitlines()[0]) from None
+    def __init__(self, folder, downloads, language="en", has_wasm=True, words=()):
+        from selenium import webdriver
+        from selenium.webdriver.chrome.service import Service
+        options = webdriver.ChromeOptions()
+        options.binary_location = program(CHROMIUM)
+        for word in ("--headless=new", "--no-sandbox", "--disable-gpu", "--disable-dev-shm-usage", f"--user-data-dir={folder}",
+                     f"--accept-lang={language}", f"--lang={language}", *words, *([] if has_wasm else ["--js-flags=--jitless"])):
+            options.add_argument(word)
+        settings = {"download.default_directory": str(downloads), "intl.accept_languages": language}
+        options.add_experimental_option("prefs", settings)
+        options.set_capability("goog:loggingPrefs", {"performance": "ALL"})
+        options.set_capability("timeouts", TIMEOUTS)
+        service = Service(shutil.which("chromedriver"))
+        self.driver = webdriver.Chrome(service=service, options=options)
+        self.process = service.process
 
     def command(self, name, words):
-        method, path = self.PATHS[name]
-        return self.call(method, self.session + path.format(**words), None if method == "GET" else words)
+        from selenium.common.exceptions import WebDriverException
+        try:
+            return self.driver.execute(self.COMMANDS[name], words)["value"]
+        except WebDriverException as refused:
+            raise BrowserError(str(refused).splitlines()[0]) from None
+
+    def find(self, selector):
+        return self.command("FindElement", {"using": "css selector", "value": selector}).id
 
     def tools(self, name, **words):
         """A command of the developer tools."""
-        return self.command("DevTools", {"cmd": name, "params": words})
+        return self.driver.execute_cdp_cmd(name, words)
+
+    def requests(self):
+        """The addresses that were asked for since this was asked last."""
+        told = (json.loads(entry["message"])["message"] for entry in self.driver.get_log("performance"))
+        return [each["params"]["request"]["url"] for each in told if each["method"] == "Network.requestWillBeSent"]
 
     def drop(self, selector, *paths):
         """Drops files or folders, as from the desktop."""
@@ -156,11 +143,7 @@ class Chromium(Browser):
             self.tools("Input.dispatchDragEvent", type=kind, data=data, **place)
 
     def close(self):
-        try:
-            self.call("DELETE", self.session)
-        finally:
-            self.driver.terminate()
-            self.driver.wait()
+        self.driver.quit()
 
 
 class Firefox(Browser):
@@ -186,6 +169,7 @@ class Firefox(Browser):
             self.number, self.rest = 0, b""
             self.read()
             self.command("NewSession", {"capabilities": {"alwaysMatch": {}}})
+            self.command("SetTimeouts", TIMEOUTS)
         except Exception:
             self.process.kill()
             raise
@@ -259,3 +243,6 @@ document.querySelector(arguments[0]).dispatchEvent(new DragEvent('drop', how));"
         self.socket.close()
         self.process.terminate()
         self.process.wait()
+
+
+ENGINES = {"chromium": (Chromium, [CHROMIUM, "chromedriver"]), "firefox": (Firefox, [FIREFOX])}

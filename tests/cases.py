@@ -4,6 +4,7 @@ import random
 from dataclasses import dataclass, field
 
 import making
+import tables
 from damage import damage
 
 
@@ -71,6 +72,15 @@ def a_violation_check(chance, election_file=making.election_file):
     return Case(["violation", "town.pb", "claim.csv", *words], files)
 
 
+def a_refutation_check(chance, election_file=making.election_file):
+    town, weights = making.a_refutation(chance)
+    plain = chance.random() < 0.4
+    words, files = some_outcome(chance, town, plain)
+    files["town.pb"] = election_file(chance, town, plain)
+    files["claim.csv"] = making.refutation_file(chance, town, weights, plain)
+    return Case(["refutation", "town.pb", "claim.csv", *words], files)
+
+
 def a_tidying(chance):
     town, claim = making.supported(chance, False)
     making.nudge(chance, town, claim)
@@ -105,7 +115,7 @@ def both(chance):
 
 
 def explain(chance):
-    case = chance.choice([a_price_check, a_violation_check])(chance)
+    case = chance.choice([a_price_check, a_violation_check, a_refutation_check])(chance)
     case.words[0] = "explain"
     return case
 
@@ -134,12 +144,13 @@ def folder(chance):
 
 # How often each kind is made; the damaged ones are made of these.
 KINDS = {
-    a_read: 12, a_price_check: 38, a_violation_check: 14, a_tidying: 6, both: 10, explain: 10, folder: 8, margins: 10,
+    a_read: 12, a_price_check: 38, a_violation_check: 14, a_refutation_check: 16, a_tidying: 6, both: 10, explain: 10,
+    folder: 8, margins: 10,
 }  # fmt: skip
 DAMAGED = 0.5
 
 
-def random_case(chance, kinds, damaged=DAMAGED):
+def random_case(chance, kinds, damaged):
     case = chance.choices(list(kinds), list(kinds.values()))[0](chance)
     if case.words[:1] != ["folder"] and chance.random() < damaged:
         if case.stdin is not None:
@@ -151,12 +162,18 @@ def random_case(chance, kinds, damaged=DAMAGED):
     return case
 
 
-def random_cases(count, seed, kinds=KINDS):
-    """Each case from a seed of its own, so that one can be made again alone."""
-    for number in range(count):
-        case = random_case(random.Random(f"{seed}/{number}"), kinds)
-        case.name = f"{seed}/{number}"
-        yield case
+def numbered(seed, number, kinds=None, damaged=DAMAGED):
+    """A case by its number, from a seed of its own."""
+    case = random_case(random.Random(f"{seed}/{number}"), kinds or KINDS, damaged)
+    case.name = f"{seed}/{number}"
+    if case.stdin is not None:
+        case.files = {"stdin": case.stdin}
+    return case
+
+
+def without_folders(seed, number, damaged=DAMAGED):
+    """A case of what the library answers too."""
+    return numbered(seed, number, {kind: often for kind, often in KINDS.items() if kind is not folder}, damaged)
 
 
 META = b"META\nkey;value\nbudget;10\nvote_type;approval\n"
@@ -164,6 +181,7 @@ ELECTION = META + b"PROJECTS\nproject_id;cost;selected\na;6;1\nb;4;1\nVOTES\nvot
 PRICES = b"pb-prices,1\ndenominator,1\nvoter_budget,10\nvoter,project,payment\n1,a,6\n1,b,4\n"
 VIOLATION = b"pb-violation,1\nproject,a\nvoter,1\n"
 OUTCOME = b"pb-outcome,1\nproject,a\n"
+HEAD = b"pb-prices,1\ndenominator,1\nvoter_budget,0\nvoter,project,payment\n"
 
 
 # What stands at its limit, and one more: the file, what stands there, and what is put in its place.
@@ -192,40 +210,68 @@ def fixed_cases():
                     names = {"town": "town.pb", "claim": "claim.csv", "outcome": "outcome.csv", bad[1:-1]: put}
                     files = dict(good, huge=Sparse(2**28 + 1)) if put == "huge" else good
                     yield Case([word.format(**names) for word in ask], files, name=f"{put} as {bad[1:-1]} of {ask[0]}")
+    yield from refutations()
     for name, old, news in LIMITS:
         for new in news:
             files = dict(good, **{name: good[name].replace(old, new)})
             yield Case(["prices", "town.pb", "claim.csv"], files, name=f"{new[:40]} for {old}")
     open_at_vote = ELECTION + b'v2;"a\nv3;a\n'
     yield Case(["read", "town.pb"], {"town.pb": open_at_vote}, name="a quote that nothing closes")
+    for word in ("violation", "explain"):
+        files = {"town.pb": ELECTION, "claim.csv": b"pb-violation,1\n"}
+        yield Case([word, "town.pb", "claim.csv"], files, name=f"{word} of a group of nobody")
     yield known(["read", "full.pb"], {"full.pb": Sparse(2**28)}, "refused election 2 NoMeta record 1")
     for count in (20_000, 20_001):
         data = many_projects(count) + b"VOTES\nvote\n"
         yield Case(["read", "town.pb"], {"town.pb": data}, name=f"{count} projects")
-    data = many_projects(0) + b"VOTES\nvoter_id;vote\n" + b"v;\n" * 1_000_000
-    yield known(["read", "town.pb"], {"town.pb": data}, "read 1000000 voters 0 projects no outcome")
-    yield known(["read", "town.pb"], {"town.pb": data + b"v;\n"}, "refused election 15 TooMany record 1000009")
-    # 100,000 ballots of 200 projects; 8 records beside them and the projects.
-    data = many_projects(200) + b"VOTES\nvote\n"
-    ballots = (b",".join(b"%d" % number for number in range(1, 201)) + b"\n") * 100_000
-    for vote, fault in ((b"0", "14 UnknownProject"), (b"1", "15 TooMany")):
-        files = {"town.pb": data + ballots + vote + b"\n"}
-        yield known(["read", "town.pb"], files, f"refused election {fault} record 100209")
-    # 20,000 rows for each of 500 voters.
-    data = many_projects(20_000) + b"VOTES\nvoter_id;vote\n" + b"v;\n" * 501
-    head = b"pb-prices,1\ndenominator,1\nvoter_budget,0\nvoter,project,payment\n"
-    ends = [b",%d,0\n" % project for project in range(1, 20_001)]
-    payments = b"".join(b"%d" % voter + (b"%d" % voter).join(ends) for voter in range(1, 501))
-    tidy = ["tidy", "town.pb", "claim.csv"]
-    yield known(tidy, {"town.pb": data, "claim.csv": head + payments}, head.decode().strip())
-    last = head + payments + b"501,1,0\n"
-    yield known(tidy, {"town.pb": data, "claim.csv": last}, "refused certificate 28 TooMany record 10000005")
+    yield from large_cases()
     yield Case(["folder", "missing.csv"], {"town.pb": ELECTION}, name="no folder")
     yield Case(["folder", "town.pb"], {"town.pb": ELECTION}, name="a file for a folder")
     files = {"room/town.pb": ELECTION, b"room/\xff.pb": ELECTION}
     yield Case(["folder", "room"], files, name="a name that isn't text")
     files = {"room/town.pb": ELECTION, "room/town.prices.csv": Sparse(2**28 + 1)}
     yield Case(["folder", "room"], files, name="too long in a folder")
+
+
+def refutations():
+    """Those of the table, whose files get the names that they have here."""
+    for row, words, files in tables.asked("refutations.txt"):
+        names = dict(zip(files, ("town.pb", "claim.csv", "outcome.csv")))
+        named = {names[name]: data for name, data in files.items()}
+        yield Case([names.get(word, word) for word in words], named, name=f"{row.group}: {row.text.strip()}")
+
+
+def large_cases():
+    """Files that are too large for the reference, and are made where they are written."""
+    read, tidy = ["read", "town.pb"], ["tidy", "town.pb", "claim.csv"]
+    yield known(read, {"town.pb": voters}, "read 1000000 voters 0 projects no outcome")
+    yield known(read, {"town.pb": lambda: voters() + b"v;\n"}, "refused election 15 TooMany record 1000009")
+    for vote, fault in ((b"0", "14 UnknownProject"), (b"1", "15 TooMany")):
+        files = {"town.pb": lambda vote=vote: ballots() + vote + b"\n"}
+        yield known(read, files, f"refused election {fault} record 100209")
+    yield known(tidy, {"town.pb": crowd, "claim.csv": payments}, HEAD.decode().strip())
+    last = {"town.pb": crowd, "claim.csv": lambda: payments() + b"501,1,0\n"}
+    yield known(tidy, last, "refused certificate 28 TooMany record 10000005")
+
+
+def voters():
+    return many_projects(0) + b"VOTES\nvoter_id;vote\n" + b"v;\n" * 1_000_000
+
+
+def ballots():
+    """100,000 ballots of 200 projects; 8 records beside them and the projects."""
+    ballot = b",".join(b"%d" % number for number in range(1, 201)) + b"\n"
+    return many_projects(200) + b"VOTES\nvote\n" + ballot * 100_000
+
+
+def crowd():
+    return many_projects(20_000) + b"VOTES\nvoter_id;vote\n" + b"v;\n" * 501
+
+
+def payments():
+    """20,000 rows for each of 500 voters."""
+    ends = [b",%d,0\n" % project for project in range(1, 20_001)]
+    return HEAD + b"".join(b"%d" % voter + (b"%d" % voter).join(ends) for voter in range(1, 501))
 
 
 def many_projects(count):
@@ -254,4 +300,4 @@ def write_files(room, files):
             if isinstance(data, Sparse):
                 file.truncate(data.size)
             else:
-                file.write(data)
+                file.write(data() if callable(data) else data)

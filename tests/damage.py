@@ -19,7 +19,7 @@ WORDS = [
     b"META", b"PROJECTS", b"VOTES", b"key", b"value", b"budget", b"vote_type", b"num_projects", b"num_votes",
     b"approval", b"ordinal", b"choose-1", b"project_id", b"cost", b"selected", b"vote", b"voter_id", b"name",
     b"pb-prices", b"pb-outcome", b"pb-violation", b"denominator", b"voter_budget", b"voter", b"project", b"payment",
-    b"satisfaction", b"count", b"group",
+    b"satisfaction", b"count", b"group", b"pb-refutation", b"cover", b"role", b"weight", b"least", b"most", b"left",
 ]  # fmt: skip
 MARKERS = [b"META", b"PROJECTS", b"VOTES", b"votes", b"Projects;;", b" meta ;", b'"VOTES"', b"VOTES;x"]
 

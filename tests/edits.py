@@ -160,13 +160,14 @@ class Verdict:
 
 
 def rt(word, crate, *flags, behind=0):
-    words = ["nice", "-n", str(behind), "rt", word, "--jobs", "1", *flags]
+    words = ["nice", "-n", str(behind), "rt", word, *flags]
     ran = subprocess.run(words, cwd=crate, stdin=subprocess.DEVNULL, stdout=subprocess.PIPE, stderr=subprocess.STDOUT)
     return ran.returncode, ran.stdout.decode(errors="replace")
 
 
 def prove(copy, crate, lines):
-    """Proves a crate, of which those above then read what it states, and not how that is proved."""
+    """Proves a crate, of which those above then read what it states, and not how that is proved. All wait for it, so it has as
+    many jobs as `rt` finds room for."""
     return rt("lib", copy / "crates" / crate, *([] if "staticlib" in lines[crate] else ["--statements"]))
 
 
@@ -232,7 +233,7 @@ class Room:
                 shutil.copytree(was, self.crate / part)
         for edit in edits:
             edit.make(self.crate)
-        return Verdict(rt("check", self.crate, behind=BEHIND)[1], self.functions)
+        return Verdict(rt("check", self.crate, "--jobs", "1", behind=BEHIND)[1], self.functions)
 
 
 def edits_of(crate):

@@ -80,6 +80,9 @@ static void call(void) {
     else if (!strcmp(command, "violation"))
         status = pbaudit_violation(files[0].at, files[0].length, files[2].at, files[2].length, has_outcome, files[1].at,
                                    files[1].length, out, room, &needed);
+    else if (!strcmp(command, "refutation"))
+        status = pbaudit_refutation(files[0].at, files[0].length, files[2].at, files[2].length, has_outcome, files[1].at,
+                                    files[1].length, out, room, &needed);
     else if (is_both)
         status = pbaudit_both(files[0].at, files[0].length, files[3].at, files[3].length, has_outcome, files[1].at,
                               files[1].length, files[2].at, files[2].length, strchr(switches, 's') != 0,

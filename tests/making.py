@@ -1,4 +1,5 @@
-"""Makes elections, prices, outcomes and violations, and writes them as files in the many ways that the formats allow.
+"""Makes elections, prices, outcomes, violations and refutations, and writes them as files in the many ways that the
+formats allow.
 
 What is made is only input: whether prices support an outcome is for the program and the reference to say. Most prices
 are made so that all conditions hold, often with nothing to spare, since a rule that is wrong by one unit shows only
@@ -11,6 +12,7 @@ from math import gcd
 MILLION = 10**6
 MOST_COST = 10**12 * MILLION
 MOST_NUMERATOR = 10**21
+MOST_WEIGHT = 10**12
 BLANKS = [b" ", b"  ", b"\t", b" \t", b"\x0b", b"\x0c"]
 PLAIN_IDS = [b"%d" % number for number in range(1, 60)] + [b"p%d" % number for number in range(1, 60)]
 ODD_IDS = [
@@ -42,6 +44,14 @@ class Claim:
     denominator: int
     budget: int
     payments: dict
+
+
+@dataclass
+class Weights:
+    """A refutation: the weight of Cover, and the weights of projects by place, below 0 for `most`."""
+
+    cover: int
+    signed: dict
 
 
 def some_ids(chance, count):
@@ -203,6 +213,115 @@ def a_violation(chance):
         else:
             demand = set()
     return town, group, demand
+
+
+def a_refutation(chance):
+    """A town, and weights that often refute its outcome, with nothing to spare."""
+    town, weights = (passed_over if chance.random() < 0.3 else balanced)(chance)
+    for _ in range(chance.choice([0, 0, 1, 1, 2])):
+        nudge_weights(chance, town, weights)
+    return town, weights
+
+
+def passed_over(chance):
+    """A group that agrees on an unfunded project, and whose share just covers that and what was funded for it: the
+    weight of Cover is its size, and the others are the number of voters."""
+    voters, projects = chance.randint(1, 9), chance.randint(1, 7)
+    ids = [project_id for project_id in some_ids(chance, projects) if b"," not in project_id] or [b"one"]
+    projects = len(ids)
+    ballots = some_ballots(chance, ids, voters)
+    wanted, group = chance.randrange(projects), chance.sample(range(voters), chance.randint(1, voters))
+    for voter in group:
+        ballots[voter].add(wanted)
+    funded = {place for place in range(projects) if place != wanted and chance.random() < 0.5}
+    reached = funded & set().union(*(ballots[voter] for voter in group))
+    scale = chance.choice([1, 100, MILLION, 10**9 * MILLION])
+    costs = [chance.randrange(20) * scale for _ in range(projects)]
+    limit = -(-voters * (costs[wanted] + sum(costs[place] for place in reached)) // len(group))
+    signed = {wanted: voters, **{place: -voters for place in reached}}
+    return Town(ids, costs, limit, funded, ballots), Weights(len(group), signed)
+
+
+def balanced(chance):
+    """Any town, with weights, costs and a limit by which U2 and U3 mostly hold just so."""
+    voters, projects = chance.randint(1, 9), chance.randint(1, 7)
+    ids = some_ids(chance, projects)
+    projects = len(ids)
+    funded = {place for place in range(projects) if chance.random() < 0.5}
+    most = chance.choice([1, 3, 10, 1000, 10**6, 10**11])
+    signed = {place: chance.randint(-most if place in funded else 0, most) for place in range(projects)}
+    town = Town(ids, [], 0, funded, some_ballots(chance, ids, voters))
+    weights = Weights(0, signed)
+    settle_weights(chance, town, weights)
+    scale = chance.choice([1, 100, MILLION, 10**9 * MILLION])
+    town.costs, town.limit = [chance.randrange(20) * scale for _ in range(projects)], chance.randrange(100) * scale
+    settle_costs(chance, town, weights)
+    return town, weights
+
+
+def spare(town, weights):
+    """By how much the weights that supporters have together are more than what counts against them, without Cover."""
+    total = 0
+    for ballot in town.ballots:
+        left = sum(weights.signed.get(place, 0) for place in ballot - town.funded)
+        total += left - max([0, *(weights.signed.get(place, 0) + left for place in ballot & town.funded)])
+    return total
+
+
+def settle_weights(chance, town, weights):
+    """Lowers the weights of funded projects until there is something to spare; then has Cover or one of them use it."""
+    order = chance.sample(sorted(town.funded), len(town.funded))
+    unfunded = sum(weight for place, weight in weights.signed.items() if place not in town.funded)
+    for place in order:
+        if spare(town, weights) < 0:
+            weights.signed[place] = -unfunded
+    if chance.random() < 0.5:
+        weights.cover = min(MOST_WEIGHT, spare(town, weights) // max(1, len(town.ballots)))
+        return
+    for place in order[:1]:
+        for step in (1 << bit for bit in range(36, -1, -1)):
+            weights.signed[place] += step
+            if spare(town, weights) < 0:
+                weights.signed[place] -= step
+
+
+def settle_costs(chance, town, weights):
+    """Sets the limit or a cost so that the weighted costs of what is funded, and the weighted limit, are just enough."""
+    over = sum(weight * town.costs[place] * (1 if place in town.funded else -1)
+               for place, weight in weights.signed.items())
+    if weights.cover:
+        town.limit = min(MOST_COST, max(0, -(over // weights.cover)))
+        return
+    heavy = [place for place, weight in weights.signed.items() if weight > 0]
+    for place in chance.sample(heavy, min(1, len(heavy))):
+        weight = weights.signed[place]
+        if place in town.funded:
+            # The least cost by which the one sum is more than the other.
+            cost = (weight * town.costs[place] - over) // weight + 1
+        else:
+            cost = (over + weight * town.costs[place] - 1) // weight
+        town.costs[place] = min(MOST_COST, max(0, cost))
+
+
+def nudge_weights(chance, town, weights):
+    """Changes one thing by the least that it can be changed by."""
+    by = chance.choice([-1, 1])
+    kind = chance.choice(["weight", "cover", "limit", "cost", "ballot", "funded"])
+    if kind == "cover":
+        weights.cover = max(0, weights.cover + by)
+    elif kind == "limit" or not town.ids:
+        town.limit = max(0, town.limit + by)
+    elif kind == "weight":
+        place = chance.randrange(len(town.ids))
+        weights.signed[place] = weights.signed.get(place, 0) + by
+    elif kind == "cost":
+        place = chance.randrange(len(town.ids))
+        town.costs[place] = max(0, town.costs[place] + by)
+    else:
+        place = chance.randrange(len(town.ids))
+        changed = town.funded if kind == "funded" else chance.choice(town.ballots)
+        if b"," not in town.ids[place]:
+            changed ^= {place}
 
 
 # From here on: the writing.
@@ -395,3 +514,30 @@ def violation_file(chance, town, group, demand, plain, head=(b"pb-violation", b"
         chance.shuffle(rows)
     second = [[b"satisfaction", chance.choice([b"count", b"cost"])]] if head[1] == b"2" else []
     return join(chance, [list(head), *second, *rows], b",", plain)
+
+
+def refutation_file(chance, town, weights, plain):
+    """A refutation. Weights of 0 stand there sometimes, and seldom a role that no such project may have."""
+    cover, rows = weights.cover, []
+    if not plain and chance.random() < 0.05:
+        cover = chance.choice([0, cover, MOST_WEIGHT, MOST_WEIGHT + 1])
+    for place, project_id in enumerate(town.ids):
+        weight = weights.signed.get(place, 0)
+        if weight or chance.random() < 0.2:
+            role = (b"left" if place not in town.funded else b"most" if weight < 0 else b"least")
+            if chance.random() < 0.02:
+                role = chance.choice([b"least", b"most", b"left"])
+            rows.append([role, project_id, digits(chance, abs(weight), plain)] + trailing(chance, plain))
+    if not plain:
+        chance.shuffle(rows)
+        if rows and chance.random() < 0.08:
+            row = chance.choice(rows)
+            if chance.random() < 0.5:
+                rows.insert(chance.randrange(len(rows) + 1), [chance.choice([b"left", row[0]]), row[1], b"0"])
+            else:
+                row[2] = b"%d" % chance.choice([0, MOST_WEIGHT, MOST_WEIGHT + 1, 2**64])
+    head = [[b"pb-refutation", b"1"], [b"cover", digits(chance, cover, plain)], [b"role", b"project", b"weight"]]
+    records = head + rows
+    if not plain:
+        slip(chance, records)
+    return join(chance, records, b",", plain)

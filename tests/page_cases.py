@@ -3,7 +3,8 @@ import pathlib
 import random
 
 import making
-from cases import Case, a_price_check, a_violation_check, random_case, some_mode, some_outcome
+import tables
+from cases import Case, a_price_check, a_refutation_check, a_violation_check, random_case, refutations, some_mode, some_outcome
 
 EXAMPLES = pathlib.Path(__file__).resolve().parent.parent / "examples"
 EXAMPLE_WORDS = [
@@ -164,10 +165,14 @@ def dressed_violation(chance):
     return a_violation_check(chance, dressed)
 
 
+def dressed_refutation(chance):
+    return a_refutation_check(chance, dressed)
+
+
 # How often each kind is made, and how often a file of it is damaged.
 KINDS = {
-    dressed_prices: 6, close: 6, muddled: 8, dressed_violation: 8, a_price_check: 2, a_violation_check: 2,
-    without_projects: 2,
+    dressed_prices: 6, close: 6, muddled: 8, dressed_violation: 8, dressed_refutation: 6, a_price_check: 2,
+    a_violation_check: 2, without_projects: 2,
 }  # fmt: skip
 DAMAGED = 0.1
 
@@ -179,11 +184,11 @@ def page_case(seed, number):
 
 
 def renamed(chance, case, name):
-    """The case as one of `page`, its files under other names. The options of prices are ignored for a violation."""
+    """The case as one of `page`, its files under other names. The options of prices are ignored for the other kinds."""
     named = {
         "town.pb": chance.choice(TOWNS), "claim.csv": chance.choice(CLAIMS), "outcome.csv": chance.choice(OUTCOMES),
     }  # fmt: skip
-    options = case.words[3:] + (some_mode(chance) if case.words[0] == "violation" else [])
+    options = case.words[3:] + (some_mode(chance) if case.words[0] in ("violation", "refutation") else [])
     # What stands behind "--" is no option, as "-town.pb".
     words = ["page", *(named.get(word, word) for word in options), "--", named["town.pb"], named["claim.csv"]]
     return Case(words, {named[file]: data for file, data in case.files.items()}, name=name)
@@ -235,6 +240,16 @@ LARGE = {
     "1001 unfunded": lambda: of_rows(1001, False), "1005 demanded": lambda: of_demand(1005),
     "1003 funded": lambda: of_rows(1003, True), "1000 unfunded": lambda: of_rows(1000, False),
 }  # fmt: skip
+HEAD = b"META\nkey;value\nbudget;%d\nvote_type;approval\nPROJECTS\nproject_id;cost;selected\n"
+PRICES = b"pb-prices,1\ndenominator,1\nvoter_budget,4\nvoter,project,payment\n"
+# The budgets of all voters are just the limit, and two supporters, or one, come nearest to their share.
+REACHED = {
+    "budgets of the limit, two": (
+        HEAD % 12 + b"park;2;1\npool;6;0\nlibrary;4;1\nVOTES\nvoter_id;vote\n1;park,pool\n2;park,pool\n3;library\n",
+        PRICES + b"1,park,2\n3,library,4\n"),
+    "budgets of the limit, one": (
+        HEAD % 8 + b"a;4;1\nb;9;0\nVOTES\nvoter_id;vote\n1;a\n2;b\n", PRICES + b"1,a,4\n"),
+}  # fmt: skip
 IN_ONE_LANGUAGE = {"1003 funded": "pl", "1000 unfunded": "en"}
 
 
@@ -254,5 +269,18 @@ def fixed_cases():
     yield Case(["page", "town.pb", "claim.csv"], {}, name="nothing")
     files = {"town.pb": town, "claim.csv": b""}
     yield Case(["page", "--outcome", "o.csv", "town.pb", "claim.csv"], files, name="no outcome")
+    for name, (town, claim) in REACHED.items():
+        yield Case(["page", "--no-exhaustive", "town.pb", "claim.csv"], {"town.pb": town, "claim.csv": claim}, name=name)
+    for count in (102, 200_000):
+        named = b"i" * count
+        town = HEAD % 10 + named + b";6;1\nVOTES\nvoter_id;vote\n1;" + named + b"\n"
+        yield Case(["page", "town.pb", "claim.csv"], {"town.pb": town, "claim.csv": PRICES}, name=f"an id of {count} letters")
+    files = {"town.pb": (EXAMPLES / "sample.pb").read_bytes().replace(b"Pool", b"n" * 500)}
+    files["claim.csv"] = (EXAMPLES / "sample.prices.csv").read_bytes()
+    yield Case(["page", "town.pb", "claim.csv"], files, name="a name of 500 letters")
+    for number, (row, words, files) in enumerate(tables.asked("pages.txt")):
+        yield Case(words, files, name=f"table {number} {row.group}")
+    for number, case in enumerate(refutations()):
+        yield renamed(random.Random(f"refutation {number}"), case, case.name)
     for name, case in LARGE.items():
         yield renamed(random.Random(name), case(), name)

@@ -1,4 +1,4 @@
-"""Pages that are turned, each by one change, and the check of tests/browser.py that has to fail on it."""
+"""Pages that are turned, each by one change, and the test of tests/test_pages.py that has to fail on it."""
 from dataclasses import dataclass
 
 PHONE, SCREEN, ZOOMED = (390, "light", "screen"), (1100, "light", "screen"), (550, "light", "screen")

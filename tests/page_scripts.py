@@ -1,4 +1,4 @@
-"""The scripts by which tests/browser.py asks a page in a browser what it shows."""
+"""The scripts by which tests/test_pages.py asks a page in a browser what it shows."""
 
 # What a page has that doesn't fit: elements that reach out of the window, or have more inside than they show.
 TOO_WIDE = """

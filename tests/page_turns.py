@@ -3,6 +3,7 @@ import contextlib
 import unittest.mock
 from fractions import Fraction
 
+from common import HERE
 from reference.page import amounts, bars, findings, labels, prices, projects, states, tables, whole, wording
 from reference.page import case as case_of_page
 from reference.page.case import Case, InputFile
@@ -51,54 +52,7 @@ def asked(change):
     return lambda old: lambda *given: old(*change(*given))
 
 
-EXCHANGED = [
-    exchanged("claims.violation.by_count", "claims.violation.by_cost"),
-    exchanged("caution.little", "caution.less"),
-    exchanged("claims.caution.little", "claims.caution.less"),
-    exchanged("state.holds", "state.test_holds"),
-    exchanged("state.test_holds", "state.test_fails"),
-    exchanged("claims.violation.yes", "claims.violation.no"),
-    exchanged("claims.prices.yes", "claims.prices.yes_stable"),
-    exchanged("claims.prices.yes", "claims.prices.no_by_payments"),
-    exchanged("claims.prices.no_by_payments", "claims.prices.no_by_outcome"),
-    exchanged("claims.prices.no_by_payments", "claims.prices.plain_alone"),
-    exchanged("not_said.violation.yes", "not_said.violation.no"),
-    exchanged("not_said.prices.yes", "not_said.prices.no_by_payments"),
-    exchanged("not_said.prices.no_by_payments", "not_said.prices.no_by_outcome"),
-    exchanged("answer.prices.yes", "answer.prices.no"),
-    exchanged("answer.prices.yes", "answer.prices.yes_stable"),
-    exchanged("answer.violation.yes", "answer.violation.no"),
-    exchanged("why.prices.yes", "why.prices.yes_stable"),
-    exchanged("asked.form.plain", "asked.form.stable"),
-    exchanged("asked.exhaustive.yes", "asked.exhaustive.no"),
-    exchanged("asked.cover.yes", "asked.cover.no"),
-    exchanged("asked.measure.count", "asked.measure.cost"),
-    exchanged("asked.other_form.stable_too", "asked.other_form.plain_holds"),
-    exchanged("state.holds", "state.fails"),
-    exchanged("state.holds", "state.not_asked"),
-    exchanged("state.conditions", "state.tests"),
-    exchanged("name.C1", "name.C4"),
-    exchanged("asks.V3", "asks.V4"),
-    exchanged("comes_to.C5.holds", "comes_to.C5.fails"),
-    exchanged("comes_to.Cover.holds", "comes_to.Cover.fails"),
-    exchanged("comes_to.V3.holds", "comes_to.V3.fails"),
-    exchanged("places.projects", "places.voters"),
-    exchanged("places.largest.elsewhere", "places.amount.elsewhere"),
-    exchanged("glance.of_the_limit.left", "glance.of_the_limit.over"),
-    exchanged("glance.of_the_budgets.left", "glance.of_the_budgets.over"),
-    exchanged("unfunded.title", "funded.title"),
-    exchanged("unfunded.none", "funded.none"),
-    exchanged("unfunded.over", "unfunded.under"),
-    exchanged("unfunded.amount.plain", "unfunded.amount.stable"),
-    exchanged("unfunded.label.plain", "unfunded.label.stable"),
-    exchanged("unfunded.order.dearest", "unfunded.order.supported"),
-    exchanged("funded.paid.over", "funded.paid.under"),
-    exchanged("group.share", "group.cost"),
-    exchanged("demand.funded", "demand.unfunded"),
-    exchanged("words.left.means", "words.offer.means"),
-    exchanged("files.election", "files.certificate"),
-    exchanged("head.rule", "head.turnout"),
-]
+EXCHANGED = [exchanged(*line.split()) for line in (HERE / "tables/exchanged.txt").read_text("utf-8").splitlines() if line[0] != "#"]
 STATES = [
     Turn("each condition on prices holds", (PriceFigures, "state", instead(lambda self, name: "holds"))),
     Turn("each condition on prices is asked",

@@ -1,4 +1,4 @@
-"""The pages that tests/browser.py looks at: their files, and the figures that have to stand on them.
+"""The pages that tests/test_pages.py looks at: their files, and the figures that have to stand on them.
 
 Everything here is made from the files by itself, slowly, and without the package's own figures.
 """
@@ -9,7 +9,6 @@ from collections import Counter
 from fractions import Fraction
 
 import pbaudit
-from reference.hidden import shown  # noqa: F401  for those that look at pages
 
 EXAMPLES = pathlib.Path(__file__).resolve().parent.parent / "examples"
 # Where the mark of a bound stands in a bar.
@@ -216,9 +215,9 @@ class GroupBars:
         share = town.limit * len(self.group) / len(town.ballots)
         gets = [len(town.ballots[voter - 1] & town.funded) for voter in self.group]
         # The first member that gets enough, or else the most that one gets.
-        shown = next((get for get in gets if get >= len(self.demand)), max(gets))
+        told = next((get for get in gets if get >= len(self.demand)), max(gets))
         yield None, sum(town.costs[project] for project in town.funded) / town.limit, False
         yield None, MARK * share / sum(town.costs[project] for project in self.demand), True
-        yield None, MARK * Fraction(shown, len(self.demand)), True
+        yield None, MARK * Fraction(told, len(self.demand)), True
         for project in (project for project in town.costs if project in self.demand):
             yield project, town.costs[project] / share, False

@@ -2,10 +2,12 @@
 import os
 import stat
 
-from . import conditions, violations
-from .certificates import canonical, quoted, read_outcome, read_prices, read_violation, rows_of
+from . import conditions, refutations, violations
+from .certificates import (
+    canonical, quoted, read_outcome, read_prices, read_refutation, read_violation, rows_of,
+)
 from .election import read_election
-from .explaining import price_lines, violation_lines
+from .explaining import group_lines, price_lines, refutation_lines, violation_lines
 from .records import MOST_BYTES, Refused
 
 YES, NO, REFUSED = 0, 1, 2
@@ -23,7 +25,7 @@ NAMES = {
     **dict(enumerate(CERTIFICATE_FAULTS, 20)),
 }
 MODE = ["--stable", "--no-exhaustive", "--cover"]
-WITH_MODE = ["prices", "folder", "both", "explain"]
+WITH_MODE = ["prices", "folder", "both", "explain", "page"]
 SAYS_LITTLE = "note: the voter budgets together are less than the limit, so this yes says little"
 
 
@@ -106,11 +108,18 @@ def verdict_on_violation(election, funded, violation):
     return (failed(election, *failure), NO) if failure else (line("violation"), YES)
 
 
+def verdict_on_refutation(election, funded, refutation):
+    failure = refutations.first_failure(election, funded, refutation)
+    if failure:
+        return failed(election, *failure), NO
+    return line("unpriceable cover" if refutation.cover else "unpriceable"), YES
+
+
 class Commands:
     """Each command, by its name. What 'beside' has is told on standard error, before any hint."""
 
     def __init__(self):
-        self.beside = b""
+        self.beside, self.language = b"", "en"
 
     def noted_election(self, path):
         """Takes an election, and has the notes on it told beside the answer, each with the path of its file."""
@@ -142,6 +151,12 @@ class Commands:
         violation = take("certificate", read_violation, paths[1], election)
         return verdict_on_violation(election, funded, violation)
 
+    def refutation(self, paths, mode, outcome):
+        election = self.noted_election(paths[0])
+        funded = take_outcome(election, outcome)
+        refutation = take("certificate", read_refutation, paths[1], election)
+        return verdict_on_refutation(election, funded, refutation)
+
     def tidy(self, paths, mode, outcome):
         election = take("election", read_election, paths[0])
         return canonical(take("certificate", read_prices, paths[1], election), election), YES
@@ -162,18 +177,32 @@ class Commands:
         return margins(conditions.Claim(election, funded, prices)), YES
 
     def explain(self, paths, mode, outcome):
-        """The line of 'prices' or 'violation', an empty line, and what each condition or test comes to."""
+        """The line of 'prices', 'violation' or 'refutation', an empty line, and what each condition or test comes to; after
+        a yes to prices an empty line, and what that says of groups."""
         election = self.noted_election(paths[0])
         funded = take_outcome(election, outcome)
-        if is_violation(take("certificate", bytes, paths[1])):
+        kind = kind_of(take("certificate", bytes, paths[1]))
+        if kind == "violation":
             violation = take("certificate", read_violation, paths[1], election)
             text, status = verdict_on_violation(election, funded, violation)
             lines = violation_lines(election, funded, violation)
+        elif kind == "refutation":
+            refutation = take("certificate", read_refutation, paths[1], election)
+            text, status = verdict_on_refutation(election, funded, refutation)
+            lines = refutation_lines(refutations.Weighing(election, funded, refutation))
         else:
             prices = take("certificate", read_prices, paths[1], election)
             text, status = self.verdict_on_prices(paths[0], election, funded, prices, mode)
-            lines = price_lines(conditions.Claim(election, funded, prices), mode)
+            claim = conditions.Claim(election, funded, prices)
+            lines = [*price_lines(claim, mode), *(["", *group_lines(claim)] if status == YES else [])]
         return text + b"\n" + b"".join(map(line, lines)), status
+
+    def page(self, paths, mode, outcome):
+        """Not the HTML, but each text of the page, and each label and class by which something is told, on a line."""
+        from .page.nodes import pieces_of
+        from .page.whole import Audit
+        audit = Audit(*paths, mode, outcome)
+        return b"".join(line(piece) for _, piece in pieces_of(audit.page(self.language))), audit.status
 
     def folder(self, paths, mode, outcome):
         try:
@@ -205,12 +234,15 @@ class Commands:
         return text
 
 
-def is_violation(data):
-    """Whether the first record is that of a violation certificate."""
+def kind_of(data):
+    """What kind of certificate the first record says that it is; any that says nothing is taken as prices."""
     try:
-        return next(rows_of(data))[1] in [[b"pb-violation", b"1"], [b"pb-violation", b"2"]]
+        first = next(rows_of(data))[1]
     except Refused:
-        return False
+        return "prices"
+    if first in [[b"pb-violation", b"1"], [b"pb-violation", b"2"]]:
+        return "violation"
+    return "refutation" if first == [b"pb-refutation", b"1"] else "prices"
 
 
 def is_entry(name):
@@ -239,14 +271,15 @@ def answer_or_refusal(work, paths, mode, outcome):
 def answer(words):
     """The text, the status and the notes on standard error for the words of a command line that is understood."""
     command, paths, mode, outcome = (words[0] if words else "read"), [], set(), None
-    words = iter(words[1:])
+    commands, words = Commands(), iter(words[1:])
     for word in words:
         if word == "--outcome":
             outcome = next(words)
+        elif word == "--language":
+            commands.language = next(words)
         elif word in MODE and command in WITH_MODE:
             mode.add(word)
         else:
             paths.append(word)
-    commands = Commands()
     text, status = answer_or_refusal(getattr(commands, command), paths, mode, outcome)
     return text, status, commands.beside

@@ -1,4 +1,4 @@
-"""Price certificates, outcome files and violation certificates."""
+"""Price certificates, outcome files, violation certificates and refutations."""
 from dataclasses import dataclass, field
 
 from . import numbers
@@ -7,6 +7,8 @@ from .records import Refused, records, refuse_lowest
 MOST_DENOMINATOR = 10**9
 MOST_NUMERATOR = 10**21
 MOST_ROWS = 10_000_000
+MOST_WEIGHT = 10**12
+ROLES = (b"least", b"most", b"left")
 
 NOT_UTF8, BAD_HEAD, BAD_ROW, BAD_NUMBER, UNKNOWN_VOTER = 20, 21, 22, 23, 24
 UNKNOWN_PROJECT, OUT_OF_ORDER, REPEATED, TOO_MANY = 25, 26, 27, 28
@@ -26,6 +28,15 @@ class Violation:
     group: set = field(default_factory=set)
     demand: set = field(default_factory=set)
     by_cost: bool = False
+
+
+@dataclass
+class Refutation:
+    """The weight of Cover, and of each project that a row names its role and its weight."""
+
+    cover: int = 0
+    roles: dict = field(default_factory=dict)
+    weights: dict = field(default_factory=dict)
 
 
 def rows_of(data):
@@ -134,6 +145,27 @@ def read_violation(data, election):
             raise Refused(BAD_ROW, place)
         take_once(election, violation.demand if fields[0] == b"project" else violation.group, fields, place)
     return violation
+
+
+def read_refutation(data, election):
+    """The weights that the bytes state; else they are refused."""
+    rows = rows_of(data)
+    take_head(rows, [b"pb-refutation", b"1"])
+    refutation = Refutation(take_head_number(rows, b"cover", 0, MOST_WEIGHT))
+    take_head(rows, [b"role", b"project", b"weight"])
+    for place, fields in rows:
+        if fields is None:
+            break
+        if len(fields) != 3 or fields[0] not in ROLES:
+            raise Refused(BAD_ROW, place)
+        role, project, weight = fields[0], election.number_of.get(fields[1]), numbers.whole(fields[2], MOST_WEIGHT)
+        faults = [BAD_NUMBER] if weight is None else []
+        faults += faults_of_project(election, fields[1])
+        if project in refutation.roles:
+            faults.append(REPEATED)
+        refuse_lowest(faults, place)
+        refutation.roles[project], refutation.weights[project] = role, weight
+    return refutation
 
 
 def take_once(election, members, fields, place):

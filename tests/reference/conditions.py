@@ -53,6 +53,19 @@ class Claim:
     def offer_of_supporters(self, project):
         return sum((self.offer(voter) for voter in self.election.supporters(project)), Fraction(0))
 
+    def share(self, project):
+        """The share of a project's supporters in the limit."""
+        return len(self.election.supporters(project)) * self.limit / len(self.election.ballots)
+
+    def funded_for(self, project):
+        """What was funded that a supporter of a project approves costs so much."""
+        ballots = (self.election.ballot(voter) for voter in self.election.supporters(project))
+        return self.cost_of(self.funded_set & set().union(*ballots))
+
+    def surplus(self, project):
+        """By how much that share is more than the project and what was funded for its supporters."""
+        return self.share(project) - self.cost(project) - self.funded_for(project)
+
 
 # Each condition answers its culprits, the lowest voter first and then the lowest project: of each the voter and the
 # project, None where it has none. A condition holds where it has no culprits.

@@ -1,7 +1,7 @@
 """The lines of 'explain', each in fractions: what every condition or test comes to."""
 from fractions import Fraction
 
-from . import conditions, violations
+from . import conditions, refutations, violations
 
 MILLION = 10**6
 
@@ -144,7 +144,11 @@ def violation_lines(election, funded, violation):
         cost = Fraction(sum(election.costs[project] for project in violation.demand), MILLION)
         share = amount(Fraction(members * election.limit, voters * MILLION))
         sentences[2] = f"the group's share of the limit is {share}; the demanded projects cost {amount(cost)}"
-    for name, culprits, sentence in zip(["V1", "V2", "V3", "V4"], [v1, v2, v3, v4], sentences):
+    yield from lines_of(violations.TESTS, [v1, v2, v3, v4], sentences)
+
+
+def lines_of(tests, failing, sentences):
+    for (name, _), culprits, sentence in zip(tests, failing, sentences):
         yield f"{name:12}{'fails' if culprits else 'holds':11}{sentence}"
 
 
@@ -163,3 +167,43 @@ def worth_sentence(election, funded, violation, culprits):
     else:
         end = f"each member gets at most {said(max(map(gets, violation.group), default=0))}"
     return f"{measure} the demanded projects are worth {demanded}, and {end}"
+
+
+def refutation_lines(weighing):
+    """A line for each test of a refutation."""
+    failing = [culprits_of(weighing) for _, culprits_of in refutations.TESTS]
+    roles = list(weighing.refutation.roles.values())
+    counts = ", of ".join(f"{role.decode()}: {roles.count(role)}" for role in (b"least", b"most", b"left"))
+    sentences = [f"each row fits whether its project is funded; rows of {counts}"]
+    if failing[0]:
+        name = weighing.election.id(failing[0][0][1]).decode()
+        sentences = [f"the row of project {name} doesn't fit whether it is funded{how_many('such rows', failing[0])}"]
+    counted, taken = weighing.u2_sums()
+    sentences.append(f"the weights count at most {counted} voter budgets, and take {taken}")
+    paid, owed = weighing.u3_sums()
+    # What is below 0 on one side stands on the other.
+    most = weighing.cost_of_most()
+    sentences.append(f"costs times weights come to {amount(paid + most)} for least and Cover, whose weight is "
+                     f"{weighing.refutation.cover}, and to {amount(owed + most)} for most and left")
+    yield from lines_of(refutations.TESTS, failing, sentences)
+
+
+def group_lines(claim):
+    """What a yes to prices says of every group, and of which the supporters come nearest to being passed over."""
+    voters = len(claim.election.ballots)
+    budgets = voters * claim.budget
+    if budgets < claim.limit:
+        yield "whether a group is passed over isn't shown: all voter budgets together are less than the limit"
+        return
+    if budgets > claim.limit:
+        yield ("no group is passed over: where a group has members, who all approve an unfunded project, its share of the "
+               "limit is less than this project and all that was funded for the group cost together")
+    else:
+        yield ("no group's share of the limit is more than an unfunded project that all its members approve and all that "
+               "was funded for the group cost together")
+    project = closest(claim.unfunded(), claim.surplus) if voters else None
+    if project is not None:
+        supporters = len(claim.election.supporters(project))
+        yield (f"nearest to that comes project {claim.election.id(project).decode()}: the share of its {supporters} "
+               f"supporters is {amount(claim.share(project))}, it costs {amount(claim.cost(project))}, and "
+               f"{amount(claim.funded_for(project))} was funded for them")

@@ -6,24 +6,23 @@ from . import amounts
 from .bars import bar, bar_against, part_in_words
 from .nodes import element
 from .projects import part_label
-from .states import condition_item
+from .states import Tested
 from .tables import BAR, MONEY, WORDS, table
 
 MILLION = 10**6
 
 
-class GroupFigures:
+class GroupFigures(Tested):
     """What is found of a group and its demand."""
 
     words = ("share", "demand")
 
     def __init__(self, election, funded, violation):
+        super().__init__(violations.TESTS, election, funded, violation)
         self.election, self.violation = election, violation
         self.funded = funded
         self.members, self.voters = len(violation.group), len(election.ballots)
         self.demand = sorted(violation.demand)
-        self.culprits = {name: culprits_of(election, funded, violation) for name, culprits_of in violations.TESTS}
-        self.failed = next((name for name in self.culprits if self.culprits[name]), None)
         self.cost = Fraction(sum(election.costs[project] for project in self.demand), MILLION)
         self.share = self.share_of_limit()
 
@@ -34,10 +33,6 @@ class GroupFigures:
     def answer(self):
         return "answer.violation.no" if self.failed else "answer.violation.yes"
 
-    def news(self):
-        """What kind of news the answer is: a class. That no violation is proved is neither good nor bad."""
-        return "neither" if self.failed else "bad"
-
     def not_said(self):
         return "not_said.violation.no" if self.failed else "not_said.violation.yes"
 
@@ -46,9 +41,6 @@ class GroupFigures:
         if self.failed:
             return ["claims.violation.no"]
         return ["claims.violation.yes", "claims.violation.by_" + ("cost" if self.violation.by_cost else "count")]
-
-    def options(self):
-        return []
 
     # What projects are worth.
 
@@ -71,30 +63,20 @@ class GroupFigures:
         """What projects are worth: an amount, or a number of projects."""
         return case.money(Fraction(worth, MILLION)) if self.violation.by_cost else [amounts.grouped(worth)]
 
-    def state(self, name):
-        return "fails" if self.culprits[name] else "holds"
-
     # The parts of the page.
 
     def why(self, case):
         return self.comes_to(case, self.failed) if self.failed else [case.say("why.violation.yes")]
 
-    def caution(self, case):
-        return []
-
     def asked_for(self, case):
         return element("li", case.say("asked.measure." + ("cost" if self.violation.by_cost else "count")))
 
     def figures(self, case):
-        listed = [
-            condition_item(case, name, self.state(name), f"state.test_{self.state(name)}", self.comes_to(case, name))
-            for name in self.culprits
-        ]
         return [
             element("section", element("h2", case.say("group.title")), self.tiles(case),
                     self.bar_of_share(case), self.bar_of_gets(case)),
             element("section", element("h2", case.say("demand.title")), self.demand_table(case)),
-            element("section", element("h2", case.say("state.tests")), element("ol", listed)),
+            self.tests(case),
         ]
 
     def tiles(self, case):

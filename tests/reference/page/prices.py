@@ -96,6 +96,29 @@ class PriceFigures:
             return comes_to(case, self, self.failed)
         return [case.say("why.prices.yes_stable" if self.form() == "stable" else "why.prices.yes")]
 
+    def said_of_groups(self):
+        """What a yes says of every group, where the budgets of all voters together are the limit or more: a meaning."""
+        if self.failed or self.budgets < self.claim.limit:
+            return None
+        return "groups.none_passed_over" if self.budgets > self.claim.limit else "groups.within_reach"
+
+    def of_groups(self, case):
+        """That, with the supporters of an unfunded project who come nearest to their share."""
+        if not self.said_of_groups():
+            return []
+        voted = self.claim.unfunded() if self.claim.election.ballots else []
+        nearest = max(voted, key=self.claim.surplus, default=None)
+        return element("p", case.say(self.said_of_groups()), self.nearest(case, nearest) if nearest else [])
+
+    def nearest(self, case, project):
+        count = len(self.claim.election.supporters(project))
+        told = case.filled(
+            "groups.nearest", count, project=case.project(project), count=amounts.grouped(count),
+            share=case.money(self.claim.share(project)), cost=case.money(self.claim.cost(project)),
+            funded=case.money(self.claim.funded_for(project)),
+        )  # fmt: skip
+        return [" ", *told]
+
     def says_little(self):
         """That a yes says little, where the budgets of all voters together are less than the limit: a meaning."""
         if self.failed or self.budgets >= self.claim.limit:
@@ -149,7 +172,9 @@ class PriceFigures:
         """What may be said in public, as meanings."""
         if not self.failed:
             yes = "claims.prices.yes_stable" if self.form() == "stable" else "claims.prices.yes"
-            return [yes, f"claims.{self.says_little()}"] if self.says_little() else [yes]
+            if self.says_little():
+                return [yes, f"claims.{self.says_little()}"]
+            return [self.said_of_groups(), yes]
         if self.fails_by_outcome():
             return ["claims.prices.no_by_outcome"]
         return ["claims.prices.plain_alone" if self.fails_as_stable_alone() else "claims.prices.no_by_payments"]

@@ -3,7 +3,7 @@ import os
 import re
 
 from .. import answers
-from ..certificates import read_prices, read_violation
+from ..certificates import read_prices, read_refutation, read_violation
 from ..election import read_election
 from . import amounts
 from .bars import bar
@@ -12,10 +12,16 @@ from .group import GroupFigures, money_tile, tile
 from .labels import cut, visible
 from .nodes import element, text_of
 from .prices import PriceFigures
+from .weights import WeightFigures
 
 POLICY = "default-src 'none'; style-src 'unsafe-inline'; base-uri 'none'; form-action 'none'"
 PLAIN_WORD = re.compile(r"[A-Za-z0-9._/-]*")
 MOST_IN_A_LINE, MOST_IN_A_WORD = 120, 255
+KINDS = {
+    "prices": (read_prices, answers.verdict_on_prices, PriceFigures),
+    "violation": (read_violation, answers.verdict_on_violation, GroupFigures),
+    "refutation": (read_refutation, answers.verdict_on_refutation, WeightFigures),
+}
 
 
 class Audit:
@@ -26,15 +32,12 @@ class Audit:
         self.mode, self.said = set(mode), set()
         self.election = answers.take("election", read_election, election)
         self.funded = answers.take_outcome(self.election, outcome)
-        data = answers.take("certificate", bytes, certificate)
-        if answers.is_violation(data):
-            violation = answers.take("certificate", read_violation, certificate, self.election)
-            self.line, self.status = answers.verdict_on_violation(self.election, self.funded, violation)
-            self.found = GroupFigures(self.election, self.funded, violation)
-        else:
-            prices = answers.take("certificate", read_prices, certificate, self.election)
-            self.line, self.status = answers.verdict_on_prices(self.election, self.funded, prices, self.mode)
-            self.found = PriceFigures(self.election, self.funded, prices, self.mode)
+        kind = answers.kind_of(answers.take("certificate", bytes, certificate))
+        reads, verdict_on, figures = KINDS[kind]
+        found = [self.election, self.funded, answers.take("certificate", reads, certificate, self.election)]
+        found += [self.mode] if kind == "prices" else []
+        self.line, self.status = verdict_on(*found)
+        self.found = figures(*found)
 
     def files(self):
         given = [(role, os.fsencode(path)) for role, path in self.paths.items() if path is not None]
@@ -106,6 +109,7 @@ def body(case, found):
             "section",
             element("h2", case.say(found.answer())),
             element("p", found.why(case)),
+            found.of_groups(case),
             found.caution(case),
             element("ul", found.asked_for(case)),
             class_=f"answer {found.news()}",
@@ -156,6 +160,7 @@ def behind_figures(case, found):
     ]
     return [
         element("section", element("h2", case.say("not_said.title")), element("li", case.say(found.not_said())),
+                element("li", case.say("not_said.groups")) if found.says_little() else [],
                 element("li", case.say("not_said.files"))),
         element("section", element("h2", case.say("claims.title")),
                 element("p", " ".join(map(case.say, found.may_be_said())), class_="claim"),

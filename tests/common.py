@@ -1,0 +1,37 @@
+"""Where the tests and the repository are, what a test needs that may be missing, and what several do with files and commands."""
+import pathlib
+import shutil
+import subprocess
+
+import pytest
+
+HERE = pathlib.Path(__file__).resolve().parent
+TOP = HERE.parent
+
+
+def needs(*commands):
+    """Skips a test where one of these commands isn't installed; a tuple has several names of one."""
+    for names in commands:
+        names = (names,) if isinstance(names, str) else names
+        if not any(map(shutil.which, names)):
+            pytest.skip(f"{names[0]} is not installed")
+
+
+def ran(*words, **more):
+    """A command that has ended: its status and what it wrote."""
+    more = {"stdin": subprocess.DEVNULL, "capture_output": True, "text": True, "timeout": 1200, "check": False} | more
+    try:
+        return subprocess.run([str(word) for word in words], **more)
+    except OSError as error:
+        return subprocess.CompletedProcess(words, 127, "", str(error))
+
+
+def script(path, text):
+    path.write_text(text)
+    path.chmod(0o755)
+
+
+def turned(data):
+    """The bytes of a file with one in the middle turned."""
+    middle = len(data) // 2
+    return data[:middle] + bytes([data[middle] ^ 1]) + data[middle + 1:]

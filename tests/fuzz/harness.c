@@ -1,0 +1,215 @@
+/* Calls the C library on files that libFuzzer makes. An input is a letter for the command, one for the switches (a, and 1 for
+   stable, 2 for exhaustive, 4 for cover), a digit (the allocation of this number fails, 0 for none), and the files with a byte
+   0x1e before each: election, certificate, then the violation of `both`, and last an outcome.
+
+   Each file and each answer ends where a page ends that nothing may touch. The same call has to say the same with just enough
+   room, and write nothing with less or where it runs out of memory; what explains has to begin with the line that is explained,
+   both have to be what each is, tidied prices stay as they are, and each refusal has a hint or none, but ends.
+
+   The library has no counters for libFuzzer, so the kinds of its answers are counted in their place.
+*/
+#include "pbaudit.h"
+#include <stdio.h>
+#include <stdlib.h>
+#include <string.h>
+#include <sys/mman.h>
+#include <unistd.h>
+
+enum { FILES = 4, ELECTION = 0, CERTIFICATE = 1, VIOLATION = 2, OUTCOME = 3, COUNTERS = 1 << 14 };
+__attribute__((section("__libfuzzer_extra_counters"))) static uint8_t counters[COUNTERS];
+
+typedef struct { uint8_t *at; size_t length; uint8_t *pages; size_t size; } Bytes;
+typedef struct { uint8_t status; Bytes text; } Answer;
+static Bytes files[FILES];
+static bool has_outcome, stable, exhaustive, cover;
+static long allocations, failing;
+
+extern void *__real_malloc(size_t), *__real_realloc(void *, size_t);
+static bool fails(void) { return ++allocations == failing; }
+void *__wrap_malloc(size_t size) { return fails() ? NULL : __real_malloc(size); }
+void *__wrap_realloc(void *old, size_t size) { return fails() ? NULL : __real_realloc(old, size); }
+
+/* So many bytes with a page behind them that can't be touched. */
+static Bytes guarded(size_t length) {
+    size_t page = (size_t)sysconf(_SC_PAGESIZE), size = (length + page - 1) / page * page + page;
+    uint8_t *pages = mmap(NULL, size, PROT_READ | PROT_WRITE, MAP_PRIVATE | MAP_ANONYMOUS, -1, 0);
+    if (pages == MAP_FAILED || mprotect(pages + size - page, page, PROT_NONE))
+        abort();
+    return (Bytes){pages + size - page - length, length, pages, size};
+}
+
+static void let_go(Bytes bytes) { munmap(bytes.pages, bytes.size); }
+
+static void demand(bool holds, const char *what) {
+    if (!holds) {
+        fprintf(stderr, "the library is wrong: %s\n", what);
+        abort();
+    }
+}
+
+static uint8_t call(char command, uint8_t *out, size_t room, size_t *needed) {
+    const uint8_t *e = files[ELECTION].at, *c = files[CERTIFICATE].at, *v = files[VIOLATION].at, *o = files[OUTCOME].at;
+    size_t el = files[ELECTION].length, cl = files[CERTIFICATE].length, vl = files[VIOLATION].length, ol = files[OUTCOME].length;
+    switch (command) {
+    case 'p': return pbaudit_prices(e, el, o, ol, has_outcome, c, cl, stable, exhaustive, cover, out, room, needed);
+    case 'v': return pbaudit_violation(e, el, o, ol, has_outcome, c, cl, out, room, needed);
+    case 'u': return pbaudit_refutation(e, el, o, ol, has_outcome, c, cl, out, room, needed);
+    case 'b': return pbaudit_both(e, el, o, ol, has_outcome, c, cl, v, vl, stable, exhaustive, cover, out, room, needed);
+    case 'e': return pbaudit_explain(e, el, o, ol, has_outcome, c, cl, stable, exhaustive, cover, out, room, needed);
+    case 'm': return pbaudit_margins(e, el, o, ol, has_outcome, c, cl, out, room, needed);
+    case 't': return pbaudit_tidy(e, el, c, cl, out, room, needed);
+    case 'n': return pbaudit_note(e, el, c, cl, out, room, needed);
+    case 'g': return pbaudit_page(e, el, v, 0, o, ol, v, 0, has_outcome, c, cl, v, 0, stable, exhaustive, cover,
+                                  (const uint8_t *)"de", 2, out, room, needed);
+    default: return pbaudit_read(e, el, out, room, needed);
+    }
+}
+
+static bool is_untouched(Bytes out) {
+    for (size_t at = 0; at < out.length; at++)
+        if (out.at[at] != 0xaa)
+            return false;
+    return true;
+}
+
+/* What a call answers, with just enough room. */
+static Answer answer(char command) {
+    size_t needed = 0, again = 0;
+    uint8_t none, status = call(command, &none, 0, &needed);
+    Answer said = {status, guarded(needed)};
+    demand(call(command, said.text.at, needed, &again) == status && again == needed, "another answer with room for it");
+    if (needed) {
+        Bytes less = guarded(needed - 1);
+        memset(less.at, 0xaa, less.length);
+        demand(call(command, less.at, less.length, &again) == status && again == needed && is_untouched(less),
+               "it writes where there is less room");
+        let_go(less);
+    }
+    bool is_refused = needed > 8 && !memcmp(said.text.at, "refused ", 8);
+    demand(status <= 2 && (status == 2) == is_refused, "a status that isn't that of the text");
+    bool has_end = needed && said.text.at[needed - 1] == '\n';
+    demand(has_end || command == 'n' || (command == 'g' && status != 2), "a text without an end");
+    return said;
+}
+
+/* The same where an allocation fails: out of memory with nothing written, or the usual answer. */
+static void starve(char command, Answer usual, long at) {
+    Bytes out = guarded(usual.text.length);
+    size_t needed = 99;
+    memset(out.at, 0xaa, out.length);
+    allocations = 0, failing = at;
+    uint8_t status = call(command, out.at, out.length, &needed);
+    failing = 0;
+    if (status == 4)
+        demand(needed == 0 && is_untouched(out), "it writes where memory ran out");
+    else
+        demand(status == usual.status && needed == usual.text.length && !memcmp(out.at, usual.text.at, needed), "another answer");
+    let_go(out);
+}
+
+static void demand_line(Answer said, const uint8_t *line, size_t length, const char *what) {
+    demand(said.text.length >= length && !memcmp(said.text.at, line, length), what);
+}
+
+static void demand_both(Answer both) {
+    if (both.status == 2)
+        return;
+    Answer prices = answer('p');
+    demand_line(both, prices.text.at, prices.text.length, "both don't begin with the prices");
+    Bytes certificate = files[CERTIFICATE];
+    files[CERTIFICATE] = files[VIOLATION];
+    Answer violation = answer('v');
+    files[CERTIFICATE] = certificate;
+    demand(both.text.length == prices.text.length + violation.text.length &&
+               !memcmp(both.text.at + prices.text.length, violation.text.at, violation.text.length),
+           "both don't end with the violation");
+    demand(both.status == (prices.status | violation.status), "the status of both");
+    let_go(prices.text), let_go(violation.text);
+}
+
+static bool begins(Bytes file, const char *with) {
+    return file.length > strlen(with) && !memcmp(file.at, with, strlen(with));
+}
+
+static void demand_explained(Answer explained) {
+    Answer verdict = answer(begins(files[CERTIFICATE], "pb-violation") ? 'v' : begins(files[CERTIFICATE], "pb-refutation") ? 'u' : 'p');
+    if (explained.status != 2 && verdict.status != 2) {
+        demand_line(explained, verdict.text.at, verdict.text.length, "an explanation doesn't begin with its verdict");
+        demand(explained.status == verdict.status, "the status of an explanation");
+    }
+    let_go(verdict.text);
+}
+
+static void demand_tidied(Answer tidied) {
+    if (tidied.status)
+        return;
+    Bytes certificate = files[CERTIFICATE];
+    files[CERTIFICATE] = tidied.text;
+    Answer again = answer('t');
+    files[CERTIFICATE] = certificate;
+    demand(again.text.length == tidied.text.length && !memcmp(again.text.at, tidied.text.at, again.text.length),
+           "tidied prices aren't in order");
+    let_go(again.text);
+}
+
+static void hint(char command, Answer refused) {
+    char line[64] = {0}, input[16];
+    unsigned number;
+    unsigned long long record;
+    uint64_t at;
+    size_t needed, length = refused.text.length < sizeof line ? refused.text.length : sizeof line - 1;
+    memcpy(line, refused.text.at, length);
+    demand(sscanf(line, "refused %15s %u %*s record %llu", input, &number, &record) == 3, "a refusal that isn't one");
+    bool is_election = !strcmp(input, "election"), is_outcome = !strcmp(input, "outcome"), is_second = !strcmp(input, "violation");
+    Bytes file = files[is_election ? ELECTION : is_outcome ? OUTCOME : is_second ? VIOLATION : CERTIFICATE], out = guarded(4096);
+    bool is_any = command == 'e' || command == 'g';
+    uint8_t kind = is_election ? 0 : is_outcome ? 1 : is_second || command == 'v' ? 3 : is_any ? 4 : command == 'u' ? 5 : 2;
+    demand(pbaudit_hint(kind, number, record, file.at, file.length, files[ELECTION].at, files[ELECTION].length, !is_election,
+                        &at, out.at, out.length, &needed) == 0, "a hint that fails");
+    let_go(out);
+}
+
+/* Counts the kind of an answer: the command, the status, and what its first line and its length are like. */
+static void count(char command, Answer said) {
+    uint32_t hash = (uint32_t)command * 31 + said.status;
+    for (size_t at = 0; at < said.text.length && at < 40 && said.text.at[at] != '\n'; at++)
+        hash = hash * 16777619 ^ said.text.at[at];
+    counters[hash % COUNTERS] = 1;
+    counters[(hash / 7 + said.text.length / 64) % COUNTERS] = 1;
+}
+
+int LLVMFuzzerTestOneInput(const uint8_t *data, size_t size) {
+    if (size < 4)
+        return -1;
+    char command = (char)data[0];
+    stable = data[1] & 1, exhaustive = data[1] & 2, cover = data[1] & 4;
+    long starved = data[2] >= '1' && data[2] <= '9' ? data[2] - '0' : 0;
+    size_t at = 3;
+    int given = 0;
+    for (int file = 0; file < FILES; file++) {
+        if (at < size && data[at] == 0x1e)
+            at++, given++;
+        const uint8_t *end = at < size ? memchr(data + at, 0x1e, size - at) : NULL;
+        size_t length = (end ? (size_t)(end - data) : size) - at;
+        files[file] = guarded(length);
+        memcpy(files[file].at, data + at, length);
+        at += length;
+    }
+    has_outcome = given == FILES;
+    Answer said = answer(command);
+    count(command, said);
+    if (starved)
+        starve(command, said, starved);
+    if (said.status == 2)
+        hint(command, said);
+    if (command == 'b')
+        demand_both(said);
+    if (command == 'e')
+        demand_explained(said);
+    if (command == 't')
+        demand_tidied(said);
+    let_go(said.text);
+    for (int file = 0; file < FILES; file++)
+        let_go(files[file]);
+    return 0;
+}

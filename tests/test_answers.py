@@ -1,0 +1,34 @@
+"""What the program answers on the examples, and on the small files of tables/answers.txt."""
+import re
+
+import pytest
+
+import tables
+
+TABLE = tables.Table("answers.txt")
+EXAMPLES = (tables.EXAMPLES / "answers.txt").read_text("utf-8")
+ON_EXAMPLES = re.findall(r"^pbaudit (.*)\n((?:(?!pbaudit |status ).*\n)*)status (\d)\n((?:(?!pbaudit ).*\n?)*)", EXAMPLES, re.M)
+
+
+@pytest.mark.parametrize("words, printed, status, told", ON_EXAMPLES, ids=[each[0] for each in ON_EXAMPLES])
+def test_example(run, words, printed, status, told):
+    ran = run(*words.split(" "))
+    assert ran.stdout.decode() == printed
+    assert ran.stderr.decode() == told
+    assert ran.returncode == int(status)
+
+
+def test_all_examples_are_read():
+    assert len(ON_EXAMPLES) == len(re.findall("^pbaudit ", EXAMPLES, re.M)) == len(re.findall("^status ", EXAMPLES, re.M))
+
+
+@pytest.mark.parametrize("row, words", tables.cases(TABLE))
+def test_answer(run, room, row, words):
+    row.write(room, TABLE.files)
+    ran = run(*words, cwd=room)
+    assert ran.stdout.decode() == row.text
+    assert ran.returncode == row.status
+    if row.told or row.status != 2:
+        assert ran.stderr.decode() == "".join(line + "\n" for line in row.told)
+    else:
+        assert ran.stderr

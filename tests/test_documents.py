@@ -1,0 +1,203 @@
+"""The pages lead somewhere: each link of a page to a file or a heading, and each path in backticks; they keep to their lengths, which
+docs/TRUST.md tells; what docs/COUNCILS.md quotes and docs/CONDITIONS.md names is said by the page about a certificate, and the sums of
+docs/CAMPAIGNS.md are right; each file that docs/files.py prints begins with a comment on what it is for; and each command that the
+pages show writes what stands under it."""
+import csv
+import math
+import re
+import subprocess
+from fractions import Fraction
+
+import pytest
+
+from common import TOP
+
+LENGTHS = {"README.md": 140, "docs/STATEMENT.md": 500}
+SAID = {"docs/COUNCILS.md": ["crates/pb_words/src/wording/en.rt", "crates/pb_words/src/headlines.rt"]}
+LETTERS = ("Feasible", "Exhaustive", "Cover", *"C1 C2 C3 C4 C5 S5 V1 V2 V3 V4 U1 U2 U3".split())
+PAGES = [*("README.md", "CONTRIBUTING.md", "CHANGELOG.md", "examples/README.md", "tests/README.md", "tests/reference/README.md"),
+         *sorted(f"docs/{path.name}" for path in (TOP / "docs").glob("*.md"))]  # fmt: skip
+FOLDERS = r"\.ci|bench|crates|docs|examples|include|packaging|python|release|tests|web"
+
+
+def prose(text):
+    """The text of a page without its indented blocks."""
+    return "\n".join("" if line.startswith("    ") else line for line in text.splitlines())
+
+
+def anchors(page):
+    """What a link may name behind '#': each heading in small letters, with hyphens for blanks and no other signs."""
+    headings = re.findall(r"^#+ (.+)$", prose(page.read_text(encoding="utf-8")), re.MULTILINE)
+    return {re.sub(r"[^\w\- ]", "", heading.lower()).replace(" ", "-") for heading in headings}
+
+
+def link_error(page, target):
+    """What is wrong with a link of a page, or None."""
+    path, _, anchor = target.partition("#")
+    file = (page.parent / path).resolve() if path else page
+    if not file.exists():
+        return f"there is no {path}"
+    if anchor and (file.suffix != ".md" or anchor not in anchors(file)):
+        return f"{path or page.name} has no heading #{anchor}"
+    return None
+
+
+def quotes(text):
+    """What stands between “ and ”, on one line."""
+    return [" ".join(words.split()) for words in re.findall(r"“([^”]+)”", text)]
+
+
+def texts_of(sources):
+    """The texts of these sources, each on one line."""
+    code = "".join((TOP / name).read_text(encoding="utf-8") for name in sources)
+    return set(re.findall(r'"([^"\n]*)"', re.sub(r"\\\n\s*", "", code)))
+
+
+@pytest.mark.parametrize("name", PAGES)
+def test_links(name):
+    text = prose((TOP / name).read_text(encoding="utf-8"))
+    links = re.findall(r"\]\(([^)\s]+)\)", text) + re.findall(r"src=\s*\"([^\"]+)\"", text)
+    errors = [link_error(TOP / name, target) for target in links if not re.match(r"[a-z]+:", target)]
+    assert [error for error in errors if error] == []
+
+
+@pytest.mark.parametrize("name", PAGES)
+def test_paths(name):
+    """But for patterns, what a build makes, and what the gate's copy hasn't."""
+    text = prose((TOP / name).read_text(encoding="utf-8"))
+    words = [word for code in re.findall(r"`([^`\n]+)`", text) for word in code.split()]
+    paths = [word for word in words if re.fullmatch(rf"(?:{FOLDERS})/[\w./-]*", word)]
+    there = [path for path in paths if not re.search("NAME|MODULE|VERSION|/out(/|$)|/must-fail/", path)]
+    assert [path for path in there if not (TOP / path).exists()] == []
+
+
+@pytest.mark.parametrize("name", SAID)
+def test_quotes(name):
+    said = texts_of(SAID[name])
+    assert [quote for quote in quotes(prose((TOP / name).read_text(encoding="utf-8"))) if quote not in said] == []
+
+
+def test_names_are_those_of_the_page():
+    """The table of names in docs/CONDITIONS.md has each condition and test, by the page's words for it."""
+    table = (TOP / "docs/CONDITIONS.md").read_text(encoding="utf-8").split("\n## Names\n")[1]
+    names = dict(re.findall(r"^\| (\w+) \| ([^|]+) \|", table, re.MULTILINE))
+    headings = (TOP / "crates/pb_words/src/wording/en.rt").read_text(encoding="utf-8")
+    said = dict(re.findall(r'Sentence::Name(\w+) =>\s*"([^"]+)"', headings))
+    assert {letter: names.get(letter) for letter in LETTERS} == {letter: said.get(letter) for letter in LETTERS}
+
+
+@pytest.mark.parametrize("name", LENGTHS)
+def test_length(name):
+    assert len((TOP / name).read_text(encoding="utf-8").splitlines()) <= LENGTHS[name]
+
+
+def test_all_pages_together():
+    """Those for readers; CONTRIBUTING is for who changes the sources."""
+    pages = [TOP / "README.md", *(TOP / "docs").glob("*.md")]
+    assert sum(len(page.read_text(encoding="utf-8").splitlines()) for page in pages) <= 2300
+
+
+def test_sums_of_the_district():
+    """The share of nine voters, and how many voters the demand needs, as docs/CAMPAIGNS.md works them out."""
+    text = " ".join((TOP / "docs/CAMPAIGNS.md").read_text(encoding="utf-8").split())
+    lines = (TOP / "examples/district.pb").read_text(encoding="utf-8-sig").replace("\r", "").split("\nVOTES\n")
+    rows = [row for row in csv.reader(lines[0].splitlines(), delimiter=";") if len(row) > 5 and row[0].isdigit()]
+    costs = {row[0]: Fraction(row[1].replace(",", ".")) for row in rows}
+    limit = Fraction(re.search(r"^budget;([\d.,]+)$", lines[0], re.MULTILINE)[1].replace(",", "."))
+    voters = len([line for line in lines[1].splitlines() if line.strip(" ;")]) - 1
+    demand = costs["105"] + costs["121"]
+    assert f"9 × {float(limit):.2f} / {voters} = {float(9 * limit / voters):.2f}" in text
+    needed = voters * demand / limit
+    assert f"{voters} × {float(demand):.2f} / {float(limit):.2f} = {math.floor(needed * 1000) / 1000}.., so nine" in text
+    assert math.ceil(needed) == 9 and f"With eight voters it would be {float(8 * limit / voters):.2f}" in text
+
+
+def section_of(page, heading):
+    """How many lines a section has, with its heading."""
+    text = (TOP / page).read_text(encoding="utf-8")
+    return len(text[text.index(f"\n{heading}\n") + 1:].split("\n## ")[0].rstrip("\n").splitlines())
+
+
+def lines_of(*patterns):
+    files = {file for pattern in patterns for file in TOP.glob(pattern)}
+    return sum(len(file.read_text(encoding="utf-8").splitlines()) for file in files)
+
+
+def files_below(file, found):
+    """The files of definitions of crates/ on which one stands by its `use` lines, with itself."""
+    found.add(file)
+    for crate, module in re.findall(r"^use Rattle\.(pb_\w+)\.specs\.([\w.]*\w)", file.read_text(encoding="utf-8"), re.MULTILINE):
+        path = TOP / "crates" / crate / "specs" / module.replace(".", "/")
+        named = [below for each in (path, path.parent) if (below := each.with_name(f"{each.name}.antt")).is_file()]
+        assert named or module.startswith("declared."), f"{file} uses {module}, which is no file"
+        if named and named[0] not in found:
+            files_below(named[0], found)
+    return found
+
+
+def test_routes_have_their_lines():
+    """How much docs/TRUST.md says that there is to read, to the twentieth part."""
+    trust = (TOP / "docs/TRUST.md").read_text(encoding="utf-8")
+    figures = re.findall(r"^\| \d+ minutes \|.*\| ([\d,]+)(?: more| in all)? \|", trust, re.MULTILINE)
+    figures += re.findall(r"The reference is about ([\d,]+) lines", trust)
+    told = [int(figure.replace(",", "")) for figure in figures]
+    definitions = ("Amounts", "Conditions", "Groups", "EveryGroup", "Refutations")
+    specs = [*(f"crates/pb_cohesion/specs/{name}.antt" for name in definitions),
+             *(f"crates/pb_{crate}/specs/**/{name}.antt" for crate in ("election", "certificate") for name in ("Text", "Faults")),
+             "crates/pb_audit/specs/Answers.antt"]  # fmt: skip
+    counted = [section_of("docs/STATEMENT.md", "## The promise") + section_of("docs/CONDITIONS.md", "## The conditions"),
+               lines_of("docs/STATEMENT.md"), lines_of(*specs),
+               sum(len(file.read_text(encoding="utf-8").splitlines()) for file in files_below(TOP / specs[-1], set())),
+               lines_of("tests/reference/*.py")]  # fmt: skip
+    assert len(told) == len(counted)
+    assert [(one, other) for one, other in zip(told, counted) if abs(one - other) > other / 20] == []
+
+
+@pytest.fixture(scope="module")
+def purposes():
+    """What docs/files.py prints of each file."""
+    printed = subprocess.run([TOP / "docs/files.py"], capture_output=True, text=True, check=True).stdout
+    folder, found = "", {}
+    for line in printed.splitlines():
+        if not line.startswith(" "):
+            folder = line
+        else:
+            name, _, purpose = line.strip().partition(": ")
+            found[f"{folder}/{name.rstrip(':')}"] = purpose
+    return found
+
+
+def test_each_file_begins_with_what_it_is_for(purposes):
+    assert purposes and [name for name, purpose in purposes.items() if not purpose] == []
+
+
+def test_each_file_is_listed(purposes):
+    """Those of the crates' sources and definitions, of the Python package and of the page."""
+    kinds = ["crates/*/src/**/*.rt", "crates/*/specs/**/*.antt", "python/pbaudit/**/*.py", "web/*.*", "web/src/**/*", "web/tests/**/*"]
+    files = {file for kind in kinds for file in TOP.glob(kind) if file.suffix in (".rt", ".antt", ".py", ".ts", ".js", ".c")}
+    assert sorted(purposes) == sorted(str(file.relative_to(TOP)) for file in files if file.name != "Lib.antt")
+
+
+def shown_commands():
+    """Each command that a page shows behind '$ ', with the lines that stand under it, up to the end of the block."""
+    for name in PAGES:
+        if not name.startswith(("README.md", "docs/", "tests/reference/")):
+            continue
+        command, lines = None, []
+        for line in [*(TOP / name).read_text(encoding="utf-8").splitlines(), "end"]:
+            if command and (line.startswith("    $ ") or line and not line.startswith("    ")):
+                yield pytest.param(command, "\n".join(lines).strip("\n"), id=f"{name}: {command}")
+                command = None
+            if line.startswith("    $ "):
+                command, lines = line[6:], []
+            elif command:
+                lines.append(line[4:])
+
+
+@pytest.mark.parametrize("command, wanted", shown_commands())
+def test_shown_command(program, command, wanted):
+    """As ./pbaudit the program is called that is tried."""
+    called = re.sub(r"(?<![\w/.])\./pbaudit(?![\w-])", str(program), command)
+    told = subprocess.run(["bash", "-c", called], cwd=TOP, stdin=subprocess.DEVNULL, stdout=subprocess.PIPE, text=True,
+                          stderr=subprocess.STDOUT, timeout=120, check=False)  # fmt: skip
+    assert told.stdout.rstrip("\n") == wanted

@@ -1,0 +1,233 @@
+"""Tries tests/edits.py with a stand-in for rt, on a repository of two small crates: which edits count as refused, what is noted, and
+that checks go on side by side, also of one crate, as far as memory allows."""
+import os
+import pathlib
+import subprocess
+import sys
+import threading
+import time
+
+import pytest
+
+import edits
+from common import HERE, script
+
+# What rt does here. It notes each call; a check, with the functions whose bodies aren't 'NAME as it was'. Those are
+# proved or not by their words: 'wrong' isn't proved, 'shy' isn't if no other was changed, 'right' is. With 'broken' nothing
+# compiles. Where no other was changed, 'meets N' isn't proved once N such checks have begun, and 'waits for FILE' once that
+# is there.
+RT = f"#!{sys.executable}" + r"""
+import os, pathlib, re, sys, time
+state, crate = pathlib.Path(os.environ["STATE"]), pathlib.Path.cwd().name
+
+def wait(holds):
+    for _ in range(1200):
+        if holds():
+            return True
+        time.sleep(0.1)
+    return False
+
+def note(text):
+    with open(state / "calls", "a") as calls:
+        calls.write(text + "\n")
+
+if sys.argv[1] == "version":
+    print("a stand-in")
+    sys.exit()
+source = pathlib.Path("src/lib.rt").read_text()
+bodies = dict(re.findall(r"(?m)^pub fn (\w+)\(\) \{\n    (.*)\n\}", source))
+changed = {name: body for name, body in bodies.items() if body != f"{name} as it was"}
+if sys.argv[1] == "lib":
+    note(f"lib {crate}")
+    seconds = state / f"{crate}.seconds"
+    time.sleep(float(seconds.read_text()) if seconds.exists() else 0)
+    (state / f"{crate}.proved").touch()
+    pathlib.Path("out/incremental").mkdir(parents=True, exist_ok=True)
+    pathlib.Path("out/incremental/work").write_text("of the proof")
+    print("it can't be proved" if "unprovable" in source else "")
+    sys.exit("unprovable" in source)
+note(f"check {crate} {' '.join(sorted(changed))}")
+said = []
+if pathlib.Path("out/incremental/work").read_text() != "of the proof":
+    sys.exit("error: the kept work is of something else")
+if any("broken" in body for body in changed.values()):
+    sys.exit("error: it doesn't compile")
+for name, body in bodies.items():
+    is_wrong = "wrong" in body or "shy" in body and len(changed) == 1
+    found = re.search(r"meets (\d+)", body)
+    if found and len(changed) == 1:
+        (state / f"met.{name}").touch()
+        is_wrong = wait(lambda: len([*state.glob("met.*")]) >= int(found[1]))
+    found = re.search(r"waits for (\S+)", body)
+    if found:
+        is_wrong = wait((state / found[1]).exists)
+    said.append(f"fn {crate}::{name}: {'not proved' if is_wrong else 'proved'}")
+print("\n".join(said))
+"""
+
+
+# Runs edits.py as a machine does that has more than enough memory.
+AMPLE = "import sys; sys.path.insert(0, sys.argv.pop(1)); import edits; edits.free_memory = lambda: 10**12; sys.exit(edits.main())"
+
+
+class Repository:
+    """A copy of a repository with the crates low and high, of which high stands on low, and the stand-in."""
+
+    def __init__(self, folder, **crates):
+        self.folder = pathlib.Path(folder)
+        self.copy, self.state = self.folder / "copy", self.folder / "state"
+        for name in ("state", "tools", "copy/crates", "cache"):
+            (self.folder / name).mkdir(parents=True)
+        script(self.folder / "tools/rt", RT)
+        (self.copy / "HANDLES").write_text("Handles allowed: none.\n")
+        (self.copy / "crates.txt").write_text("low:\nhigh: low\n")
+        for crate in ("low", "high"):
+            self.write(crate, crates.get(crate, {}))
+
+    def write(self, crate, changes):
+        """Writes a crate with a function for each change, and an edit that makes the change."""
+        home = self.copy / "crates" / crate
+        (home / "src").mkdir(parents=True)
+        (home / "must-fail").mkdir()
+        names = [*changes, "other"]
+        (home / "src/lib.rt").write_text("".join(f"pub fn {it}() {{\n    {it} as it was\n}}\n" for it in names))
+        for name, body in changes.items():
+            text = f"file: src/lib.rt\nold:     {name} as it was\nnew:     {body}\n"
+            (home / f"must-fail/{name}.edit").write_text(text)
+
+    def words(self, *words):
+        self.environment = {**os.environ, "STATE": str(self.state), "XDG_CACHE_HOME": str(self.folder / "cache"),
+                            "PATH": f"{self.folder}/tools:{os.environ['PATH']}"}  # fmt: skip
+        return [sys.executable, "-c", AMPLE, HERE, self.copy, *words]
+
+    def run(self, *words):
+        """The status, what is said, and the calls of rt since the last run."""
+        (self.state / "calls").write_text("")
+        ran = subprocess.run(self.words(*words), env=self.environment, capture_output=True, text=True, timeout=300)
+        return ran.returncode, ran.stdout + ran.stderr, (self.state / "calls").read_text().splitlines()
+
+
+@pytest.fixture
+def repository(room):
+    return lambda **crates: Repository(room, **crates)
+
+
+@pytest.mark.parametrize("low, high, status, calls, lines", [
+    ({"a": "wrong", "b": "wrong"}, {"c": "wrong"}, 0, ["lib low", "check low a b", "lib high", "check high c"],
+     ["3 passed, 0 failed"]),
+    ({"a": "wrong", "b": "shy", "c": "right"}, {}, 1, ["lib low", "check low a b c", "check low b", "check low c"],
+     ["low/c: it is proved", "2 passed, 1 failed"]),
+    ({"a": "broken", "b": "wrong"}, {}, 1, ["lib low", "check low a b", "check low a", "check low a", "check low b"],
+     ["low/a: it doesn't compile", "1 passed, 1 failed"]),
+    ({}, {}, 1, None, ["0 passed, 0 failed"]),
+], ids=["refused", "proved", "broken", "none"])  # fmt: skip
+def test_verdicts(repository, low, high, status, calls, lines):
+    ended, said, called = repository(low=low, high=high).run("--jobs", "1")
+    assert ended == status
+    assert calls is None or sorted(called) == sorted(calls)
+    assert {*lines} <= {*said.splitlines()} and "low/b: " not in said
+
+
+def test_crate_that_is_not_proved(repository):
+    """Its edits and those of the crates above say nothing."""
+    made = repository(low={"a": "wrong"}, high={"b": "wrong"})
+    source = made.copy / "crates/high/src/lib.rt"
+    source.write_text(source.read_text() + "// unprovable\n")
+    status, said, calls = made.run("--jobs", "1")
+    assert (status, sorted(calls)) == (1, ["check low a", "lib high", "lib low"])
+    assert "high: it isn't proved\nit can't be proved" in said and "1 passed, 1 failed" in said
+    assert "the crates are proved" not in said
+
+
+def test_notes(repository):
+    made = repository(low={"a": "wrong", "b": "right"}, high={"c": "wrong"})
+    made.run("--jobs", "1")
+    status, said, calls = made.run("--jobs", "1")
+    assert (status, calls) == (1, ["lib low", "check low b"])
+    assert "low: 1 of 2 edits were refused on this machine before\n" in said
+    status, said, calls = made.run("--jobs", "1", "--anew", "low")
+    assert (status, calls) == (1, ["lib low", "check low a b", "check low b"])
+    source = made.copy / "crates/low/src/lib.rt"
+    source.write_text(source.read_text() + "// a comment\n")
+    status, said, calls = made.run("--jobs", "1")
+    assert (status, sorted(calls)) == (1, sorted(["lib low", "check low a b", "check low b", "lib high", "check high c"]))
+
+
+@pytest.mark.parametrize("low, high", [({name: "meets 3" for name in "abc"}, {}), ({"a": "meets 2"}, {"b": "meets 2"})],
+                         ids=["of one crate", "of two"])  # fmt: skip
+def test_edits_that_are_tried_alone_meet_one_another(repository, low, high):
+    assert repository(low=low, high=high).run("--jobs", "3")[0] == 0
+
+
+def test_longest_first(repository):
+    """While the first edit of low is tried, high is proved, for which more time is taken: so its edit goes before the rest. Edits
+    in no function's body are tried one by one."""
+    made = repository(low={"a": "waits for high.proved", "b": "wrong"}, high={"c": "wrong"})
+    for name in ("a", "b"):
+        file = made.copy / f"crates/low/must-fail/{name}.edit"
+        file.write_text(file.read_text() + "old: pub fn other\nnew: pub fn  other\n")
+    (made.state / "high.seconds").write_text("6")
+    status, _, calls = made.run("--jobs", "1")
+    assert (status, calls[3:]) == (0, ["check high c", "check low b"])
+
+
+def test_line_of_proofs(repository):
+    """That all is proved is told while edits are tried, and what is then built of a crate changes nothing for its edits."""
+    made, told = repository(low={"a": "waits for told", "b": "shy"}), []
+    with subprocess.Popen(made.words("--jobs", "1"), env=made.environment, stdout=subprocess.PIPE, text=True) as running:
+        for line in running.stdout:
+            told.append(line)
+            if line == "the crates are proved\n":
+                (made.copy / "crates/low/out/incremental/work").write_text("of the library")
+                (made.state / "told").touch()
+    assert running.returncode == 0 and "the crates are proved\n" in told
+
+
+def most_at_once(count, memory, wanted):
+    """How many of six calls go on at once, in so many lanes, with so much memory. Each goes on until as many as are wanted
+    have been at it together, and a little longer, so that more would be seen."""
+    lanes, change, now, most = edits.Lanes(count, lambda: memory), threading.Condition(), [], []
+
+    def call(number):
+        with change:
+            now.append(number)
+            most.append(len(now))
+            change.notify_all()
+            change.wait_for(lambda: max(most) >= wanted, 60)
+        time.sleep(0.1)
+        with change:
+            now.remove(number)
+
+    for number in range(6):
+        lanes.add(1, call, number)
+    lanes.finish()
+    return max(most) if len(most) == 6 else None
+
+
+@pytest.mark.parametrize("count, memory, wanted", [
+    (4, 0, 1), (4, edits.ROOM, 1), (4, 2 * edits.ROOM, 2), (3, 100 * edits.ROOM, 3),
+], ids=["no memory is left", "room beside one that has just begun", "room for a second", "as many as there are lanes"])  # fmt: skip
+def test_memory(count, memory, wanted):
+    assert most_at_once(count, memory, wanted) == wanted
+
+
+def test_memory_that_is_left():
+    assert edits.free_memory() > 2**20
+
+
+def test_error_in_a_call_is_told():
+    lanes = edits.Lanes(1, edits.free_memory)
+    lanes.add(1, int, "no number")
+    with pytest.raises(ValueError, match="no number"):
+        lanes.finish()
+
+
+@pytest.mark.parametrize("words", [["--jobs", "0"], ["middle"], ["--unknown"]])
+def test_wrong_words(repository, words):
+    status, said, calls = repository(low={"a": "wrong"}).run(*words)
+    assert status == 2 and not calls and "Traceback" not in said
+
+
+def test_no_copy():
+    ran = subprocess.run([sys.executable, HERE / "edits.py", "/"], capture_output=True, text=True, check=False)
+    assert ran.returncode == 2 and ran.stderr.strip().endswith("no copy of the repository")

@@ -1,0 +1,242 @@
+"""How the program ends, and what it tells, where files can't be read or are refused, and where words aren't understood."""
+import os
+import resource
+import signal
+import subprocess
+import threading
+
+import pytest
+
+import tables
+
+ANSWERS = tables.Table("answers.txt")
+LONG = "the file has more than 268,435,456 bytes (2^28)"
+NO_META = "refused election 2 NoMeta record 1"
+# Commands on u.csv in place of each input, and the name of that input.
+ON_EACH_INPUT = {
+    "read u.csv": "election", "tidy u.csv u.csv": "election", "margins u.csv u.csv --outcome u.csv": "election",
+    "prices u.csv u.csv --outcome u.csv": "election", "violation u.csv u.csv --outcome u.csv": "election",
+    "both u.csv u.csv u.csv --outcome u.csv": "election", "prices e.pb u.csv --outcome u.csv": "outcome",
+    "violation e.pb u.csv --outcome u.csv": "outcome", "margins e.pb u.csv --outcome u.csv": "outcome",
+    "both e.pb u.csv u.csv --outcome u.csv": "outcome", "prices e.pb u.csv": "certificate",
+    "violation e.pb u.csv": "certificate", "tidy e.pb u.csv": "certificate", "margins e.pb u.csv": "certificate",
+    "both e.pb u.csv u.csv": "prices", "both e.pb p.csv u.csv": "violation",
+}  # fmt: skip
+COMMANDS = ("prices", "violation", "explain", "margins", "page")
+
+
+def ends(ran, status, printed, told):
+    """How a run ends, and what it prints and tells: a line, nothing, or, for None, anything that isn't nothing."""
+    assert ran.returncode == status, ran
+    for wanted, written in ((printed, ran.stdout), (told, ran.stderr)):
+        if wanted is None:
+            assert written, ran
+        else:
+            assert written.decode() == (wanted and wanted + "\n")
+
+
+@pytest.fixture
+def room(room):
+    """A folder with the small files, and with a pipe: to open that would be to wait for ever."""
+    for name, data in ANSWERS.files.items():
+        (room / name).write_bytes(data)
+    (room / "e.pb").write_bytes(ANSWERS.files["sample.pb"])
+    (room / "p.csv").write_bytes(ANSWERS.files["sample.prices.csv"])
+    os.mkfifo(room / "pipe")
+    return room
+
+
+@pytest.mark.parametrize("words", ["--help", "help read", "prices --help", "--version"])
+def test_help_is_printed(run, words):
+    ends(run(*words.split(" ")), 0, None, "")
+
+
+@pytest.mark.parametrize("words", [
+    ["prices", "sample.pb"], ["sample.pb"], ["read", "-e.pb"], ["page", "sample.pb", "sample.prices.csv", "--language", "xx"],
+])  # fmt: skip
+def test_words_that_are_not_understood(run, words):
+    ends(run(*words), 3, "", None)
+
+
+def test_word_that_is_not_utf8(run):
+    ends(run("read", b"\xff.pb"), 3, "", "error: an argument is not UTF-8")
+
+
+def test_nothing_hidden_of_a_word_is_told(run):
+    told = run("--\x1b[2J\x9b\u202e")
+    assert told.returncode == 3
+    assert "--\ufffd[2J\ufffd\ufffd" in told.stderr.decode() and b"\n" in told.stderr
+
+
+def test_standard_input_is_read_without_words(run):
+    ends(run(stdin=ANSWERS.files["sample.pb"]), 0, "read 3 voters 3 projects 2 funded", "")
+
+
+def test_word_with_blanks_and_quotes_is_a_name(run, room):
+    name = '\u00e9 "-%.pb'
+    (room / name).write_bytes(ANSWERS.files["sample.pb"])
+    ends(run("read", name, cwd=room), 0, "read 3 voters 3 projects 2 funded", "")
+
+
+@pytest.mark.parametrize("is_folder", [False, True], ids=["missing", "folder"])
+@pytest.mark.parametrize("line", ON_EACH_INPUT)
+def test_input_that_can_not_be_read(run, room, line, is_folder):
+    if is_folder:
+        (room / "u.csv").mkdir()
+    reason = "Is a directory" if is_folder else "No such file or directory"
+    ends(run(*line.split(" "), cwd=room), 2, f"refused {ON_EACH_INPUT[line]} 18 Read record 0", f"u.csv: {reason}")
+
+
+@pytest.mark.parametrize("words, line, told", [
+    (["read", "-"], "election", "-: No such file or directory\n-: standard input is /dev/stdin"),
+    (["read", ""], "election", "'': the path is empty"),
+    (["folder", ""], "folder", "'': the path is empty"),
+    (["folder", "missing"], "folder", "missing: No such file or directory"),
+    (["folder", "sample.pb"], "folder", "sample.pb: Not a directory"),
+])  # fmt: skip
+def test_path_that_is_none(run, words, line, told):
+    ends(run(*words), 2, f"refused {line} 18 Read record 0", told)
+
+
+@pytest.mark.parametrize("line", ON_EACH_INPUT)
+def test_file_that_never_ends(run, room, line):
+    (room / "u.csv").symlink_to("/dev/zero")
+    ends(run(*line.split(" "), cwd=room), 2, f"refused {ON_EACH_INPUT[line]} 19 TooLong record 0", f"u.csv: {LONG}")
+
+
+@pytest.mark.parametrize("command", [*COMMANDS, "tidy", "both"])
+@pytest.mark.parametrize("election", ["missing.pb", ".", "sample.prices.csv"])
+def test_nothing_is_opened_behind_a_refused_election(run, room, command, election):
+    line = NO_META if (room / election).is_file() else "refused election 18 Read record 0"
+    words = [command, election, *["pipe"] * (2 if command == "both" else 1)]
+    for more in [[]] if command == "tidy" else [[], ["--outcome", "pipe"]]:
+        ends(run(*words, *more, cwd=room), 2, line, None)
+
+
+@pytest.mark.parametrize("command", [*COMMANDS, "both"])
+@pytest.mark.parametrize("outcome, line", [("missing.csv", "18 Read record 0"), ("sample.pb", "21 BadHead record 1")])
+def test_nothing_is_opened_behind_a_refused_outcome(run, room, command, outcome, line):
+    words = [command, "sample.pb", *["pipe"] * (2 if command == "both" else 1), "--outcome", outcome]
+    ends(run(*words, cwd=room), 2, f"refused outcome {line}", None)
+
+
+@pytest.mark.parametrize("prices, line", [("missing.csv", "18 Read record 0"), ("sample.pb", "21 BadHead record 1")])
+def test_nothing_is_opened_behind_refused_prices_of_both(run, room, prices, line):
+    ends(run("both", "sample.pb", prices, "pipe", cwd=room), 2, f"refused prices {line}", None)
+
+
+def test_file_that_can_not_be_read_again_is_told_of_without_its_text(run, room):
+    """To open this pipe again would be to wait for ever."""
+    threading.Thread(target=(room / "pipe").write_bytes, args=[b"META\n"], daemon=True).start()
+    ends(run("read", "pipe", cwd=room), 2, "refused election 3 NoHeader record 2", "pipe: record 2: a section has no header")
+    ends(run(cwd=room), 2, NO_META, "standard input: record 1: the file doesn't begin with META")
+
+
+def five_bytes():
+    """No file may be longer than five bytes, in the process that begins."""
+    signal.signal(signal.SIGXFSZ, signal.SIG_IGN)
+    resource.setrlimit(resource.RLIMIT_FSIZE, (5, 5))
+
+
+@pytest.mark.parametrize("words, front", [
+    ([], b"read "), (["read", "sample.pb"], b"read "), (["read", "p.csv"], b"refus"), (["prices", "e.pb", "p.csv"], b"suppo"),
+    (["tidy", "e.pb", "p.csv"], b"pb-pr"), (["violation", "unfair.pb", "unfair.violation.csv"], b"viola"),
+    (["both", "e.pb", "p.csv", "fair.violation.csv"], b"suppo"), (["explain", "e.pb", "p.csv"], b"suppo"), (["--help"], b"Audit"),
+])  # fmt: skip
+def test_output_that_takes_five_bytes(program, room, words, front):
+    with open(room / "out", "wb") as out, open(room / "e.pb", "rb") as given:
+        told = subprocess.run([program, *words], cwd=room, stdin=given, stdout=out, stderr=subprocess.PIPE, check=False,
+                              preexec_fn=five_bytes)  # fmt: skip
+    assert (told.returncode, told.stderr, (room / "out").read_bytes()) == (4, b"fault write\n", front)
+
+
+@pytest.mark.parametrize("number", range(len(ANSWERS.files["sample.pb"]) + 1))
+def test_cut_election(run, number):
+    """A part of a line is a row of VOTES or refused, but for `vote`, which is a header too; whatever else is left is answered as
+    whole lines are."""
+    data = ANSWERS.files["sample.pb"]
+    ran = run(stdin=data[:number])
+    whole = data[:number + 1].count(b"\n")
+    begun = data[number - 1:number] not in (b"", b"\n") and data[number:number + 1] != b"\n"
+    if begun and whole < 14 and not (whole == 13 and data[:number].endswith(b"\nvote")):
+        assert ran.returncode == 2 and ran.stdout.startswith(b"refused election ")
+    else:
+        assert ran.stdout.decode() == on_lines(whole + begun)
+        assert ran.returncode == (0 if whole + begun >= 14 else 2)
+
+
+def on_lines(lines):
+    """What is printed on the sample election where so many of its lines are left."""
+    voters = lines - 14
+    if lines == 17:
+        return "read 3 voters 3 projects 2 funded\n"
+    if lines >= 14:
+        return f"read {voters} voters 3 projects 2 funded\nnote: num_votes says 3, counted {voters}\n"
+    if lines == 0:
+        return "refused election 2 NoMeta record 1\n"
+    return f"refused election {'3 NoHeader' if lines in (1, 8, 13) else '4 MissingSection'} record {lines + 1}\n"
+
+
+@pytest.mark.parametrize("number", range(len(ANSWERS.files["sample.prices.csv"]) + 1))
+def test_cut_prices(run, room, number):
+    """A part of a line is no head record, or no row. Whole rows that are missing are payments that are missing."""
+    data = ANSWERS.files["sample.prices.csv"]
+    (room / "f.csv").write_bytes(data[:number])
+    whole = data[:number + 1].count(b"\n")
+    begun = data[number - 1:number] not in (b"", b"\n") and data[number:number + 1] != b"\n"
+    if whole <= 3:
+        line = f"refused certificate 21 BadHead record {whole + 1}"
+    elif begun:
+        line = f"refused certificate 22 BadRow record {whole + 1}"
+    else:
+        line = {7: "failed C3 project b", 8: "supported priceable"}.get(whole, "failed C3 project a")
+    ran = run("prices", "e.pb", "f.csv", cwd=room)
+    assert (ran.stdout.decode(), ran.returncode) == (line + "\n", tables.status_of([line]))
+
+
+@pytest.fixture
+def town(room):
+    """A school that all 100 want costs 90,000, and of the limit, 100,000, a bench for 10 of them was bought. Voter budgets of
+    10 come to 1,000, so that little can be said against it; not where the limit is 1,000 as well."""
+    head = "META\nkey;value\nbudget;{}\nvote_type;approval\nPROJECTS\nproject_id;cost;selected\nbench;100;1\nschool;90000;0\n"
+    votes = "".join(f"{voter};{'bench,' * (voter <= 10)}school\n" for voter in range(1, 101))
+    for name, budget in (("town.pb", 100000), ("poor.pb", 1000)):
+        (room / name).write_text(head.format(budget) + "VOTES\nvoter_id;vote\n" + votes)
+    rows = "".join(f"{voter},bench,10\n" for voter in range(1, 11))
+    (room / "bench.csv").write_text("pb-prices,1\ndenominator,1\nvoter_budget,10\nvoter,project,payment\n" + rows)
+    voters = "".join(f"voter,{voter}\n" for voter in range(11, 101))
+    (room / "school.csv").write_text("pb-violation,1\nproject,school\n" + voters)
+    return room
+
+
+LITTLE = "town.pb: note: the voter budgets together are less than the limit, so this yes says little"
+
+
+@pytest.mark.parametrize("line, status, printed, told", [
+    ("prices town.pb bench.csv --no-exhaustive", 0, "supported priceable", LITTLE),
+    ("prices town.pb bench.csv --no-exhaustive --stable", 0, "supported stable", LITTLE),
+    ("explain town.pb bench.csv --no-exhaustive", 0, None, LITTLE),
+    ("both town.pb bench.csv school.csv --no-exhaustive --stable", 0, None, LITTLE),
+    ("prices town.pb bench.csv", 1, "failed Exhaustive project school", ""),
+    ("prices town.pb bench.csv --no-exhaustive --cover", 1, "failed Cover", ""),
+    ("violation town.pb school.csv", 0, "violation", ""),
+    ("explain town.pb school.csv", 0, None, ""),
+    ("margins town.pb bench.csv", 0, None, ""),
+    ("tidy town.pb bench.csv", 0, None, ""),
+    ("page town.pb bench.csv --no-exhaustive", 0, None, ""),
+    ("explain town.pb bench.csv", 1, None, ""),
+    ("prices poor.pb bench.csv --no-exhaustive", 0, "supported priceable", ""),
+    ("explain poor.pb bench.csv", 0, None, ""),
+])  # fmt: skip
+def test_note_on_a_yes_that_says_little(run, town, line, status, printed, told):
+    ends(run(*line.split(" "), cwd=town), status, printed, told)
+
+
+@pytest.mark.parametrize("line, status", [("explain e.pb sample.prices.csv", 0), ("explain e.pb fair.violation.csv", 1)])
+@pytest.mark.parametrize("old, new, note", [
+    ("num_votes;3", "num_votes;4", "num_votes says 4, counted 3"),
+    ("c;9;Pool;0", "c;9;Pool;0.5", "selected is neither 0 nor 1 in 1 projects"),
+])  # fmt: skip
+def test_notes_on_the_election_are_told_beside_explanations(run, room, line, status, old, new, note):
+    (room / "e.pb").write_bytes(ANSWERS.files["sample.pb"].replace(old.encode(), new.encode()))
+    ends(run(*line.split(" "), cwd=room), status, None, f"e.pb: note: {note}")

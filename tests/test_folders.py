@@ -1,0 +1,236 @@
+"""What `pbaudit folder` prints and tells, and that examples/many.sh does the same by many processes."""
+import contextlib
+import os
+import pathlib
+import pty
+import subprocess
+import tempfile
+
+import pytest
+
+import tables
+from common import TOP, needs, script
+
+ANSWERS = tables.Table("answers.txt").files
+SAMPLE, PRICES, FAIR = ANSWERS["sample.pb"], ANSWERS["sample.prices.csv"], ANSWERS["fair.violation.csv"]
+READ = "read 3 voters 3 projects 2 funded"
+NAMES = "an election is NAME.pb, and its certificates are NAME.prices.csv and NAME.violation.csv, with endings in lower case"
+MANY = TOP / "examples/many.sh"
+# What stands in for ssh: it notes the name of the machine, and runs the command on this one, with SHELL set as sshd sets it.
+SSH = """#!/bin/sh
+printf '%s\\n' "$1" >> "{machines}"
+shift 2
+cd / && SHELL=/bin/sh exec sh -c "$*"
+"""
+
+
+def fill(folder, files):
+    for name, data in files.items():
+        (folder / name).write_bytes(data)
+
+
+def reports(ran, lines, status, told=""):
+    assert ran.stdout.decode() == "".join(line + "\n" for line in lines)
+    assert (ran.stderr.decode(), ran.returncode) == (told, status)
+
+
+def test_entries_are_told_in_order_and_a_refusal_decides_the_status(run, room):
+    fill(room, {"two.pb": b"", "one.pb": SAMPLE, "one.violation.csv": FAIR, "one.prices.csv": PRICES})
+    reports(run("folder", room), [
+        f"one.pb: {READ}", "one.prices.csv: supported priceable", "one.violation.csv: failed V4 voter 1",
+        "two.pb: refused election 2 NoMeta record 1", "total 2 elections 1 yes 1 no 1 refused",
+    ], 2)  # fmt: skip
+
+
+@pytest.mark.parametrize("switch, first, second, total, status", [
+    ([], "supported priceable", "failed Exhaustive project c", "1 yes 1 no", 1),
+    (["--stable"], "failed S5 project x1", "failed Exhaustive project c", "0 yes 2 no", 1),
+    (["--cover"], "failed Cover", "failed Exhaustive project c", "0 yes 2 no", 1),
+    (["--no-exhaustive"], "supported priceable", "supported priceable", "2 yes 0 no", 0),
+])  # fmt: skip
+def test_mode(run, room, switch, first, second, total, status):
+    fill(room, {"a.pb": ANSWERS["small-share.pb"], "a.prices.csv": ANSWERS["even.prices.csv"],
+                    "b.pb": ANSWERS["split.pb"], "b.prices.csv": ANSWERS["split.prices.csv"]})  # fmt: skip
+    reports(run("folder", room, *switch), [
+        "a.pb: read 4 voters 3 projects 1 funded", f"a.prices.csv: {first}", "b.pb: read 2 voters 2 projects 1 funded",
+        f"b.prices.csv: {second}", f"total 2 elections {total} 0 refused",
+    ], status)  # fmt: skip
+
+
+def test_names_are_in_byte_order_and_come_out_as_they_are(run, room):
+    """A name goes before those that it begins, though `.` comes after `-`."""
+    names = [" ", '"', "%s", "'", "-rf", ".", "..", "A", "B", "a", "a b", "a-b", "a.b", "a.prices.csv", "b", "z" * 252, "\u00e9",
+             "\u4f60"]  # fmt: skip
+    fill(room, {f"{name}.pb": SAMPLE for name in names})
+    reports(run("folder", room), [f"{name}.pb: {READ}" for name in names] + ["total 18 elections 0 yes 0 no 0 refused"], 0)
+
+
+def test_only_regular_files_with_clean_names_are_entries(run, room):
+    names = ["a.pb", ".pb", "b.PB", "b.pb.old", "tab\t.pb", "line\n.pb", "del\x7f.pb", "c.prices.csv", "prices.csv", "violation.csv"]
+    fill(room, dict.fromkeys(names, SAMPLE))
+    for name in ("folder.pb", "a.prices.csv"):
+        (room / name).mkdir()
+    for name in ("link.pb", "a.violation.csv"):
+        (room / name).symlink_to(room / "a.pb")
+    told = f"pbaudit: not audited: b.PB, c.prices.csv, prices.csv, violation.csv; {NAMES}\n"
+    reports(run("folder", room), [f"a.pb: {READ}", "total 1 elections 0 yes 0 no 0 refused"], 0, told)
+
+
+def test_names_that_are_near_misses_are_told_in_one_line(run, room):
+    names = ["a.pb", "a.Prices.csv", "a.stable.prices.csv", "a.violation.CSV", "b.PB", "b\n.PB", "c.prices.csv",
+             "c.violation.csv", "notes.txt", "pb"]  # fmt: skip
+    fill(room, dict.fromkeys(names, SAMPLE))
+    listed = "a.Prices.csv, a.violation.CSV, b\\n.PB, b.PB, c.prices.csv and 1 more"
+    told = f"pbaudit: not audited: {listed}; {NAMES}\n"
+    reports(run("folder", room), [f"a.pb: {READ}", "total 1 elections 0 yes 0 no 0 refused"], 0, told)
+
+
+def test_folder_without_elections(run, room):
+    told = "pbaudit: no election was found: the folder has no file named NAME.pb\n"
+    reports(run("folder", room), ["total 0 elections 0 yes 0 no 0 refused"], 0, told)
+
+
+def test_certificate_without_an_outcome_is_refused(run, room):
+    fill(room, {"a.pb": SAMPLE.replace(b"name;selected", b"name"), "a.prices.csv": b""})
+    reports(run("folder", room), [
+        "a.pb: read 3 voters 3 projects no outcome", "a.prices.csv: refused election 17 NoOutcome record 0",
+        "total 1 elections 0 yes 0 no 1 refused",
+    ], 2)  # fmt: skip
+
+
+def test_certificate_that_is_too_long_is_refused_as_such(run, room):
+    fill(room, {"a.pb": SAMPLE, "a.prices.csv": b""})
+    os.truncate(room / "a.prices.csv", (1 << 28) + 1)
+    reports(run("folder", room), [
+        f"a.pb: {READ}", "a.prices.csv: refused certificate 19 TooLong record 0", "total 1 elections 0 yes 0 no 1 refused",
+    ], 2)  # fmt: skip
+
+
+def test_certificate_of_a_refused_election_is_left_out(run, room):
+    fill(room, {"a.pb": b"", "a.prices.csv": PRICES})
+    lines = ["a.pb: refused election 2 NoMeta record 1", "total 1 elections 0 yes 0 no 1 refused"]
+    reports(run("folder", room), lines, 2)
+
+
+def test_notes_are_left_out_and_a_no_counts(run, room):
+    fill(room, {"a.pb": SAMPLE.replace(b"num_votes;3", b"num_votes;4"), "a.violation.csv": FAIR})
+    lines = [f"a.pb: {READ}", "a.violation.csv: failed V4 voter 1", "total 1 elections 0 yes 1 no 0 refused"]
+    reports(run("folder", room), lines, 1)
+
+
+def test_name_that_is_not_utf8_is_told(run, room):
+    with open(os.path.join(os.fsencode(room), b"\xe9.pb"), "wb"):
+        told = f"{room}: it has a file whose name isn't UTF-8\n"
+        reports(run("folder", room), ["refused folder 18 Read record 0"], 2, told)
+
+
+def read_all(terminal):
+    """What was written on a terminal that nobody has open any more."""
+    told = b""
+    with contextlib.suppress(OSError):
+        while part := os.read(terminal, 1000):
+            told += part
+    os.close(terminal)
+    return told
+
+
+@pytest.mark.parametrize("names, shown", [
+    (["one", "two"], ["one", "two"]),
+    (["\u00e9123456789" * 5 + "x"], ["\u00e9123456789" * 5]),
+    (["a\u202e\u2028b"], ["a\ufffd\ufffdb"]),
+])  # fmt: skip
+def test_terminal_is_told_how_far_it_is(program, room, names, shown):
+    """A long name is cut, nothing hidden of a name is told, and the line is cleared at the end."""
+    fill(room, {f"{name}.pb": SAMPLE for name in names})
+    ours, theirs = pty.openpty()
+    ran = subprocess.run([program, "folder", room], stdout=subprocess.PIPE, stderr=theirs, check=False)
+    os.close(theirs)
+    told = read_all(ours).decode()
+    lines = [f"\r\x1b[K{number} of {len(shown)}: {name}.pb" for number, name in enumerate(shown, 1)]
+    assert told == "".join(lines) + "\r\x1b[K"
+    assert (ran.stdout.count(b"\n"), ran.returncode) == (len(names) + 1, 0)
+
+
+def elections(folder):
+    """Fills a folder with 30 elections with answers of every kind and names of every kind, and with what is no entry."""
+    examples = {name: (tables.EXAMPLES / name).read_bytes() for name in os.listdir(tables.EXAMPLES)}
+    names = ["", " b", "it's", '"q"', "%s%n", "-rf", "--stable", "é", "你", "A", "a.b", "*", "$HOME", "a\\b", "z" * 240]
+    without_row = b"".join(line for line in PRICES.splitlines(keepends=True) if line != b"1,a,2\n")
+    files = {}
+    for number, name in enumerate(names, 1):
+        one, two = f"{name}{number}", f"{number}{name}"
+        files[f"{one}.pb"], files[f"{two}.pb"] = SAMPLE, examples["district.pb"]
+        prices = {0: PRICES, 1: examples["sample.outcome.csv"], 2: without_row, 4: PRICES}.get(number % 5)
+        if prices:
+            files[f"{one}.prices.csv"] = prices
+        if number % 5 == 3:
+            files[f"{one}.pb"] = SAMPLE.replace(b"c;9;Pool;0\n", b"")
+        if number % 5 == 4:
+            files[f"{one}.pb"] = SAMPLE.replace(b";selected", b";funded")
+        prices = {0: "district.prices.csv", 2: "district.short.prices.csv"}.get(number % 4)
+        if prices:
+            files[f"{two}.prices.csv"] = examples[prices]
+        if number % 4 == 1:
+            files[f"{two}.violation.csv"] = examples["district.violation.csv"]
+        if number % 4 == 2:
+            files[f"{two}.violation.csv"] = b"pb-violation,1\nproject,105\n"
+    others = ["z" * 252 + ".pb", "unread.pb", "alone.pb", ".pb", "tab\t.pb", "delete\x7f.pb", "UPPER.PB"]
+    fill(folder, {**files, **dict.fromkeys(others, SAMPLE), "11.prices.csv": b""})
+    (folder / "unread.pb").chmod(0)
+    os.truncate(folder / "11.prices.csv", (1 << 28) + 1)
+    (folder / "link.pb").symlink_to("alone.pb")
+    (folder / "alone.prices.csv").symlink_to(tables.EXAMPLES / "sample.prices.csv")
+    for name in ("folder.pb", "alone.violation.csv"):
+        (folder / name).mkdir()
+    for name in ("pipe.pb", "unread.prices.csv"):
+        os.mkfifo(folder / name)
+
+
+@pytest.fixture(scope="module")
+def folders():
+    """A folder with folders of several kinds."""
+    with tempfile.TemporaryDirectory() as folder:
+        yield fill_folders(pathlib.Path(folder))
+
+
+def fill_folders(top):
+    for name in ("elections", "none", "latin", "misses"):
+        (top / name).mkdir()
+    elections(top / "elections")
+    with open(os.path.join(os.fsencode(top), b"latin/\xe9.pb"), "wb") as file:
+        file.write(SAMPLE)
+    fill(top / "misses", {"a.PB": SAMPLE, "b.Prices.csv": PRICES, "b.prices.csv": PRICES})
+    (top / "examples").symlink_to(tables.EXAMPLES)
+    return top
+
+
+@pytest.fixture(params=["xargs", "parallel", "ssh"])
+def way(request):
+    """How many.sh starts processes, by its environment: by xargs where GNU parallel is hidden from it, by that, and by that on
+    two machines, which are noted in a file."""
+    environment = dict(os.environ)
+    if request.param != "xargs":
+        needs("parallel")
+    with tempfile.TemporaryDirectory() as folder:
+        machines, stand_in = pathlib.Path(folder, "machines"), pathlib.Path(folder, "parallel" if request.param == "xargs" else "ssh")
+        script(stand_in, "#!/bin/sh\nexit 1\n" if request.param == "xargs" else SSH.format(machines=machines))
+        if request.param == "xargs":
+            environment["PATH"] = f"{folder}:{environment['PATH']}"
+        if request.param == "ssh":
+            environment["PARALLEL"] = f"--ssh {stand_in} --sshlogin one,two"
+        yield environment, machines
+
+
+@pytest.mark.parametrize("words", [
+    "elections", "elections --stable", "elections --no-exhaustive --stable", "examples", "elections --unknown", "missing",
+    "examples/sample.pb", "none", "latin", "misses",
+])  # fmt: skip
+def test_many(program, folders, way, words):
+    environment, machines = way
+    environment["PBAUDIT"] = str(program)
+    told = {"cwd": folders, "stdin": subprocess.DEVNULL, "capture_output": True, "timeout": 60, "env": environment}
+    one = subprocess.run([program, "folder", *words.split(" ")], check=False, **told)
+    many = subprocess.run([MANY, *words.split(" ")], check=False, **told)
+    assert (many.returncode, many.stdout, many.stderr) == (one.returncode, one.stdout, one.stderr)
+    if "PARALLEL" in environment and words.startswith("elections") and "unknown" not in words:
+        assert set(machines.read_text().split()) == {"one", "two"}

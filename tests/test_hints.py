@@ -1,0 +1,69 @@
+"""What is told of files that are refused, by the program, the C library, the Python package and the page's module, as
+tables/hints.txt says."""
+import os
+import subprocess
+
+import pytest
+
+import by_node
+import calls
+import pbaudit
+import tables
+
+TABLE = tables.Table("hints.txt")
+CASES = list(tables.cases(TABLE))
+on_each = pytest.mark.parametrize("row, words", CASES)
+AUDITS = {"prices": pbaudit.audit_prices, "violation": pbaudit.audit_violation, "both": pbaudit.audit_both,
+          "read": pbaudit.read, "margins": pbaudit.margins, "tidy": pbaudit.tidy, "explain": pbaudit.explain}  # fmt: skip
+# An election of one project more than there may be.
+MANY = b"META\nkey;value\nbudget;1\nvote_type;approval\nPROJECTS\nproject_id;cost\n" + b"".join(
+    b"p%d;0\n" % project for project in range(1, 20_002))
+
+
+@pytest.fixture
+def changed(room, row):
+    row.write(room, TABLE.files)
+    return room
+
+
+@on_each
+def test_program(run, changed, row, words):
+    ran = run(*words, cwd=changed)
+    assert (ran.stdout.decode(), ran.returncode) == (row.text, 2)
+    assert ran.stderr.decode() == "".join(line + "\n" for line in row.told)
+
+
+@on_each
+def test_c(caller, changed, row, words):
+    place = calls.place_of(row.text.encode())
+    kind = calls.kind_of(words[0], place.input)
+    election = [] if place.input == "election" else [words[1]]
+    told = subprocess.run([caller, "once", "hint", f"{kind}:{place.number}:{place.record}", row.name, *election],
+                          cwd=changed, capture_output=True, check=True)  # fmt: skip
+    assert told.stdout.decode() == calls.hint_in("\n".join([*row.told, ""]).encode()).sentences + "\n"
+
+
+@on_each
+def test_python(auditor, changed, row, words, monkeypatch):
+    monkeypatch.setattr(pbaudit._auditor, "_found", auditor, raising=False)
+    (changed / "missing").touch()
+    command, names, named, _ = calls.parts(words)
+    with pytest.raises(pbaudit.Refusal) as refusal:
+        AUDITS[command](*(changed / name for name in names), **{option: changed / name for option, name in named.items()})
+    why = refusal.value
+    assert (why.printed, os.fspath(why.file)) == (row.printed[0], str(changed / row.name))
+    assert pbaudit._auditor.Hint(why.line, why.reason) == calls.hint_in("\n".join([*row.told, ""]).encode())
+
+
+@on_each
+def test_javascript(node, changed, row, words):
+    (changed / "missing").touch()
+    hint = by_node.hint_of(node, words, changed, row.text)
+    assert (hint["line"], hint["sentences"]) == by_node.told_hints("\n".join([*row.told, ""]).encode())
+
+
+def test_number_of_projects(run, room):
+    (room / "e.pb").write_bytes(MANY)
+    ran = run("read", "e.pb", cwd=room)
+    assert (ran.stdout, ran.returncode) == (b"refused election 15 TooMany record 20007\n", 2)
+    assert ran.stderr == b"e.pb:20007: there are more than 20,000 projects\n"

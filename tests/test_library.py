@@ -1,0 +1,192 @@
+"""Tries the C library beside the program: its symbols and its header, the callers on the examples, cases with a damaged file, also
+with just enough room and with a byte less, and with hints. On the examples each of its allocations fails, and it runs on a small
+stack, and under valgrind and sanitizers."""
+import ctypes
+import re
+import subprocess
+
+import pytest
+
+import calls
+import cases
+import tables
+from common import HERE, needs
+from pbaudit import _auditor
+from test_answers import ON_EXAMPLES
+
+BY_CHANCE = 2000
+SMALL_STACK = 128 * 1024
+EXAMPLES = tables.EXAMPLES
+
+
+def commands():
+    """The commands of examples/answers.txt that the library has: words, the text and the status."""
+    for command, text, status, _ in ON_EXAMPLES:
+        words = command.split(" ")
+        if words[0] in _auditor._Library._TYPES and all((EXAMPLES / word).exists() for word in words[1:] if "." in word):
+            yield pytest.param(words, text.encode(), int(status), id=command)
+
+
+COMMANDS = list(commands())
+on_examples = pytest.mark.parametrize("words, text, status", COMMANDS)
+# Calls of library.c for notes and hints, each with its text, as the header says: of small voter budgets, of larger ones, and of
+# refused files; no refusal has the number 99, no kind of file the number 6, and a fault of elections no certificate.
+CALLS = {
+    "note - school.pb school.prices.csv": "note: the voter budgets together are less than the limit, so this yes says little\n",
+    "note - district.pb district.prices.csv": "",
+    "note - school.pb school.violation.csv": "",
+    "note - school.prices.csv school.prices.csv": "",
+    "hint 3:24:4 district.voter-id.violation.csv district.pb": (
+        "there is no voter '20582'; the election has 60 voters\nvoters are numbered by their rows in VOTES, from 1, and not by "
+        "voter_id; the one with voter_id '20582' is voter 9\n"),
+    "hint 2:21:1 sample.outcome.csv": (
+        "expected the record pb-prices,1, but found 'pb-outcome,1'\nthis is an outcome file, not a price certificate\n"),
+    "hint 2:99:1 sample.outcome.csv": "",
+    "hint 6:21:1 sample.outcome.csv": "",
+    "hint 2:14:3 sample.outcome.csv": "record 3: the vote names something that is no project's id\n",
+}  # fmt: skip
+EACH_CALL = [pytest.param(calls.caller_words(each.values[0]), *each.values[1:], id=each.id) for each in COMMANDS]
+EACH_CALL += [pytest.param(call.split(" "), text.encode(), 0, id=call) for call, text in CALLS.items()]
+each_call = pytest.mark.parametrize("words, text, status", EACH_CALL)
+
+
+def told_by(words, folder=EXAMPLES):
+    return subprocess.run(words, cwd=folder, stdin=subprocess.DEVNULL, capture_output=True, timeout=120, check=False)
+
+
+def files_of(words):
+    return {word: (EXAMPLES / word).read_bytes() for word in words if "." in word}
+
+
+def functions(library):
+    return sorted(re.findall(r"^uint8_t (pbaudit_\w+)\(", (library / "pbaudit.h").read_text(), re.MULTILINE))
+
+
+@pytest.mark.parametrize("words", [["nm", "-D", "--defined-only", "libpbaudit.so"], ["nm", "-g", "--defined-only", "libpbaudit.a"]])
+def test_symbols_are_the_functions_of_the_header(library, words):
+    symbols = sorted(re.findall(r"^[0-9a-f]+ \w (\S+)$", told_by(words, library).stdout.decode(), re.MULTILINE))
+    assert symbols == functions(library)
+    assert len(symbols) >= 6
+
+
+@pytest.mark.parametrize("language, standard, compiler", [("c", "c99", "cc"), ("c++", "c++11", "c++")])
+def test_header(library, language, standard, compiler):
+    needs(compiler)
+    words = ["cc", "-fsyntax-only", f"-std={standard}", "-Wall", "-Wextra", "-Wpedantic", "-Werror"]
+    told = told_by([*words, "-include", "pbaudit.h", "-x", language, "/dev/null"], library)
+    assert (told.returncode, told.stderr) == (0, b"")
+
+
+def test_it_needs_the_c_library_alone(library):
+    needs = re.findall(r"NEEDED.*\[(.*)\]", told_by(["readelf", "-d", "libpbaudit.so"], library).stdout.decode())
+    assert needs == ["libc.so.6"]
+    assert re.search(r"GNU_STACK.* RW ", told_by(["readelf", "-lW", "libpbaudit.so"], library).stdout.decode())
+
+
+@on_examples
+def test_example(run, auditor, words, text, status):
+    files = files_of(words)
+    assert auditor.ask(calls.question(words, files)) == (status, text)
+    errors = run(*words).stderr
+    if calls.place_of(text):
+        assert auditor.hint(calls.question(words, files), calls.place_of(text)) == calls.hint_in(errors)
+    if words[0] == "prices" and status == 0:
+        assert auditor.says_little(calls.question(words, files)) == (b"note: the voter budgets" in errors)
+
+
+@pytest.fixture(scope="module", params=["shared", "static"])
+def example(request, built, library):
+    """examples/audit.c with a library."""
+    shared = ["-L", library, "-lpbaudit", f"-Wl,-rpath,{library}"]
+    flags = shared if request.param == "shared" else [library / "libpbaudit.a"]
+    return built(request.param, EXAMPLES / "audit.c", *flags)
+
+
+OF_PRICES = [each for each in COMMANDS if each.values[0][0] == "prices" and not {"--no-exhaustive", "--cover"} & {*each.values[0]}]
+
+
+@pytest.mark.parametrize("words, text, status", OF_PRICES)
+def test_example_in_c(example, words, text, status):
+    ran = told_by([example, *words[1:]])
+    assert (ran.returncode, ran.stdout) == (status, text)
+
+
+class Rooms(_auditor._Library):
+    """The library, asked again with a room that is just enough and one that isn't."""
+
+    def ask(self, asked):
+        self.asked = asked
+        return super().ask(asked)
+
+    def expect_rooms(self, status, text):
+        """With a byte behind the room, which is to stay."""
+        assert self.call(self.asked, len(text), len(text) + 1) == (status, len(text), text + b"\xaa")
+        assert self.call(self.asked, len(text) - 1, len(text)) == (status, len(text), b"\xaa" * len(text))
+
+    def call(self, asked, room, size):
+        out, needed = ctypes.create_string_buffer(b"\xaa" * size, size), ctypes.c_size_t()
+        status = self._functions[asked.command](*self.words(asked), out, room, ctypes.byref(needed))
+        return status, needed.value, out.raw
+
+
+@pytest.fixture(scope="module")
+def rooms(library):
+    return Rooms(str(library / "libpbaudit.so"))
+
+
+def test_by_chance(run, rooms, seed, by_chance, room):
+    """A case of which a file is damaged."""
+    case = cases.without_folders(seed, by_chance, damaged=1.0)
+    words = ["read", "stdin"] if case.stdin is not None else case.words
+    cases.write_files(room, case.files)
+    ran = run(*words, cwd=room)
+    assert rooms.ask(calls.question(words, case.files)) == (ran.returncode, ran.stdout)
+    rooms.expect_rooms(ran.returncode, ran.stdout)
+    place = calls.place_of(ran.stdout)
+    if place and case.stdin is None:
+        assert rooms.hint(calls.question(words, case.files), place) == calls.hint_in(ran.stderr)
+
+
+def numbers_of(words):
+    """The numbers that a caller prints, where it ends well."""
+    told = told_by(words)
+    assert told.returncode == 0, told
+    return [int(number) for number in told.stdout.split()]
+
+
+@each_call
+def test_call(caller, words, text, status):
+    ran = told_by([caller, "once", *words])
+    assert (ran.returncode, ran.stdout) == (status, text)
+
+
+@each_call
+def test_each_allocation_fails(caller, words, text, status):
+    """Where there is text, something is allocated."""
+    assert sum(numbers_of([caller, "memory", *words])) > 0 or not text
+
+
+@each_call
+def test_stack(caller, words, text, status):
+    """The thread's own part of it included."""
+    (used,) = numbers_of([caller, "stack", *words])
+    assert 0 < used < SMALL_STACK
+
+
+@each_call
+def test_valgrind(caller, words, text, status):
+    needs("valgrind")
+    told = told_by(["valgrind", "-q", "--error-exitcode=99", "--leak-check=full", caller, "once", *words])
+    assert (told.returncode, told.stdout, told.stderr) == (status, text, b"")
+
+
+@pytest.fixture(scope="session")
+def sanitized(built, library):
+    wraps = "-Wl,--wrap=malloc,--wrap=realloc,--wrap=free"
+    return built("sanitized", HERE / "library.c", "-fsanitize=address,undefined", library / "libpbaudit.a", "-pthread", wraps)
+
+
+@each_call
+def test_sanitizers(sanitized, words, text, status):
+    told = told_by([sanitized, "once", *words])
+    assert (told.returncode, told.stdout, told.stderr) == (status, text, b"")

@@ -1,0 +1,184 @@
+"""Compares release/ with what is built here. Each file has to have the sum of SHA256SUMS, and all together at most 6 MB. Where MADE-OF
+names the sources and the tools of today, each file has to be, byte for byte, what `packaging/release` makes of what is built;
+of a part that is of other sources or tools it is said, with `-rP`. Then a byte of each file is turned, which has to be seen. The
+version is one wherever it stands, no newer glibc is asked for than is said, and what is packed is what lies beside it."""
+import hashlib
+import lzma
+import re
+import shutil
+import subprocess
+import tarfile
+import zipfile
+
+import pytest
+
+from common import TOP, turned
+
+RELEASE = TOP / "release"
+MOST = 6_000_000
+SUMS, MADE_OF = "SHA256SUMS", "MADE-OF"
+# What each file is made of, by the names in MADE-OF, beside the program's sources and the kit.
+EVERY = {"version", "crates", "kit", "packaging"}
+LIBRARY = EVERY | {"library", "cc", "ld"}
+ARM_LIBRARY = EVERY | {"library", "arm-cc", "arm-ld"}
+PAGE = EVERY | {"page", "wasm-opt", "builtins", "esbuild"}
+RESTS_ON = {
+    "libpbaudit.so": LIBRARY, "libpbaudit.a.xz": LIBRARY | {"xz"}, "pbaudit.h": LIBRARY, "pbaudit.pc": LIBRARY,
+    "-aarch64.tar.xz": ARM_LIBRARY | {"xz"}, "pbaudit.html": PAGE, ".tgz": PAGE | {"tsc", "zlib"},
+    "aarch64.whl": ARM_LIBRARY | {"python", "zlib"}, ".whl": LIBRARY | {"python", "zlib"},
+}  # fmt: skip
+# The glibc for which each is.
+GLIBC = {"pbaudit": (2, 28), "libpbaudit.so": (2, 17)}
+
+
+def rests_on(name):
+    """What a file is made of. The version is a part of the names of packages."""
+    return next((parts for end, parts in RESTS_ON.items() if name.endswith(end)), EVERY)
+
+
+def sum_of(file):
+    return hashlib.sha256(file.read_bytes()).hexdigest()
+
+
+def made_of(folder):
+    """The lines of MADE-OF, by the names of sources and tools."""
+    head, _, lines = (folder / MADE_OF).read_text(encoding="utf-8").partition("\n\n")
+    return {"version": head.split()[1]} | dict(line.split(" ", 1) for line in lines.splitlines())
+
+
+def files_of(folder):
+    return {file.name: file for file in folder.iterdir() if file.name not in (MADE_OF, SUMS)}
+
+
+def wrong_sums(folder):
+    """What is wrong in a folder by its own sums: a file for each line, and a line for each file."""
+    try:
+        lines = (folder / SUMS).read_text(encoding="utf-8").splitlines()
+        sums = dict(reversed(line.split("  ", 1)) for line in lines)
+    except ValueError:
+        return [f"{SUMS} can't be read"]
+    found = {file.name: sum_of(file) for file in folder.iterdir() if file.name != SUMS}
+    return [f"{name} isn't the file of {SUMS}" for name in sorted(sums.keys() | found.keys())
+            if sums.get(name) != found.get(name)]
+
+
+def why_not_compared(name, again):
+    """Why a file of release/ may differ from what is built here, or None."""
+    was, now = made_of(RELEASE), made_of(again)
+    parts = sorted(rests_on(name) & {part for part in was.keys() | now.keys() if was.get(part) != now.get(part)})
+    if parts:
+        return f"it is older, of another state of {', '.join(parts)}"
+    return None if (again / name).exists() else "it isn't built here"
+
+
+def glibc_of(file):
+    """The newest glibc that a program or a library asks for."""
+    return max(tuple(map(int, found)) for found in re.findall(rb"\0GLIBC_(\d+)\.(\d+)", file.read_bytes()))
+
+
+NAMES = sorted(file.name for file in RELEASE.iterdir()) if RELEASE.is_dir() else []
+FILES = [name for name in NAMES if name not in (SUMS, MADE_OF)]
+
+
+@pytest.mark.parametrize("name", FILES)
+def test_it_is_what_is_built(again, name):
+    if not (again / name).exists() or sum_of(again / name) != sum_of(RELEASE / name):
+        reason = why_not_compared(name, again)
+        if reason:
+            pytest.skip(reason)
+        pytest.fail("of the same sources something else is built here")
+
+
+def test_each_source_and_tool_is_that_of_a_file():
+    assert set().union(*map(rests_on, FILES)) == {*made_of(RELEASE)}
+
+
+def test_its_sums():
+    assert wrong_sums(RELEASE) == []
+
+
+def test_nothing_more_is_built(again):
+    assert [name for name in files_of(again) if name not in FILES and not why_not_compared(name, again)] == []
+
+
+def test_size():
+    assert sum(file.stat().st_size for file in RELEASE.iterdir()) <= MOST
+
+
+@pytest.fixture
+def copy(room):
+    shutil.copytree(RELEASE, room / "copy")
+    return room / "copy"
+
+
+@pytest.mark.parametrize("name", NAMES)
+def test_turned_byte_is_seen_by_the_sums(copy, name):
+    (copy / name).write_bytes(turned((copy / name).read_bytes()))
+    assert wrong_sums(copy)
+
+
+@pytest.mark.parametrize("name", FILES)
+def test_missing_file_is_seen(copy, name):
+    (copy / name).unlink()
+    assert wrong_sums(copy)
+
+
+def test_file_more_is_seen(copy):
+    (copy / "more").write_bytes(b"")
+    assert wrong_sums(copy)
+
+
+def test_version():
+    told = subprocess.run([TOP / "packaging/version"], capture_output=True, text=True, check=True).stdout
+    sources = sorted((TOP / "crates").glob("*/src/**/*.rt"))
+    stated = [text for source in sources for text in re.findall(r'"(\d+\.\d+\.\d+)"', source.read_text(encoding="utf-8"))]
+    assert stated == [told.rstrip("\n")]
+
+
+def test_version_of_the_changelog():
+    """Its newest part that has a date."""
+    changelog = (TOP / "CHANGELOG.md").read_text(encoding="utf-8")
+    told = subprocess.run([TOP / "packaging/version"], capture_output=True, text=True, check=True).stdout
+    assert re.search(r"^## \[(\d+\.\d+\.\d+)\] - \d{4}-\d\d-\d\d$", changelog, re.MULTILINE)[1] == told.rstrip("\n")
+
+
+@pytest.mark.parametrize("name", GLIBC)
+def test_glibc(again, name):
+    if not (again / name).exists():
+        pytest.skip("it isn't built here")
+    assert glibc_of(again / name) <= GLIBC[name]
+
+
+def the(folder, pattern):
+    """The one file of this form. Skips where none is built."""
+    found = sorted(folder.glob(pattern))
+    if not found:
+        pytest.skip("it isn't built here")
+    assert len(found) == 1
+    return found[0]
+
+
+def inside(wheel, end):
+    with zipfile.ZipFile(wheel) as files:
+        found = [name for name in files.namelist() if name.endswith(end)]
+        assert len(found) == 1
+        return files.read(found[0])
+
+
+def test_wheel_has_library_and_program(again):
+    wheel = the(again, "*x86_64.whl")
+    assert inside(wheel, "/libpbaudit.so") == (again / "libpbaudit.so").read_bytes()
+    assert inside(wheel, ".data/scripts/pbaudit") == (again / "pbaudit").read_bytes()
+    assert "manylinux_2_28_x86_64" in wheel.name
+
+
+def test_wheel_for_arm_has_its_library(again):
+    wheel = the(again, "*aarch64.whl")
+    with lzma.open(the(again, "libpbaudit-aarch64.tar.xz")) as packed, tarfile.open(fileobj=packed) as files:
+        assert files.getnames() == [f"aarch64/{name}" for name in ("libpbaudit.so", "libpbaudit.a", "pbaudit.h", "pbaudit.pc")]
+        library = files.extractfile("aarch64/libpbaudit.so").read()
+        assert files.extractfile("aarch64/pbaudit.h").read() == (TOP / "include/pbaudit.h").read_bytes()
+    assert inside(wheel, "/libpbaudit.so") == library
+    # Of ELF's machines ARM's of 64 bits is number 183.
+    assert library[:4] == b"\x7fELF" and int.from_bytes(library[18:20], "little") == 183
+    assert "manylinux_2_17_aarch64" in wheel.name

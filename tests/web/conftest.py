@@ -1,0 +1,133 @@
+"""What the tests of the page and of the package for JavaScript share: browsers without windows, and the package."""
+import pathlib
+import shutil
+import subprocess
+import sys
+import tarfile
+
+import pytest
+
+from common import TOP, needs
+
+sys.path.append(str(pathlib.Path(__file__).resolve().parent))
+sys.path.append(str(TOP / "python/tests"))
+
+import browsers  # noqa: E402 (where the tests are)
+from screens import narrow, widen  # noqa: E402
+from serving import Server  # noqa: E402
+from visiting import Visit  # noqa: E402
+
+
+@pytest.fixture(scope="session")
+def packed(page, program, tmp_path_factory):
+    """The package for JavaScript, made of the page's module and the program's help."""
+    folder = tmp_path_factory.mktemp("packed")
+    subprocess.run([TOP / "packaging" / "javascript", page, program, folder], stdout=subprocess.DEVNULL, check=True)
+    return next(folder.iterdir())
+
+
+@pytest.fixture(scope="session")
+def installed(packed, tmp_path_factory):
+    """A folder in which a script may import the package."""
+    folder = tmp_path_factory.mktemp("installed")
+    (folder / "node_modules").mkdir()
+    with tarfile.open(packed) as package:
+        package.extractall(folder / "node_modules")
+    (folder / "node_modules" / "package").rename(folder / "node_modules" / "pbaudit")
+    return folder
+
+
+@pytest.fixture(scope="session")
+def command(installed):
+    return installed / "node_modules" / "pbaudit" / "command.js"
+
+
+@pytest.fixture(scope="session", params=[pytest.param(name, marks=pytest.mark.xdist_group(name)) for name in browsers.ENGINES])
+def start(request, tmp_path_factory):
+    """Starts a browser with an empty profile."""
+    engine, wanted = browsers.ENGINES[request.param]
+    needs(*wanted)
+    if request.param == "chromium":
+        pytest.importorskip("selenium", reason="selenium is not installed")
+
+    def started(**how):
+        room = tmp_path_factory.mktemp(request.param)
+        (room / "downloads").mkdir()
+        browser = engine(room / "profile", room / "downloads", **how)
+        browser.downloads = room / "downloads"
+        return browser
+    return started
+
+
+@pytest.fixture(scope="session")
+def browser(start):
+    started = start()
+    yield started
+    started.close()
+
+
+@pytest.fixture
+def downloads(browser):
+    return browser.downloads
+
+
+@pytest.fixture
+def visit(browser, page):
+    """The page, opened anew on a phone's screen."""
+    narrow(browser)
+    browser.go(page.as_uri())
+    browser.wait("return document.querySelectorAll('#language option').length > 0", "the page")
+    narrow(browser)
+    return browser
+
+
+@pytest.fixture(scope="session")
+def served(page, tmp_path_factory):
+    """A server of the page."""
+    folder = tmp_path_factory.mktemp("served")
+    shutil.copy(page, folder / "pbaudit.html")
+    server = Server(folder)
+    yield server
+    server.close()
+
+
+@pytest.fixture
+def server(served):
+    """The same; nothing but the page may be asked of it."""
+    yield served
+    assert {*served.asked} <= {"/pbaudit.html", "/favicon.ico"}
+
+
+@pytest.fixture
+def address(request, page, server):
+    """Where the page is: on the disk, or on a server."""
+    return f"{server.address}/pbaudit.html" if getattr(request, "param", "disk") == "server" else page.resolve().as_uri()
+
+
+@pytest.fixture
+def opened(browser, address, program, tmp_path):
+    """The page, opened anew on a computer's screen, with the program beside it."""
+    widen(browser)
+    made = Visit(browser, address, program, tmp_path)
+    made.open()
+    return made
+
+
+def of_its_own(start, address, program, room, **how):
+    browser = start(**how)
+    visit = Visit(browser, address, program, room)
+    visit.open()
+    yield visit
+    browser.close()
+
+
+@pytest.fixture
+def alone(start, address, program, tmp_path):
+    """The page in a browser of its own."""
+    yield from of_its_own(start, address, program, tmp_path)
+
+
+@pytest.fixture
+def polish(start, address, program, tmp_path):
+    """The page in a browser that speaks Polish and has no WebAssembly."""
+    yield from of_its_own(start, address, program, tmp_path, language="pl", has_wasm=False)

@@ -1,0 +1,357 @@
+"""An election by itself in the page, and the certificates that somebody makes of it there, on a phone's screen."""
+import pathlib
+import random
+import shutil
+import subprocess
+
+import browsers
+import pytest
+
+EXAMPLES = pathlib.Path(__file__).resolve().parents[2] / "examples"
+DISTRICT = EXAMPLES / "district.pb"
+IS_SHOWN = "return !document.querySelector('#election-told').hidden"
+IS_DONE = """
+return document.querySelector('#work').hidden && document.querySelector('#looking').hidden
+  && !document.querySelector('[data-state=waiting], [data-state=running]');
+"""
+ROWS = """
+return [...document.querySelectorAll('#projects tbody tr')].map(row =>
+  ['project', 'cost', 'supporters', 'funded'].map(name => row.querySelector('td.' + name)?.textContent.trim()));
+"""
+AUDITS = """
+return [...document.querySelectorAll('#audit-list > li')].map(item =>
+  [item.querySelector('bdi').textContent, item.querySelector('.badge').textContent]);
+"""
+PRESS = """
+const found = [...document.querySelectorAll(arguments[0] + ' button')].find(each =>
+  each.textContent.startsWith(arguments[1]));
+found.scrollIntoView({block: 'center'});
+found.click();
+"""
+TICK = """
+const label = [...document.querySelectorAll('#projects tbody label')].find(each =>
+  each.textContent.includes(arguments[0]));
+label.scrollIntoView({block: 'center'});
+label.querySelector('input').click();
+"""
+TOO_WIDE = "return document.documentElement.scrollWidth - document.documentElement.clientWidth"
+# The election of district.pb, as is read off the file: id, cost, supporters as its column `votes` says, funded.
+PROJECTS = [
+    ("Spielplatz an der Mühle erneuern", "101", "39,600", "27", True),
+    ("Radbügel am Bahnhof; 24 Stück", "102", "14,400", "12", False),
+    ("Bäume für die Łódź-Straße", "104", "21,600", "30", True),
+    ('Bücherschrank "Zum Raben"', "105", "4,187.50", "14", True),
+    ("Sprachcafé für Neuzugezogene", "108", "9,600", "9", False),
+    ("Trinkbrunnen auf dem Marktplatz", "109", "15,900", "20", True),
+]  # fmt: skip
+
+
+def text(browser, selector):
+    return browser.ask("return document.querySelector(arguments[0])?.innerText ?? ''", selector)
+
+
+def show(browser, *paths):
+    """Gives files, and waits until the election is shown."""
+    browser.give("#files-input", *paths)
+    browser.wait(IS_SHOWN, "the election")
+    browser.wait(IS_DONE, "the audits")
+
+
+def done(browser):
+    browser.wait(IS_DONE, "what was asked for")
+
+
+def audited(browser, *wanted):
+    """Waits until the auditor has answered so, in any order."""
+    browsers.until(lambda: sorted(browser.ask(AUDITS)) == sorted(map(list, wanted)), 120, f"the audits {wanted}")
+    done(browser)
+
+
+def saved(browser, name):
+    """The bytes of a file that the page has saved."""
+    path = browser.downloads / name
+    return browsers.until(lambda: path.is_file() and path.read_bytes(), 30, f"{name} among the downloads")
+
+
+def test_what_the_file_says(visit):
+    show(visit, DISTRICT)
+    facts = text(visit, "#facts")
+    for each in ("Participatory budget of Altenbrück, district Brückenviertel", "Brückenviertel, Altenbrück, Nowhere",
+                 "60", "111,000 EUR", "12", "102,177.50 EUR", "ballots on paper were typed in"):  # fmt: skip
+        assert each in facts
+    wanted = [[f"{name} {number}", cost, supporters, "funded" if is_funded else "not funded"]
+              for name, number, cost, supporters, is_funded in PROJECTS]
+    assert visit.ask(ROWS)[:6] == wanted
+    assert len(visit.ask(ROWS)) == 12
+    assert visit.ask(TOO_WIDE) == 0
+
+
+@pytest.mark.parametrize("column, first, last", [
+    ("Cost", "Hallenbad", "Bücherschrank"), ("Supporters", "Bäume", "Sprachcafé"), ("Project", "Bänke", "Trinkbrunnen"),
+])  # fmt: skip
+def test_sorted_by_a_column(visit, column, first, last):
+    show(visit, DISTRICT)
+    visit.ask(PRESS, "#projects thead", column)
+    rows = [row[0] for row in visit.ask(ROWS)]
+    assert (rows[0].split(" ")[0].rstrip(":"), rows[-1].split(" ")[0]) == (first, last)
+    visit.ask(PRESS, "#projects thead", column)
+    rows = [row[0] for row in visit.ask(ROWS)]
+    assert (rows[0].split(" ")[0], rows[-1].split(" ")[0].rstrip(":")) == (last, first)
+
+
+def test_sorted_by_what_is_funded(visit):
+    show(visit, DISTRICT)
+    visit.ask(PRESS, "#projects thead", "Funded")
+    assert [row[3] for row in visit.ask(ROWS)] == ["funded"] * 6 + ["not funded"] * 6
+    assert visit.ask("return document.querySelector('th.funded').getAttribute('aria-sort')") == "descending"
+
+
+def test_searched(visit):
+    show(visit, DISTRICT)
+    search = """const input = document.querySelector('#search-projects');
+input.value = arguments[0];
+input.dispatchEvent(new Event('input'));"""
+    visit.ask(search, "łÓDŹ")
+    assert [row[0] for row in visit.ask(ROWS)] == ["Bäume für die Łódź-Straße 104"]
+    visit.ask(search, "12")
+    assert [row[0].split(" ")[-1] for row in visit.ask(ROWS)] == ["120", "121"]
+    visit.ask(search, "nothing like it")
+    assert visit.ask("return !document.querySelector('#none-like-it').hidden")
+
+
+def test_prices_from_a_bare_election(visit, program, tmp_path):
+    """Somebody with an election alone gets prices that the proved program accepts, as the page says."""
+    show(visit, DISTRICT)
+    visit.ask(PRESS, "#making", "Look for prices")
+    visit.wait("return document.querySelector('#looked').textContent", "the prices")
+    audited(visit, ("district.found.prices.csv", "Yes"))
+    assert "The prices support this outcome" in text(visit, "#audit-list")
+    assert "Its answer stands under “Audits”" in text(visit, "#looked")
+    visit.ask(PRESS, "#looked", "Save district.found.prices.csv")
+    certificate = tmp_path / "found.csv"
+    certificate.write_bytes(saved(visit, "district.found.prices.csv"))
+    words = [program, "prices", DISTRICT, certificate, "--cover"]
+    told = subprocess.run(words, stdout=subprocess.PIPE, text=True, check=False)
+    assert told.stdout == "supported priceable\n"
+    assert visit.ask(TOO_WIDE) == 0
+
+
+def test_a_violation_claim_from_a_bare_election(visit):
+    """Somebody ticks projects, sees that the group has no claim, and has that checked."""
+    show(visit, DISTRICT)
+    visit.ask(TICK, "Sprachcafé")
+    visit.wait("return document.querySelector('#group').textContent.includes('Sprachcafé')", "the figures")
+    told = text(visit, "#group")
+    # Nine voters have 9 of the 60 shares of 111,000, which is 16,650.
+    for each in ("They cost 9,600 EUR together", "approve all of them: 9.", "budget limit: 16,650 EUR"):
+        assert each in told
+    assert "That is too little." in told
+    visit.ask(PRESS, "#group", "Have it checked anyway")
+    visit.wait("return document.querySelector('.made')", "the certificate")
+    audited(visit, ("district.found.violation.csv", "No"))
+    assert "doesn’t prove unfair treatment" in text(visit, "#audit-list")
+
+
+def test_a_violation_that_is_found(visit, program, tmp_path):
+    """With an outcome that passes a group over, the page finds the group, and the proved program agrees."""
+    outcome = EXAMPLES / "district.other.outcome.csv"
+    show(visit, DISTRICT, outcome)
+    visit.ask("""const choice = document.querySelector('#election-choice select');
+choice.selectedIndex = 1;
+choice.dispatchEvent(new Event('change'));""")
+    visit.wait("return document.querySelector('#projects td.funded').textContent === 'not funded'", "that outcome")
+    visit.ask(PRESS, "#making", "Look for groups")
+    visit.wait("return document.querySelector('#looked').textContent", "the groups")
+    done(visit)
+    assert "a group was found" in text(visit, "#looked")
+    visit.ask(PRESS, "#looked", "Tick these projects")
+    visit.wait("return document.querySelector('#group').textContent.includes('That is enough')", "the figures")
+    visit.ask(PRESS, "#looked", "Make a violation certificate")
+    visit.wait("return document.querySelector('#looked .made')", "the certificate")
+    audited(visit, ("district.found.violation.csv", "Yes"))
+    visit.ask(PRESS, "#looked", "Save district.found.violation.csv")
+    certificate = tmp_path / "found.csv"
+    certificate.write_bytes(saved(visit, "district.found.violation.csv"))
+    words = [program, "violation", DISTRICT, certificate, "--outcome", outcome]
+    assert subprocess.run(words, stdout=subprocess.PIPE, text=True, check=False).stdout == "violation\n"
+
+
+def test_none_found_is_no_proof(visit):
+    show(visit, DISTRICT)
+    visit.ask(PRESS, "#making", "Look for groups")
+    visit.wait("return document.querySelector('#looked').textContent", "that none was found")
+    told = text(visit, "#looked")
+    assert told.count("no group was found") == 2
+    assert "doesn't prove that there is none" in told
+
+
+def write(path, *rows, votes=(), budget=10):
+    head = ["META", "key;value", f"budget;{budget}", "vote_type;approval", "PROJECTS", "project_id;cost;name;selected"]
+    path.write_text("\n".join([*head, *rows, "VOTES", "voter_id;vote", *votes, ""]), encoding="utf-8")
+    return path
+
+
+def test_no_prices_and_how_a_refutation_is_made(visit, tmp_path):
+    """The supporter of `a` needs a budget of 4, so that those of `b` have 8 left, which costs 7."""
+    path = write(tmp_path / "none.pb", "a;4;A;1", "b;7;B;0", votes=["1;a", "2;b", "3;b"])
+    show(visit, path)
+    visit.ask(PRESS, "#making", "Look for prices")
+    visit.wait("return document.querySelector('#looked').textContent", "that none were found")
+    assert "doesn't prove that there are none" in text(visit, "#looked")
+    assert text(visit, "#looked code") == "python -m pbaudit find NAME.pb"
+    assert visit.ask(AUDITS) == [["none.pb", "Read"]]
+
+
+@pytest.mark.parametrize("rows, told", [
+    (["a;6;A;1", "b;6;B;1"], "cost more than the budget limit together"),
+    (["a;6;A;1", "b;4;Nobody's;1"], "Nobody's is funded, and nobody approves it"),
+])  # fmt: skip
+def test_no_prices_can_be(visit, tmp_path, rows, told):
+    show(visit, write(tmp_path / "never.pb", *rows, votes=["1;a"]))
+    visit.ask(PRESS, "#making", "Look for prices")
+    visit.wait("return document.querySelector('#looked').textContent", "that there can be none")
+    assert told in text(visit, "#looked")
+
+
+def test_what_could_be_added_is_left_out(visit, tmp_path):
+    show(visit, write(tmp_path / "room.pb", "a;2;A;1", "b;8;B;0", votes=["1;a", "2;b"]))
+    visit.ask(PRESS, "#making", "Look for prices")
+    visit.wait("return document.querySelector('.made')", "the prices")
+    audited(visit, ("room.found.prices.csv", "Yes"))
+    assert "B could be added within the budget limit" in text(visit, "#looked")
+    assert not visit.ask("return document.querySelector('#exhaustive').checked")
+
+
+def test_an_election_without_an_outcome(visit, tmp_path):
+    path = tmp_path / "open.pb"
+    path.write_text(DISTRICT.read_text(encoding="utf-8").replace(";selected", ";chosen"), encoding="utf-8")
+    show(visit, path)
+    assert "doesn't say which projects are funded" in text(visit, "#facts")
+    assert visit.ask("return document.querySelector('#making').hidden")
+    assert visit.ask(ROWS)[0][3] is None
+
+
+def test_a_refused_election_shows_nothing(visit, tmp_path):
+    path = write(tmp_path / "wrong.pb", "a;4;A;1", votes=["1;a,z"])
+    visit.give("#files-input", path)
+    visit.wait("return document.querySelector('#audit-list .badge')?.textContent === 'Refused'", "the refusal")
+    done(visit)
+    assert visit.ask("return document.querySelector('#election-told').hidden")
+
+
+def test_hostile_texts(visit, tmp_path):
+    """Markup out of a file is shown as it is, and hidden characters by their numbers."""
+    bad = "<img src=x onerror=\"document.title='taken'\">"
+    path = write(tmp_path / "bad.pb", f"a;4;{bad};1", "b\u202e;9;;0", f"{'x' * 5000};1;long;0", votes=["1;a"])
+    quoted = f'"{bad.replace(chr(34), chr(34) * 2)}"'
+    facts = f"description;{quoted}\ncurrency;<b>\u202e\nbudget;10"
+    path.write_text(path.read_text("utf-8").replace(bad, quoted).replace("budget;10", facts), encoding="utf-8")
+    show(visit, path)
+    rows = visit.ask(ROWS)
+    assert rows[0][0] == f"{bad} a" and rows[1][0] == "b\\u{202e}"
+    assert len(rows[2][0]) < 200
+    assert bad in text(visit, "#facts") and "10 <b>\\u{202e}" in text(visit, "#facts")
+    visit.ask(TICK, bad)
+    visit.wait("return document.querySelector('#group').textContent.includes('<img')", "its name")
+    assert visit.ask("return document.querySelectorAll('main img, main b').length") == 0
+    assert visit.ask("return document.title") != "taken"
+    assert visit.ask(TOO_WIDE) == 0
+
+
+def test_another_election_is_chosen(visit, tmp_path):
+    shutil.copy(DISTRICT, tmp_path / "one.pb")
+    write(tmp_path / "two.pb", "a;4;A;1", votes=["1;a"])
+    visit.give("#files-input", tmp_path / "one.pb", tmp_path / "two.pb")
+    visit.wait("return document.querySelectorAll('#audit-list > li').length === 2", "both")
+    done(visit)
+    assert visit.ask("return document.querySelector('#election-told').hidden")
+    choose = """const choice = document.querySelector('#election-choice select');
+choice.selectedIndex = arguments[0];
+choice.dispatchEvent(new Event('change'));"""
+    for place, count in ((2, 1), (1, 12)):
+        visit.ask(choose, place)
+        visit.wait(f"return document.querySelectorAll('#projects tbody tr').length === {count}", "its projects")
+    visit.ask("[...document.querySelectorAll('#file-list button')].at(-1).click()")
+    visit.wait(IS_SHOWN, "the one that is left")
+    assert len(visit.ask(ROWS)) == 12
+
+
+def test_in_each_language(visit):
+    show(visit, DISTRICT)
+    visit.ask(TICK, "Sprachcafé")
+    visit.wait("return !document.querySelector('#group').hidden", "the figures")
+    told_in = {"de": ["Gesamtbudget", "16.650 EUR"], "pl": ["Pula środków", "16\u00a0650 EUR"],
+               "fr": ["Enveloppe", "16\u202f650 EUR"], "en": ["Budget limit", "16,650 EUR"]}  # fmt: skip
+    for code, words in told_in.items():
+        visit.ask("""const choice = document.querySelector('#language');
+choice.value = arguments[0];
+choice.dispatchEvent(new Event('change'));""", code)
+        done(visit)
+        told = text(visit, "#election")
+        assert all(each in told for each in words), (code, told)
+        assert visit.ask(TOO_WIDE) == 0, code
+
+
+def test_a_large_election_is_read_again(visit, tmp_path):
+    """What the search holds of many voters is given back before the audit; what is ticked then is still answered."""
+    votes = [f"{at};{'a,b' if at % 2 else 'b'}" for at in range(100_002)]
+    path = write(tmp_path / "large.pb", "a;4;A;1", "b;7;B;0", votes=votes)
+    show(visit, path)
+    visit.ask(PRESS, "#making", "Look for prices")
+    visit.wait("return document.querySelector('.made')", "the prices")
+    audited(visit, ("large.found.prices.csv", "Yes"))
+    visit.ask(TICK, "A")
+    visit.wait("return document.querySelector('#group').textContent.includes('50,001')", "the figures")
+
+
+def test_a_refutation_of_a_group_that_was_passed_over(visit, program, tmp_path):
+    """Two of three voters have a share of 6, which covers `b` and what was funded for them: 2 and 3."""
+    if "refutation" not in subprocess.run([program, "--help"], stdout=subprocess.PIPE, text=True, check=True).stdout:
+        pytest.skip("the program is older, and knows no refutations")
+    path = write(tmp_path / "passed.pb", "a;2;A;1", "b;3;B;0", "c;7;C;1", votes=["1;a,b", "2;a,b", "3;c"], budget=9)
+    show(visit, path)
+    visit.ask(TICK, "A")
+    visit.ask(TICK, "B")
+    visit.wait("return document.querySelector('#group').textContent.includes('That is enough')", "the figures")
+    visit.ask(PRESS, "#group", "Make a violation certificate")
+    visit.wait("return document.querySelector('#group .made')", "the certificate")
+    audited(visit, ("passed.found.violation.csv", "Yes"))
+    visit.ask(PRESS, "#group", "Have it checked")
+    audited(visit, ("passed.found.refutation.csv", "Yes"), ("passed.found.violation.csv", "Yes"))
+    visit.ask(PRESS, "#group", "Save passed.found.refutation.csv")
+    certificate = tmp_path / "found.csv"
+    certificate.write_bytes(saved(visit, "passed.found.refutation.csv"))
+    told = subprocess.run([program, "refutation", path, certificate], stdout=subprocess.PIPE, text=True, check=False)
+    assert told.stdout == "unpriceable cover\n"
+
+
+def test_a_search_is_stopped(visit, tmp_path):
+    """Sets of six among 60 projects that half of the voters approve take long; a search that was stopped says so."""
+    chance = random.Random(7)
+    rows = [f"f{at};40;F{at};1" for at in range(5)] + [f"u{at};1;U{at};0" for at in range(55)]
+    wanted = [f"u{at}" for at in range(55)]
+    votes = [f"{voter};f0,f1,f2,f3,f4," + ",".join(chance.sample(wanted, 28)) for voter in range(3000)]
+    show(visit, write(tmp_path / "dense.pb", *rows, votes=votes, budget=200))
+    visit.ask(PRESS, "#making", "Look for groups")
+    visit.wait("return document.querySelector('#looking-for').textContent.includes('trying sets of')", "the search")
+    assert visit.ask("return document.activeElement.id") == "stop-looking"
+    visit.ask("document.querySelector('#stop-looking').click()")
+    visit.wait("return document.querySelector('#looking').hidden", "the end of the search", 20)
+    assert "stopped. No group was found." in text(visit, "#looked")
+    assert "doesn't prove that there is none" in text(visit, "#looked")
+    assert visit.ask("return document.activeElement.id") == "look-for-groups"
+
+
+@pytest.mark.parametrize("change", ["voters: told.summary.voters + 1", "projects: told.summary.projects.slice(1)",
+                                    "projects: told.summary.projects.map(each => ({...each, isFunded: true}))"])
+def test_other_numbers_than_the_auditors(visit, change):
+    """Where the script that shows an election counts otherwise than the auditor, it says so and shows nothing."""
+    visit.ask("""const script = document.querySelector('#finder'), changed = `
+const send = self.postMessage.bind(self);
+self.postMessage = ({number, content: told}) =>
+  send({number, content: told.summary ? {...told, summary: {...told.summary, ${arguments[0]}}} : told});`;
+script.textContent = changed + script.textContent;""", change)
+    visit.give("#files-input", DISTRICT)
+    visit.wait("return !document.querySelector('#election-problem').hidden", "what is the matter")
+    assert "reads other numbers in the file than the auditor does" in text(visit, "#election-problem")
+    assert visit.ask("return document.querySelector('#election-told').hidden")

@@ -1,0 +1,120 @@
+"""The module of the page, run by Node, beside the program: the same cases, status and bytes; and what the scripts of the page are made
+of, as tsc, eslint, esbuild and Node's own runner see them."""
+import collections
+import os
+import re
+import subprocess
+import tempfile
+
+import pytest
+
+import by_node
+import cases
+import saying
+import variants
+from common import TOP, needs
+from tables import EXAMPLES
+
+BY_CHANCE = 2000
+WEB = TOP / "web"
+# The memory that never grows has so many megabytes beyond what the module starts with.
+MEGABYTES = 12
+LANGUAGES = ("en", "pl", "de", "fr")
+# Commands whose allocations are made to fail one by one, on the examples.
+STARVED = [
+    ["read", "district.pb"], ["prices", "district.pb", "district.prices.csv", "--stable"],
+    ["violation", "district.pb", "district.violation.csv", "--outcome", "district.other.outcome.csv"],
+    ["both", "district.pb", "district.stable.prices.csv", "district.violation.csv",
+     "--outcome", "district.stable.outcome.csv"],
+    ["explain", "district.pb", "district.short.prices.csv"], ["margins", "district.pb", "district.prices.csv"],
+    ["tidy", "sample.pb", "sample.untidy.prices.csv"], ["tidy", "district.pb", "sample.outcome.csv"],
+    ["page", "district.pb", "district.prices.csv", "--stable"],
+]  # fmt: skip
+# Debian's eslint reads older JavaScript and no types, so tsc writes each module in that. (It says that 0n is newer.)
+OLDER = ["--noEmit", "false", "--target", "es2019", "--module", "es2015"]
+
+
+def commands_of(case, number):
+    """The commands that are asked of a case's files: its own, and of a certificate the page and the explanation."""
+    words = ["read", "stdin"] if case.stdin is not None else case.words
+    yield words
+    if words[0] in ("prices", "violation", "refutation", "explain"):
+        yield ["page", *words[1:], "--language", LANGUAGES[number % len(LANGUAGES)]]
+    if words[0] in ("prices", "violation", "refutation"):
+        yield ["explain", *words[1:]]
+
+
+def test_by_chance(run, node, seed, by_chance, room):
+    case = cases.without_folders(seed, by_chance)
+    cases.write_files(room, case.files)
+    for words in commands_of(case, by_chance):
+        ran, told = run(*words, cwd=room), node.ask(by_node.call_of(words, room))
+        assert (told.get("status"), told.get("text")) == (ran.returncode, ran.stdout)
+        if ran.returncode == 2:
+            hint = by_node.hint_of(node, words, room, ran.stdout.decode())
+            assert (hint.get("line"), hint.get("sentences")) == by_node.told_hints(ran.stderr)
+
+
+def test_each_kind_of_answer_comes(seed, option):
+    """The reference says which come, since the program says the same. A page and an explanation end as their command does."""
+    if option("cases") is not None and option("cases") < BY_CHANCE:
+        pytest.skip("fewer cases than usual")
+    counts = collections.Counter()
+    for number in range(BY_CHANCE):
+        case = cases.without_folders(seed, number)
+        with tempfile.TemporaryDirectory() as room:
+            cases.write_files(room, case.files)
+            status = saying.reference_says(case, room).status
+        counts.update(f"{words[0]} {status}" for words in commands_of(case, number))
+    commands = ("prices", "violation", "refutation", "both", "explain", "page")
+    wanted = [f"{command} {status}" for command in commands for status in (0, 1, 2)]
+    wanted += [f"{command} {status}" for command in ("read", "margins", "tidy") for status in (0, 2)]
+    assert [kind for kind in wanted if not counts[kind]] == []
+
+
+@pytest.fixture(scope="module")
+def starving(page, tmp_path_factory):
+    """The module with memory that never grows."""
+    needs("node")
+    small = tmp_path_factory.mktemp("small") / "small.html"
+    variants.write(page, small, lambda module: variants.with_fixed_memory(module, MEGABYTES))
+    process = by_node.Node(small)
+    yield process
+    process.close()
+
+
+@pytest.mark.parametrize("words", STARVED, ids=" ".join)
+def test_each_allocation_fails(starving, words):
+    """The answer is that memory ran out, with nothing written, or the usual one."""
+    told = starving.ask({**by_node.call_of(words, EXAMPLES), "starve": True})
+    assert told["wrong"] == 0 and told["failed"] > 0
+
+
+def test_types():
+    needs("tsc")
+    told = subprocess.run(["tsc", "--project", WEB], capture_output=True, text=True, check=False)
+    assert told.returncode == 0, told.stdout
+
+
+def test_style(room):
+    """What eslint says of the modules. It reads no types, and that each name is used is seen by tsc."""
+    needs("tsc", "eslint")
+    written = room / "written"
+    subprocess.run(["tsc", "--project", WEB, *OLDER, "--outDir", written], capture_output=True, check=False)
+    # Debian's eslint finds its parts by the path of Debian's Node, which another Node doesn't have.
+    words = ["eslint", "--no-eslintrc", "--format", "unix", "--config", WEB / "eslint.json", written]
+    paths = {**os.environ, "NODE_PATH": "/usr/share/nodejs"}
+    told = subprocess.run(words, cwd=room, env=paths, capture_output=True, text=True, check=False)
+    assert written.is_dir() and told.returncode == 0, told.stdout + told.stderr
+
+
+def test_modules_that_need_no_browser(room):
+    """By Node's own runner."""
+    needs("node", "esbuild")
+    tests = sorted(str(path.relative_to(WEB)) for path in (WEB / "tests").glob("*.test.ts"))
+    bundle = ["esbuild", *tests, "--bundle", "--platform=node", "--log-level=warning", f"--outdir={room}"]
+    made = subprocess.run(bundle, cwd=WEB, capture_output=True, text=True, check=False)
+    assert made.returncode == 0, made.stderr
+    told = subprocess.run(["node", "--test", room], capture_output=True, text=True, check=False)
+    assert told.returncode == 0, told.stdout[-4000:]
+    assert int(re.search(r"^# pass (\d+)$", told.stdout, re.MULTILINE)[1]) >= len(tests) > 0

@@ -1,0 +1,38 @@
+"""What the page says: a text that is missing in a language, or a slot that is missing or left open, doesn't compile."""
+import pathlib
+import re
+import shutil
+import subprocess
+
+import pytest
+
+from common import needs
+
+WEB = pathlib.Path(__file__).resolve().parent.parent.parent / "web"
+DE, EN, FR, PL, LISTS = "src/words/de.ts", "src/words/en.ts", "src/words/fr.ts", "src/words/pl.ts", "src/page/lists.ts"
+FILLED = r"fill\(words\.kindOf, \{[^}]*\}\)"
+# What somebody might write by mistake, and what is wrong with it; those of a row in one copy, by their files, in which the errors
+# are told; of English in those of the other languages.
+MISTAKES = [
+    {DE: ("a text is missing", r"^  kindOf: .*\n", ""),
+     PL: ("a text more", r"^  name: ", '  other: "x",\n  name: '),
+     FR: ("a slot is missing", r"^(  kindOf: .*)\{file\}", r"\1"),
+     LISTS: ("a slot isn't filled", FILLED, "fill(words.kindOf, {})")},
+    {DE: ("a slot of another name", r"^(  kindOf: .*)\{file\}", r"\1{datei}"),
+     PL: ("a slot more", r'^  choose: "', '  choose: "{file} '),
+     LISTS: ("a text with slots is used as it is", FILLED, "words.kindOf")},
+    {LISTS: ("a slot that the text hasn't", r"fill\(words\.kindOf, \{", "fill(words.kindOf, { line: 1,")},
+    {EN: ("a slot that is none", r"^(  kindOf: .*)\{file\}", r"\1{filename}")},
+]  # fmt: skip
+
+
+@pytest.mark.parametrize("mistakes", MISTAKES, ids=lambda mistakes: ", ".join(what for what, *_ in mistakes.values()))
+def test_mistakes_do_not_compile(tmp_path, mistakes):
+    needs("tsc")
+    copy = pathlib.Path(shutil.copytree(WEB, tmp_path / "web", ignore=shutil.ignore_patterns("out")))
+    for name, (_, pattern, written) in mistakes.items():
+        wrong, count = re.subn(pattern, written, (copy / name).read_text(encoding="utf-8"), flags=re.MULTILINE)
+        assert count == 1
+        (copy / name).write_text(wrong, encoding="utf-8")
+    told = subprocess.run(["tsc", "--skipLibCheck", "--project", copy], cwd=copy, capture_output=True, text=True, check=False).stdout
+    assert {*re.findall(r"^(\S+)\(\d+,\d+\): error TS", told, re.MULTILINE)} == ({DE, FR, PL} if EN in mistakes else {*mistakes})
