@@ -26,7 +26,7 @@ use Rattle.pb_reply.specs.declared.input.Stop.TheVariants as stop
 use Rattle.pb_reply.specs.declared.status.Status.{Status}
 use Rattle.pb_reply.specs.declared.status.Status.TheVariants.{Yes}
 use Rattle.pb_audit.proofs.Audits.{lines_told, readers_answered, readers_stopped_at_election, readers_stopped_at_outcome}
-use Rattle.pb_audit.proofs.Promises.{prices_promise, violation_promises}
+use Rattle.pb_reply.proofs.Promises.{prices_promise, violation_promises}
 
 both_yes : (first second : Status) → (yes_where_both first second ≡ Yes) ↔ ((first ≡ Yes) × (second ≡ Yes))
 both_yes first second = grind arith

@@ -1,65 +1,116 @@
 -- The answers of `explain`.
-use Rattle.std.proofs.Common.{◌≡◌, ℕ, Bool, true, false, List, [], ◌≤◌, inl, inr, arith}
-use Rattle.std.specs.Prelude.{ℤ, pos, ◌-ℤ◌, IfSome, Option, Result, Some, None, Ok, Err, option_map, slice_get}
+use Rattle.std.proofs.Common.{◌≡◌, ◌∙◌, ◌++◌, ◌*◌, ap, cond, false, get_or, true, ℕ, Bool, List, [], ◌≤◌, refl, subst, sym, arith}
+use Rattle.std.specs.Prelude.{ℤ, pos, ◌-ℤ◌, IfSome, nat_lt, Option, Result, Some, None, Ok, Err, option_map, slice_get}
 use Rattle.std.specs.List.{AllByRecursion}
 use Rattle.std.specs.Option.{option_or}
+use Rattle.std.proofs.lemmas.Bool.{ltb-false, ltb-true}
 use Rattle.pb_records.specs.Loading.{Delivery}
 use Rattle.pb_records.proofs.Each.{all-filter, all-first}
-use Rattle.pb_election.specs.Instance.{Instance, IsProject, IsSet, all_projects, projects, supporters}
+use Rattle.pb_election.specs.Instance.{Instance, IsProject, IsSet, all_projects, projects, supporters, voters}
 use Rattle.pb_certificate.specs.Prices.{Prices}
-use Rattle.pb_certificate.specs.declared.violations.measure.Measure.{Measure}
-use Rattle.pb_cohesion.specs.Amounts.{budget_limit, cost, left, paid}
+use Rattle.pb_certificate.specs.Refutations.{Weights}
+use Rattle.pb_certificate.specs.declared.kind.Kind.TheVariants as kind
+use Rattle.pb_cohesion.specs.Amounts.{beta, budget_limit, cost, left, paid}
 use Rattle.pb_cohesion.specs.Conditions.{culprits_of_C1, culprits_of_C3, culprits_of_C4, culprits_of_C5, culprits_of_Exhaustive, culprits_of_S5, most_of, sum_ℤ}
 use Rattle.pb_cohesion.specs.FirstV.{culprits_of_V2}
 use Rattle.pb_cohesion.specs.Outcome.{unfunded}
+use Rattle.pb_cohesion.specs.Refutations.{culprits_of_U1}
 use Rattle.pb_price.specs.Findings.{comparison, finding, findings, total_grains}
 use Rattle.pb_price.specs.First.{verdict_of}
 use Rattle.pb_price.specs.Told.{first_told}
 use Rattle.pb_price.specs.declared.Findings.{Findings}
 use Rattle.pb_price.specs.declared.Mode.{Mode}
 use Rattle.pb_price.proofs.Told.{tell-first}
+use Rattle.pb_explain.specs.GroupLines.{group_lines, not_passed_over, not_shown, within_reach}
 use Rattle.pb_explain.specs.PriceTable.{NameProjects, ShowsProject, price_table}
 use Rattle.pb_reply.specs.Replies.{Reply, with_input}
 use Rattle.pb_audit.specs.Answers.{verdict_reply}
-use Rattle.pb_audit.specs.Explained.{explained_prices, explained_reply, explained_rules, explained_violation, with_table}
-use Rattle.pb_reply.specs.Certificates.{OfPrices, OfViolation, StatesCertificate, is_violation}
-use Rattle.pb_reply.specs.Inputs.{Stated, StatesPrices, StatesViolation}
+use Rattle.pb_reply.specs.Promises.{PricesPromise}
+use Rattle.pb_audit.specs.Explained.{IsSoOfGroups, groups_told, explained_prices, explained_refutation, explained_reply, explained_rules, explained_violation, with_table}
+use Rattle.pb_reply.specs.Certificates.{Certificate, OfPrices, OfRefutation, OfViolation, StatesCertificate, StatesKind, as_certificate, kind_in}
+use Rattle.pb_reply.specs.Inputs.{Stated, StatesPrices, StatesRefutation, StatesViolation}
 use Rattle.pb_audit.specs.Inside.Certificates.{AnswersCertificate, IfTold, Promised}
 use Rattle.pb_reply.specs.Inside.Taking.{settled}
-use Rattle.pb_reply.specs.declared.input.InputName.TheVariants.{Certificate}
+use Rattle.pb_reply.specs.declared.input.InputName.TheVariants as name
 use Rattle.pb_reply.specs.declared.input.Stop.{Stop}
+use Rattle.pb_reply.specs.declared.status.Status.{Status}
 use Rattle.pb_audit.proofs.Audits.{lines_told}
 use Rattle.pb_reply.proofs.Culprits.{among-projects, missing-name, projects-are, unapproved-name}
-use Rattle.pb_audit.proofs.Promises.{prices_promise, violation_promises}
+use Rattle.pb_reply.proofs.Promises.{certificate_promises}
+
+-- what is said of groups follows from what the status promises
+differ : (xs ys : List ℕ) (k : ℕ) → xs ≡ ys → (get_or xs k 0 ≡ get_or ys k 0 → ⊥) → ⊥
+differ xs ys k same apart = apart (ap (λ zs. get_or zs k 0) same)
+
+said_of_reach : (less more : Bool)
+    → cond less not_shown (cond more not_passed_over within_reach) ≡ within_reach → less ≡ false
+said_of_reach true more h = absurd (differ not_shown within_reach 0 h (λ same. omega arith))
+said_of_reach false more h = refl
+
+said_of_none : (less more : Bool)
+    → cond less not_shown (cond more not_passed_over within_reach) ≡ not_passed_over → more ≡ true
+said_of_none true more h = absurd (differ not_shown not_passed_over 0 h (λ same. omega arith))
+said_of_none false true h = refl
+said_of_none false false h = absurd (differ within_reach not_passed_over 8 h (λ same. omega arith))
+
+so_of_groups : (m : Mode) (status : Status) (e : Instance) (w : List Bool) (p : Prices) → PricesPromise m status e w p
+    → IsSoOfGroups status e w (findings e w p)
+so_of_groups m status e w p promise =
+    let limit : ℕ = budget_limit e p in
+    let budgets : ℕ = voters e * beta p in
+    record {
+      reach = λ yes' told. promise.share_yes yes'
+          (ltb-false budgets limit (said_of_reach (nat_lt budgets limit) (nat_lt limit budgets) told));
+      passed_over = λ yes' told. promise.pjr_plus_yes yes'
+          (ltb-true limit budgets (said_of_none (nat_lt budgets limit) (nat_lt limit budgets) told));
+    }
 
 pub explained_promise : (m : Mode) → Promised (explained_rules m)
-explained_promise m e w d (OfPrices p) given = prices_promise m Certificate e w d p given.1
-explained_promise m e w d (OfViolation v) given = violation_promises e w v
+explained_promise m e w d (OfPrices p) given =
+    let promise = certificate_promises m e w d (OfPrices p) given in (promise, so_of_groups m _ e w p promise)
+explained_promise m e w d (OfViolation v) given = certificate_promises m e w d (OfViolation v) given
+explained_promise m e w d (OfRefutation r) given = certificate_promises m e w d (OfRefutation r) given
 
--- a certificate that is taken as prices, or as a violation, is one of either kind
-pub as_prices : (m : Mode) (e : Instance) (w : List Bool) (d : Delivery) (work : Result Reply Stop)
-    → is_violation d ≡ false
-    → IfSome (settled (λ r. r) work) (AnswersCertificate (StatesPrices Certificate) (explained_prices m) e w d)
+-- the reply on a certificate of one kind is that on one of any kind
+as_kind : {A : Type 0} (of : A → Certificate) (states : Instance → Delivery → Stated A → Type 0)
+    (reply : Instance → List Bool → A → Reply) (m : Mode) (e : Instance) (w : List Bool) (d : Delivery)
+    (work : Result Reply Stop) → ((s : Stated A) → states e d s → StatesCertificate e d (as_certificate of s))
+    → ((a : A) → reply e w a ≡ explained_reply m e w (of a))
+    → IfSome (settled (λ r. r) work) (AnswersCertificate states reply e w d)
     → IfTold (λ r. r) (AnswersCertificate StatesCertificate (explained_reply m) e w d) work
-as_prices m e w d work is answers = lines_told _ _ (λ r found. go r found.c found.given found.out) work answers
+as_kind {A} of states reply m e w d work taken same answers =
+    lines_told _ _ (λ r found. go r found.c found.given found.out) work answers
   where
-    go : (r : Reply) (c : Stated Prices) → StatesPrices Certificate e d c
-        → r ≡ with_input c (λ a. explained_prices m e w a)
+    go : (r : Reply) (c : Stated A) → states e d c → r ≡ with_input c (λ a. reply e w a)
         → AnswersCertificate StatesCertificate (explained_reply m) e w d r
-    go r (Ok p) given out = record { c = Ok (OfPrices p); given = (is, given); out = out }
-    go r (Err why) given out = record { c = Err why; given = inl (is, given); out = out }
+    go r (Ok a) given out = record { c = Ok (of a); given = taken (Ok a) given; out = out ∙ same a }
+    go r (Err why) given out = record { c = Err why; given = taken (Err why) given; out = out }
+
+pub as_prices : (m : Mode) (e : Instance) (w : List Bool) (d : Delivery) (work : Result Reply Stop)
+    → kind_in d ≡ kind.Prices
+    → IfSome (settled (λ r. r) work) (AnswersCertificate (StatesPrices name.Certificate) (explained_prices m) e w d)
+    → IfTold (λ r. r) (AnswersCertificate StatesCertificate (explained_reply m) e w d) work
+as_prices m e w d work is answers =
+    as_kind OfPrices (StatesPrices name.Certificate) (explained_prices m) m e w d work
+    (λ s given. subst (λ k. StatesKind k e d (as_certificate OfPrices s)) (sym is) (s, given, refl)) (λ p. refl) answers
 
 pub as_violation : (m : Mode) (e : Instance) (w : List Bool) (d : Delivery) (work : Result Reply Stop)
-    → is_violation d ≡ true
-    → IfSome (settled (λ r. r) work) (AnswersCertificate (StatesViolation Certificate) explained_violation e w d)
+    → kind_in d ≡ kind.Violation
+    → IfSome (settled (λ r. r) work) (AnswersCertificate (StatesViolation name.Certificate) explained_violation e w d)
     → IfTold (λ r. r) (AnswersCertificate StatesCertificate (explained_reply m) e w d) work
-as_violation m e w d work is answers = lines_told _ _ (λ r found. go r found.c found.given found.out) work answers
-  where
-    go : (r : Reply) (c : Stated (Measure × List ℕ × List ℕ)) → StatesViolation Certificate e d c
-        → r ≡ with_input c (λ a. explained_violation e w a)
-        → AnswersCertificate StatesCertificate (explained_reply m) e w d r
-    go r (Ok v) given out = record { c = Ok (OfViolation v); given = (is, given); out = out }
-    go r (Err why) given out = record { c = Err why; given = inr (is, given); out = out }
+as_violation m e w d work is answers =
+    as_kind OfViolation (StatesViolation name.Certificate) explained_violation m e w d work
+    (λ s given. subst (λ k. StatesKind k e d (as_certificate OfViolation s)) (sym is) (s, given, refl)) (λ v. refl)
+    answers
+
+pub as_refutation : (m : Mode) (e : Instance) (w : List Bool) (d : Delivery) (work : Result Reply Stop)
+    → kind_in d ≡ kind.Refutation
+    → IfSome (settled (λ r. r) work) (AnswersCertificate StatesRefutation explained_refutation e w d)
+    → IfTold (λ r. r) (AnswersCertificate StatesCertificate (explained_reply m) e w d) work
+as_refutation m e w d work is answers =
+    as_kind OfRefutation StatesRefutation explained_refutation m e w d work
+    (λ s given. subst (λ k. StatesKind k e d (as_certificate OfRefutation s)) (sym is) (s, given, refl)) (λ r. refl)
+    answers
 
 -- the projects that the findings name
 named-first : (e : Instance) (bound : ℕ → ℕ) (amount : ℕ → ℤ) (o : Option ℕ) → IfSome o (IsProject e)
@@ -99,8 +150,15 @@ pub missing_names_projects : (e : Instance) (s t : List ℕ) → IsSet 1 (projec
 missing_names_projects e s t set =
     all-first (λ (q : ℕ × ℕ). IsProject e q.1) (culprits_of_V2 e s t) (missing-name e s t set)
 
+pub misplaced_names_projects : (e : Instance) (w : List Bool) (r : Weights)
+    → IfSome (slice_get (culprits_of_U1 e w r) 0) (IsProject e)
+misplaced_names_projects e w r =
+    all-first (IsProject e) (culprits_of_U1 e w r) (all-filter (IsProject e) _ (all_projects e) (projects-are e))
+
 -- the reply on the findings on prices is that on the prices
 pub findings_explain : (m : Mode) (e : Instance) (w : List Bool) (p : Prices) (f : Findings) → 1 ≤ p.denominator
     → f ≡ findings e w p
-    → with_table (price_table m e f) (verdict_reply m e (verdict_of (first_told m f))) ≡ explained_prices m e w p
+    → with_table
+    (price_table m e f ++ groups_told (verdict_of (first_told m f)) (group_lines e w f))
+    (verdict_reply m e (verdict_of (first_told m f))) ≡ explained_prices m e w p
 findings_explain m e w p f low is = grind (arith, tell-first)

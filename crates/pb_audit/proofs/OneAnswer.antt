@@ -6,7 +6,7 @@ use Rattle.pb_records.specs.Loading.{Delivery}
 use Rattle.pb_certificate.specs.Prices.{Prices}
 use Rattle.pb_price.specs.declared.Mode.{Mode}
 use Rattle.pb_reply.specs.Replies.{Answer, Reply, answer_of, refused, with_input, TellsReply}
-use Rattle.pb_audit.specs.Answers.{AnswersAudit, AnswersElection, AnswersPrices, AnswersTidy, AnswersViolation, AuditRules, audit_reply, price_rules, read_reply, tidy_answer, violation_rules}
+use Rattle.pb_audit.specs.Answers.{AnswersAudit, AnswersElection, AnswersPrices, AnswersRefutation, AnswersTidy, AnswersViolation, AuditRules, audit_reply, price_rules, read_reply, refutation_rules, tidy_answer, violation_rules}
 use Rattle.pb_audit.specs.Both.{AnswersBoth, Both, GroupAndDemand, StatesBoth, both_rules}
 use Rattle.pb_reply.specs.Inputs.{FilesState, Stated, StatesElection, StatesOutcome, StatesPrices, audited}
 use Rattle.pb_audit.specs.Margins.{AnswersMargins, margin_rules}
@@ -16,8 +16,8 @@ use Rattle.pb_audit.specs.Inside.Certificates.{Promised}
 use Rattle.pb_reply.specs.declared.input.InputName.TheVariants as name
 use Rattle.pb_audit.proofs.Audits.{certificate_answered, election_refused, outcome_refused}
 use Rattle.pb_audit.proofs.Boths.{both_promises}
-use Rattle.pb_audit.proofs.OneStated.{election-one, file-one, outcome-one, prices-one, violation-one}
-use Rattle.pb_audit.proofs.Promises.{prices_promise, violation_promises}
+use Rattle.pb_audit.proofs.OneStated.{election-one, file-one, outcome-one, prices-one, refutation-one, violation-one}
+use Rattle.pb_reply.proofs.Promises.{prices_promise, refutation_promises, violation_promises}
 use Rattle.pb_reply.specs.declared.status.Status.{Status}
 
 -- The read line.
@@ -154,6 +154,10 @@ pub violation-reply-one : (election : Delivery) (outcome : Option Delivery) (cer
     → JustOne (AnswersViolation election outcome certificate)
 violation-reply-one =
     audit-one violation_rules (violation-one name.Certificate) (λ e w d claim given. violation_promises e w claim)
+
+pub refutation-reply-one : (election : Delivery) (outcome : Option Delivery) (certificate : Delivery)
+    → JustOne (AnswersRefutation election outcome certificate)
+refutation-reply-one = audit-one refutation_rules refutation-one (λ e w d r given. refutation_promises e w r)
 
 -- The table of margins.
 

@@ -14,9 +14,10 @@ use Rattle.pb_records.specs.Loading.{Delivery}
 use Rattle.pb_records.specs.Loading as delivery
 use Rattle.pb_records.specs.Records.{election_records}
 use Rattle.pb_records.proofs.First.{one-first}
-use Rattle.pb_certificate.specs.Faults.{certificate_records, outcome_form, price_form, violation_form}
+use Rattle.pb_certificate.specs.Faults.{certificate_records, outcome_form, price_form, refutation_form, violation_form}
 use Rattle.pb_certificate.specs.Outcomes.Text.{IsOutcomeText}
 use Rattle.pb_certificate.specs.Prices.Text.{IsPriceText}
+use Rattle.pb_certificate.specs.Refutations.Text.{IsRefutationText}
 use Rattle.pb_certificate.specs.Violations.Text.{IsViolationText}
 use Rattle.pb_certificate.specs.declared.refusal.CertFault.{CertFault}
 use Rattle.pb_certificate.proofs.OnViolations.Answered.{group-answered}
@@ -25,9 +26,12 @@ use Rattle.pb_certificate.proofs.OnOutcomes.Answered.{outcome-answered}
 use Rattle.pb_certificate.proofs.OnOutcomes.Clear.{outcome-clear}
 use Rattle.pb_certificate.proofs.OnPrices.Answered.{price-answered}
 use Rattle.pb_certificate.proofs.OnPrices.Clear.{price-clear}
+use Rattle.pb_certificate.proofs.OnRefutations.Answered.{refutation-answered}
+use Rattle.pb_certificate.proofs.OnRefutations.Clear.{refutation-clear}
+use Rattle.pb_certificate.proofs.OnRefutations.Texts.{refutation-text-same}
 use Rattle.pb_certificate.proofs.Unique.{group-text-same, outcome-text-same, price-text-same}
 use Rattle.pb_audit.specs.Both.{GroupAndDemand}
-use Rattle.pb_reply.specs.Inputs.{IsRefusedElection, IsRefusedFile, Stated, States, StatesElection, StatesFile, StatesOutcome, StatesPrices, StatesViolation, refusal_of}
+use Rattle.pb_reply.specs.Inputs.{IsRefusedElection, IsRefusedFile, Stated, States, StatesElection, StatesFile, StatesOutcome, StatesPrices, StatesRefutation, StatesViolation, refusal_of}
 use Rattle.pb_reply.specs.declared.input.InputRefusal.{InputRefusal}
 use Rattle.pb_audit.specs.OneAnswer.{JustOne}
 use Rattle.pb_reply.specs.declared.input.InputFault.TheVariants as fault
@@ -135,6 +139,20 @@ violation-one input e =
       alone = λ bytes v w t u. claims-same v w
           (group-text-same (certificate_records bytes) e v.0 w.0 v.1 v.2 w.1 w.2 t u);
       first = refusals-same input (violation_form e);
+    })
+
+pub refutation-one : (e : Instance) (d : Delivery) → JustOne (StatesRefutation e d)
+refutation-one e =
+    states-one name.Certificate (λ bytes r. IsRefutationText (certificate_records bytes) e r)
+    (IsRefusedFile name.Certificate (refutation_form e)) (record {
+      answered = λ bytes. elim (refutation-answered (certificate_records bytes) e) [
+        | inl text ↦ inl text
+        | inr why ↦ inr (file-refused name.Certificate (refutation_form e) bytes why)
+      ];
+      apart = λ bytes r f text refused. refutation-clear (certificate_records bytes) e r text refused.0.place
+          refused.0.fault refused.1;
+      alone = λ bytes r s t u. refutation-text-same (certificate_records bytes) e r s t u;
+      first = refusals-same name.Certificate (refutation_form e);
     })
 
 pub outcome-one : (e : Instance) (d : Delivery) → JustOne (StatesOutcome e d)

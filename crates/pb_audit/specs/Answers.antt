@@ -5,17 +5,20 @@ use Rattle.pb_election.specs.Instance.{Instance}
 use Rattle.pb_records.specs.Loading.{Delivery}
 use Rattle.pb_certificate.specs.Prices.Canon.{Canon}
 use Rattle.pb_certificate.specs.Prices.{Prices}
+use Rattle.pb_certificate.specs.Refutations.{Weights}
 use Rattle.pb_certificate.specs.declared.violations.measure.Measure.{Measure}
+use Rattle.pb_cohesion.specs.FirstU.{FirstU, refutation_verdict_of}
 use Rattle.pb_cohesion.specs.FirstV.{FirstV, violation_verdict_of}
 use Rattle.pb_cohesion.specs.Satisfactions.{worth_by}
+use Rattle.pb_cohesion.specs.declared.RefutationVerdict.{RefutationVerdict}
 use Rattle.pb_cohesion.specs.declared.ViolationVerdict.{ViolationVerdict}
 use Rattle.pb_price.specs.First.{First, verdict_of}
 use Rattle.pb_price.specs.declared.Mode.{Mode}
 use Rattle.pb_price.specs.declared.Verdict.{Verdict}
-use Rattle.pb_reply.specs.Replies.{Answer, Reply, answer_of, price_status, refused, violation_status, with_input}
-use Rattle.pb_reply.specs.Inputs.{FilesState, Stated, StatesElection, StatesPrices, StatesViolation, audited, in_memory}
-use Rattle.pb_reply.specs.Lines.{notes, price_line, read_line, violation_line}
-use Rattle.pb_audit.specs.Promises.{PricesPromise, ViolationPromises}
+use Rattle.pb_reply.specs.Replies.{Answer, Reply, answer_of, price_status, refused, refutation_status, violation_status, with_input}
+use Rattle.pb_reply.specs.Inputs.{FilesState, Stated, StatesElection, StatesPrices, StatesRefutation, StatesViolation, audited, in_memory}
+use Rattle.pb_reply.specs.Lines.{notes, price_line, read_line, refutation_line, violation_line}
+use Rattle.pb_reply.specs.Promises.{PricesPromise, RefutationPromises, ViolationPromises}
 use Rattle.pb_reply.specs.declared.input.InputName.TheVariants as name
 use Rattle.pb_reply.specs.declared.status.Status.{Status}
 use Rattle.pb_reply.specs.declared.status.Status.TheVariants.{Yes}
@@ -57,6 +60,17 @@ violation_reply e w v = group_reply e (violation_verdict_of (FirstV (worth_by v.
 abbrev pub violation_rules : AuditRules (Measure × List ℕ × List ℕ)
 violation_rules =
     record { states = StatesViolation name.Certificate; reply = violation_reply; promises = ViolationPromises }
+
+-- the verdict on weights
+abbrev pub weights_reply : Instance → RefutationVerdict → Reply
+weights_reply e v = record { lines = refutation_line e v ∷ []; status = refutation_status v }
+
+abbrev pub refutation_reply : Instance → List Bool → Weights → Reply
+refutation_reply e w r = weights_reply e (refutation_verdict_of r.cover (FirstU e w r))
+
+abbrev pub refutation_rules : AuditRules Weights
+refutation_rules =
+    record { states = StatesRefutation; reply = refutation_reply; promises = RefutationPromises }
 
 -- the reply on an election, an outcome and a certificate
 abbrev pub audit_reply : {A : Type 0} → (Instance → List Bool → A → Reply) → Stated Instance
@@ -101,6 +115,9 @@ AnswersPrices m election outcome certificate r = AnswersAudit (price_rules m) el
 abbrev pub AnswersViolation : Delivery → Option Delivery → Delivery → Reply → Type 0
 AnswersViolation election outcome certificate r = AnswersAudit violation_rules election outcome certificate r
 
+abbrev pub AnswersRefutation : Delivery → Option Delivery → Delivery → Reply → Type 0
+AnswersRefutation election outcome certificate r = AnswersAudit refutation_rules election outcome certificate r
+
 -- The same over files in memory, by their bytes alone.
 abbrev pub AnswersElectionFile : List ℕ → Reply → Type 0
 AnswersElectionFile election r = AnswersElection (in_memory election) r
@@ -112,6 +129,10 @@ AnswersPriceFiles m election outcome certificate r =
 abbrev pub AnswersViolationFiles : List ℕ → Option (List ℕ) → List ℕ → Reply → Type 0
 AnswersViolationFiles election outcome certificate r =
     AnswersViolation (in_memory election) (option_map in_memory outcome) (in_memory certificate) r
+
+abbrev pub AnswersRefutationFiles : List ℕ → Option (List ℕ) → List ℕ → Reply → Type 0
+AnswersRefutationFiles election outcome certificate r =
+    AnswersRefutation (in_memory election) (option_map in_memory outcome) (in_memory certificate) r
 
 abbrev pub AnswersTidyFiles : List ℕ → List ℕ → Answer Status → Type 0
 AnswersTidyFiles election certificate answer = AnswersTidy (in_memory election) (in_memory certificate) answer

@@ -14,7 +14,7 @@ use Rattle.pb_price.specs.declared.Verdict.{Verdict}
 use Rattle.pb_audit.specs.Answers.{AnswersAudit, AuditRules, price_reply, verdict_reply, violation_reply}
 use Rattle.pb_reply.specs.Replies.{Reply, with_input}
 use Rattle.pb_reply.specs.Inputs.{InTurn, Stated, StatesPrices, StatesViolation, in_memory}
-use Rattle.pb_audit.specs.Promises.{PricesPromise, ViolationPromises}
+use Rattle.pb_reply.specs.Promises.{PricesPromise, ViolationPromises}
 use Rattle.pb_audit.specs.Readers.{AfterOutcome, AuditReadings, ReadsAudit}
 use Rattle.pb_reply.specs.Readings.{Delivers, NothingRead, Reading}
 use Rattle.pb_reply.specs.declared.input.InputName.TheVariants as name

@@ -1,50 +1,81 @@
 -- What `explain` answers: the line of the verdict, an empty line, and a table of what each condition or test comes to.
-use Rattle.std.specs.Prelude.{Bool, ℕ, List, [], ◌∷◌, ◌++◌, Option}
+use Rattle.std.specs.Prelude.{◌≡◌, Bool, ℕ, List, [], ◌∷◌, ◌++◌, Option}
 use Rattle.std.specs.Option.{option_map}
 use Rattle.pb_records.specs.Loading.{Delivery}
 use Rattle.pb_election.specs.Instance.{Instance}
 use Rattle.pb_certificate.specs.Prices.{Prices}
+use Rattle.pb_certificate.specs.Refutations.{Weights}
 use Rattle.pb_certificate.specs.declared.violations.measure.Measure.{Measure}
+use Rattle.pb_cohesion.specs.EveryGroup.{NoGroupIsPassedOver, SharesAreWithinReach}
+use Rattle.pb_cohesion.specs.RefutationFindings.{refutation_findings}
 use Rattle.pb_cohesion.specs.Satisfactions.{worth_by}
 use Rattle.pb_cohesion.specs.ViolationFindings.{violation_findings}
 use Rattle.pb_price.specs.Findings.{findings}
 use Rattle.pb_price.specs.declared.Mode.{Mode}
+use Rattle.pb_price.specs.First.{First, verdict_of}
+use Rattle.pb_price.specs.declared.Findings.{Findings}
+use Rattle.pb_price.specs.declared.Verdict.{Verdict}
+use Rattle.pb_price.specs.declared.Verdict.TheVariants.{Supported, Failed}
+use Rattle.pb_explain.specs.GroupLines.{claim, group_lines, not_passed_over, within_reach}
 use Rattle.pb_explain.specs.PriceTable.{price_table}
+use Rattle.pb_explain.specs.RefutationTable.{refutation_table}
 use Rattle.pb_explain.specs.ViolationTable.{violation_table}
 use Rattle.pb_records.specs.Records.{Text}
-use Rattle.pb_audit.specs.Answers.{AnswersAudit, AuditRules, price_reply, violation_reply}
+use Rattle.pb_audit.specs.Answers.{AnswersAudit, AuditRules, price_reply, refutation_reply, violation_reply}
 use Rattle.pb_reply.specs.Replies.{Reply}
-use Rattle.pb_reply.specs.Certificates.{Certificate, OfPrices, OfViolation, StatesCertificate}
+use Rattle.pb_reply.specs.Certificates.{Certificate, OfPrices, OfRefutation, OfViolation, StatesCertificate}
 use Rattle.pb_reply.specs.Inputs.{in_memory}
-use Rattle.pb_audit.specs.Promises.{PricesPromise, ViolationPromises}
+use Rattle.pb_reply.specs.Promises.{PricesPromise, RefutationPromises, ViolationPromises}
 use Rattle.pb_audit.specs.Readers.{AuditReadings, ReadsAudit}
 use Rattle.pb_reply.specs.declared.status.Status.{Status}
+use Rattle.pb_reply.specs.declared.status.Status.TheVariants.{Yes}
 
 -- a reply with an empty line and a table below it
 abbrev pub with_table : List Text → Reply → Reply
 with_table table r = record { lines = r.lines ++ ([] ∷ table); status = r.status }
 
--- the verdict on prices or on a violation, with the table of what is found of it
+-- what is said of groups, behind an empty line, on a yes alone
+abbrev pub groups_told : Verdict → List Text → List Text
+groups_told Supported lines = [] ∷ lines
+groups_told (Failed f) lines = []
+
+-- the verdict on prices, a violation or a refutation, with the table of what is found of it
 abbrev pub explained_prices : Mode → Instance → List Bool → Prices → Reply
-explained_prices m e w p = with_table (price_table m e (findings e w p)) (price_reply m e w p)
+explained_prices m e w p =
+    with_table
+    (price_table m e (findings e w p)
+    ++ groups_told (verdict_of (First m e w p)) (group_lines e w (findings e w p)))
+    (price_reply m e w p)
 
 abbrev pub explained_violation : Instance → List Bool → Measure × List ℕ × List ℕ → Reply
 explained_violation e w v =
     with_table (violation_table v.0 e (violation_findings (worth_by v.0 e) e w v.1 v.2)) (violation_reply e w v)
 
+abbrev pub explained_refutation : Instance → List Bool → Weights → Reply
+explained_refutation e w r =
+    with_table (refutation_table e r (refutation_findings e w r)) (refutation_reply e w r)
+
 abbrev pub explained_reply : Mode → Instance → List Bool → Certificate → Reply
 explained_reply m e w (OfPrices p) = explained_prices m e w p
 explained_reply m e w (OfViolation v) = explained_violation e w v
+explained_reply m e w (OfRefutation r) = explained_refutation e w r
 
--- the status promises what it does without the table
+-- What is said of groups is so. Where it is said that a group's share is within reach, it is, and where that no group is
+-- passed over, none is.
+pub record IsSoOfGroups (status : Status) (e : Instance) (w : List Bool) (f : Findings) : Type 0 where
+  pub reach : status ≡ Yes → claim f ≡ within_reach → SharesAreWithinReach e w
+  pub passed_over : status ≡ Yes → claim f ≡ not_passed_over → NoGroupIsPassedOver e w
+
+-- the status promises what it does without the table, and what is said of groups is so
 abbrev pub ExplainedPromise : Mode → Status → Instance → List Bool → Certificate → Type 0
-ExplainedPromise m status e w (OfPrices p) = PricesPromise m status e w p
+ExplainedPromise m status e w (OfPrices p) = PricesPromise m status e w p × IsSoOfGroups status e w (findings e w p)
 ExplainedPromise m status e w (OfViolation v) = ViolationPromises status e w v
+ExplainedPromise m status e w (OfRefutation r) = RefutationPromises status e w r
 
 abbrev pub explained_rules : Mode → AuditRules Certificate
 explained_rules m = record { states = StatesCertificate; reply = explained_reply m; promises = ExplainedPromise m }
 
--- the reply on an election, an outcome file where one is given, and a certificate of either kind
+-- the reply on an election, an outcome file where one is given, and a certificate of any kind
 abbrev pub AnswersExplained : Mode → Delivery → Option Delivery → Delivery → Reply → Type 0
 AnswersExplained m election outcome certificate r = AnswersAudit (explained_rules m) election outcome certificate r
 

@@ -1,4 +1,3 @@
-pub mod Promises
 pub mod Answers
 pub mod OneAnswer
 pub mod Readers

@@ -7,7 +7,7 @@ use Rattle.pb_price.specs.declared.Mode.{Mode}
 use Rattle.pb_reply.specs.Readings.{Delivers, DeliversFile, FileReading, NothingRead, Reading, file_reading, reading}
 use Rattle.pb_reply.specs.Replies.{Answer, Reply}
 use Rattle.pb_reply.specs.declared.status.Status.{Status}
-use Rattle.pb_audit.specs.Answers.{AnswersAudit, AnswersElection, AnswersTidy, AuditRules, price_rules, violation_rules}
+use Rattle.pb_audit.specs.Answers.{AnswersAudit, AnswersElection, AnswersTidy, AuditRules, price_rules, refutation_rules, violation_rules}
 use Rattle.pb_reply.specs.Inputs.{InTurn, Stated, audited}
 
 -- the readers of an audit, before and after: of the election, of the outcome file where one is given, and of the
@@ -66,3 +66,6 @@ ReadsPrices m inputs r = ReadsAudit (price_rules m) inputs r
 
 abbrev pub ReadsViolation : AuditReadings → Reply → Type 0
 ReadsViolation inputs r = ReadsAudit violation_rules inputs r
+
+abbrev pub ReadsRefutation : AuditReadings → Reply → Type 0
+ReadsRefutation inputs r = ReadsAudit refutation_rules inputs r

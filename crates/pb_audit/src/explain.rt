@@ -1,42 +1,47 @@
-//! Explaining verdicts: what each condition on prices, or each test of a violation, comes to.
-ghost use Rattle.std.specs.Prelude.{◌≡◌, ◌≤◌, ◌^◌, IfOk, IfSome, option_copied};
+//! Explaining verdicts: what each condition on prices, or each test of a violation or of a refutation, comes to.
+ghost use Rattle.std.specs.Prelude.{◌≡◌, ◌≤◌, ◌^◌, IfOk, IfSome, option_copied, ◌++◌, OnOk, map, string_bytes};
 ghost use Rattle.pb_audit.specs.Answers.{verdict_reply};
-ghost use Rattle.pb_audit.specs.Explained.{AnswersExplainedFiles, ReadsExplained, explained_prices, explained_rules, explained_violation, with_table};
-ghost use Rattle.pb_reply.specs.Certificates.{Certificate, is_violation};
-ghost use Rattle.pb_reply.specs.Inputs.{StatesPrices, StatesViolation};
+ghost use Rattle.pb_audit.specs.Explained.{AnswersExplainedFiles, ReadsExplained, explained_prices, explained_refutation, explained_rules, explained_violation, groups_told, with_table};
+ghost use Rattle.pb_reply.specs.Certificates.{Certificate};
+ghost use Rattle.pb_reply.specs.Inputs.{StatesPrices, StatesRefutation, StatesViolation};
 ghost use Rattle.pb_reply.specs.Inside.Loaded.{lent};
 ghost use Rattle.pb_reply.specs.Named.{PricesNameProject};
 ghost use Rattle.pb_audit.specs.Readers.{audit_readings};
 ghost use Rattle.pb_audit.specs.Inside.Certificates.{AnswersCertificate, FindsPrices};
 ghost use Rattle.pb_reply.specs.Inside.Taking.{IfTaken, settled};
 ghost use Rattle.pb_reply.specs.Writing.{WritesReply};
+ghost use Rattle.pb_certificate.specs.Refutations.{WeightsFit};
 ghost use Rattle.pb_certificate.specs.Violations.{ClaimFits};
 ghost use Rattle.pb_election.specs.Instance.{IsSet, projects};
 ghost use Rattle.pb_election.specs.Outcome.{OutcomeFits};
+ghost use Rattle.pb_explain.specs.GroupLines.{group_lines};
 ghost use Rattle.pb_explain.specs.PriceTable.{NameProjects, price_table};
 ghost use Rattle.pb_price.specs.First.{verdict_of};
 ghost use Rattle.pb_price.specs.Told.{first_told};
 
 use crate::auditing::{Audit, audit_in_memory, run_audit};
 use crate::prices::verdict_reply;
+use crate::refutation::weights_verdict_reply;
 use crate::says_little::push_note_on_yes;
 use crate::violation::group_verdict_reply;
-use pb_certificate::{Violation, is_violation};
-use pb_cohesion::violation_findings;
+use pb_certificate::{Kind, Refutation, Violation};
+use pb_cohesion::{refutation_findings, violation_findings};
 use pb_election::{Election, Outcome, Sink, Source};
-use pb_explain::{push_price_table, push_violation_table};
-use pb_price::{Findings, Mode, findings_of};
+use pb_explain::{push_group_lines, push_price_table, push_refutation_table, push_violation_table};
+use pb_price::{Findings, Mode, Verdict, findings_of};
 use pb_reply::{
-    Fault, File, InputFault, InputName, Reply, Status, Stop, bytes_of, stop_at, violation_of,
+    Fault, File, InputFault, InputName, Reply, Status, Stop, bytes_of, kind_in, refutation_of,
+    stop_at, violation_of,
 };
 use std::alloc::{AllocError, Global};
 
-/// The reply on an election, an outcome file where one is given, and a certificate of either kind, all in memory: the
-/// line of the verdict, as `prices_reply` or `violation_reply` gives it, an empty line, and a line for each condition
-/// or test with the figures that it compares; or why a file is refused. Where the first record of the certificate that
-/// is not blank is the head of a violation certificate, it is taken as one, and then the mode counts for nothing; any
-/// other is taken as prices. Without an outcome file the outcome is the election's own. The first file that is refused
-/// decides, in this order; more than 2^28 bytes are refused as too long. An error means out of memory.
+/// The reply on an election, an outcome file where one is given, and a certificate of any kind, all in memory: the line
+/// of the verdict, as `prices_reply`, `violation_reply` or `refutation_reply` gives it, an empty line, and a line for
+/// each condition or test with the figures that it compares; or why a file is refused. Where the first record of the
+/// certificate that is not blank is the head of a violation certificate or of a refutation, it is taken as one, and then
+/// the mode counts for nothing; any other is taken as prices. Without an outcome file the outcome is the election's own.
+/// The first file that is refused decides, in this order; more than 2^28 bytes are refused as too long. An error means
+/// out of memory.
 pub fn explained_reply(
     alloc: Global,
     election: &[u8],
@@ -51,7 +56,7 @@ pub fn explained_reply(
     audit_in_memory(alloc, &audit, election, outcome, certificate)
 }
 
-/// Reads an election, an outcome file where one is given, and a certificate of either kind, of at most 2^28 bytes each,
+/// Reads an election, an outcome file where one is given, and a certificate of any kind, of at most 2^28 bytes each,
 /// and writes the verdict and what each condition or test comes to, as `explained_reply` gives them, or why an input is
 /// refused. Without an outcome file the outcome is the election's own. An input after one that is refused is not
 /// touched. The whole text is made first and then written. The notes on the election, each as `read` prints it, are added
@@ -94,10 +99,10 @@ impl Audit for ExplainAudit {
         outcome: &Outcome,
         certificate: File<'_>,
     ) -> Result<Reply, Stop> {
-        if claims_violation(alloc, certificate)? {
-            violation_on(alloc, election, outcome, certificate)
-        } else {
-            prices_on(alloc, election, outcome, certificate, self.mode)
+        match kind_in(alloc, certificate)? {
+            Kind::Prices => prices_on(alloc, election, outcome, certificate, self.mode),
+            Kind::Violation => violation_on(alloc, election, outcome, certificate),
+            Kind::Refutation => refutation_on(alloc, election, outcome, certificate),
         }
     }
 
@@ -113,16 +118,6 @@ impl Audit for ExplainAudit {
     }
 }
 
-/// Whether a file is taken as a violation certificate. One that wasn't read whole is not.
-fn claims_violation(alloc: Global, certificate: File<'_>) -> Result<bool, AllocError>
-    ensures { IfOk result (λ claims. claims ≡ is_violation (lent certificate.entry)) }
-{
-    match certificate {
-        File::Bytes(bytes) => is_violation(alloc, bytes),
-        File::Unread | File::TooLong => Ok(false),
-    }
-}
-
 /// The reply on a price certificate.
 fn prices_on(
     alloc: Global,
@@ -135,25 +130,49 @@ fn prices_on(
     ensures { IfSome (settled (λ r. r) result) (AnswersCertificate (StatesPrices InputName.Certificate) (explained_prices mode) election.now (outcome.now).marks (lent certificate.entry)) }
 {
     let findings = price_findings(alloc, election, outcome, certificate)?;
-    Ok(findings_reply(alloc, election, &findings, mode)?)
+    Ok(findings_reply(alloc, election, outcome, &findings, mode)?)
 }
 
-/// The verdict that findings on prices tell, and the table of them.
+/// The verdict that findings on prices tell, the table of them, and what a yes says of groups.
 fn findings_reply(
     alloc: Global,
     election: &Election,
+    outcome: &Outcome,
     findings: &Findings,
     mode: Mode,
 ) -> Result<Reply, AllocError>
+    requires outcome { OutcomeFits outcome.now election.now }
     requires unit { 10 ^ 6 ≤ (findings.now).grains_per_unit }
     requires named { NameProjects election.now findings.now }
     requires verdict { PricesNameProject election.now (verdict_of (first_told mode findings.now)) }
-    ensures { IfOk result (λ reply. reply ≡ with_table (price_table mode election.now findings.now) (verdict_reply mode election.now (verdict_of (first_told mode findings.now)))) }
+    ensures { IfOk result (λ reply. reply ≡ with_table (price_table mode election.now findings.now ++ groups_told (verdict_of (first_told mode findings.now)) (group_lines election.now (outcome.now).marks findings.now)) (verdict_reply mode election.now (verdict_of (first_told mode findings.now)))) }
 {
     let mut reply = verdict_reply(alloc, election, findings.verdict(mode), mode)?;
     reply.lines.push(String::new(alloc))?;
     push_price_table(alloc, &mut reply.lines, election, findings, mode)?;
+    push_groups_on_yes(alloc, &mut reply.lines, election, outcome, findings, mode)?;
     Ok(reply)
+}
+
+/// Adds what a yes says of groups, behind an empty line.
+fn push_groups_on_yes(
+    alloc: Global,
+    lines: &mut Vec<String>,
+    election: &Election,
+    outcome: &Outcome,
+    findings: &Findings,
+    mode: Mode,
+) -> Result<(), AllocError>
+    requires { OutcomeFits outcome.now election.now }
+    ensures { OnOk result (map string_bytes lines.new.items ≡ map string_bytes lines.old.items ++ groups_told (verdict_of (first_told mode findings.now)) (group_lines election.now (outcome.now).marks findings.now)) }
+{
+    match findings.verdict(mode) {
+        Verdict::Supported => {
+            lines.push(String::new(alloc))?;
+            push_group_lines(alloc, lines, election, outcome, findings)
+        }
+        Verdict::Failed(_) => Ok(()),
+    }
 }
 
 /// What each condition comes to by the prices that a certificate states.
@@ -205,5 +224,38 @@ fn tests_reply(
     let mut reply = group_verdict_reply(alloc, election, findings.verdict(election))?;
     reply.lines.push(String::new(alloc))?;
     push_violation_table(alloc, &mut reply.lines, election, measure, &findings)?;
+    Ok(reply)
+}
+
+/// The reply on a refutation.
+fn refutation_on(
+    alloc: Global,
+    election: &Election,
+    outcome: &Outcome,
+    certificate: File<'_>,
+) -> Result<Reply, Stop>
+    requires { OutcomeFits outcome.now election.now }
+    ensures { IfSome (settled (λ r. r) result) (AnswersCertificate StatesRefutation explained_refutation election.now (outcome.now).marks (lent certificate.entry)) }
+{
+    let refutation = refutation_of(alloc, certificate, election)?;
+    Ok(weights_tests_reply(alloc, election, outcome, &refutation)?)
+}
+
+/// The verdict on weights, and the table of the tests.
+#[tactic(auto, using(pb_reply::proofs::Culprits::refutation_names_projects))]
+fn weights_tests_reply(
+    alloc: Global,
+    election: &Election,
+    outcome: &Outcome,
+    refutation: &Refutation,
+) -> Result<Reply, AllocError>
+    requires outcome { OutcomeFits outcome.now election.now }
+    requires refutation { WeightsFit refutation.now election.now }
+    ensures { IfOk result (λ reply. reply ≡ explained_refutation election.now (outcome.now).marks refutation.now) }
+{
+    let findings = refutation_findings(election, outcome, refutation);
+    let mut reply = weights_verdict_reply(alloc, election, findings.verdict())?;
+    reply.lines.push(String::new(alloc))?;
+    push_refutation_table(alloc, &mut reply.lines, election, refutation, &findings)?;
     Ok(reply)
 }

@@ -74,7 +74,7 @@ impl Audit for PriceAudit {
 
     ghost rules = { λ audit. price_rules audit.mode };
 
-    #[tactic(auto, using(crate::proofs::Promises::prices_promise))]
+    #[tactic(auto, using(pb_reply::proofs::Promises::prices_promise))]
     fn reply_on(
         &self,
         alloc: Global,

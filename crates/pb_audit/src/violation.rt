@@ -75,7 +75,7 @@ impl Audit for ViolationAudit {
 
     ghost rules = { λ _. violation_rules };
 
-    #[tactic(auto, using(crate::proofs::Promises::violation_promises))]
+    #[tactic(auto, using(pb_reply::proofs::Promises::violation_promises))]
     fn reply_on(
         &self,
         alloc: Global,

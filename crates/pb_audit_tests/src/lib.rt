@@ -1,4 +1,4 @@
-//! The tests of the calls of `pb_audit` over readers.
+//! The tests of the calls of `pb_audit`.
 #![tactic(auto)]
 
 #[cfg(test)]

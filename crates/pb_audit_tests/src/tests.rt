@@ -1,14 +1,6 @@
-//! What is printed on what readers give.
-mod both;
+//! What is answered on files in memory and printed on what readers give, once by each call, and what only readers and
+//! writers can show that fail. What else the answers are is tried from outside, in `tests/` at the top.
 mod commands;
-mod cuts;
-mod elections;
-mod ends;
-mod explained;
 mod failing;
+mod folders;
 mod in_turn;
-mod limits;
-mod margins;
-mod prices;
-mod tidy;
-mod violations;

@@ -79,7 +79,7 @@ fn certificate_fault(number: u32) -> Option<CertFault>
 }
 
 /// The kind of a file by its number: 0 an election, 1 an outcome file, 2 a price certificate, 3 a violation certificate,
-/// and 4 a certificate of either kind.
+/// 4 a certificate of any kind, and 5 a refutation.
 pub(crate) fn kind_of(number: u8) -> Option<FileKind> {
     match number {
         0 => Some(FileKind::Election),
@@ -87,6 +87,7 @@ pub(crate) fn kind_of(number: u8) -> Option<FileKind> {
         2 => Some(FileKind::Prices),
         3 => Some(FileKind::Violation),
         4 => Some(FileKind::Certificate),
+        5 => Some(FileKind::Refutation),
         _ => None,
     }
 }

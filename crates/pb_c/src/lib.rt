@@ -4,7 +4,7 @@
 //! tested and not proved.
 #![tactic(auto)]
 
-ghost use Rattle.pb_audit.specs.Answers.{AnswersElectionFile, AnswersPriceFiles, AnswersTidyFiles, AnswersViolationFiles};
+ghost use Rattle.pb_audit.specs.Answers.{AnswersElectionFile, AnswersPriceFiles, AnswersRefutationFiles, AnswersTidyFiles, AnswersViolationFiles};
 ghost use Rattle.pb_audit.specs.Both.{AnswersBothFiles};
 ghost use Rattle.pb_audit.specs.Explained.{AnswersExplainedFiles};
 ghost use Rattle.pb_audit.specs.Margins.{AnswersMarginFiles};
@@ -25,8 +25,8 @@ mod page;
 mod report;
 
 use answers::{
-    both_answer, explained_answer, figures_answer, optional_file, prices_answer, read_answer,
-    violation_answer,
+    both_answer, explained_answer, figures_answer, given_bytes, prices_answer, read_answer,
+    refutation_answer, violation_answer,
 };
 use hints::hint_answer;
 use notes::note_answer;
@@ -100,6 +100,25 @@ pub extern "C" fn pbaudit_violation(
     report(&answer, out, needed)
 }
 
+/// Audits weights: 0 where they prove that no prices support the outcome, or none under Cover where that has a weight, 1
+/// where they don't, 2 where a file is refused, and 4 where memory ran out. The outcome is as for `pbaudit_prices`, and
+/// the text and its length are given as by `pbaudit_read`.
+#[unsafe(no_mangle)]
+pub extern "C" fn pbaudit_refutation(
+    alloc: Global,
+    election: &[u8],
+    outcome: &[u8],
+    has_outcome: bool,
+    certificate: &[u8],
+    out: &mut [u8],
+    needed: &mut usize,
+) -> u8
+    ensures { Reports (TellsReply (AnswersRefutationFiles election.now (given_file has_outcome outcome.now) certificate.now)) result out.old out.new needed.new }
+{
+    let answer = refutation_answer(alloc, election, outcome, has_outcome, certificate);
+    report(&answer, out, needed)
+}
+
 /// Audits prices and a group with its demand for one outcome: 0 where the prices support it and the group and its
 /// demand are a violation, 1 where one of the two isn't so, 2 where a file is refused, and 4 where memory ran out. The
 /// outcome is as for `pbaudit_prices`, and the text and its length are given as by `pbaudit_read`.
@@ -136,12 +155,12 @@ pub extern "C" fn pbaudit_both(
     report(&answer, out, needed)
 }
 
-/// Explains the verdict on a certificate of either kind: its line, an empty line, and a line for each condition on
-/// prices or each test of a violation, with the figures that it compares. 0 where the prices support the outcome, or
-/// the group and its demand are a violation, 1 where they don't or aren't, 2 where a file is refused, and 4 where
-/// memory ran out. A certificate whose first record is the head of a violation certificate is taken as one, and then
-/// `stable`, `exhaustive` and `cover` count for nothing; any other is taken as prices. The outcome is as for
-/// `pbaudit_prices`, and the text and its length are given as by `pbaudit_read`.
+/// Explains the verdict on a certificate of any kind: its line, an empty line, and a line for each condition on prices
+/// or each test of a violation or of a refutation, with the figures that it compares. 0 where the prices support the
+/// outcome, the group and its demand are a violation, or the weights prove what they are to, 1 where it isn't so, 2 where
+/// a file is refused, and 4 where memory ran out. A certificate whose first record is the head of a violation certificate
+/// or of a refutation is taken as one, and then `stable`, `exhaustive` and `cover` count for nothing; any other is taken
+/// as prices. The outcome is as for `pbaudit_prices`, and the text and its length are given as by `pbaudit_read`.
 #[unsafe(no_mangle)]
 pub extern "C" fn pbaudit_explain(
     alloc: Global,
@@ -218,11 +237,11 @@ pub extern "C" fn pbaudit_note(
 
 /// Tells a person why a file is refused, by its bytes and by the number and the record (`place`) of its refusal: 0 where it is
 /// told, and 4 where memory ran out. The file is an election where `input` is 0, an outcome file where it is 1, a price
-/// certificate where it is 2, a violation certificate where it is 3, and a certificate of either kind where it is 4. The
-/// election is that beside which it was read, where `has_election`. The line of the file on which the refused record
-/// begins, from 1, goes to `line`, or 0 where there is none. The text, a sentence a line, and its length are given as by
-/// `pbaudit_read`. A sentence on another line of the file begins with `line N: `. The text is empty where no refusal has
-/// the number, or no kind of file.
+/// certificate where it is 2, a violation certificate where it is 3, a certificate of any kind where it is 4, and a
+/// refutation where it is 5. The election is that beside which it was read, where `has_election`. The line of the file on
+/// which the refused record begins, from 1, goes to `line`, or 0 where there is none. The text, a sentence a line, and
+/// its length are given as by `pbaudit_read`. A sentence on another line of the file begins with `line N: `. The text is
+/// empty where no refusal has the number, or no kind of file.
 #[unsafe(no_mangle)]
 pub extern "C" fn pbaudit_hint(
     alloc: Global,
@@ -238,7 +257,7 @@ pub extern "C" fn pbaudit_hint(
 ) -> u8
     ensures { Reports (λ answer. answer.status ≡ Yes) result out.old out.new needed.new }
 {
-    let election = optional_file(election, has_election);
+    let election = given_bytes(election, has_election);
     let answer = hint_answer(alloc, input, number, place, file, election, line);
     report(&answer, out, needed)
 }

@@ -1,6 +1,6 @@
--- Whether a file begins as a violation certificate.
+-- As which kind of certificate a file is taken.
 use Rattle.std.proofs.Common.{◌≡◌, ◌∙◌, ℕ, Bool, true, false, List, [], ◌∷◌, ◌++◌, refl, sym, ap, subst}
-use Rattle.std.specs.Prelude.{◌&&◌, ◌||◌, codes, map, nat_lt, if◌then◌else◌, not}
+use Rattle.std.specs.Prelude.{◌&&◌, codes, map, nat_lt, if◌then◌else◌, not}
 use Rattle.std.specs.List.{list_all}
 use Rattle.std.specs.Str.{IsAscii, IsUtf8, is_utf8}
 use Rattle.std.proofs.lemmas.Bool.{and_parts, false_from_ne_true, ltb-true}
@@ -14,7 +14,10 @@ use Rattle.pb_records.specs.Inside.Position.{MeetsEnd, MeetsNotText, MeetsRecord
 use Rattle.pb_records.proofs.BlankText.{not-text-is-full}
 use Rattle.pb_records.proofs.CellLemmas.{space-ascii}
 use Rattle.pb_certificate.specs.Fields.{fields, same_fields, without_empty_end}
-use Rattle.pb_certificate.specs.Violations.Text.{begins_violation, is_version_1, is_version_2, starts_with_head, version_1, version_2}
+use Rattle.pb_certificate.specs.Kinds.{kind_by, kind_by_head}
+use Rattle.pb_certificate.specs.Refutations.Text.{refutation_name}
+use Rattle.pb_certificate.specs.Violations.Text.{version_1, version_2}
+use Rattle.pb_certificate.specs.declared.kind.Kind.TheVariants as kind
 use Rattle.pb_certificate.proofs.Heads.{same-is}
 
 -- What cleaning drops is ASCII, so a field is UTF-8 where it is after cleaning.
@@ -122,28 +125,37 @@ version-1-text = rw (plain (codes "pb-violation") refl, plain (codes "1") refl) 
 version-2-text : list_all is_utf8 version_2 ≡ true
 version-2-text = rw (plain (codes "pb-violation") refl, plain (codes "2") refl) refl
 
+name-text : list_all is_utf8 refutation_name ≡ true
+name-text = rw (plain (codes "pb-refutation") refl, plain (codes "1") refl) refl
+
 -- What is met before the first record that is not blank, and that record.
 
-begins-by : (recs blanks rest : List Rec) (r : Rec) → nonblank blanks ≡ [] → recs ≡ blanks ++ (r ∷ rest)
-    → is_blank r ≡ false → begins_violation recs ≡ (is_version_1 r || is_version_2 r)
-begins-by recs blanks rest r none cut full =
+first-full : (recs blanks rest : List Rec) (r : Rec) → nonblank blanks ≡ [] → recs ≡ blanks ++ (r ∷ rest)
+    → is_blank r ≡ false → nonblank recs ≡ r ∷ nonblank rest
+first-full recs blanks rest r none cut full =
     let parts : nonblank (blanks ++ (r ∷ rest)) ≡ nonblank blanks ++ nonblank (r ∷ rest) =
     filter-append (λ x. not (is_blank x)) blanks (r ∷ rest) in
     let first : nonblank (r ∷ rest) ≡ r ∷ nonblank rest = rw full refl in
-    let all : nonblank recs ≡ r ∷ nonblank rest = ap nonblank cut ∙ parts ∙ rw (none, first) refl in
-    ap starts_with_head all
+    ap nonblank cut ∙ parts ∙ rw (none, first) refl
 
-pub begins-with : (old new : Position) → MeetsRecord old new
-    → begins_violation old.left ≡ (is_version_1 new.row || is_version_2 new.row)
-begins-with old new m = begins-by old.left m.blanks new.left new.row m.are_blank m.cut m.is_full
+-- As what a file is taken, by what is met first.
 
-pub begins-with-bytes : (old new : Position) → MeetsNotText old new → begins_violation old.left ≡ false
-begins-with-bytes old new m =
-    begins-by old.left m.blanks m.rest m.bad m.are_blank m.cut (not-text-is-full m.bad m.is_not_utf8)
+kind-by-first : (recs rest : List Rec) (r : Rec) → nonblank recs ≡ r ∷ nonblank rest → kind_by recs ≡ kind_by_head r
+kind-by-first recs rest r first = rw first refl
+
+pub kind-with : (old new : Position) → MeetsRecord old new → kind_by old.left ≡ kind_by_head new.row
+kind-with old new m =
+    kind-by-first old.left new.left new.row (first-full old.left m.blanks new.left new.row m.are_blank m.cut m.is_full)
+
+pub kind-with-bytes : (old new : Position) → MeetsNotText old new → kind_by old.left ≡ kind.Prices
+kind-with-bytes old new m =
+    kind-by-first old.left m.rest m.bad
+    (first-full old.left m.blanks m.rest m.bad m.are_blank m.cut (not-text-is-full m.bad m.is_not_utf8))
     ∙ rw (
       no-head m.bad version_1 version-1-text m.is_not_utf8,
       no-head m.bad version_2 version-2-text m.is_not_utf8,
+      no-head m.bad refutation_name name-text m.is_not_utf8,
     ) refl
 
-pub begins-with-end : (old new : Position) → MeetsEnd old new → begins_violation old.left ≡ false
-begins-with-end old new m = ap starts_with_head m.are_blank
+pub kind-with-end : (old new : Position) → MeetsEnd old new → kind_by old.left ≡ kind.Prices
+kind-with-end old new m = rw m.are_blank refl

@@ -1,4 +1,5 @@
 pub mod Cells
+pub mod Ids
 pub mod Numbers
 pub mod OnPrices
 pub mod Widths
@@ -6,6 +7,7 @@ pub mod Unique
 pub mod NoFaults
 pub mod HeadRecords
 pub mod OnViolations
+pub mod OnRefutations
 pub mod NamedRows
 pub mod MarkedRows
 pub mod Heads

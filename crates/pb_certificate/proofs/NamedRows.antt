@@ -4,10 +4,10 @@ use Rattle.std.specs.Prelude.{◌==◌, ◌||◌, not, find, map, unwrap_or, cod
 use Rattle.std.specs.List.{AllByRecursion, IsDistinct, list_any}
 use Rattle.std.specs.Option.{option_map}
 use Rattle.std.specs.Str.{bytes_eq}
-use Rattle.std.proofs.lemmas.Bool.{cases_Bool, cases_eq, eq-eqb, ne_eqb, or_from}
+use Rattle.std.proofs.lemmas.Bool.{cases_eq, eq-eqb, ne_eqb, or_from}
 use Rattle.std.proofs.lemmas.Slice.Eq.{bytes_eq-Decides}
 use Rattle.std.proofs.Math.Bool.{or-false}
-use Rattle.pb_election.specs.Instance.{Instance, id_of}
+use Rattle.pb_election.specs.Instance.{Instance}
 use Rattle.pb_records.specs.Records.{Field, Rec}
 use Rattle.pb_records.specs.Cells.{cell, is_text}
 use Rattle.pb_certificate.specs.Fields.{fields, number, project_in, voter_in, whole_in}
@@ -15,8 +15,8 @@ use Rattle.pb_certificate.specs.NamedRows.{Named, named_by, named_of, same_named
 use Rattle.pb_certificate.specs.NamedRows.Named.{Voter, Project}
 use Rattle.pb_certificate.specs.Faults.{in_order, is_kind, same_name}
 use Rattle.pb_certificate.specs.declared.refusal.CertFault.{CertFault}
-use Rattle.pb_election.proofs.Elections.{found_is}
 use Rattle.pb_certificate.proofs.Cells.{cell-is}
+use Rattle.pb_certificate.proofs.Ids.{same-ids}
 use Rattle.pb_certificate.proofs.OnPrices.Clear.{whole-is}
 use Rattle.pb_certificate.proofs.NoFaults.{ClearFrom, apart-more, no-fault}
 use Rattle.pb_certificate.proofs.OnPrices.Texts.{map-some}
@@ -92,25 +92,6 @@ or-both a b c d first rest = rw (first, rest) refl
 voter-is : (e : Instance) (r : Rec) (i : ℕ) → Row e r (Voter i) → number (cell 1 r) ≡ i
 voter-is e r i row = ap (λ o. unwrap_or o 0) (row-number e r i row)
 
-ids-same : (e : Instance) (r d : Rec) (j k : ℕ) → Row e r (Project j) → Row e d (Project k)
-    → bytes_eq (cell 1 r) (cell 1 d) ≡ (j == k)
-ids-same e r d j k a b =
-    elim (cases_eq j k) [
-      | inl same ↦
-          let ids : cell 1 r ≡ cell 1 d = sym (found_is e (cell 1 r) j (row-project e r j a)).1 ∙ ap (id_of e) same
-          ∙ (found_is e (cell 1 d) k (row-project e d k b)).1 in
-          (bytes_eq-Decides (cell 1 r) (cell 1 d)).1 ids ∙ sym (eq-eqb j k same)
-      | inr other ↦ elim (cases_Bool (bytes_eq (cell 1 r) (cell 1 d))) [
-        | inl equal ↦ absurd (other (clash ((bytes_eq-Decides (cell 1 r) (cell 1 d)).0 equal)))
-        | inr differ ↦ differ ∙ sym (ne_eqb j k other)
-      ]
-    ]
-  where
-    clash : cell 1 r ≡ cell 1 d → j ≡ k
-    clash same =
-        let some : Some j ≡ Some k = sym (row-project e r j a) ∙ ap (project_in e) same ∙ row-project e d k b in
-        cc
-
 names-same : (e : Instance) (r d : Rec) (x m : Named) → Row e r x → Row e d m → same_name r d ≡ same_named x m
 names-same e r d (Voter i) (Voter k) a b =
     rw ((voter-kind e r i a).0, (voter-kind e r i a).1, (voter-kind e d k b).0, voter-is e r i a, voter-is e d k b)
@@ -120,7 +101,8 @@ names-same e r d (Voter i) (Project k) a b =
 names-same e r d (Project j) (Voter k) a b =
     rw ((project-kind e r j a).0, (project-kind e r j a).1, (voter-kind e d k b).1) refl
 names-same e r d (Project j) (Project k) a b =
-    rw ((project-kind e r j a).0, (project-kind e r j a).1, (project-kind e d k b).1) (ids-same e r d j k a b)
+    rw ((project-kind e r j a).0, (project-kind e r j a).1, (project-kind e d k b).1)
+    (same-ids e (cell 1 r) (cell 1 d) j k (row-project e r j a) (row-project e d k b))
 
 -- a row names what a row before it named exactly where that was named
 pub stood-before : (e : Instance) (r : Rec) (x : Named) (done : List Rec) (names : List Named) → Row e r x

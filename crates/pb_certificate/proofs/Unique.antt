@@ -21,12 +21,12 @@ map-Some (x ∷ xs) (y ∷ ys) h = let first : x ≡ y = cc in let rest : map So
     let same : xs ≡ ys = map-Some xs ys rest in cc
 
 -- the same rows state the same things
-rows-same : {A : Type 0} (f : Rec → Option A) (rows rows' : List Rec) (xs ys : List A) → rows ≡ rows'
+pub rows-same : {A : Type 0} (f : Rec → Option A) (rows rows' : List Rec) (xs ys : List A) → rows ≡ rows'
     → map f rows ≡ map Some xs → map f rows' ≡ map Some ys → xs ≡ ys
 rows-same f rows rows' xs ys e h k = map-Some xs ys (sym h ∙ ap (map f) e ∙ k)
 
 -- the value of a head record
-value-same : (r r' : Rec) (name f f' : Field) (least most n n' : ℕ) → r ≡ r' → fields r ≡ name ∷ f ∷ []
+pub value-same : (r r' : Rec) (name f f' : Field) (least most n n' : ℕ) → r ≡ r' → fields r ≡ name ∷ f ∷ []
     → fields r' ≡ name ∷ f' ∷ [] → whole_within least most f ≡ Some n → whole_within least most f' ≡ Some n' → n ≡ n'
 value-same r r' name f f' least most n n' e h h' k k' = grind arith
 

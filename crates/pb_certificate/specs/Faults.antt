@@ -13,6 +13,8 @@ use Rattle.pb_records.specs.declared.drafts.Stop.TheVariants.{Fault, Memory}
 use Rattle.pb_certificate.specs.Fields.{fields, number, project_in, same_fields, voter_in, whole_in, whole_within}
 use Rattle.pb_certificate.specs.Prices.Text.{numerator_of}
 use Rattle.pb_certificate.specs.Violations.Text.{all_measures, is_version_1, is_version_2, satisfaction_by}
+use Rattle.pb_certificate.specs.Refutations.{most_weight}
+use Rattle.pb_certificate.specs.Refutations.Text.{refutation_columns, refutation_name, role_in, weight_in}
 use Rattle.pb_certificate.specs.declared.refusal.CertFault.{CertFault}
 use Rattle.pb_certificate.specs.declared.refusal.CertFault.TheVariants as fault
 use Rattle.pb_certificate.specs.declared.refusal.CertRefusal.{CertRefusal}
@@ -208,6 +210,54 @@ outcome_fault_stands e before here fault.Repeated =
 outcome_fault_stands e before here fault.TooMany = false
 outcome_fault_stands e before here fault.Memory = false
 
+-- A refutation has three head records. A row has three fields, as in a price certificate: its role, the project and the
+-- weight.
+
+abbrev pub at_cover : List Rec → Option Rec → (Rec → Bool) → Bool
+at_cover = at_head 1
+
+abbrev pub at_refutation_columns : List Rec → Option Rec → (Rec → Bool) → Bool
+at_refutation_columns = at_head 2
+
+abbrev pub at_refutation_row : List Rec → Option Rec → (Rec → Bool) → Bool
+at_refutation_row = at_row 3
+
+abbrev pub role_field : Rec → Field
+role_field r = cell 0 r
+
+abbrev pub weight_field : Rec → Field
+weight_field r = cell 2 r
+
+-- the rows before a place, all records before it but the three of the head
+abbrev pub refutation_rows : List Rec → List Rec
+refutation_rows before = drop 3 before
+
+-- two rows state the same project
+abbrev pub same_project_field : Rec → Rec → Bool
+same_project_field a b = bytes_eq (project_field a) (project_field b)
+
+-- whether a fault stands here in a refutation
+abbrev pub refutation_fault_stands : Instance → List Rec → Option Rec → CertFault → Bool
+refutation_fault_stands e before here fault.NotUtf8 = at_record here (λ r. not (is_text r))
+refutation_fault_stands e before here fault.BadHead =
+    at_format before here (λ r. not (same_fields (fields r) refutation_name))
+    || at_cover before here (λ r. not (is_value_of (codes "cover") r))
+    || at_refutation_columns before here (λ r. not (same_fields (fields r) refutation_columns))
+    || head_is_cut 3 before here
+refutation_fault_stands e before here fault.BadRow =
+    at_refutation_row before here (λ r. not (width r == 3) || is_none (role_in (role_field r)))
+refutation_fault_stands e before here fault.BadNumber =
+    at_cover before here (λ r. is_none (whole_within 0 most_weight (value_field r)))
+    || at_refutation_row before here (λ r. is_none (weight_in (weight_field r)))
+refutation_fault_stands e before here fault.UnknownVoter = false
+refutation_fault_stands e before here fault.UnknownProject =
+    at_refutation_row before here (λ r. is_none (project_in e (project_field r)))
+refutation_fault_stands e before here fault.OutOfOrder = false
+refutation_fault_stands e before here fault.Repeated =
+    at_refutation_row before here (λ r. list_any (same_project_field r) (refutation_rows before))
+refutation_fault_stands e before here fault.TooMany = false
+refutation_fault_stands e before here fault.Memory = false
+
 -- the faults by their numbers
 abbrev pub in_order : List CertFault
 in_order = fault.NotUtf8 ∷ fault.BadHead ∷ fault.BadRow ∷ fault.BadNumber ∷ fault.UnknownVoter ∷ fault.UnknownProject
@@ -222,6 +272,9 @@ violation_form e before here = find (violation_fault_stands e before here) in_or
 
 abbrev pub outcome_form : Instance → Form CertFault
 outcome_form e before here = find (outcome_fault_stands e before here) in_order
+
+abbrev pub refutation_form : Instance → Form CertFault
+refutation_form e before here = find (refutation_fault_stands e before here) in_order
 
 -- the records of a certificate or an outcome file
 abbrev pub certificate_records : List ℕ → List Rec

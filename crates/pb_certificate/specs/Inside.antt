@@ -4,3 +4,4 @@ pub mod Prices
 pub mod Marks
 pub mod Outcomes
 pub mod Violations
+pub mod Refutations

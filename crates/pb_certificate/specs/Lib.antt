@@ -1,6 +1,8 @@
 pub mod Prices
 pub mod Fields
 pub mod Violations
+pub mod Refutations
+pub mod Kinds
 pub mod NamedRows
 pub mod Outcomes
 pub mod Faults

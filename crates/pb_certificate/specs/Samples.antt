@@ -8,6 +8,8 @@ use Rattle.pb_certificate.specs.declared.refusal.CertFault.{CertFault}
 use Rattle.pb_certificate.specs.Prices.Canon.{line_end}
 use Rattle.pb_certificate.specs.Prices.Text.{Payment}
 use Rattle.pb_certificate.specs.Prices.{Prices}
+use Rattle.pb_certificate.specs.Refutations.{Weights}
+use Rattle.pb_certificate.specs.declared.refutations.weighting.Role.TheVariants as Role
 
 -- amounts in whole units, of which an election counts millionths
 abbrev pub units : List ℕ → List ℕ
@@ -190,3 +192,40 @@ member_1 = two (codes "voter") (codes "1")
 -- an outcome file with these rows
 abbrev pub outcome_records : List Rec → List Rec
 outcome_records rows = two (codes "pb-outcome") (codes "1") ∷ rows
+
+-- a refutation with this weight of Cover and these rows
+abbrev pub refutation_records : Field → List Rec → List Rec
+refutation_records cover rows = two (codes "pb-refutation") (codes "1") ∷ two (codes "cover") cover
+    ∷ three (codes "role") (codes "project") (codes "weight") ∷ rows
+
+-- the rows of a refutation of the sample election
+abbrev pub least_a : Rec
+least_a = three (codes "least") (codes "a") (codes "2")
+
+abbrev pub most_b : Rec
+most_b = three (codes "most") (codes "b") (codes "1")
+
+abbrev pub left_c : Rec
+left_c = three (codes "left") (codes "c") (codes "1")
+
+-- what they state
+abbrev pub sample_weights : Weights
+sample_weights = record {
+  cover = 0;
+  rows = Some (record { role = Role.Least; weight = 2 })
+      ∷ Some (record { role = Role.Most; weight = 1 })
+      ∷ Some (record { role = Role.Left; weight = 1 })
+      ∷ [];
+}
+
+-- the same in another order, with a blank record, zeros in front of numbers, and empty fields at the end of a row
+abbrev pub lenient_refutation : List Rec
+lenient_refutation =
+    two (codes "pb-refutation") (codes " 1")
+    ∷ (codes "  " ∷ [] ∷ [])
+    ∷ two (codes "cover") (codes "000")
+    ∷ three (codes "role") (codes "project") (codes "weight")
+    ∷ left_c
+    ∷ (most_b ++ ([] ∷ [] ∷ []))
+    ∷ three (codes "least") (codes " a") (codes "02")
+    ∷ []

@@ -8,11 +8,13 @@ ghost use Rattle.pb_election.specs.Text.{IsElection};
 ghost use Rattle.pb_certificate.specs.Prices.Canon.{Canon};
 ghost use Rattle.pb_certificate.specs.Prices.{ArePrices, Prices, payment};
 ghost use Rattle.pb_certificate.specs.Prices.Text.{IsPriceText, stated};
-ghost use Rattle.pb_certificate.specs.Faults.{certificate_records, outcome_form, price_form, violation_form};
+ghost use Rattle.pb_certificate.specs.Faults.{certificate_records, outcome_form, price_form, refutation_form, violation_form};
 ghost use Rattle.pb_certificate.specs.declared.violations.measure.Measure.{Measure};
 ghost use Rattle.pb_certificate.specs.declared.refusal.CertFault.{CertFault};
 ghost use Rattle.pb_certificate.specs.Violations.Text.{IsViolationText};
 ghost use Rattle.pb_certificate.specs.Outcomes.Text.{IsOutcomeText};
+ghost use Rattle.pb_certificate.specs.Refutations.{AreWeights, Weights, WeightsFit};
+ghost use Rattle.pb_certificate.specs.Refutations.Text.{IsRefutationText};
 
 /// The text of a price certificate states prices for the election, and they are what its rows state.
 pub fn texts_state_prices()
@@ -46,10 +48,20 @@ pub fn one_answer_on_outcomes()
     ensures first { (recs : List Rec) (e : Instance) (k j : ℕ) (f g : CertFault) → IsFirstFault (outcome_form e) recs k f → IsFirstFault (outcome_form e) recs j g → (k ≡ j) × (f ≡ g) }
 {}
 
-/// A group and a demand that a text states are sets of voters and of projects, and an outcome speaks of each project.
+/// Records are either the text of one refutation, or refused at one place for one fault, and never both.
+pub fn one_answer_on_refutations()
+    ensures answered { (recs : List Rec) (e : Instance) → ((w : Weights) × IsRefutationText recs e w) ⊎ ((place : ℕ) × (f : CertFault) × IsFirstFault (refutation_form e) recs place f) }
+    ensures apart { (recs : List Rec) (e : Instance) (w : Weights) (place : ℕ) (f : CertFault) → IsRefutationText recs e w → IsFirstFault (refutation_form e) recs place f → ⊥ }
+    ensures alone { (recs : List Rec) (e : Instance) (w w' : Weights) → IsRefutationText recs e w → IsRefutationText recs e w' → w ≡ w' }
+    ensures first { (recs : List Rec) (e : Instance) (k j : ℕ) (f g : CertFault) → IsFirstFault (refutation_form e) recs k f → IsFirstFault (refutation_form e) recs j g → (k ≡ j) × (f ≡ g) }
+{}
+
+/// A group and a demand that a text states are sets of voters and of projects, an outcome speaks of each project, and
+/// so do the weights of a refutation, each of which is at most 10^12.
 pub fn texts_fit_the_election()
     ensures groups { (recs : List Rec) (e : Instance) (m : Measure) (s t : List ℕ) → IsViolationText recs e m s t → IsSet 1 (voters e) s × IsSet 1 (projects e) t }
     ensures outcomes { (recs : List Rec) (e : Instance) (w : List Bool) → IsOutcomeText recs e w → length w ≡ projects e }
+    ensures weights { (recs : List Rec) (e : Instance) (w : Weights) → IsRefutationText recs e w → AreWeights w × WeightsFit w e }
 {}
 
 /// The canonical text of prices for an election is a text of those prices, and of no others.

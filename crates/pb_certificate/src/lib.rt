@@ -1,5 +1,5 @@
-//! Price certificates, violation certificates and outcome files: reading them against an election, and writing prices
-//! out.
+//! Price certificates, violation certificates, refutations and outcome files: reading them against an election, and
+//! writing prices out.
 #![tactic(auto)]
 
 mod fields;
@@ -9,11 +9,13 @@ mod marks;
 mod outcomes;
 mod prices;
 mod refusal;
+mod refutations;
 mod samples;
 mod violations;
 
-pub use kind::is_violation;
+pub use kind::{Kind, kind_of};
 pub use outcomes::read_outcome;
 pub use prices::{PriceRow, Prices, Rows, WriteFault, canonical_text_of};
 pub use refusal::{CertFault, CertRefusal};
+pub use refutations::{Refutation, Role, Weighting};
 pub use violations::{Measure, Violation};

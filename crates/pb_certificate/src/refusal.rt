@@ -12,20 +12,20 @@ pub enum CertFault {
     /// A head record that is not as the form asks, or the end before the last of them. A number out of its range is
     /// `BadNumber`.
     BadHead,
-    /// A row has another number of fields than three in a price certificate and two in the other files, where empty
-    /// ones at its end do not count, or begins with a word that is no kind of row in this file.
+    /// A row has another number of fields than three in a price certificate or a refutation and two in the other files,
+    /// where empty ones at its end do not count, or begins with a word that is no kind of row in this file.
     BadRow,
-    /// The denominator is not a whole number from 1 to 10^9, the voter budget or a payment none up to 10^21, or a voter
-    /// is not written in digits. It does not come from outcome files.
+    /// The denominator is not a whole number from 1 to 10^9, the voter budget or a payment none up to 10^21, a weight of
+    /// a refutation none up to 10^12, or a voter is not written in digits. It does not come from outcome files.
     BadNumber,
-    /// A voter's number is 0, or more than the election has voters. It does not come from outcome files.
+    /// A voter's number is 0, or more than the election has voters. It does not come from refutations and outcome files.
     UnknownVoter,
     /// An id is that of no project of the election.
     UnknownProject,
     /// A row of a price certificate has a lower voter than the row before it.
     OutOfOrder,
     /// A row of a price certificate is on a voter and a project that stood together in an earlier row, with the payment
-    /// 0 too; a row of the other files names a voter or a project that an earlier row named.
+    /// 0 too; a row of the other files names a voter or a project that an earlier row named, with the weight 0 too.
     Repeated,
     /// A price certificate has more than 10,000,000 rows: this is the next one.
     TooMany,

@@ -3,14 +3,15 @@
 ghost use Rattle.std.specs.Prelude.{true, false, ◌≡◌, ◌∷◌, ◌++◌, [], Some, None, codes, map};
 ghost use Rattle.pb_election.specs.Instance.{all_voters};
 ghost use Rattle.pb_certificate.specs.Prices.Canon.{Canon, line, line_end};
-ghost use Rattle.pb_certificate.specs.Faults.{outcome_form, price_form, violation_form};
+ghost use Rattle.pb_certificate.specs.Faults.{outcome_form, price_form, refutation_form, violation_form};
 ghost use Rattle.pb_records.specs.FirstFault.{IsFirstFault};
 ghost use Rattle.pb_certificate.specs.NamedRows.{named_of};
 ghost use Rattle.pb_certificate.specs.NamedRows.Named.{Voter};
 ghost use Rattle.pb_certificate.specs.Violations.Text.{IsViolationText};
 ghost use Rattle.pb_certificate.specs.Outcomes.Text.{IsOutcomeText};
+ghost use Rattle.pb_certificate.specs.Refutations.Text.{IsRefutationText, refutation_columns, refutation_name};
 ghost use Rattle.pb_certificate.specs.Prices.Text.{IsPriceText, payment_of, payments_stated};
-ghost use Rattle.pb_certificate.specs.Samples.{demand_x1, demand_x2, first_refusal, lenient_records, measured_records, member_1, outcome_records, price_records, row_1a, row_1b, row_2a, row_3b, sample_election, sample_prices, sample_text, three, two, unfair_election, unordered_payments, violation_records};
+ghost use Rattle.pb_certificate.specs.Samples.{demand_x1, demand_x2, first_refusal, least_a, left_c, lenient_records, lenient_refutation, measured_records, member_1, most_b, outcome_records, price_records, row_1a, row_1b, row_2a, row_3b, refutation_records, sample_election, sample_prices, sample_text, sample_weights, three, two, unfair_election, unordered_payments, violation_records};
 
 use crate::{CertFault, Measure};
 
@@ -79,12 +80,33 @@ pub fn outcome_files()
     ensures repeated { first_refusal (outcome_form sample_election) (outcome_records (two (codes "project") (codes "a") ∷ two (codes "project") (codes "a") ∷ [])) ≡ Some (CertFault.Repeated, 3) }
 {}
 
+/// Refutations.
+pub fn refutations()
+    ensures accepted { first_refusal (refutation_form sample_election) (refutation_records (codes "0") (least_a ∷ most_b ∷ left_c ∷ [])) ≡ None }
+    ensures no_row { first_refusal (refutation_form sample_election) (refutation_records (codes "1000000000000") []) ≡ None }
+    // Blanks, zeros in front, and empty fields at the end don't count.
+    ensures lenient { first_refusal (refutation_form sample_election) lenient_refutation ≡ None }
+    ensures no_record { first_refusal (refutation_form sample_election) [] ≡ Some (CertFault.BadHead, 1) }
+    ensures version { first_refusal (refutation_form sample_election) (two (codes "pb-refutation") (codes "2") ∷ two (codes "cover") (codes "0") ∷ refutation_columns ∷ []) ≡ Some (CertFault.BadHead, 1) }
+    ensures no_cover { first_refusal (refutation_form sample_election) (refutation_name ∷ (codes "cover" ∷ []) ∷ refutation_columns ∷ []) ≡ Some (CertFault.BadHead, 2) }
+    ensures large_cover { first_refusal (refutation_form sample_election) (refutation_records (codes "1000000000001") (least_a ∷ [])) ≡ Some (CertFault.BadNumber, 2) }
+    ensures columns { first_refusal (refutation_form sample_election) (refutation_name ∷ two (codes "cover") (codes "0") ∷ three (codes "Role") (codes "project") (codes "weight") ∷ []) ≡ Some (CertFault.BadHead, 3) }
+    ensures end { first_refusal (refutation_form sample_election) (refutation_name ∷ two (codes "cover") (codes "0") ∷ []) ≡ Some (CertFault.BadHead, 3) }
+    ensures short { first_refusal (refutation_form sample_election) (refutation_records (codes "0") (two (codes "least") (codes "a") ∷ [])) ≡ Some (CertFault.BadRow, 4) }
+    ensures upper_case { first_refusal (refutation_form sample_election) (refutation_records (codes "0") (three (codes "Least") (codes "q") (codes "-1") ∷ [])) ≡ Some (CertFault.BadRow, 4) }
+    ensures negative { first_refusal (refutation_form sample_election) (refutation_records (codes "0") (three (codes "least") (codes "q") (codes "-1") ∷ [])) ≡ Some (CertFault.BadNumber, 4) }
+    ensures unknown { first_refusal (refutation_form sample_election) (refutation_records (codes "0") (three (codes "least") (codes "q") (codes "1") ∷ [])) ≡ Some (CertFault.UnknownProject, 4) }
+    ensures repeated { first_refusal (refutation_form sample_election) (refutation_records (codes "0") (least_a ∷ most_b ∷ left_c ∷ three (codes "left") (codes "a") (codes "1") ∷ [])) ≡ Some (CertFault.Repeated, 7) }
+{}
+
 /// The sample certificates are texts of what they should be.
 pub fn sample_texts()
     ensures prices { IsPriceText (price_records (row_1a ∷ row_1b ∷ row_2a ∷ row_3b ∷ [])) sample_election sample_prices }
     ensures group { IsViolationText (violation_records (demand_x1 ∷ demand_x2 ∷ member_1 ∷ two (codes "voter") (codes "2") ∷ [])) unfair_election Measure.ByCount (1 ∷ 2 ∷ []) (1 ∷ 2 ∷ []) }
     ensures by_cost { IsViolationText (measured_records (codes "cost") (demand_x1 ∷ demand_x2 ∷ member_1 ∷ [])) unfair_election Measure.ByCost (1 ∷ []) (1 ∷ 2 ∷ []) }
     ensures outcome { IsOutcomeText (outcome_records (two (codes "project") (codes "b") ∷ two (codes "project") (codes "a") ∷ [])) sample_election (true ∷ true ∷ false ∷ []) }
+    ensures weights { IsRefutationText (refutation_records (codes "0") (least_a ∷ most_b ∷ left_c ∷ [])) sample_election sample_weights }
+    ensures lenient { IsRefutationText lenient_refutation sample_election sample_weights }
 {}
 
 /// What other records are refused for, and where.

@@ -13,3 +13,6 @@ pub mod Totals
 pub mod Firsts
 pub mod Loops
 pub mod Counted
+pub mod Refuting
+pub mod Weights
+pub mod Refuted

@@ -1,5 +1,5 @@
 -- Loops over all voters or all projects, which count from 1.
-use Rattle.std.proofs.Common.{◌≡◌, ℕ, zero, suc, ◌+◌, ◌-◌, ◌<◌, ◌≤◌, Bool, true, false, List, [], ◌∷◌, length, get_or, take, ◌∙◌, ap, arith}
+use Rattle.std.proofs.Common.{◌≡◌, ℕ, zero, suc, ◌+◌, ◌-◌, ◌<◌, ◌≤◌, Bool, true, false, List, [], ◌∷◌, ◌++◌, append-nil, length, get_or, take, ◌∙◌, ap, arith}
 use Rattle.std.specs.Prelude.{Some, filter, flat_map, slice_get, sum_by}
 use Rattle.std.specs.List.{range_with_len}
 use Rattle.std.proofs.lemmas.List.Elements.{filter-append}
@@ -36,6 +36,20 @@ range-lists-first g n j a none low high found =
     let found_at : slice_get (g (get_or (range_with_len 1 n) (j - 1) 0)) 0 ≡ Some a =
     ap (λ k. slice_get (g k) 0) (at-place n j low high) ∙ found in
     lists-first g (range_with_len 1 n) (j - 1) a none_in (within n j low high) found_at
+
+-- a sum over one number more
+pub sum-next : (f : ℕ → ℕ) (k : ℕ)
+    → sum_by f (range_with_len 1 (k + 1)) ≡ sum_by f (range_with_len 1 k) + f (k + 1)
+sum-next f k = grind (arith, range-next, sum_by_push)
+
+-- the numbers that pass a test, with one number more
+pub filter-passing : (q : ℕ → Bool) (k : ℕ) → q (k + 1) ≡ true
+    → filter q (range_with_len 1 (k + 1)) ≡ filter q (range_with_len 1 k) ++ ((k + 1) ∷ [])
+filter-passing q k pass = grind (arith, range-next, filter-append)
+
+pub filter-failing : (q : ℕ → Bool) (k : ℕ) → q (k + 1) ≡ false
+    → filter q (range_with_len 1 (k + 1)) ≡ filter q (range_with_len 1 k)
+filter-failing q k fail = grind (arith, range-next, filter-append, append-nil)
 
 -- a sum over the numbers that pass a test
 pub sum-passing : (f : ℕ → ℕ) (q : ℕ → Bool) (k : ℕ) → q (k + 1) ≡ true

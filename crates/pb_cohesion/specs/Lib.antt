@@ -4,5 +4,9 @@ pub mod Conditions
 pub mod Groups
 pub mod EveryGroup
 pub mod FirstV
+pub mod Refutations
+pub mod FirstU
 pub mod ViolationFindings
+pub mod RefutationFindings
 pub mod Satisfactions
+pub mod Samples

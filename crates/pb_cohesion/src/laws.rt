@@ -1,16 +1,20 @@
 //! Laws on groups of voters, whatever the election, the outcome and the prices are.
 
-ghost use Rattle.std.specs.Prelude.{◌≡◌, ◌≤◌, ◌⊎◌, ◌↔◌, ◌≤ℤ◌, [], ℕ, pos, Bool, Contains, List, filter, sum_by, None};
+ghost use Rattle.std.specs.Prelude.{◌≡◌, ◌<◌, ◌≤◌, ◌⊎◌, ◌↔◌, ◌≤ℤ◌, [], ℕ, pos, Bool, true, Contains, List, filter, sum_by, None};
 ghost use Rattle.pb_election.specs.Instance.{Instance, all_projects, all_voters};
 ghost use Rattle.pb_election.specs.Outcome.{OutcomeFits, funds};
 ghost use Rattle.pb_election.specs.Text.{IsElection};
 ghost use Rattle.pb_certificate.specs.Prices.{Prices};
+ghost use Rattle.pb_certificate.specs.Refutations.{Weights};
 ghost use Rattle.pb_cohesion.specs.Amounts.{paid, spent};
 ghost use Rattle.pb_cohesion.specs.Conditions.{C1, C2, C3, C4, C5, Cover, Exhaustive, S5, culprits_of_C1, culprits_of_C2, culprits_of_C3, culprits_of_C4, culprits_of_C5, culprits_of_Exhaustive, culprits_of_S5, most_of};
 ghost use Rattle.pb_cohesion.specs.EveryGroup.{BudgetsAreWithinReach, BudgetsReachTheLimit, DemandsAreWithinReach, GroupsGetTheirShare, NoDemandIsPassedOver, NoGroupHasMoreLeft, NoGroupIsPassedOver, NoViolationByCounting, NothingBlocks, SharesAreWithinReach, SupportersBlock, SupportersHaveMoreLeft};
+ghost use Rattle.pb_cohesion.specs.FirstU.{FirstU};
 ghost use Rattle.pb_cohesion.specs.FirstV.{FirstV};
 ghost use Rattle.pb_cohesion.specs.Groups.{Offer, Violates};
 ghost use Rattle.pb_cohesion.specs.Outcome.{total};
+ghost use Rattle.pb_cohesion.specs.RefutationFindings.{TellWhichRefutationTestsHold, refutation_findings};
+ghost use Rattle.pb_cohesion.specs.Refutations.{NoPricesSupport, NoPricesWithCoverSupport, NothingRefutes, Refutes, Supports};
 ghost use Rattle.pb_cohesion.specs.ViolationFindings.{TellWhichTestsHold, violation_findings};
 
 /// The total of an outcome is what its funded projects cost, where the instance is an election or the outcome fits it.
@@ -105,4 +109,26 @@ pub fn violation_where_no_test_fails()
 /// no culprit, and V3 where the group's share of the limit covers what the demanded projects cost.
 pub fn violation_findings_tell_what_holds()
     ensures { (worth : ℕ → ℕ) (e : Instance) (w : List Bool) (s t : List ℕ) → TellWhichTestsHold worth e w s t (violation_findings worth e w s t) }
+{}
+
+/// Weights that refute exclude all prices for the outcome, in the plain form and in the stable one: where Cover has no
+/// weight each price system, whatever its denominator, its budget and its payments are, and else each whose budgets
+/// together are more than the limit.
+pub fn refutations_exclude_prices()
+    ensures all { (e : Instance) (w : List Bool) (r : Weights) → Refutes e w r → r.cover ≡ 0 → NoPricesSupport e w }
+    ensures covered { (e : Instance) (w : List Bool) (r : Weights) → Refutes e w r → 0 < r.cover → NoPricesWithCoverSupport e w }
+    // So where prices support an outcome, weights refute it only with a weight of Cover, and where Cover holds not at all.
+    ensures supported { (e : Instance) (w : List Bool) (p : Prices) (cover : Bool) → Supports e w p → (cover ≡ true → Cover e p) → NothingRefutes cover e w }
+{}
+
+/// Weights refute all prices for an outcome, those under Cover where that has a weight, exactly where no test fails.
+pub fn refutation_where_no_test_fails()
+    ensures { (e : Instance) (w : List Bool) (r : Weights) → (FirstU e w r ≡ None) ↔ Refutes e w r }
+{}
+
+/// The findings on a refutation tell which tests hold: U1 where there is no culprit, U2 where budgets are counted no
+/// more often than they are taken, and U3 where more is paid at least than is paid and left at most, or as much and Cover
+/// has a weight.
+pub fn refutation_findings_tell_what_holds()
+    ensures { (e : Instance) (w : List Bool) (r : Weights) → TellWhichRefutationTestsHold e w r (refutation_findings e w r) }
 {}

@@ -4,12 +4,14 @@
 
 mod explaining;
 pub mod laws;
+mod refutations;
 mod samples;
 mod satisfactions;
 mod violations;
 mod worths;
 
 pub use explaining::violation_findings;
+pub use refutations::{check_refutation, refutation_findings};
 pub use satisfactions::{Cost, Count, Satisfaction};
 pub use violations::check_violation;
 
@@ -73,5 +75,59 @@ pub struct SatisfiedMembers {
     /// The lowest member that gets at least what is demanded. `None` where V4 holds. Voters are numbered from 1.
     pub first: Option<u32>,
     /// How many such members there are, at most 1,000,000, and 0 where V4 holds.
+    pub count: u32,
+}
+
+/// What a refutation proves.
+#[derive(Clone, Copy, Debug, PartialEq, Eq)]
+pub enum RefutationVerdict {
+    /// No prices whatever support the outcome.
+    Unpriceable,
+    /// No prices support the outcome whose budgets together are more than the limit.
+    UnpriceableUnderCover,
+    /// A test fails. Other prices, or other weights, may do all the same.
+    Failed(RefutationFailure),
+}
+
+/// The first test that a refutation fails. Projects are numbered from 1.
+#[derive(Clone, Copy, Debug, PartialEq, Eq)]
+pub enum RefutationFailure {
+    /// A row for funded projects names an unfunded one, or the other way round: the lowest such project.
+    U1(u32),
+    /// The weights count the budgets more often than they take them.
+    U2,
+    /// What the weights add up to is not false.
+    U3,
+}
+
+/// What each test of a refutation comes to, also of those behind the first that fails. Weights are whole numbers up to
+/// 10^12, and costs are in millionths of the currency.
+#[derive(Clone, Copy, Debug, PartialEq, Eq)]
+pub struct RefutationFindings {
+    /// U1: the projects whose row is not one for projects that are funded so.
+    pub misplaced: MisplacedRows,
+    /// The weight of Cover, at most 10^12.
+    pub cover: u64,
+    /// U2: how often the weights count the budgets of all voters, at most, below 10^23. U2 holds where this is at most
+    /// `taken`.
+    pub counted: u128,
+    /// How often the weights take the budgets of all voters, below 10^23.
+    pub taken: u128,
+    /// U3: what is paid at least for funded projects, each cost times its weight, and the limit times the weight of
+    /// Cover, in millionths of the currency, below 4 * 10^34. U3 holds where this is more than `at_most`, and where it
+    /// is as much and Cover has a weight.
+    pub at_least: u128,
+    /// What is paid at most for funded projects and left at most for unfunded ones, each cost times its weight, in
+    /// millionths of the currency, below 4 * 10^34.
+    pub at_most: u128,
+}
+
+/// Where U1 fails.
+#[derive(Clone, Copy, Debug, PartialEq, Eq)]
+pub struct MisplacedRows {
+    /// The lowest unfunded project with a row for funded ones, or funded project with a row for unfunded ones. `None`
+    /// where U1 holds. Projects are numbered from 1.
+    pub first: Option<u32>,
+    /// How many such projects there are, at most 20,000, and 0 where U1 holds.
     pub count: u32,
 }

@@ -163,16 +163,19 @@ all_ask = (
     (
       pair_asks _ (sub_of (codes "violation")) refl refl (λ rows. last_passes false false _) (λ rows. refl),
       (
-        both_asks,
+        pair_asks _ (sub_of (codes "refutation")) refl refl (λ rows. last_passes false false _) (λ rows. refl),
         (
-          pair_asks _ (sub_of (codes "explain")) refl refl (λ rows. last_passes false false _) (λ rows. refl),
+          both_asks,
           (
-            pair_asks _ (sub_of (codes "page")) refl refl (λ rows. last_passes false false _) (λ rows. refl),
+            pair_asks _ (sub_of (codes "explain")) refl refl (λ rows. last_passes false false _) (λ rows. refl),
             (
-              pair_asks _ (sub_of (codes "margins")) refl refl (λ rows. last_passes false false _) (λ rows. refl),
+              pair_asks _ (sub_of (codes "page")) refl refl (λ rows. last_passes false false _) (λ rows. refl),
               (
-                pair_asks _ (sub_of (codes "tidy")) refl refl (λ rows. last_passes false false _) (λ rows. refl),
-                (folder_asks, (help_asks, tt)),
+                pair_asks _ (sub_of (codes "margins")) refl refl (λ rows. last_passes false false _) (λ rows. refl),
+                (
+                  pair_asks _ (sub_of (codes "tidy")) refl refl (λ rows. last_passes false false _) (λ rows. refl),
+                  (folder_asks, (help_asks, tt)),
+                ),
               ),
             ),
           ),

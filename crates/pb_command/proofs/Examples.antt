@@ -5,7 +5,8 @@ use Rattle.clap.specs.declared.error.kind.ErrorKind.TheVariants as kind
 use Rattle.clap.proofs.OnLiterals.{clap_on_literals}
 use Rattle.pb_command.specs.Commands.{pbaudit}
 use Rattle.pb_command.proofs.Written.{commands_written}
-use Rattle.pb_command.specs.Tasks.{TaskOf, asked_in, folder, prices, read, tidy, violation}
+use Rattle.pb_command.specs.Tasks.{TaskOf, asked_in, faults_of, folder, page, prices, read, tidy, violation}
+use Rattle.pb_words.specs.declared.language.Language.TheVariants.{Polish}
 
 bare_task : TaskOf (codes "pbaudit" ∷ []) ≡ Some (read None)
 unfolding clap_on_literals commands_written asked_in
@@ -68,6 +69,24 @@ violation_task = refl
 violation_taken : takes pbaudit violation_words ≡ true
 unfolding clap_on_literals commands_written
 violation_taken = refl
+
+abbrev page_words : Text → List Text
+page_words code = codes "pbaudit" ∷ codes "page" ∷ codes "e.pb" ∷ codes "c.csv" ∷ codes "--language" ∷ code ∷ []
+
+page_task : TaskOf (page_words (codes "pl"))
+    ≡ Some
+    (page (record { election = codes "e.pb"; certificate = codes "c.csv"; outcome = None })
+    (record { stable = false; exhaustive = true; cover = false }) (Some Polish))
+unfolding clap_on_literals commands_written asked_in
+page_task = refl
+
+page_taken : takes pbaudit (page_words (codes "pl")) ≡ true
+unfolding clap_on_literals commands_written
+page_taken = refl
+
+no_language : faults_of (page_words (codes "xx")) ≡ kind.InvalidValue ∷ []
+unfolding clap_on_literals commands_written asked_in
+no_language = refl
 
 abbrev tidy_words : List Text
 tidy_words = codes "pbaudit" ∷ codes "tidy" ∷ codes "e.pb" ∷ codes "c.csv" ∷ []

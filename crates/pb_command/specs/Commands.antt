@@ -48,6 +48,11 @@ unfoldable pub violation_app : App
 violation_app = command_of (codes "violation")
     (path_rule (codes "election") ∷ path_rule (codes "certificate") ∷ outcome_rule ∷ [])
 
+-- `refutation ELECTION CERTIFICATE [--outcome FILE]`
+unfoldable pub refutation_app : App
+refutation_app = command_of (codes "refutation")
+    (path_rule (codes "election") ∷ path_rule (codes "certificate") ∷ outcome_rule ∷ [])
+
 -- `both ELECTION PRICES VIOLATION [--stable] [--no-exhaustive] [--cover] [--outcome FILE]`
 unfoldable pub both_app : App
 both_app = command_of (codes "both")
@@ -85,4 +90,5 @@ folder_app = command_of (codes "folder")
 -- `pbaudit`, with its commands
 unfoldable pub pbaudit : App
 pbaudit = fold (λ a (s : App). with_subcommand a s.top) (with_version (new_app (codes "pbaudit")))
-    (read_app ∷ prices_app ∷ violation_app ∷ both_app ∷ explain_app ∷ page_app ∷ margins_app ∷ tidy_app ∷ folder_app ∷ [])
+    (read_app ∷ prices_app ∷ violation_app ∷ refutation_app ∷ both_app ∷ explain_app ∷ page_app ∷ margins_app ∷ tidy_app
+    ∷ folder_app ∷ [])

@@ -1,9 +1,10 @@
 -- The task that a line of words asks for.
-use Rattle.std.specs.Prelude.{◌≡◌, ◌≢◌, ◌⊎◌, Bool, false, not, Option, Some, None, option_map, List}
+use Rattle.std.specs.Prelude.{◌≡◌, ◌≢◌, ◌⊎◌, Bool, false, not, Option, Some, None, option_map, List, [], ◌∷◌}
 use Rattle.std.specs.Prelude.{codes, if◌then◌else◌, string_bytes}
 use Rattle.std.specs.Option.{option_map_or}
 use Rattle.std.specs.Str.{bytes_eq}
-use Rattle.clap.specs.Words.{IsAmong, Kinds, Row, Text, first_of, one_of, subcommand_of}
+use Rattle.clap.specs.Kinds.{or_else}
+use Rattle.clap.specs.Words.{IsAmong, Kinds, Row, Text, fault_of, first_of, one_of, subcommand_of}
 use Rattle.clap.specs.declared.error.kind.ErrorKind.{ErrorKind}
 use Rattle.clap.specs.declared.error.kind.ErrorKind.TheVariants as kind
 use Rattle.pb_command.specs.Commands.{pbaudit}
@@ -13,6 +14,9 @@ use Rattle.pb_command.specs.declared.task.Task.{Task}
 use Rattle.pb_command.specs.declared.task.Task.TheVariants as task
 use Rattle.pb_command.specs.declared.task.UsageFault.{UsageFault}
 use Rattle.pb_command.specs.declared.task.UsageFault.TheVariants as fault
+use Rattle.pb_words.specs.Languages.{language_of}
+use Rattle.pb_words.specs.declared.language.Language.{Language}
+use Rattle.pb_words.specs.declared.language.Language.TheVariants.{English}
 
 -- the paths that commands on a certificate share: of the election, of the certificate, and of an outcome file, where one
 -- is named
@@ -22,14 +26,15 @@ pub record Paths : Type 0 where
   pub outcome : Option Text
 
 -- a task, with its paths as text; `both` has the price certificate among the shared paths, and then the violation
--- certificate
+-- certificate; `page` has no language where there is none of the code that is given
 pub data Asked : Type 0 where
   read : Option Text → Asked
   prices : Paths → Mode → Asked
   violation : Paths → Asked
+  refutation : Paths → Asked
   both : Paths → Text → Mode → Asked
   explain : Paths → Mode → Asked
-  page : Paths → Mode → Option Text → Asked
+  page : Paths → Mode → Option Language → Asked
   margins : Paths → Asked
   tidy : Paths → Asked
   folder : Text → Mode → Asked
@@ -45,9 +50,10 @@ abbrev pub asked : Task → Asked
 asked (task.Read e) = read (option_map string_bytes e)
 asked (task.Prices i m) = prices (paths i) m
 asked (task.Violation i) = violation (paths i)
+asked (task.Refutation i) = refutation (paths i)
 asked (task.Both i v m) = both (paths i) (string_bytes v) m
 asked (task.Explain i m) = explain (paths i) m
-asked (task.Page i m l) = page (paths i) m (option_map string_bytes l)
+asked (task.Page i m l) = page (paths i) m (Some l)
 asked (task.Margins i) = margins (paths i)
 asked (task.Tidy i) = tidy (paths i)
 asked (task.Folder f m) = folder (string_bytes f) m
@@ -63,6 +69,10 @@ mode_in rows = record {
   exhaustive = not (is_on rows (codes "no-exhaustive"));
   cover = is_on rows (codes "cover");
 }
+
+-- the language whose code is given, and English without one
+abbrev pub language_in : List Row → Option Language
+language_in rows = option_map_or language_of (first_of (codes "language") rows) (Some English)
 
 -- what is made of two things, where both are there
 abbrev pub from_both : {A B C : Type 0} → (A → B → C) → Option A → Option B → Option C
@@ -82,17 +92,18 @@ asked_by name rows =
     if bytes_eq name (codes "read") then option_map (λ e. read (Some e)) (first_of (codes "election") rows)
     else (if bytes_eq name (codes "prices") then option_map (λ p. prices p (mode_in rows)) shared
     else (if bytes_eq name (codes "violation") then option_map violation shared
+    else (if bytes_eq name (codes "refutation") then option_map refutation shared
     else (if bytes_eq name (codes "both")
     then from_both (λ p v. both p v (mode_in rows)) (paths_in (codes "prices") rows)
     (first_of (codes "violation") rows)
     else (if bytes_eq name (codes "explain") then option_map (λ p. explain p (mode_in rows)) shared
     else (if bytes_eq name (codes "page")
-    then option_map (λ p. page p (mode_in rows) (first_of (codes "language") rows)) shared
+    then option_map (λ p. page p (mode_in rows) (language_in rows)) shared
     else (if bytes_eq name (codes "margins") then option_map margins shared
     else (if bytes_eq name (codes "tidy") then option_map tidy shared
     else (if bytes_eq name (codes "folder")
     then option_map (λ f. folder f (mode_in rows)) (first_of (codes "folder") rows)
-    else None))))))))
+    else None)))))))))
 
 -- without a command, standard input is read
 unfoldable pub asked_in : Option (Text × List Row) → Option Asked
@@ -101,6 +112,15 @@ asked_in met = option_map_or (λ p. asked_by p.0 p.1) met (Some (read None))
 -- the task that the words ask for
 abbrev pub TaskOf : List Text → Option Asked
 TaskOf words = asked_in (subcommand_of pbaudit words)
+
+-- the fault of a page in a language that there isn't
+abbrev pub language_fault : Option Asked → Kinds
+language_fault (Some (page p m None)) = kind.InvalidValue ∷ []
+language_fault _ = []
+
+-- the kinds of error that the words may give: those of clap, and else that of the language
+abbrev pub faults_of : List Text → Kinds
+faults_of words = or_else (fault_of pbaudit words) (language_fault (TaskOf words))
 
 -- the fault that stands for an error of this kind
 abbrev pub FitsKind : ErrorKind → UsageFault → Type 0
@@ -111,3 +131,7 @@ FitsKind k fault.Memory = k ≡ kind.OutOfMemory
 -- out of memory, or the fault of one of the kinds
 abbrev pub IsFaultOf : Kinds → UsageFault → Type 0
 IsFaultOf kinds f = (f ≡ fault.Memory) ⊎ ((k : ErrorKind) × IsAmong k kinds × FitsKind k f)
+
+-- out of memory, or a page was asked for in a language that there isn't
+abbrev pub IsRefusalOf : Option Asked → UsageFault → Type 0
+IsRefusalOf met = IsFaultOf (language_fault met)

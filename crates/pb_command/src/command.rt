@@ -6,12 +6,11 @@ ghost use Rattle.pb_command.specs.Descriptions.{app_described, rule_of_parameter
 
 use crate::help::{
     BOTH_NOTES, EXPLAIN_NOTES, FOLDER_NOTES, MARGINS_NOTES, PAGE_NOTES, PRICES_NOTES,
-    PROGRAM_NOTES, READ_NOTES, TIDY_NOTES, VIOLATION_NOTES,
+    PROGRAM_NOTES, READ_NOTES, REFUTATION_NOTES, TIDY_NOTES, VIOLATION_NOTES,
 };
 use clap::{Arg, ArgAction, Command};
+use pb_words::VERSION;
 use std::alloc::{AllocError, Global};
-
-const VERSION: &str = "0.1.0";
 
 /// What a command is called and takes, and what its help says.
 struct Description {
@@ -56,7 +55,7 @@ const PRICE_CERTIFICATE: Parameter = Parameter::Path {
 const ANY_CERTIFICATE: Parameter = Parameter::Path {
     id: "certificate",
     name: "CERTIFICATE",
-    help: "The price certificate or the violation certificate, a CSV file",
+    help: "The certificate of prices, a violation or a refutation, a CSV file",
 };
 
 const STABLE: Parameter = Parameter::Switch {
@@ -75,7 +74,7 @@ const COVER: Parameter = Parameter::Switch {
 };
 
 /// The commands that audit one outcome, in the order of help.
-const AUDITS: [Description; 6] = [
+const AUDITS: [Description; 7] = [
     Description {
         name: "read",
         about: "Read an election and print how many voters and projects it has",
@@ -108,6 +107,20 @@ const AUDITS: [Description; 6] = [
             Parameter::Outcome,
         ],
         notes: VIOLATION_NOTES,
+    },
+    Description {
+        name: "refutation",
+        about: "Check a proof that no prices whatever support the outcome",
+        parameters: &[
+            ELECTION,
+            Parameter::Path {
+                id: "certificate",
+                name: "CERTIFICATE",
+                help: "The refutation, a CSV file",
+            },
+            Parameter::Outcome,
+        ],
+        notes: REFUTATION_NOTES,
     },
     Description {
         name: "both",

@@ -19,6 +19,7 @@ Examples:
   pbaudit < town.pb
   pbaudit prices town.pb town.prices.csv --stable
   pbaudit violation town.pb town.violation.csv
+  pbaudit refutation town.pb town.refutation.csv
   pbaudit both town.pb town.prices.csv town.violation.csv --stable --cover
   pbaudit explain town.pb town.prices.csv --stable
   pbaudit page town.pb town.prices.csv --stable > page.html
@@ -76,7 +77,7 @@ fails. If that names a voter or a project, it is the first voter and then the
 first project, by their rows in the election, at which the condition fails:
   failed C5 project pool
 A no by C1 or a later condition is about these payments only: others may support
-the outcome.
+the outcome. That no payments at all support it is what a refutation proves.
 
 An outcome file has the record pb-outcome,1 and then a record project,ID for
 each funded project.
@@ -123,6 +124,52 @@ Examples:
   pbaudit violation town.pb town.violation.csv
   pbaudit violation town.pb town.violation.csv --outcome town.outcome.csv";
 
+/// What `refutation` tests.
+pub(crate) const REFUTATION_NOTES: &str = "\
+A refutation gives projects weights. If all tests below are passed, they prove
+that no payments whatever support the outcome, whatever the voter budget is: no
+price certificate can be found, in any mode. It is a file of records such as
+  pb-refutation,1
+  cover,0
+  role,project,weight
+  least,park,2
+  most,garden,1
+  left,pool,1
+A row 'least' or 'most' names a funded project, and a row 'left' an unfunded
+one, by its id, each project at most once. A project without a row has weight 0.
+The weights are whole numbers of at most 1000000000000, and so is the number
+behind 'cover', the weight of the condition Cover. The tests, tried in this
+order:
+  U1  no row 'least' or 'most' names an unfunded project, and no row 'left' a
+      funded one
+  U2  the gains of all voters, with the weight of Cover for each voter, add up
+      to no more than the weights of the unfunded projects, each times the
+      number of its supporters
+  U3  the costs of the rows 'least', each times its weight, with the budget
+      limit times the weight of Cover, add up to more than the costs of the rows
+      'most' and 'left', each times its weight; to as much, if that is enough
+      because the weight of Cover is more than 0
+A voter's gain is what the unfunded projects on the ballot weigh together, with
+the weight of one funded project on the ballot added for 'least' or taken off
+for 'most': the project for which that comes to most. It is 0 where that is less
+than 0, and where no project on the ballot is funded.
+
+Prints 'unpriceable' if the weight of Cover is 0, and 'unpriceable cover' if it
+is more: then no payments support the outcome with voter budgets that add up to
+more than the budget limit, and others may. Otherwise it prints the first test
+that fails, and for U1 the first project at which it fails:
+  failed U1 project park
+A no is about these weights only: others may prove it.
+
+An outcome file has the record pb-outcome,1 and then a record project,ID for
+each funded project.
+
+Exit statuses: 0 unpriceable, 1 failed, 2 refused, 3 usage, 4 error.
+
+Examples:
+  pbaudit refutation town.pb town.refutation.csv
+  pbaudit refutation town.pb town.refutation.csv --outcome town.outcome.csv";
+
 /// What `both` checks.
 pub(crate) const BOTH_NOTES: &str = "\
 Checks a price certificate as 'prices' does, and a violation certificate as
@@ -151,8 +198,9 @@ Examples:
 /// What `explain` prints.
 pub(crate) const EXPLAIN_NOTES: &str = "\
 Prints the line that 'prices' prints, or 'violation' for a certificate whose
-first record is pb-violation,1 or pb-violation,2. An empty line follows, and
-then a line for each condition or test, with the figures that it compares:
+first record is pb-violation,1 or pb-violation,2, or 'refutation' for one whose
+first record is pb-refutation,1. An empty line follows, and then a line for each
+condition or test, with the figures that it compares:
   failed C5 project pool
 
   Feasible    holds      the funded projects cost 12.00; the limit is 20.00
@@ -171,12 +219,13 @@ exact, and otherwise a whole number and a fraction, such as 12865 1/3.
 The options --stable, --no-exhaustive and --cover matter only for prices. The
 outcome is as for 'prices', and so is the answer if a file is refused.
 
-Exit statuses: 0 supported or a violation, 1 a condition or a test failed,
-2 refused, 3 usage, 4 error.
+Exit statuses: 0 supported, a violation or unpriceable, 1 a condition or a test
+failed, 2 refused, 3 usage, 4 error.
 
 Examples:
   pbaudit explain town.pb town.prices.csv
   pbaudit explain town.pb town.prices.csv --stable --cover
+  pbaudit explain town.pb town.refutation.csv
   pbaudit explain town.pb town.violation.csv --outcome town.outcome.csv";
 
 /// What `page` prints.
@@ -193,8 +242,8 @@ The options --stable, --no-exhaustive and --cover matter only for prices. The
 outcome is as for 'prices'. If a file is refused, the line that 'explain' prints
 is printed, and no page.
 
-Exit statuses: 0 supported or a violation, 1 a condition or a test failed,
-2 refused, 3 usage, 4 error.
+Exit statuses: 0 supported, a violation or unpriceable, 1 a condition or a test
+failed, 2 refused, 3 usage, 4 error.
 
 Examples:
   pbaudit page town.pb town.prices.csv > page.html
@@ -270,7 +319,7 @@ with these files
   notes.txt
 there are two elections: krakow-2023 has a price certificate and a violation
 certificate, and lodz-2022 has a price certificate. Other files are ignored, and
-so are folders and links.
+so are folders, links and refutations, which 'refutation' audits one by one.
 
 The elections are audited in the order of their names, byte by byte. For each
 there is a line, as with 'read' but without notes, and if it is accepted a line

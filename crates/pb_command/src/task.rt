@@ -1,7 +1,6 @@
 //! The task that a line of words asks for.
 ghost use Rattle.std.specs.Prelude.{◌≡◌, ◌⊎◌, [], Some, IfErr, IfOk, codes, map, option_map, string_bytes, true};
 ghost use Rattle.clap.specs.Words.{
-  fault_of,
   first_of,
   found_of,
   kind_of,
@@ -9,15 +8,31 @@ ghost use Rattle.clap.specs.Words.{
   subcommand_rows_of,
   takes,
 };
-ghost use Rattle.clap.specs.declared.error.kind.ErrorKind.TheVariants.{OutOfMemory};
+ghost use Rattle.clap.specs.declared.error.kind.ErrorKind.TheVariants.{InvalidValue, OutOfMemory};
 ghost use Rattle.pb_command.specs.Commands.{pbaudit};
 ghost use Rattle.pb_command.specs.declared.task.UsageFault.TheVariants.{Memory};
-ghost use Rattle.pb_command.specs.Tasks.{FitsKind, IsFaultOf, TaskOf, asked, asked_by, asked_in, is_on, mode_in, paths, paths_in};
+ghost use Rattle.pb_command.specs.Tasks.{
+  FitsKind,
+  IsFaultOf,
+  IsRefusalOf,
+  TaskOf,
+  asked,
+  asked_by,
+  asked_in,
+  faults_of,
+  is_on,
+  language_fault,
+  language_in,
+  mode_in,
+  paths,
+  paths_in,
+};
 
 use crate::command::pbaudit_command;
 use clap::error::ErrorKind;
 use clap::{ArgMatches, Error};
 use pb_price::Mode;
+use pb_words::Language;
 use std::alloc::{AllocError, Global};
 
 /// The files that commands on a certificate share. Each text is a path, as it stands among the words.
@@ -45,6 +60,8 @@ pub enum Task {
     },
     /// Check a violation certificate.
     Violation(Inputs),
+    /// Check a refutation.
+    Refutation(Inputs),
     /// Check a price certificate and a violation certificate.
     Both {
         /// The files, with the price certificate.
@@ -54,21 +71,21 @@ pub enum Task {
         /// Which conditions are asked for.
         mode: Mode,
     },
-    /// Check a certificate of either kind and write what each condition or test comes to.
+    /// Check a certificate of any kind and write what each condition or test comes to.
     Explain {
         /// The files.
         inputs: Inputs,
         /// Which conditions on prices are asked for.
         mode: Mode,
     },
-    /// Check a certificate of either kind and write a page for people.
+    /// Check a certificate of any kind and write a page for people.
     Page {
         /// The files.
         inputs: Inputs,
         /// Which conditions on prices are asked for.
         mode: Mode,
-        /// The code of the language, where one is named.
-        language: Option<String>,
+        /// The language of the page: English where none is named.
+        language: Language,
     },
     /// Write the figures of each project by a price certificate.
     Margins(Inputs),
@@ -106,14 +123,14 @@ impl From<AllocError> for UsageFault {
 ///
 /// # Errors
 /// `Help` where the words ask for help or the version, `Usage` where they are no line of a
-/// command, and `Memory` if memory ran out, which comes only after a failed allocation; that is
-/// tested and not proved.
+/// command or name a language that there isn't, and `Memory` if memory ran out, which comes only
+/// after a failed allocation; that is tested and not proved.
 pub fn task_of(alloc: Global, words: Vec<String>) -> Result<Task, UsageFault>
     ensures task { IfOk result (λ t. Some (asked t) ≡ TaskOf (map string_bytes words.items)) }
     ensures taken { takes pbaudit (map string_bytes words.items) ≡ true
-        → IfErr result (λ e. e ≡ UsageFault.Memory) }
-    ensures accepted { IfOk result (λ _. fault_of pbaudit (map string_bytes words.items) ≡ []) }
-    ensures refused { IfErr result (IsFaultOf (fault_of pbaudit (map string_bytes words.items))) }
+        → language_fault (TaskOf (map string_bytes words.items)) ≡ [] → IfErr result (λ e. e ≡ UsageFault.Memory) }
+    ensures accepted { IfOk result (λ _. faults_of (map string_bytes words.items) ≡ []) }
+    ensures refused { IfErr result (IsFaultOf (faults_of (map string_bytes words.items))) }
 {
     let command = pbaudit_command(alloc)?;
     match command.try_get_matches_from(words.as_slice()) {
@@ -142,8 +159,9 @@ fn fault_in(alloc: Global, error: &Error) -> UsageFault
 }
 
 /// The task of the matches, where they are those of a command with its paths.
-fn task_in(alloc: Global, matches: &ArgMatches<'_>) -> Result<Option<Task>, AllocError>
-    ensures { IfOk result (λ t. option_map asked t ≡ asked_in (subcommand_rows_of matches.now)) }
+fn task_in(alloc: Global, matches: &ArgMatches<'_>) -> Result<Option<Task>, UsageFault>
+    ensures task { IfOk result (λ t. option_map asked t ≡ asked_in (subcommand_rows_of matches.now)) }
+    ensures refused { IfErr result (IsRefusalOf (asked_in (subcommand_rows_of matches.now))) }
 {
     match matches.subcommand() {
         Some((name, inner)) => command_task(alloc, name, inner),
@@ -156,27 +174,29 @@ fn command_task(
     alloc: Global,
     name: &str,
     matches: &ArgMatches<'_>,
-) -> Result<Option<Task>, AllocError>
-    ensures { IfOk result (λ t. option_map asked t ≡ asked_by name.now (rows_of (found_of matches.now))) }
+) -> Result<Option<Task>, UsageFault>
+    ensures task { IfOk result (λ t. option_map asked t ≡ asked_by name.now (rows_of (found_of matches.now))) }
+    ensures refused { IfErr result (IsRefusalOf (asked_by name.now (rows_of (found_of matches.now)))) }
 {
-    match name {
-        "read" => read_task(alloc, matches),
-        "prices" => prices_task(alloc, matches),
-        "violation" => violation_task(alloc, matches),
-        "both" => both_task(alloc, matches),
-        "explain" => explain_task(alloc, matches),
-        "page" => page_task(alloc, matches),
-        "margins" => margins_task(alloc, matches),
-        "tidy" => tidy_task(alloc, matches),
-        "folder" => folder_task(alloc, matches),
-        _ => Ok(None),
-    }
+    Ok(match name {
+        "read" => read_task(alloc, matches)?,
+        "prices" => prices_task(alloc, matches)?,
+        "violation" => violation_task(alloc, matches)?,
+        "refutation" => refutation_task(alloc, matches)?,
+        "both" => both_task(alloc, matches)?,
+        "explain" => explain_task(alloc, matches)?,
+        "page" => page_task(alloc, matches)?,
+        "margins" => margins_task(alloc, matches)?,
+        "tidy" => tidy_task(alloc, matches)?,
+        "folder" => folder_task(alloc, matches)?,
+        _ => None,
+    })
 }
 
 fn read_task(alloc: Global, matches: &ArgMatches<'_>) -> Result<Option<Task>, AllocError>
     ensures { IfOk result (λ t. option_map asked t ≡ asked_by (codes "read") (rows_of (found_of matches.now))) }
 {
-    match path_of(alloc, matches, "election")? {
+    match text_of(alloc, matches, "election")? {
         Some(election) => Ok(Some(Task::Read(Some(election)))),
         None => Ok(None),
     }
@@ -201,11 +221,20 @@ fn violation_task(alloc: Global, matches: &ArgMatches<'_>) -> Result<Option<Task
     }
 }
 
+fn refutation_task(alloc: Global, matches: &ArgMatches<'_>) -> Result<Option<Task>, AllocError>
+    ensures { IfOk result (λ t. option_map asked t ≡ asked_by (codes "refutation") (rows_of (found_of matches.now))) }
+{
+    match inputs_of(alloc, matches, "certificate")? {
+        Some(inputs) => Ok(Some(Task::Refutation(inputs))),
+        None => Ok(None),
+    }
+}
+
 fn both_task(alloc: Global, matches: &ArgMatches<'_>) -> Result<Option<Task>, AllocError>
     ensures { IfOk result (λ t. option_map asked t ≡ asked_by (codes "both") (rows_of (found_of matches.now))) }
 {
     let inputs = inputs_of(alloc, matches, "prices")?;
-    let violation = path_of(alloc, matches, "violation")?;
+    let violation = text_of(alloc, matches, "violation")?;
     match (inputs, violation) {
         (Some(inputs), Some(violation)) => Ok(Some(Task::Both {
             inputs,
@@ -226,18 +255,42 @@ fn explain_task(alloc: Global, matches: &ArgMatches<'_>) -> Result<Option<Task>,
     }
 }
 
-fn page_task(alloc: Global, matches: &ArgMatches<'_>) -> Result<Option<Task>, AllocError>
-    ensures { IfOk result (λ t. option_map asked t ≡ asked_by (codes "page") (rows_of (found_of matches.now))) }
+fn page_task(alloc: Global, matches: &ArgMatches<'_>) -> Result<Option<Task>, UsageFault>
+    ensures task { IfOk result (λ t. option_map asked t ≡ asked_by (codes "page") (rows_of (found_of matches.now))) }
+    ensures refused { IfErr result (IsRefusalOf (asked_by (codes "page") (rows_of (found_of matches.now)))) }
 {
     let mode = mode_of(matches);
-    let language = path_of(alloc, matches, "language")?;
-    match inputs_of(alloc, matches, "certificate")? {
-        Some(inputs) => Ok(Some(Task::Page {
+    let Some(inputs) = inputs_of(alloc, matches, "certificate")? else {
+        return Ok(None);
+    };
+    match language_of(matches) {
+        Some(language) => Ok(Some(Task::Page {
             inputs,
             mode,
             language,
         })),
-        None => Ok(None),
+        None => Err(no_language(alloc)),
+    }
+}
+
+/// The language that the words name, or English: nothing where there is none of the code that they give.
+fn language_of(matches: &ArgMatches<'_>) -> Option<Language>
+    ensures { result ≡ language_in (rows_of (found_of matches.now)) }
+{
+    match matches.get_str("language") {
+        Some(code) => Language::of_code(code.as_bytes()),
+        None => Some(Language::English),
+    }
+}
+
+/// What is told of a language that there isn't.
+fn no_language(alloc: Global) -> UsageFault
+    ensures { (result ≡ UsageFault.Memory) ⊎ FitsKind InvalidValue result }
+{
+    let words = "error: the language of a page has to be en, pl, de or fr\n";
+    match String::from_str(alloc, words) {
+        Ok(text) => UsageFault::Usage(text),
+        Err(_) => UsageFault::Memory,
     }
 }
 
@@ -262,7 +315,7 @@ fn tidy_task(alloc: Global, matches: &ArgMatches<'_>) -> Result<Option<Task>, Al
 fn folder_task(alloc: Global, matches: &ArgMatches<'_>) -> Result<Option<Task>, AllocError>
     ensures { IfOk result (λ t. option_map asked t ≡ asked_by (codes "folder") (rows_of (found_of matches.now))) }
 {
-    match path_of(alloc, matches, "folder")? {
+    match text_of(alloc, matches, "folder")? {
         Some(folder) => Ok(Some(Task::Folder {
             folder,
             mode: mode_of(matches),
@@ -279,9 +332,9 @@ fn inputs_of(
 ) -> Result<Option<Inputs>, AllocError>
     ensures { IfOk result (λ inputs. option_map paths inputs ≡ paths_in certificate.now (rows_of (found_of matches.now))) }
 {
-    let election = path_of(alloc, matches, "election")?;
-    let certificate = path_of(alloc, matches, certificate)?;
-    let outcome = path_of(alloc, matches, "outcome")?;
+    let election = text_of(alloc, matches, "election")?;
+    let certificate = text_of(alloc, matches, certificate)?;
+    let outcome = text_of(alloc, matches, "outcome")?;
     match (election, certificate) {
         (Some(election), Some(certificate)) => Ok(Some(Inputs {
             election,
@@ -293,7 +346,7 @@ fn inputs_of(
 }
 
 /// The text that the words give for the argument, such as a path.
-fn path_of(alloc: Global, matches: &ArgMatches<'_>, id: &str) -> Result<Option<String>, AllocError>
+fn text_of(alloc: Global, matches: &ArgMatches<'_>, id: &str) -> Result<Option<String>, AllocError>
     ensures { IfOk result (λ o. option_map string_bytes o ≡ first_of id.now (rows_of (found_of matches.now))) }
 {
     match matches.get_str(id) {

@@ -1,1 +1,4 @@
 pub mod Divisors
+mod Nearer
+mod Reached
+mod Roles

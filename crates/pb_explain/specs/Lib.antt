@@ -3,3 +3,7 @@ pub mod Rows
 pub mod PriceWords
 pub mod PriceTable
 pub mod ViolationTable
+pub mod NearestGroup
+pub mod Reached
+pub mod GroupLines
+pub mod RefutationTable

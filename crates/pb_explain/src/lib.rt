@@ -2,10 +2,16 @@
 #![tactic(auto)]
 
 mod amounts;
+mod group_lines;
+mod nearest;
 mod price_table;
 mod price_words;
+mod refutation_table;
 mod rows;
 mod violation_table;
 
+pub use group_lines::push_group_lines;
+pub use nearest::{NearestGroup, nearest_group};
 pub use price_table::push_price_table;
+pub use refutation_table::push_refutation_table;
 pub use violation_table::push_violation_table;

@@ -5,6 +5,8 @@ use Rattle.pb_certificate.specs.declared.violations.measure.Measure.{Measure}
 use Rattle.pb_certificate.specs.declared.violations.measure.Measure.TheVariants.{ByCost, ByCount}
 use Rattle.pb_cohesion.specs.declared.ViolationVerdict.{ViolationVerdict}
 use Rattle.pb_cohesion.specs.declared.ViolationVerdict.TheVariants as violation_verdict
+use Rattle.pb_cohesion.specs.declared.RefutationVerdict.{RefutationVerdict}
+use Rattle.pb_cohesion.specs.declared.RefutationVerdict.TheVariants as refutation_verdict
 use Rattle.pb_price.specs.First.{verdict_of}
 use Rattle.pb_price.specs.Told.{first_told}
 use Rattle.pb_price.specs.declared.Comparison.{Comparison}
@@ -20,6 +22,7 @@ use Rattle.pb_figures.specs.declared.figure.Compared.{Compared}
 use Rattle.pb_figures.specs.declared.figure.Compared.TheVariants as compared
 use Rattle.pb_figures.specs.declared.figure.Figure.{Figure}
 use Rattle.pb_figures.specs.declared.figure.Figure.TheVariants as figure
+use Rattle.pb_figures.specs.declared.refutations.RefutationFigures.{RefutationFigures}
 use Rattle.pb_figures.specs.declared.told.CertificateFigures.{CertificateFigures}
 use Rattle.pb_figures.specs.declared.told.CertificateFigures.TheVariants as found
 use Rattle.pb_words.specs.declared.headlines.Headline.{Headline}
@@ -36,9 +39,15 @@ abbrev pub violation_headline : ViolationVerdict → Headline
 violation_headline violation_verdict.Violation = headline.Violation
 violation_headline (violation_verdict.Failed f) = headline.NoViolation
 
+abbrev pub refutation_headline : RefutationVerdict → Headline
+refutation_headline refutation_verdict.Unpriceable = headline.Unpriceable
+refutation_headline refutation_verdict.UnpriceableUnderCover = headline.UnpriceableUnderCover
+refutation_headline (refutation_verdict.Failed f) = headline.NotRefuted
+
 abbrev pub headline_of : Mode → CertificateFigures → Headline
 headline_of m (found.Prices p) = price_headline m.stable (verdict_of (first_told m p.findings))
 headline_of m (found.Violation v) = violation_headline v.verdict
+headline_of m (found.Refutation r) = refutation_headline r.verdict
 
 -- the largest number that sums are counted to, which no sum of an election comes near
 abbrev pub capped : ℕ → ℕ
@@ -102,6 +111,8 @@ price_amount p figure.Share = nothing
 price_amount p figure.ShareOff = nothing
 price_amount p figure.Gets = nothing
 price_amount p figure.Worth = nothing
+price_amount p figure.PaidAtLeast = nothing
+price_amount p figure.PaidAtMost = nothing
 
 -- On a violation a millionth of the currency has as many grains as there are voters, or one where there are none. So
 -- what falls to a group is a whole number of them.
@@ -136,11 +147,23 @@ violation_amount v figure.Gets = worth v v.findings.gets
 violation_amount v figure.Worth = worth v v.findings.demanded
 violation_amount v _ = nothing
 
+-- the amounts of a refutation, in millionths
+abbrev pub refutation_amount : RefutationFigures → Figure → Balance
+refutation_amount r figure.Limit = of r.limit
+refutation_amount r figure.Funded = of r.funded
+refutation_amount r figure.Remains = of (abs_diff r.limit r.funded)
+refutation_amount r (figure.Cost j) = amount_in of (at r.costs.items j)
+refutation_amount r figure.PaidAtLeast = of r.findings.at_least
+refutation_amount r figure.PaidAtMost = of r.findings.at_most
+refutation_amount r _ = nothing
+
 abbrev pub amount_of : CertificateFigures → Figure → Balance
 amount_of (found.Prices p) f = price_amount p f
 amount_of (found.Violation v) f = violation_amount v f
+amount_of (found.Refutation r) f = refutation_amount r f
 
 -- how many grains one unit of the currency has
 abbrev pub grains_per_unit : CertificateFigures → ℕ
 grains_per_unit (found.Prices p) = p.findings.grains_per_unit
 grains_per_unit (found.Violation v) = grains_of_violation v
+grains_per_unit (found.Refutation r) = 10 ^ 6

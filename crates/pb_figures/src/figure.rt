@@ -48,6 +48,10 @@ pub enum Figure {
     Gets,
     /// What the demanded projects are worth. Nothing where projects are counted.
     Worth,
+    /// What the weights of a refutation count as paid at least.
+    PaidAtLeast,
+    /// What they count as paid at most, and left at most.
+    PaidAtMost,
 }
 
 /// The conditions whose findings show two sums.

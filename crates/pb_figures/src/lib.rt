@@ -6,6 +6,7 @@ mod decimals;
 mod extremes;
 mod figure;
 mod ranking;
+mod refutations;
 mod told;
 
 pub use amounts::{Balance, Style, push_amount, push_grouped};
@@ -13,4 +14,5 @@ pub use decimals::decimals_of;
 pub use extremes::{Payment, Spender, extremes_of};
 pub use figure::{Compared, Figure};
 pub use ranking::{Size, closest_first, has, missing, places_by, wrongly_paid_first};
+pub use refutations::RefutationFigures;
 pub use told::{CertificateFigures, PriceFigures, Told, ViolationFigures};

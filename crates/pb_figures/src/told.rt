@@ -8,6 +8,7 @@ ghost use Rattle.pb_figures.specs.Told.{amount_in};
 use crate::amounts::{Balance, Style};
 use crate::extremes::Extremes;
 use crate::figure::{Compared, Figure};
+use crate::refutations::{RefutationFigures, refutation_headline};
 use pb_certificate::{Measure, Violation};
 use pb_cohesion::{ViolationFindings, ViolationVerdict};
 use pb_price::{Finding, Findings, Margins, Mode, ProjectMargins, Verdict};
@@ -28,6 +29,7 @@ pub struct Told {
 pub enum CertificateFigures {
     Prices(PriceFigures),
     Violation(ViolationFigures),
+    Refutation(RefutationFigures),
 }
 
 /// What was found of prices.
@@ -63,6 +65,7 @@ impl Told {
                 self.mode,
             ),
             CertificateFigures::Violation(figures) => violation_headline(figures.verdict),
+            CertificateFigures::Refutation(figures) => refutation_headline(figures.verdict),
         }
     }
 
@@ -73,6 +76,7 @@ impl Told {
         match &self.found {
             CertificateFigures::Prices(figures) => figures.findings.grains_per_unit,
             CertificateFigures::Violation(figures) => figures.grains_per_unit(),
+            CertificateFigures::Refutation(_) => RefutationFigures::GRAINS_PER_UNIT,
         }
     }
 
@@ -83,6 +87,7 @@ impl Told {
         match &self.found {
             CertificateFigures::Prices(figures) => figures.amount_of(figure),
             CertificateFigures::Violation(figures) => figures.amount_of(figure),
+            CertificateFigures::Refutation(figures) => figures.amount_of(figure),
         }
     }
 }
@@ -133,6 +138,7 @@ impl PriceFigures {
             Figure::AmountOff(condition) => self.compared_off(condition),
             Figure::Demand | Figure::Share | Figure::ShareOff | Figure::Gets | Figure::Worth =>
                 Balance::NOTHING,
+            Figure::PaidAtLeast | Figure::PaidAtMost => Balance::NOTHING,
         }
     }
 

@@ -13,6 +13,9 @@ use std::alloc::AllocError;
 
 const WHOLE: &str = "amounts are whole numbers over the denominator, without a decimal point";
 
+const WHOLE_WEIGHTS: &str =
+    "weights are whole numbers, without a decimal point; multiply all of them by the same number";
+
 const BY_ROWS: &str = "voters are numbered by their rows in VOTES, from 1, and not by voter_id";
 
 const MEASURE: &str = "only version 2 states a measure, in the record after pb-violation,2";
@@ -93,6 +96,18 @@ impl Scene<'_> {
                     self.field(2),
                 )
             }
+            (FileKind::Refutation, 1) => {
+                (
+                    "the weight of Cover isn't a whole number up to 10^12: ",
+                    self.field(1),
+                )
+            }
+            (FileKind::Refutation, _) => {
+                (
+                    "the weight isn't a whole number up to 10^12: ",
+                    self.field(2),
+                )
+            }
             _ => ("the voter isn't a whole number: ", self.voter()),
         };
         self.with(words, number)
@@ -122,25 +137,37 @@ impl Scene<'_> {
             if !walk.advance_before(self.place)? {
                 break;
             }
-            if names_same(walk.row(), self.row()) {
+            if self.is_like(walk.row()) {
                 return Ok(Some(walk.start()));
             }
         }
         Ok(None)
     }
 
+    /// Whether another record names the same as this one. A refutation has one row for a project, whatever its role is.
+    fn is_like(&self, other: &StringRecord) -> bool {
+        match self.kind {
+            FileKind::Refutation => is_role(cell(other, 0)) && cell(other, 1) == self.field(1),
+            _ => names_same(other, self.row()),
+        }
+    }
+
     /// What often causes such a fault.
     pub fn certificate_cause(&self, fault: CertFault) -> Result<Option<Remark>, AllocError> {
         let is_price = self.kind == FileKind::Prices;
+        let is_weight = self.kind == FileKind::Refutation;
         match fault {
             CertFault::BadHead | CertFault::BadRow
                 if Oddity::of_one_field(self.row(), self.kind.delimiter()).is_some() => {
                 self.odd(Oddity::of_one_field(self.row(), self.kind.delimiter()))
             }
             CertFault::UnknownVoter => self.voter_cause(),
+            CertFault::BadNumber if is_weight && self.has_decimals() => self.remark(WHOLE_WEIGHTS),
+            CertFault::BadNumber if is_weight => Ok(None),
             CertFault::BadNumber if self.is_row() && !is_digits(self.voter()) => self.voter_cause(),
             CertFault::BadNumber if is_price && self.has_decimals() => self.remark(WHOLE),
             CertFault::BadRow if is_price && self.is_cut_amount() => self.remark(WHOLE),
+            CertFault::BadRow if is_weight && self.is_cut_amount() => self.remark(WHOLE_WEIGHTS),
             CertFault::BadRow if self.field(0) == "voter_id" => self.remark(BY_ROWS),
             CertFault::BadRow if self.is_measure_in_version_1() => self.remark(MEASURE),
             CertFault::UnknownProject => match self.election {
@@ -185,7 +212,8 @@ impl Scene<'_> {
     /// Whether a number of the record has a decimal point or comma.
     fn has_decimals(&self) -> bool {
         let number = match self.story.records {
-            1 | 2 => self.field(1),
+            1 => self.field(1),
+            2 if self.kind == FileKind::Prices => self.field(1),
             _ => self.field(2),
         };
         number.contains('.') || number.contains(',')
@@ -200,6 +228,11 @@ impl Scene<'_> {
     fn is_cut_amount(&self) -> bool {
         is_digits(self.field(2)) && is_digits(self.field(3))
     }
+}
+
+/// Whether a word is the role of a weight.
+fn is_role(word: &str) -> bool {
+    matches!(word, "least" | "most" | "left")
 }
 
 fn is_digits(text: &str) -> bool {

@@ -7,16 +7,18 @@ pub enum FileKind {
     Outcome,
     Prices,
     Violation,
-    /// A certificate of either kind, which its first record tells. A file with another first record is taken as prices.
+    Refutation,
+    /// A certificate of any kind, which its first record tells. A file with another first record is taken as prices.
     Certificate,
 }
 
 /// The first fields of files, and what these are.
-const FIRST_FIELDS: [(&str, FileKind); 4] = [
+const FIRST_FIELDS: [(&str, FileKind); 5] = [
     ("META", FileKind::Election),
     ("pb-outcome", FileKind::Outcome),
     ("pb-prices", FileKind::Prices),
     ("pb-violation", FileKind::Violation),
+    ("pb-refutation", FileKind::Refutation),
 ];
 
 impl FileKind {
@@ -27,14 +29,18 @@ impl FileKind {
             FileKind::Outcome => "an outcome file",
             FileKind::Prices => "a price certificate",
             FileKind::Violation => "a violation certificate",
-            FileKind::Certificate => "a price or violation certificate",
+            FileKind::Refutation => "a refutation",
+            FileKind::Certificate => "a price or violation certificate, or a refutation",
         }
     }
 
     /// Whether a file of the kind `found` is one of these.
     pub(crate) fn has(self, found: FileKind) -> bool {
         match self {
-            FileKind::Certificate => matches!(found, FileKind::Prices | FileKind::Violation),
+            FileKind::Certificate => matches!(
+                found,
+                FileKind::Prices | FileKind::Violation | FileKind::Refutation
+            ),
             _ => found == self,
         }
     }
@@ -65,8 +71,13 @@ impl FileKind {
             (FileKind::Prices, _) => "voter,project,payment",
             (FileKind::Violation, 0) => "pb-violation,1 or pb-violation,2",
             (FileKind::Violation, _) => "satisfaction,count or satisfaction,cost",
+            (FileKind::Refutation, 0) => "pb-refutation,1",
+            (FileKind::Refutation, 1) => "cover,WEIGHT",
+            (FileKind::Refutation, _) => "role,project,weight",
             (FileKind::Outcome | FileKind::Election, _) => "pb-outcome,1",
-            (FileKind::Certificate, _) => "pb-prices,1, pb-violation,1 or pb-violation,2",
+            (FileKind::Certificate, _) => {
+                "pb-prices,1, pb-violation,1, pb-violation,2 or pb-refutation,1"
+            }
         }
     }
 
@@ -75,6 +86,7 @@ impl FileKind {
         match self {
             FileKind::Prices | FileKind::Certificate => "VOTER,ID,NUMERATOR",
             FileKind::Violation => "project,ID or voter,NUMBER",
+            FileKind::Refutation => "least,ID,WEIGHT, most,ID,WEIGHT or left,ID,WEIGHT",
             FileKind::Outcome | FileKind::Election => "project,ID",
         }
     }

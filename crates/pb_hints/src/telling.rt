@@ -3,7 +3,7 @@ use crate::causes::{encoding_cause, first_record_cause};
 use crate::remark::Remark;
 use crate::scene::Scene;
 use crate::{FileKind, certificates, elections};
-use pb_certificate::{CertFault, is_violation};
+use pb_certificate::{CertFault, Kind};
 use pb_election::ElectionFault;
 use pb_reply::InputFault;
 use std::alloc::{AllocError, Global};
@@ -50,13 +50,17 @@ fn suits(kind: FileKind, fault: InputFault) -> bool {
     }
 }
 
-/// What the file is by its own first record, where it may be a certificate of either kind.
+/// What the file is by its own first record, where it may be a certificate of any kind.
 fn kind_of(alloc: Global, kind: FileKind, file: &[u8], place: u64) -> Result<FileKind, AllocError> {
-    match kind {
-        FileKind::Certificate if is_violation(alloc, file)? => Ok(FileKind::Violation),
-        FileKind::Certificate if place > 1 => Ok(FileKind::Prices),
-        _ => Ok(kind),
+    if kind != FileKind::Certificate {
+        return Ok(kind);
     }
+    Ok(match pb_certificate::kind_of(alloc, file)? {
+        Kind::Violation => FileKind::Violation,
+        Kind::Refutation => FileKind::Refutation,
+        Kind::Prices if place > 1 => FileKind::Prices,
+        Kind::Prices => kind,
+    })
 }
 
 /// What can be told without the bytes of the file.

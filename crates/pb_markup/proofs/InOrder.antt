@@ -40,9 +40,3 @@ in-order-next part (first ∷ xs) x pieces between behind has = (
       ∙ ap (λ (l : List Piece). has.0 ++ l) (append_assoc (part first) has.1 (between ++ (part x ++ behind))),
   in-order-next part xs x has.1 between behind has.3,
 )
-
--- with pieces around them
-pub in-order-within : {X : Type 0} (part : X → List Piece) (xs : List X) (before pieces behind : List Piece)
-    → HasParts part xs pieces → HasParts part xs ((before ++ pieces) ++ behind)
-in-order-within part xs before pieces behind has =
-    in-order-before part xs (before ++ pieces) behind (in-order-behind part xs before pieces has)

@@ -1,3 +1,4 @@
+pub mod Adding
 pub mod InOrder
 pub mod Plain
 pub mod Texts

@@ -1,5 +1,5 @@
 -- What a page is made of, and how it is written.
-use Rattle.std.specs.Prelude.{◌==◌, ◌||◌, if◌then◌else◌, ℕ, Bool, List, [], ◌∷◌, ◌++◌, ◌-◌, zero, suc, codes, fold, length, map, slice_index_or, take}
+use Rattle.std.specs.Prelude.{◌≡◌, ◌==◌, ◌||◌, if◌then◌else◌, IfSome, IsSomeAnd, ℕ, Bool, List, [], ◌∷◌, ◌++◌, ◌-◌, Option, zero, suc, codes, fold, length, map, slice_index_or, take}
 use Rattle.std.specs.List.{flat_map}
 use Rattle.pb_markup.specs.Escapes.{escaped}
 use Rattle.pb_markup.specs.Names.{is_void, opening, tag_name}
@@ -17,6 +17,16 @@ pub data Piece : Type 0 where
   Headline : Piece
   Line : Piece
   Close : Piece
+
+-- A page that is being made stands for its pieces, and for nothing once memory ran out. Where it still stands for some
+-- after a step, it did so before, and the step added these.
+abbrev pub Adds : Option (List Piece) → List Piece → Option (List Piece) → Type 0
+Adds before pieces after = IfSome after (λ all. IsSomeAnd before (λ these. all ≡ these ++ pieces))
+
+-- the same where the pieces are made of a value, for which memory sufficed then
+abbrev pub AddsMade : {X : Type 0} → (X → List Piece) → Option (List Piece) → Option X → Option (List Piece) → Type 0
+AddsMade pieces before made after =
+    IfSome after (λ all. IsSomeAnd made (λ x. IsSomeAnd before (λ these. all ≡ these ++ pieces x)))
 
 -- what the pieces show that say what was found
 pub record Shows : Type 0 where

@@ -1,9 +1,9 @@
 //! A page that is being made, as a list of pieces, and how it is written out at the end.
-ghost use Rattle.std.specs.Prelude.{◌≡◌, ◌∷◌, ◌++◌, [], IfOk, OnOk};
+ghost use Rattle.std.specs.Prelude.{◌≡◌, ◌∷◌, ◌++◌, [], IfOk, IfSome, IsOkAnd, IsSomeAnd, None, OnOk, Some, string_bytes};
 ghost use Rattle.std.specs.List.{flat_map};
 ghost use Rattle.pb_markup.specs.PieceList.{piece_of};
 ghost use Rattle.pb_markup.specs.Pieces as spec;
-ghost use Rattle.pb_markup.specs.Pieces.{Amount, Close, Headline, Line, Open, Words, rendering, write};
+ghost use Rattle.pb_markup.specs.Pieces.{Adds, AddsMade, Amount, Close, Headline, Line, Open, Words, rendering, write};
 ghost use Rattle.pb_markup.specs.Shown.{shows_of};
 ghost use Rattle.pb_markup.specs.declared.tag.Name.TheVariants.{Class};
 
@@ -15,21 +15,23 @@ use pb_words::headline_words;
 use std::alloc::{AllocError, Global};
 use std::marker::Model;
 
-/// A page, or a part of one, that is being made: a list of pieces.
+/// A page, or a part of one, that is being made: a list of pieces. It remembers whether memory ran out, and says so at
+/// the end.
 #[derive(Drop)]
 pub struct Page {
     alloc: Global,
     pieces: Vec<Piece>,
+    failed: bool,
 }
 
 impl Model for Page {
-    ghost use Rattle.std.specs.Prelude.{List, map};
+    ghost use Rattle.std.specs.Prelude.{List, Option, None, Some, if◌then◌else◌, map};
     ghost use Rattle.pb_markup.specs.PieceList.{piece_of};
     ghost use Rattle.pb_markup.specs.Pieces.{Piece};
 
-    ghost Value = { List Piece };
+    ghost Value = { Option (List Piece) };
 
-    ghost view = { λ p. map piece_of p.pieces.items };
+    ghost view = { λ p. if p.failed then None else Some (map piece_of p.pieces.items) };
 }
 
 // A piece of a page.
@@ -52,107 +54,143 @@ enum Piece {
 impl Page {
     /// No pieces yet.
     pub fn new(alloc: Global) -> Page
-        ensures { result ≡ [] }
+        ensures { result ≡ Some [] }
     {
         Page {
             alloc,
             pieces: Vec::new(alloc),
+            failed: false,
         }
     }
 
     /// Begins an element without attributes. One that can have no content, as `br`, has ended by that.
-    pub fn open(&mut self, tag: Tag) -> Result<(), AllocError>
-        ensures { OnOk result (self.new ≡ self.old ++ Open tag [] ∷ []) }
+    pub fn open(&mut self, tag: Tag)
+        ensures { Adds self.old (Open tag [] ∷ []) self.new }
     {
-        self.open_with(tag, Attributes::none(self.alloc))
+        self.open_with(tag, Attributes::none(self.alloc));
     }
 
     /// Begins an element with attributes.
-    pub fn open_with(&mut self, tag: Tag, attributes: Attributes) -> Result<(), AllocError>
-        ensures { OnOk result (self.new ≡ self.old ++ Open tag attributes ∷ []) }
+    pub fn open_with(&mut self, tag: Tag, attributes: Attributes)
+        ensures { AddsMade (λ all. Open tag all ∷ []) self.old attributes self.new }
     {
-        self.pieces.push(Piece::Open(tag, attributes.into_list()))?;
-        Ok(())
+        match attributes.into_list() {
+            Ok(all) => self.push(Piece::Open(tag, all)),
+            Err(_) => self.failed = true,
+        }
     }
 
     /// Begins an element of a class.
-    pub fn open_class(&mut self, tag: Tag, class: &str) -> Result<(), AllocError>
-        ensures { OnOk result (self.new ≡ self.old ++ Open tag ((Class, class.now) ∷ []) ∷ []) }
+    pub fn open_class(&mut self, tag: Tag, class: &str)
+        ensures { Adds self.old (Open tag ((Class, class.now) ∷ []) ∷ []) self.new }
     {
-        let attributes = Attributes::of(self.alloc, Name::Class, class)?;
-        self.open_with(tag, attributes)
+        let attributes = Attributes::of(self.alloc, Name::Class, class);
+        self.open_with(tag, attributes);
     }
 
     /// Adds text, as it is to be read.
-    pub fn text(&mut self, text: &str) -> Result<(), AllocError>
-        ensures { OnOk result (self.new ≡ self.old ++ Words text.now ∷ []) }
+    pub fn text(&mut self, text: &str)
+        ensures { Adds self.old (Words text.now ∷ []) self.new }
     {
-        let text = String::from_str(self.alloc, text)?;
-        self.pieces.push(Piece::Text(text))?;
-        Ok(())
+        let text = String::from_str(self.alloc, text);
+        self.text_made(text);
+    }
+
+    /// Adds text that was made, or for which memory ran out.
+    pub fn text_made(&mut self, text: Result<String, AllocError>)
+        ensures { IfSome self.new (λ all. IsOkAnd text (λ words. IsSomeAnd self.old (λ these. all ≡ these ++ Words (string_bytes words) ∷ []))) }
+    {
+        match text {
+            Ok(text) => self.push(Piece::Text(text)),
+            Err(_) => self.failed = true,
+        }
     }
 
     /// Adds an amount of what the page is about.
-    pub fn figure(&mut self, figure: Figure) -> Result<(), AllocError>
-        ensures { OnOk result (self.new ≡ self.old ++ Amount figure ∷ []) }
+    pub fn figure(&mut self, figure: Figure)
+        ensures { Adds self.old (Amount figure ∷ []) self.new }
     {
-        self.pieces.push(Piece::Figure(figure))?;
-        Ok(())
+        self.push(Piece::Figure(figure));
     }
 
     /// Adds the answer in a sentence.
-    pub fn headline(&mut self) -> Result<(), AllocError>
-        ensures { OnOk result (self.new ≡ self.old ++ Headline ∷ []) }
+    pub fn headline(&mut self)
+        ensures { Adds self.old (Headline ∷ []) self.new }
     {
-        self.pieces.push(Piece::Headline)?;
-        Ok(())
+        self.push(Piece::Headline);
     }
 
     /// Adds the line that the program prints.
-    pub fn line(&mut self) -> Result<(), AllocError>
-        ensures { OnOk result (self.new ≡ self.old ++ Line ∷ []) }
+    pub fn line(&mut self)
+        ensures { Adds self.old (Line ∷ []) self.new }
     {
-        self.pieces.push(Piece::Line)?;
-        Ok(())
+        self.push(Piece::Line);
     }
 
     /// Ends the element that began last and has not ended.
-    pub fn close(&mut self) -> Result<(), AllocError>
-        ensures { OnOk result (self.new ≡ self.old ++ Close ∷ []) }
+    pub fn close(&mut self)
+        ensures { Adds self.old (Close ∷ []) self.new }
     {
-        self.pieces.push(Piece::Close)?;
-        Ok(())
+        self.push(Piece::Close);
     }
 
     /// Adds an element that has text alone.
-    pub fn element(&mut self, tag: Tag, text: &str) -> Result<(), AllocError>
-        ensures { OnOk result (self.new ≡ self.old ++ Open tag [] ∷ Words text.now ∷ Close ∷ []) }
+    pub fn element(&mut self, tag: Tag, text: &str)
+        ensures { Adds self.old (Open tag [] ∷ Words text.now ∷ Close ∷ []) self.new }
     {
-        self.open(tag)?;
-        self.text(text)?;
-        self.close()
+        self.open(tag);
+        self.text(text);
+        self.close();
     }
 
     /// Adds an element of a class that has text alone.
-    pub fn element_class(&mut self, tag: Tag, class: &str, text: &str) -> Result<(), AllocError>
-        ensures { OnOk result (self.new ≡ self.old ++ Open tag ((Class, class.now) ∷ []) ∷ Words text.now ∷ Close ∷ []) }
+    pub fn element_class(&mut self, tag: Tag, class: &str, text: &str)
+        ensures { Adds self.old (Open tag ((Class, class.now) ∷ []) ∷ Words text.now ∷ Close ∷ []) self.new }
     {
-        self.open_class(tag, class)?;
-        self.text(text)?;
-        self.close()
+        self.open_class(tag, class);
+        self.text(text);
+        self.close();
     }
 
     /// Adds all pieces of another page.
-    pub fn append(&mut self, mut other: Page) -> Result<(), AllocError>
-        ensures { OnOk result (self.new ≡ self.old ++ other) }
+    pub fn append(&mut self, mut other: Page)
+        ensures { AddsMade (λ pieces. pieces) self.old other self.new }
     {
-        self.pieces.append(&mut other.pieces)
+        let added = self.pieces.append(&mut other.pieces);
+        self.failed = self.failed || other.failed || added.is_err();
+    }
+
+    /// A page for which memory ran out.
+    pub fn failed(alloc: Global) -> Page
+        ensures { result ≡ None }
+    {
+        let mut page = Page::new(alloc);
+        page.fail();
+        page
+    }
+
+    /// Remembers that memory ran out.
+    pub fn fail(&mut self)
+        ensures { self.new ≡ None }
+    {
+        self.failed = true;
+    }
+
+    // Adds a piece.
+    fn push(&mut self, piece: Piece)
+        ensures { Adds self.old (piece_of piece ∷ []) self.new }
+    {
+        let added = self.pieces.push(piece);
+        self.failed = self.failed || added.is_err();
     }
 
     /// The text of the page, which tells this. Elements that have begun and not ended end behind the last piece.
     pub fn into_text(self, told: &Told) -> Result<Vec<u8>, AllocError>
-        ensures { IfOk result (λ text. text.items ≡ rendering (shows_of told.now) self) }
+        ensures { IfOk result (λ text. IsSomeAnd self (λ pieces. text.items ≡ rendering (shows_of told.now) pieces)) }
     {
+        if self.failed {
+            return Err(AllocError {});
+        }
         let mut writing = Writing::new(self.alloc)?;
         for piece in &self.pieces {
             writing.push(piece, told)?;

@@ -1,3 +1,4 @@
+pub mod Boxes
 pub mod Pages
-pub mod Rows
+pub mod Readers
 pub mod Tells

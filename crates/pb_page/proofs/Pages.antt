@@ -1,18 +1,24 @@
 -- The answer on the inputs of a page.
-use Rattle.std.proofs.Common.{◌≡◌, ◌∙◌, Bool, List, Option, ap, refl, subst}
-use Rattle.std.specs.Prelude.{IfOk, IfSome, Ok, Err, None}
+use Rattle.std.proofs.Common.{◌≡◌, ◌∙◌, ℕ, Bool, List, Option, ap, refl, subst, sym}
+use Rattle.std.specs.Prelude.{IfOk, IfSome, IsSomeAnd, Ok, Err, None, Some}
 use Rattle.pb_election.specs.Instance.{Instance}
 use Rattle.pb_records.specs.Loading.{Delivery}
 use Rattle.pb_price.specs.declared.Mode.{Mode}
 use Rattle.pb_reply.specs.Inputs.{Stated, StatesElection}
-use Rattle.pb_reply.specs.Replies.{Answer, answer_of, price_status, refused, violation_status}
+use Rattle.pb_reply.specs.Replies.{Answer, answer_of, price_status, refused, refutation_status, violation_status}
 use Rattle.pb_reply.specs.Inside.Taking.{AuditsOutcome, IfTaken, settled}
+use Rattle.pb_reply.specs.declared.input.InputRefusal.{InputRefusal}
 use Rattle.pb_reply.specs.declared.input.Stop.{Stop}
 use Rattle.pb_reply.specs.declared.input.Stop.TheVariants as stop
 use Rattle.pb_reply.specs.declared.status.Status.{Status}
-use Rattle.pb_reply.specs.Certificates.{Certificate, OfPrices, OfViolation, StatesCertificate, certificate_status}
-use Rattle.pb_page.specs.Answers.{AnswersPage, IsPage, PageOnOutcome, Tells}
-use Rattle.pb_page.specs.Sums.{files_of, sums_of}
+use Rattle.pb_reply.specs.Certificates.{Certificate, OfPrices, OfRefutation, OfViolation, StatesCertificate, certificate_status}
+use Rattle.pb_reply.specs.Promises.{CertificatePromises}
+use Rattle.pb_reply.proofs.Promises.{certificate_promises}
+use Rattle.pb_markup.specs.Pieces.{Piece, rendering}
+use Rattle.pb_markup.specs.Shown.{shows_of}
+use Rattle.pb_page.specs.Answers.{AnswersPage, HasAnswer, IsPage, PageOnOutcome, Tells}
+use Rattle.pb_price_parts.specs.Rows.{ListsProjects}
+use Rattle.pb_page.specs.Sums.{HasInOrder, files_of, sums_of}
 use Rattle.pb_page.specs.Taken.{RendersTold, TellsCertificate}
 use Rattle.pb_page.specs.Taken.{status_of}
 use Rattle.pb_words.specs.declared.language.Language.{Language}
@@ -20,24 +26,22 @@ use Rattle.pb_figures.specs.declared.told.CertificateFigures.{CertificateFigures
 use Rattle.pb_figures.specs.declared.told.Told.{Told}
 
 -- where the election is refused, the others may state anything
-pub stopped-at-election : (m : Mode) (l : Language) (election : Delivery) (outcome : Option Delivery)
-    (certificate : Delivery) (why : Stop) → IfTaken {A = Instance} (Err why) (StatesElection election)
-    → IfSome (settled answer_of (Err why)) (AnswersPage m l election outcome certificate)
-stopped-at-election m l election outcome certificate (stop.Refused r) given = record {
+abbrev pub election-refused : (m : Mode) (l : Language) (election : Delivery) (outcome : Option Delivery)
+    (certificate : Delivery) (r : InputRefusal) → StatesElection election (Err r)
+    → AnswersPage m l election outcome certificate (answer_of (refused r))
+election-refused m l election outcome certificate r given = record {
   e = Err r;
   o = None;
   c = Err r;
   given = record { election_states = given; outcome_states = tt; certificate_states = tt };
   out = refl;
 }
-stopped-at-election m l election outcome certificate stop.Memory given = tt
 
 -- where the outcome is, the certificate may
-pub stopped-at-outcome : (m : Mode) (l : Language) (election : Delivery) (outcome : Option Delivery)
-    (certificate : Delivery) (e : Instance) (why : Stop) → StatesElection election (Ok e)
-    → IfTaken {A = List Bool} (Err why) (AuditsOutcome e outcome)
-    → IfSome (settled answer_of (Err why)) (AnswersPage m l election outcome certificate)
-stopped-at-outcome m l election outcome certificate e (stop.Refused r) given taken = record {
+abbrev pub outcome-refused : (m : Mode) (l : Language) (election : Delivery) (outcome : Option Delivery)
+    (certificate : Delivery) (e : Instance) (r : InputRefusal) → StatesElection election (Ok e)
+    → AuditsOutcome e outcome (Err r) → AnswersPage m l election outcome certificate (answer_of (refused r))
+outcome-refused m l election outcome certificate e r given taken = record {
   e = Ok e;
   o = taken.file;
   c = Err r;
@@ -50,14 +54,13 @@ stopped-at-outcome m l election outcome certificate e (stop.Refused r) given tak
   out =
       subst (λ (o : Stated (List Bool)). PageOnOutcome m l (files_of election outcome certificate) e o (Err r) (answer_of (refused r))) taken.is refl;
 }
-stopped-at-outcome m l election outcome certificate e stop.Memory given taken = tt
 
 -- the certificate is refused
-pub stopped-at-certificate : (m : Mode) (l : Language) (election : Delivery) (outcome : Option Delivery)
-    (certificate : Delivery) (e : Instance) (w : List Bool) (why : Stop) → StatesElection election (Ok e)
-    → AuditsOutcome e outcome (Ok w) → IfTaken {A = Told} (Err why) (TellsCertificate m e w certificate)
-    → IfSome (settled answer_of (Err why)) (AnswersPage m l election outcome certificate)
-stopped-at-certificate m l election outcome certificate e w (stop.Refused r) given taken states = record {
+abbrev pub certificate-refused : (m : Mode) (l : Language) (election : Delivery) (outcome : Option Delivery)
+    (certificate : Delivery) (e : Instance) (w : List Bool) (r : InputRefusal) → StatesElection election (Ok e)
+    → AuditsOutcome e outcome (Ok w) → StatesCertificate e certificate (Err r)
+    → AnswersPage m l election outcome certificate (answer_of (refused r))
+certificate-refused m l election outcome certificate e w r given taken states = record {
   e = Ok e;
   o = taken.file;
   c = Err r;
@@ -70,18 +73,43 @@ stopped-at-certificate m l election outcome certificate e w (stop.Refused r) giv
   out =
       subst (λ (o : Stated (List Bool)). PageOnOutcome m l (files_of election outcome certificate) e o (Err r) (answer_of (refused r))) taken.is refl;
 }
+
+-- The same where the work stopped.
+pub stopped-at-election : (m : Mode) (l : Language) (election : Delivery) (outcome : Option Delivery)
+    (certificate : Delivery) (why : Stop) → IfTaken {A = Instance} (Err why) (StatesElection election)
+    → IfSome (settled answer_of (Err why)) (AnswersPage m l election outcome certificate)
+stopped-at-election m l election outcome certificate (stop.Refused r) given =
+    election-refused m l election outcome certificate r given
+stopped-at-election m l election outcome certificate stop.Memory given = tt
+
+pub stopped-at-outcome : (m : Mode) (l : Language) (election : Delivery) (outcome : Option Delivery)
+    (certificate : Delivery) (e : Instance) (why : Stop) → StatesElection election (Ok e)
+    → IfTaken {A = List Bool} (Err why) (AuditsOutcome e outcome)
+    → IfSome (settled answer_of (Err why)) (AnswersPage m l election outcome certificate)
+stopped-at-outcome m l election outcome certificate e (stop.Refused r) given taken =
+    outcome-refused m l election outcome certificate e r given taken
+stopped-at-outcome m l election outcome certificate e stop.Memory given taken = tt
+
+pub stopped-at-certificate : (m : Mode) (l : Language) (election : Delivery) (outcome : Option Delivery)
+    (certificate : Delivery) (e : Instance) (w : List Bool) (why : Stop) → StatesElection election (Ok e)
+    → AuditsOutcome e outcome (Ok w) → IfTaken {A = Told} (Err why) (TellsCertificate m e w certificate)
+    → IfSome (settled answer_of (Err why)) (AnswersPage m l election outcome certificate)
+stopped-at-certificate m l election outcome certificate e w (stop.Refused r) given taken states =
+    certificate-refused m l election outcome certificate e w r given taken states
 stopped-at-certificate m l election outcome certificate e w stop.Memory given taken states = tt
 
 -- the status of what is told is that of `explain`
-told-status : (m : Mode) (e : Instance) (w : List Bool) (c : Certificate) (t : Told) → Tells m e w c t
+pub told-status : (m : Mode) (e : Instance) (w : List Bool) (c : Certificate) (t : Told) → Tells m e w c t
     → status_of t.mode t.found ≡ certificate_status m e w c
 told-status m e w (OfPrices p) t tells =
     ap (λ (f : CertificateFigures). status_of t.mode f) tells.found ∙ ap price_status tells.verdict
 told-status m e w (OfViolation v) t tells =
     ap (λ (f : CertificateFigures). status_of t.mode f) tells.1 ∙ ap violation_status tells.2.verdict
+told-status m e w (OfRefutation r) t tells =
+    ap (λ (f : CertificateFigures). status_of t.mode f) tells.1 ∙ ap refutation_status tells.2.verdict
 
 -- all are accepted
-pub page-answered : (m : Mode) (l : Language) (election : Delivery) (outcome : Option Delivery)
+abbrev pub page-answered : (m : Mode) (l : Language) (election : Delivery) (outcome : Option Delivery)
     (certificate : Delivery) (e : Instance) (w : List Bool) (t : Told) (a : Answer Status)
     → StatesElection election (Ok e) → AuditsOutcome e outcome (Ok w)
     → TellsCertificate m e w certificate (Ok t) → t.style.language ≡ l
@@ -101,6 +129,9 @@ page-answered m l election outcome certificate e w t a given taken tells languag
   out = subst (λ (o : Stated (List Bool)). PageOnOutcome m l (files_of election outcome certificate) e o (Ok tells.0) a) taken.is page;
 }
   where
+    ends : a.status ≡ certificate_status m e w tells.0
+    ends = renders.status ∙ told-status m e w tells.0 t tells.2
+
     page : IsPage m l (files_of election outcome certificate) e w tells.0 a
     page = record {
       told = t;
@@ -111,5 +142,17 @@ page-answered m l election outcome certificate e w t a given taken tells languag
       sums = renders.has_sums;
       projects = renders.projects;
       text = renders.text;
-      status = renders.status ∙ told-status m e w tells.0 t tells.2;
+      status = ends;
+      promises =
+          subst (λ (s : Status). CertificatePromises m s e w tells.0) (sym ends)
+          (certificate_promises m e w certificate tells.0 tells.1);
     }
+
+-- the text of a page that was made is one that tells this
+pub page-renders : (t : Told) (sums : List (List ℕ)) (page : Option (List Piece)) (a : Answer Status)
+    → IfSome page HasAnswer → IfSome page (HasInOrder sums) → IfSome page (ListsProjects t.mode t.found)
+    → IsSomeAnd page (λ pieces. a.text ≡ rendering (shows_of t) pieces) → a.status ≡ status_of t.mode t.found
+    → RendersTold t sums a
+page-renders t sums None a answers has projects text ends = absurd text
+page-renders t sums (Some pieces) a answers has projects text ends =
+    record { pieces = pieces; answers = answers; has_sums = has; projects = projects; text = text; status = ends }

@@ -1,5 +1,5 @@
 -- What is told of a certificate.
-use Rattle.std.proofs.Common.{◌≡◌, ◌∙◌, ◌≤◌, ◌+◌, ◌++◌, ℕ, Bool, false, List, [], ◌∷◌, ap, arith, subst, sym, map, suc}
+use Rattle.std.proofs.Common.{◌≡◌, ◌∙◌, ◌≤◌, ◌+◌, ◌++◌, ℕ, Bool, List, [], ◌∷◌, ap, arith, refl, subst, sym, map, suc}
 use Rattle.std.specs.Prelude.{Ok, string_bytes}
 use Rattle.std.specs.List.{range_with_len}
 use Rattle.std.proofs.lemmas.List.{map-append}
@@ -7,6 +7,8 @@ use Rattle.pb_records.specs.Loading.{Delivery}
 use Rattle.pb_records.proofs.Lists.{range-push}
 use Rattle.pb_election.specs.Instance.{Instance, cost_of}
 use Rattle.pb_certificate.specs.Prices.{Prices}
+use Rattle.pb_certificate.specs.declared.kind.Kind.{Kind}
+use Rattle.pb_certificate.specs.declared.kind.Kind.TheVariants as kind
 use Rattle.pb_price.specs.Findings.{findings}
 use Rattle.pb_price.specs.First.{First, verdict_of}
 use Rattle.pb_price.specs.Margins.{AreMargins}
@@ -17,9 +19,9 @@ use Rattle.pb_price.proofs.Told.{tell-first}
 use Rattle.pb_reply.specs.Inputs.{StatesPrices}
 use Rattle.pb_reply.specs.Lines.{price_line}
 use Rattle.pb_reply.specs.declared.input.InputName.TheVariants as name
-use Rattle.pb_reply.specs.Certificates.{OfPrices, is_violation}
+use Rattle.pb_reply.specs.Certificates.{OfPrices, StatesKind, kind_in}
 use Rattle.pb_reply.proofs.Culprits.{denominator-low}
-use Rattle.pb_page.specs.Shown.{ShowsLine}
+use Rattle.pb_case.specs.Shown.{ShowsLine}
 use Rattle.pb_page.specs.Taken.{TellsCertificate}
 use Rattle.pb_figures.specs.declared.told.CertificateFigures.TheVariants as found
 use Rattle.pb_figures.specs.declared.told.PriceFigures.{PriceFigures}
@@ -48,13 +50,13 @@ told-verdict m e w p f low is =
 pub tells-prices : (m : Mode) (e : Instance) (w : List Bool) (d : Delivery) (p : Prices) (t : Told) (f : PriceFigures)
     → StatesPrices name.Certificate e d (Ok p) → t.found ≡ found.Prices f → t.mode ≡ m
     → ShowsLine (price_line m.stable e (verdict_of (first_told m f.findings))) (string_bytes t.line)
-    → f.findings ≡ findings e w p → AreMargins e w p f.margins → is_violation d ≡ false
+    → f.findings ≡ findings e w p → AreMargins e w p f.margins → kind_in d ≡ kind.Prices
     → TellsCertificate m e w d (Ok t)
 tells-prices m e w d p t f states is mode line finds margins kind =
     let low = denominator-low name.Certificate e d p states in
     let same = told-verdict m e w p f.findings low finds in (
       OfPrices p,
-      (kind, states),
+      subst (λ (k : Kind). StatesKind k e d (Ok (OfPrices p))) (sym kind) (Ok p, states, refl),
       record {
         figures = f;
         found = is;

@@ -3,8 +3,11 @@ use Rattle.std.specs.Prelude.{◌≡◌, ℕ, Bool, List, [], ◌∷◌, ◌++�
 use Rattle.pb_records.specs.Loading.{Delivery}
 use Rattle.pb_election.specs.Instance.{Instance, all_projects, cost_of, voters}
 use Rattle.pb_certificate.specs.Prices.{Prices}
+use Rattle.pb_certificate.specs.Refutations.{Weights}
 use Rattle.pb_certificate.specs.declared.violations.measure.Measure.{Measure}
+use Rattle.pb_cohesion.specs.FirstU.{FirstU, refutation_verdict_of}
 use Rattle.pb_cohesion.specs.FirstV.{FirstV, violation_verdict_of}
+use Rattle.pb_cohesion.specs.RefutationFindings.{refutation_findings}
 use Rattle.pb_cohesion.specs.Satisfactions.{worth_by}
 use Rattle.pb_cohesion.specs.ViolationFindings.{violation_findings}
 use Rattle.pb_price.specs.Findings.{findings}
@@ -13,17 +16,19 @@ use Rattle.pb_price.specs.Margins.{AreMargins}
 use Rattle.pb_price.specs.Told.{first_told}
 use Rattle.pb_price.specs.declared.Mode.{Mode}
 use Rattle.pb_reply.specs.Inputs.{FilesState, Stated, audited}
-use Rattle.pb_reply.specs.Lines.{price_line, violation_line}
+use Rattle.pb_reply.specs.Lines.{price_line, refutation_line, violation_line}
 use Rattle.pb_reply.specs.Replies.{Answer, answer_of, refused}
 use Rattle.pb_reply.specs.declared.status.Status.{Status}
-use Rattle.pb_reply.specs.Certificates.{Certificate, OfPrices, OfViolation, StatesCertificate, certificate_status}
+use Rattle.pb_reply.specs.Promises.{CertificatePromises}
+use Rattle.pb_reply.specs.Certificates.{Certificate, OfPrices, OfRefutation, OfViolation, StatesCertificate, certificate_status}
 use Rattle.pb_markup.specs.Pieces.{Close, Headline, Line, Open, Piece, rendering}
-use Rattle.pb_page.specs.Rows.{ListsProjects}
-use Rattle.pb_page.specs.Shown.{ShowsLine}
+use Rattle.pb_price_parts.specs.Rows.{ListsProjects}
+use Rattle.pb_case.specs.Shown.{ShowsLine}
 use Rattle.pb_page.specs.Sums.{HasInOrder, files_of, sums_of}
 use Rattle.pb_markup.specs.Shown.{shows_of}
 use Rattle.pb_words.specs.declared.language.Language.{Language}
 use Rattle.pb_markup.specs.declared.tag.Tag.TheVariants as tag
+use Rattle.pb_figures.specs.declared.refutations.RefutationFigures.{RefutationFigures}
 use Rattle.pb_figures.specs.declared.told.CertificateFigures.TheVariants as found
 use Rattle.pb_figures.specs.declared.told.PriceFigures.{PriceFigures}
 use Rattle.pb_figures.specs.declared.told.Told.{Told}
@@ -55,9 +60,25 @@ abbrev pub TellsViolation : Instance → List Bool → Measure × List ℕ × Li
 TellsViolation e w v t =
     (figures : ViolationFigures) × (t.found ≡ found.Violation figures) × TellsGroup e w v (string_bytes t.line) figures
 
+-- what it tells of weights: that line, and the figures
+pub record TellsWeights (e : Instance) (w : List Bool) (r : Weights) (l : List ℕ) (figures : RefutationFigures)
+    : Type 0 where
+  pub line : ShowsLine (refutation_line e (refutation_verdict_of r.cover (FirstU e w r))) l
+  pub verdict : figures.verdict ≡ refutation_verdict_of r.cover (FirstU e w r)
+  pub findings : figures.findings ≡ refutation_findings e w r
+  pub weights : figures.refutation ≡ r
+  pub costs : figures.costs.items ≡ map (cost_of e) (all_projects e)
+  pub limit : figures.limit ≡ e.limit
+
+abbrev pub TellsRefutation : Instance → List Bool → Weights → Told → Type 0
+TellsRefutation e w r t =
+    (figures : RefutationFigures) × (t.found ≡ found.Refutation figures)
+    × TellsWeights e w r (string_bytes t.line) figures
+
 abbrev pub Tells : Mode → Instance → List Bool → Certificate → Told → Type 0
 Tells m e w (OfPrices p) t = TellsPrices m e w p t
 Tells m e w (OfViolation v) t = TellsViolation e w v t
+Tells m e w (OfRefutation r) t = TellsRefutation e w r t
 
 -- the answer in a sentence, and the line that the program prints, as the page has them
 abbrev pub headline_box : List Piece
@@ -73,7 +94,7 @@ pub record HasAnswer (pieces : List Piece) : Type 0 where
   pub is : pieces ≡ front ++ (headline_box ++ (middle ++ (line_box ++ back)))
 
 -- The page about a certificate, in a language: what the pieces show is what is told, the sums are those of these files,
--- the projects stand in their orders, and the status is that of the audit.
+-- the projects stand in their orders, and the status is that of the audit, with what this promises of the certificate.
 pub record IsPage (m : Mode) (language : Language) (files : List Delivery) (e : Instance) (w : List Bool)
     (c : Certificate) (a : Answer Status) : Type 0 where
   pub told : Told
@@ -85,6 +106,7 @@ pub record IsPage (m : Mode) (language : Language) (files : List Delivery) (e : 
   pub projects : ListsProjects told.mode told.found pieces
   pub text : a.text ≡ rendering (shows_of told) pieces
   pub status : a.status ≡ certificate_status m e w c
+  pub promises : CertificatePromises m a.status e w c
 
 -- the page, or the line of the first input that is refused
 abbrev pub PageOnCertificate : Mode → Language → List Delivery → Instance → List Bool → Stated Certificate
@@ -102,7 +124,7 @@ abbrev pub PageOf : Mode → Language → List Delivery → Stated Instance → 
 PageOf m language files (Err r) o c a = a ≡ answer_of (refused r)
 PageOf m language files (Ok e) o c a = PageOnOutcome m language files e (audited e o) c a
 
--- The answer on an election, an outcome file where one is given, and a certificate of either kind.
+-- The answer on an election, an outcome file where one is given, and a certificate of any kind.
 pub record AnswersPage (m : Mode) (language : Language) (election : Delivery) (outcome : Option Delivery)
     (certificate : Delivery) (a : Answer Status) : Type 0 where
   pub e : Stated Instance

@@ -1,5 +1,4 @@
 pub mod Answers
-pub mod Rows
-pub mod Shown
+pub mod Readers
 pub mod Sums
 pub mod Taken

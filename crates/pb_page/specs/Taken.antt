@@ -7,23 +7,24 @@ use Rattle.pb_certificate.specs.Prices.{Prices}
 use Rattle.pb_price.specs.Findings.{findings}
 use Rattle.pb_price.specs.Margins.{AreMargins}
 use Rattle.pb_price.specs.declared.Mode.{Mode}
-use Rattle.pb_reply.specs.Inputs.{Stated, StatesPrices}
+use Rattle.pb_reply.specs.Inputs.{Stated, StatesElection, StatesPrices}
 use Rattle.pb_reply.specs.Inside.Loaded.{lent}
+use Rattle.pb_reply.specs.Readings.{Delivers, Reading}
 use Rattle.pb_reply.specs.Replies.{Answer}
 use Rattle.pb_reply.specs.declared.status.Status.{Status}
 use Rattle.pb_reply.specs.declared.input.InputName.TheVariants as name
 use Rattle.pb_reply.specs.Certificates.{Certificate, StatesCertificate}
 use Rattle.pb_page.specs.Answers.{HasAnswer, Tells}
 use Rattle.pb_markup.specs.Pieces.{Piece, rendering}
-use Rattle.pb_page.specs.Rows.{ListsProjects}
-use Rattle.pb_page.specs.Sums.{HasInOrder}
+use Rattle.pb_price_parts.specs.Rows.{ListsProjects}
+use Rattle.pb_page.specs.Sums.{HasInOrder, bytes_of, sum_text}
 use Rattle.pb_markup.specs.Shown.{shows_of}
-use Rattle.pb_page.specs.declared.case.Files.{Files}
-use Rattle.pb_page.specs.declared.case.InputFile.{InputFile}
+use Rattle.pb_case.specs.declared.case.Files.{Files}
+use Rattle.pb_case.specs.declared.case.InputFile.{InputFile}
 use Rattle.pb_page.specs.declared.entry.PageFile.{PageFile}
 use Rattle.pb_price.specs.First.{verdict_of}
 use Rattle.pb_price.specs.Told.{first_told}
-use Rattle.pb_reply.specs.Replies.{price_status, violation_status}
+use Rattle.pb_reply.specs.Replies.{price_status, refutation_status, violation_status}
 use Rattle.pb_figures.specs.declared.told.CertificateFigures.{CertificateFigures}
 use Rattle.pb_figures.specs.declared.told.CertificateFigures.TheVariants as found
 use Rattle.pb_figures.specs.declared.told.PriceFigures.{PriceFigures}
@@ -36,7 +37,7 @@ FindsFigures e w d (Ok f) =
     × AreMargins e w p f.margins
 FindsFigures e w d (Err r) = StatesPrices name.Certificate e d (Err r)
 
--- what is told of a certificate of either kind
+-- what is told of a certificate of any kind
 abbrev pub TellsCertificate : Mode → Instance → List Bool → Delivery → Stated Told → Type 0
 TellsCertificate m e w d (Ok t) = (c : Certificate) × StatesCertificate e d (Ok c) × Tells m e w c t
 TellsCertificate m e w d (Err r) = StatesCertificate e d (Err r)
@@ -53,10 +54,18 @@ abbrev pub sums_shown : Files → List (List ℕ)
 sums_shown files =
     sum_of files.election ∷ (map sum_of (option_to_list files.outcome) ++ sum_of files.certificate ∷ [])
 
+-- a reader delivered an election, and this is the sum of its file
+pub record GivesElection (r : Reading) (e : Instance) (sum : List ℕ) : Type 0 where
+  pub delivery : Delivery
+  pub delivered : Delivers r delivery
+  pub states : StatesElection delivery (Ok e)
+  pub is_sum : sum ≡ sum_text (bytes_of delivery)
+
 -- how the answer ends
 abbrev pub status_of : Mode → CertificateFigures → Status
 status_of m (found.Prices p) = price_status (verdict_of (first_told m p.findings))
 status_of m (found.Violation v) = violation_status v.verdict
+status_of m (found.Refutation r) = refutation_status r.verdict
 
 -- the page shows what is told, the projects in their orders, and these sums
 pub record RendersTold (t : Told) (sums : List (List ℕ)) (a : Answer Status) : Type 0 where

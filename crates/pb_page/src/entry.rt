@@ -8,18 +8,16 @@ ghost use Rattle.pb_page.specs.Sums.{bytes_of, files_of, sum_text, sums_of};
 ghost use Rattle.pb_page.specs.Taken as spec;
 ghost use Rattle.pb_page.specs.Taken.{RendersTold, file_of, sums_shown};
 
-use crate::case::{Case, Files, InputFile};
 use crate::digest::sum_of;
-use crate::labels::{Labels, labels_of};
-use crate::naming::{currency_of, language_of};
 use crate::parts::whole_page;
-use crate::saying::Words;
-use crate::shown::visible;
 use crate::telling::{status_of, told_of};
+use pb_case::{Case, Files, InputFile, Labels, Words, currency_of, labels_of, language_of};
 use pb_election::{Election, Outcome};
 use pb_figures::{Style, Told, decimals_of};
+use pb_parts::nearest_of;
 use pb_price::Mode;
 use pb_reply::{Answer, File, Status, Stop, election_of, outcome_of, settled};
+use pb_visible::visible;
 use pb_words::Language;
 use std::alloc::{AllocError, Global};
 
@@ -133,9 +131,10 @@ pub(crate) fn page_with(
         currency: currency_of(alloc, &labels)?,
         names_in: language_of(&labels),
         labels,
+        nearest: nearest_of(alloc, election, outcome, &told)?,
         told,
     };
-    let page = whole_page(alloc, &case)?;
+    let page = whole_page(alloc, &case);
     Ok(Answer {
         text: page.into_text(&case.told)?,
         status: status_of(&case.told),

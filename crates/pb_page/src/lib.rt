@@ -1,16 +1,10 @@
 //! The page about a certificate: one HTML file for people, made in memory of the files that were audited.
 #![tactic(auto)]
 
-mod case;
-mod condition;
 mod digest;
 mod entry;
-mod labels;
-mod naming;
 mod parts;
 mod reading;
-mod saying;
-mod shown;
 mod style;
 mod telling;
 
@@ -18,6 +12,6 @@ pub use digest::sum_of;
 pub use entry::{PageFile, PageFiles, page_answer};
 pub use pb_figures::{Compared, Figure, closest_first, wrongly_paid_first};
 pub use pb_markup::{Attributes, Name, Page, Tag, push_escaped};
+pub use pb_visible::visible;
 pub use pb_words::{Headline, Language};
 pub use reading::{PageNames, run_page};
-pub use shown::visible;

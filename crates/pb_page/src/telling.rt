@@ -1,27 +1,31 @@
 //! What is told of a certificate.
-ghost use Rattle.std.specs.Prelude.{◌≡◌, IfOk, false, map, string_bytes, true};
+ghost use Rattle.std.specs.Prelude.{◌≡◌, IfOk, map, string_bytes};
 ghost use Rattle.pb_election.specs.Instance.{IsSet, all_projects, cost_of, projects};
 ghost use Rattle.pb_election.specs.Outcome.{OutcomeFits};
 ghost use Rattle.pb_certificate.specs.Violations.{ClaimFits};
 ghost use Rattle.pb_reply.specs.Inside.Loaded.{lent};
 ghost use Rattle.pb_reply.specs.Inside.Taking.{IfTaken};
-ghost use Rattle.pb_reply.specs.Certificates.{is_violation};
-ghost use Rattle.pb_page.specs.Answers.{TellsGroup};
+ghost use Rattle.pb_reply.specs.Certificates.{kind_in};
+ghost use Rattle.pb_certificate.specs.Refutations.{WeightsFit};
+ghost use Rattle.pb_page.specs.Answers.{TellsGroup, TellsWeights};
 ghost use Rattle.pb_page.specs.Taken.{FindsFigures, TellsCertificate, status_of};
 
-use crate::naming::shown_line;
-use pb_certificate::{Violation, is_violation};
-use pb_cohesion::violation_findings;
+use pb_case::shown_line;
+use pb_certificate::{Kind, Refutation, Violation};
+use pb_cohesion::{refutation_findings, violation_findings};
 use pb_election::{Election, Outcome};
-use pb_figures::{CertificateFigures, PriceFigures, Style, Told, ViolationFigures, extremes_of};
+use pb_figures::{
+    CertificateFigures, PriceFigures, RefutationFigures, Style, Told, ViolationFigures, extremes_of,
+};
 use pb_price::{Mode, findings_and_margins_of};
 use pb_reply::{
-    File, InputFault, InputName, Status, Stop, bytes_of, price_line, price_status, stop_at,
-    violation_line, violation_of, violation_status,
+    File, InputFault, InputName, Status, Stop, bytes_of, kind_in, price_line, price_status,
+    refutation_line, refutation_of, refutation_status, stop_at, violation_line, violation_of,
+    violation_status,
 };
 use std::alloc::{AllocError, Global};
 
-/// What is told of a certificate of either kind.
+/// What is told of a certificate of any kind.
 pub(crate) fn told_of(
     alloc: Global,
     election: &Election,
@@ -34,20 +38,10 @@ pub(crate) fn told_of(
     ensures told { IfTaken result (TellsCertificate mode election.now (outcome.now).marks (lent certificate.entry)) }
     ensures style { IfOk result (λ t. t.style ≡ style) }
 {
-    if claims_violation(alloc, certificate)? {
-        violation_told(alloc, election, outcome, certificate, mode, style)
-    } else {
-        prices_told(alloc, election, outcome, certificate, mode, style)
-    }
-}
-
-// Whether a file is taken as a violation certificate. One that wasn't read whole is not.
-fn claims_violation(alloc: Global, certificate: File<'_>) -> Result<bool, AllocError>
-    ensures { IfOk result (λ claims. claims ≡ is_violation (lent certificate.entry)) }
-{
-    match certificate {
-        File::Bytes(bytes) => is_violation(alloc, bytes),
-        File::Unread | File::TooLong => Ok(false),
+    match kind_in(alloc, certificate)? {
+        Kind::Prices => prices_told(alloc, election, outcome, certificate, mode, style),
+        Kind::Violation => violation_told(alloc, election, outcome, certificate, mode, style),
+        Kind::Refutation => refutation_told(alloc, election, outcome, certificate, mode, style),
     }
 }
 
@@ -61,7 +55,7 @@ fn prices_told(
     style: Style,
 ) -> Result<Told, Stop>
     requires { OutcomeFits outcome.now election.now }
-    ensures told { is_violation (lent certificate.entry) ≡ false → IfTaken result (TellsCertificate mode election.now (outcome.now).marks (lent certificate.entry)) }
+    ensures told { kind_in (lent certificate.entry) ≡ Kind.Prices → IfTaken result (TellsCertificate mode election.now (outcome.now).marks (lent certificate.entry)) }
     ensures style { IfOk result (λ t. t.style ≡ style) }
 {
     let figures = price_figures(alloc, election, outcome, certificate)?;
@@ -108,7 +102,7 @@ fn violation_told(
     style: Style,
 ) -> Result<Told, Stop>
     requires { OutcomeFits outcome.now election.now }
-    ensures told { is_violation (lent certificate.entry) ≡ true → IfTaken result (TellsCertificate mode election.now (outcome.now).marks (lent certificate.entry)) }
+    ensures told { kind_in (lent certificate.entry) ≡ Kind.Violation → IfTaken result (TellsCertificate mode election.now (outcome.now).marks (lent certificate.entry)) }
     ensures style { IfOk result (λ t. t.style ≡ style) }
 {
     let violation = violation_of(alloc, InputName::Certificate, certificate, election)?;
@@ -149,6 +143,54 @@ fn group_told(
     Ok((line, figures))
 }
 
+// What is told of weights.
+fn refutation_told(
+    alloc: Global,
+    election: &Election,
+    outcome: &Outcome,
+    certificate: File<'_>,
+    mode: Mode,
+    style: Style,
+) -> Result<Told, Stop>
+    requires { OutcomeFits outcome.now election.now }
+    ensures told { kind_in (lent certificate.entry) ≡ Kind.Refutation → IfTaken result (TellsCertificate mode election.now (outcome.now).marks (lent certificate.entry)) }
+    ensures style { IfOk result (λ t. t.style ≡ style) }
+{
+    let refutation = refutation_of(alloc, certificate, election)?;
+    let (line, figures) = weights_told(alloc, election, outcome, refutation)?;
+    Ok(Told {
+        style,
+        mode,
+        line,
+        found: CertificateFigures::Refutation(figures),
+    })
+}
+
+// The line and the figures of weights.
+fn weights_told(
+    alloc: Global,
+    election: &Election,
+    outcome: &Outcome,
+    refutation: Refutation,
+) -> Result<(String, RefutationFigures), AllocError>
+    requires outcome { OutcomeFits outcome.now election.now }
+    requires refutation { WeightsFit refutation election.now }
+    ensures { IfOk result (λ told. TellsWeights election.now (outcome.now).marks refutation (string_bytes told.0) told.1) }
+{
+    let findings = refutation_findings(election, outcome, &refutation);
+    let verdict = findings.verdict();
+    let line = shown_line(alloc, &refutation_line(alloc, election, verdict)?)?;
+    let figures = RefutationFigures {
+        verdict,
+        refutation,
+        findings,
+        costs: costs_of(alloc, election)?,
+        limit: election.limit().millionths(),
+        funded: outcome.total(),
+    };
+    Ok((line, figures))
+}
+
 // What each project costs, in millionths.
 fn costs_of(alloc: Global, election: &Election) -> Result<Vec<u64>, AllocError>
     ensures { IfOk result (λ costs. costs.items ≡ map (cost_of election.now) (all_projects election.now)) }
@@ -167,5 +209,6 @@ pub(crate) fn status_of(told: &Told) -> Status
     match &told.found {
         CertificateFigures::Prices(figures) => price_status(figures.findings.verdict(told.mode)),
         CertificateFigures::Violation(figures) => violation_status(figures.verdict),
+        CertificateFigures::Refutation(figures) => refutation_status(figures.verdict),
     }
 }

@@ -1,12 +1,34 @@
-//! What stands on pages.
-mod amounts;
+//! Pages about certificates: each call once, and what no file shows from outside. What stands on a page is tried there.
 mod answers;
-mod commands;
-mod facts;
-mod lines;
-mod making;
 mod names;
-mod orders;
-mod places;
 mod ranking;
 mod sums;
+
+use pb_page::{Language, PageFile, PageFiles, page_answer};
+use pb_reply::{File, Status};
+use pb_samples::modes::PLAIN;
+use std::alloc::Global;
+use std::test::Fail;
+
+/// The page on an election and on a certificate in a file of this name, and how it ends.
+fn page<'a>(
+    alloc: Global,
+    election: &'a str,
+    name: &'a [u8],
+    certificate: &'a str,
+    language: Language,
+) -> Result<(String, Status), Fail> {
+    let files = PageFiles {
+        election: PageFile {
+            name: b"elections/t.pb",
+            file: File::in_memory(election.as_bytes()),
+        },
+        outcome: None,
+        certificate: PageFile {
+            name,
+            file: File::in_memory(certificate.as_bytes()),
+        },
+    };
+    let answer = page_answer(alloc, files, PLAIN, language)?;
+    Ok((String::from_utf8_lossy(alloc, &answer.text)?, answer.status))
+}

@@ -1,14 +1,16 @@
 -- What a verdict says of every group of supporters.
-use Rattle.std.proofs.Common.{◌≡◌, ◌≤◌, ℕ, Bool, true, false, List, refl, sym, ◌∙◌, ap, arith}
-use Rattle.std.specs.Prelude.{Ok, Option, Result, Some, None}
+use Rattle.std.proofs.Common.{◌≡◌, ◌≤◌, ℕ, Bool, true, false, List, refl, sym, ◌∙◌, ap, inl, inr, arith}
+use Rattle.std.specs.Prelude.{◌⊎◌, IsFalse, IsTrue, Ok, Option, Result, Some, None}
 use Rattle.std.proofs.lemmas.Bool.{cases_Bool}
 use Rattle.pb_election.specs.Instance.{Instance}
 use Rattle.pb_certificate.specs.Prices.{Prices}
-use Rattle.pb_cohesion.specs.Conditions.{Cover}
+use Rattle.pb_cohesion.specs.Conditions.{C5, Cover, S5}
 use Rattle.pb_cohesion.specs.EveryGroup.{BudgetsAreWithinReach, BudgetsReachTheLimit, GroupsGetTheirShare, NoGroupHasMoreLeft, NoGroupIsPassedOver, NoViolationByCounting, NothingBlocks, SharesAreWithinReach, SupportersBlock, SupportersHaveMoreLeft}
+use Rattle.pb_cohesion.specs.Refutations.{NothingRefutes}
 use Rattle.pb_cohesion.proofs.Justified.{stable_has_no_violation, stable_is_fair}
 use Rattle.pb_cohesion.proofs.Plain as plain
 use Rattle.pb_cohesion.proofs.Reaches.{within_reach}
+use Rattle.pb_cohesion.proofs.Refuting.{nothing_refutes}
 use Rattle.pb_cohesion.proofs.Shares.{demands_reach, no_demand_passed_over, none_passed_over, shares_reach}
 use Rattle.pb_cohesion.proofs.Stable as stable
 use Rattle.pb_price.proofs.FirstFalse.{first-false, is-less, supports-iff}
@@ -58,6 +60,25 @@ pub passes-nobody-over : (m : Mode) (e : Instance) (w : List Bool) (p : Prices) 
     → NoGroupIsPassedOver e w
 passes-nobody-over m e w p none cover s c passed = grind (arith, supports-iff, cases_Bool, none_passed_over)
 
+-- one of the two conditions of the supporters holds
+either-form : (stable : Bool) (e : Instance) (w : List Bool) (p : Prices) → (IsFalse stable → C5 e w p)
+    → (IsTrue stable → S5 e w p) → C5 e w p ⊎ S5 e w p
+either-form false e w p in_plain in_stable = inl (in_plain refl)
+either-form true e w p in_plain in_stable = inr (in_stable refl)
+
+pub unrefuted : (m : Mode) (e : Instance) (w : List Bool) (p : Prices) → 1 ≤ p.denominator → First m e w p ≡ None
+    → NothingRefutes m.cover e w
+unrefuted m e w p low none =
+    let yes' : Supports m e w p = (supports-iff m e w p).0 none in
+    nothing_refutes e w p m.cover (
+      low,
+      yes'.approved,
+      yes'.within_budget,
+      yes'.paid_for,
+      yes'.none_wasted,
+      either-form m.stable e w p yes'.plain yes'.stable_form,
+    ) yes'.covers
+
 pub fair : (m : Mode) (e : Instance) (w : List Bool) (p : Prices) → First m e w p ≡ None → m.stable ≡ true
     → GroupsGetTheirShare e w p
 fair m e w p none is_stable s t group projects approve rich =
@@ -96,6 +117,7 @@ on-prices m e w p v low is = record {
   pjr_plus_yes = λ h cover. passes-nobody-over m e w p (none h) cover;
   demand_yes = λ h reached. demands_reach e w (shares m e w p low (none h) reached);
   pjr_yes = λ h cover. no_demand_passed_over e w (passes-nobody-over m e w p (none h) cover);
+  unrefuted_yes = λ h. unrefuted m e w p low (none h);
   fair_yes = λ h stable'. fair m e w p (none h) stable';
   covered_yes = λ h stable' cover'. no-violation m e w p (none h) stable' cover';
 }

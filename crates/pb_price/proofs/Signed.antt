@@ -1,15 +1,13 @@
 -- Sums of integers over the numbers of a range that pass a test, and how many pass.
-use Rattle.std.proofs.lemmas.List.{append-nil}
 use mir.Syntax.{w128}
 use mir.Val.{SFits, of_z, to_z}
-use Rattle.std.proofs.Common.{◌≡◌, ℕ, zero, suc, ◌+◌, ◌*◌, ◌^◌, ◌<◌, ◌≤◌, Bool, true, false, cond, List, [], ◌∷◌, ◌++◌, length, refl, ◌∙◌, ap, arith, length-append}
+use Rattle.std.proofs.Common.{◌≡◌, ℕ, zero, suc, ◌+◌, ◌*◌, ◌^◌, ◌<◌, ◌≤◌, Bool, cond, List, [], ◌∷◌, ◌++◌, length, refl, ◌∙◌, ap, arith, length-append}
 use Rattle.std.specs.Prelude.{ℤ, pos, neg_ℤ, ◌+ℤ◌, ◌≤ℤ◌, filter}
 use Rattle.std.specs.List.{range_with_len}
 use Rattle.std.proofs.lemmas.Int.{ints, to_z-of_z}
-use Rattle.std.proofs.lemmas.List.Elements.{filter-append}
 use Rattle.pb_cohesion.specs.Conditions.{sum_ℤ}
 use Rattle.pb_price.specs.Inside.Tallies.{IsWithin}
-use Rattle.pb_cohesion.proofs.Firsts.{range-next}
+use Rattle.pb_cohesion.proofs.Loops.{filter-failing, filter-passing}
 
 -- equal terms have equal sums
 pub signed-same : (f g : ℕ → ℤ) (q : ℕ → Bool) (a n : ℕ) → ((j : ℕ) → a ≤ j → j < a + n → f j ≡ g j)
@@ -28,26 +26,14 @@ signed-push : (f : ℕ → ℤ) (xs : List ℕ) (x : ℕ) → sum_ℤ f (xs ++ (
 signed-push f [] x = add-zero (f x)
 signed-push f (y ∷ ys) x = ap (λ z. f y +ℤ z) (signed-push f ys x) ∙ add-assoc (f y) (sum_ℤ f ys) (f x)
 
-filter-next : (q : ℕ → Bool) (n : ℕ) → filter q (range_with_len 1 (n + 1))
-    ≡ filter q (range_with_len 1 n) ++ filter q ((1 + n) ∷ [])
-filter-next q n = ap (filter q) (range-next n 1) ∙ filter-append q (range_with_len 1 n) ((1 + n) ∷ [])
-
-passing-next : (q : ℕ → Bool) (n : ℕ) → q (n + 1) ≡ true
-    → filter q (range_with_len 1 (n + 1)) ≡ filter q (range_with_len 1 n) ++ ((n + 1) ∷ [])
-passing-next q n is = let same : 1 + n ≡ n + 1 = omega arith in filter-next q n ∙ rw (same, is) refl
-
-failing-next : (q : ℕ → Bool) (n : ℕ) → q (n + 1) ≡ false
-    → filter q (range_with_len 1 (n + 1)) ≡ filter q (range_with_len 1 n)
-failing-next q n is = grind (arith, filter-next, append-nil)
-
 pub signed-next : (f : ℕ → ℤ) (q : ℕ → Bool) (n : ℕ) (old : ℤ) (b : Bool) → q (n + 1) ≡ b
     → old ≡ sum_ℤ f (filter q (range_with_len 1 n))
     → cond b (old +ℤ f (n + 1)) old ≡ sum_ℤ f (filter q (range_with_len 1 (n + 1)))
-signed-next f q n old b is h = grind (arith, signed-push, passing-next, failing-next)
+signed-next f q n old b is h = grind (arith, signed-push, filter-passing, filter-failing)
 
 pub count-next : (q : ℕ → Bool) (n old : ℕ) (b : Bool) → q (n + 1) ≡ b → old ≡ length (filter q (range_with_len 1 n))
     → cond b (old + 1) old ≡ length (filter q (range_with_len 1 (n + 1)))
-count-next q n old b is h = grind (arith, length-append, passing-next, failing-next)
+count-next q n old b is h = grind (arith, length-append, filter-passing, filter-failing)
 
 -- bounds
 pub count-most : (q : ℕ → Bool) (a n : ℕ) → length (filter q (range_with_len a n)) ≤ n

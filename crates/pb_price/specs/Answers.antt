@@ -6,6 +6,7 @@ use Rattle.pb_certificate.specs.Faults.{certificate_records}
 use Rattle.pb_certificate.specs.Prices.{Prices}
 use Rattle.pb_cohesion.specs.Conditions.{Cover}
 use Rattle.pb_cohesion.specs.EveryGroup.{BudgetsAreWithinReach, BudgetsReachTheLimit, DemandsAreWithinReach, GroupsGetTheirShare, NoDemandIsPassedOver, NoGroupHasMoreLeft, NoGroupIsPassedOver, NoViolationByCounting, NothingBlocks, SharesAreWithinReach, SupportersBlock, SupportersHaveMoreLeft}
+use Rattle.pb_cohesion.specs.Refutations.{NothingRefutes}
 use Rattle.pb_price.specs.First.{First, verdict_of}
 use Rattle.pb_price.specs.Supports.{Supports}
 use Rattle.pb_price.specs.declared.Failure.TheVariants as failure
@@ -13,7 +14,7 @@ use Rattle.pb_price.specs.declared.Mode.{Mode}
 use Rattle.pb_price.specs.declared.Verdict.{Verdict}
 use Rattle.pb_price.specs.declared.Verdict.TheVariants as verdict
 
--- the verdict is the one for these prices, with what it says of every group
+-- the verdict is the one for these prices, with what it says of every group and of every refutation
 pub record IsVerdictOn (m : Mode) (e : Instance) (w : List Bool) (p : Prices) (v : Verdict) : Type 0 where
   pub first : v ≡ verdict_of (First m e w p)
   pub supported : (v ≡ verdict.Supported) ↔ Supports m e w p
@@ -32,6 +33,8 @@ pub record IsVerdictOn (m : Mode) (e : Instance) (w : List Bool) (p : Prices) (v
   pub pjr_plus_yes : v ≡ verdict.Supported → Cover e p → NoGroupIsPassedOver e w
   pub demand_yes : v ≡ verdict.Supported → BudgetsReachTheLimit e p → DemandsAreWithinReach e w
   pub pjr_yes : v ≡ verdict.Supported → Cover e p → NoDemandIsPassedOver e w
+  -- what a yes in any mode says of refutations
+  pub unrefuted_yes : v ≡ verdict.Supported → NothingRefutes m.cover e w
 
 -- how many rows of payments a certificate has: its records that are not blank, but for the four of the head
 abbrev pub row_count : List ℕ → ℕ

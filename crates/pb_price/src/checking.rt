@@ -9,6 +9,7 @@ ghost use Rattle.pb_certificate.specs.Prices.Text.{IsPriceText};
 ghost use Rattle.pb_certificate.specs.Prices.{PricesFit, most_denominator};
 ghost use Rattle.pb_cohesion.specs.Conditions.{Cover};
 ghost use Rattle.pb_cohesion.specs.EveryGroup.{BudgetsAreWithinReach, BudgetsReachTheLimit, DemandsAreWithinReach, GroupsGetTheirShare, NoDemandIsPassedOver, NoGroupHasMoreLeft, NoGroupIsPassedOver, NoViolationByCounting, NothingBlocks, SharesAreWithinReach, SupportersBlock, SupportersHaveMoreLeft};
+ghost use Rattle.pb_cohesion.specs.Refutations.{NothingRefutes};
 ghost use Rattle.pb_price.specs.Answers.{AreStepsOf, IsVerdictOn, row_count};
 ghost use Rattle.pb_price.specs.Supports.{Supports};
 ghost use Rattle.pb_price.specs.First.{First, verdict_of};
@@ -59,6 +60,9 @@ pub fn check(
     ensures pjr_plus_yes { result ≡ Ok Verdict.Supported → Cover election.now prices.now → NoGroupIsPassedOver election.now (outcome.now).marks }
     ensures demand_yes { result ≡ Ok Verdict.Supported → BudgetsReachTheLimit election.now prices.now → DemandsAreWithinReach election.now (outcome.now).marks }
     ensures pjr_yes { result ≡ Ok Verdict.Supported → Cover election.now prices.now → NoDemandIsPassedOver election.now (outcome.now).marks }
+
+    // What a yes in any mode says of refutations.
+    ensures unrefuted_yes { result ≡ Ok Verdict.Supported → NothingRefutes mode.cover election.now (outcome.now).marks }
 {
     let budget = payment_grains(prices.budget());
     let mut tally = Tally::new(alloc, election, budget)?;

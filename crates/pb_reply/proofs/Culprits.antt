@@ -5,9 +5,15 @@ use Rattle.std.specs.List.{AllByRecursion}
 use Rattle.pb_records.proofs.Each.{all-append, all-every, all-filter, all-first, all-flat_map, all-if, all-map, all-range}
 use Rattle.pb_election.specs.Instance.{Instance, IsProject, IsSet, all_projects, cost_of_all, projects, voters}
 use Rattle.pb_certificate.specs.Prices.{Prices}
+use Rattle.pb_certificate.specs.Refutations.{Weights}
 use Rattle.pb_cohesion.specs.Conditions.{culprits_of_C1, culprits_of_C2, culprits_of_C3, culprits_of_C4, culprits_of_Exhaustive}
+use Rattle.pb_cohesion.specs.FirstU.{FirstU, costs_agree, refutation_failures_of, refutation_verdict_of}
 use Rattle.pb_cohesion.specs.FirstV.{FirstV, culprits_of_V2, culprits_of_V4, violation_failures_of, violation_verdict_of}
 use Rattle.pb_cohesion.specs.Outcome.{total}
+use Rattle.pb_cohesion.specs.Refutations.{at_least, at_most, budgets_counted, budgets_taken, culprits_of_U1}
+use Rattle.pb_cohesion.specs.declared.RefutationFailure.{RefutationFailure}
+use Rattle.pb_cohesion.specs.declared.RefutationFailure.TheVariants as refutation_failure
+use Rattle.pb_cohesion.specs.declared.RefutationVerdict.{RefutationVerdict}
 use Rattle.pb_cohesion.specs.declared.ViolationFailure.{ViolationFailure}
 use Rattle.pb_cohesion.specs.declared.ViolationFailure.TheVariants as violation_failure
 use Rattle.pb_cohesion.specs.declared.ViolationVerdict.{ViolationVerdict}
@@ -23,8 +29,8 @@ use Rattle.pb_price.specs.declared.Verdict.{Verdict}
 use Rattle.pb_price.proofs.Told.{tell-first}
 use Rattle.pb_records.specs.Loading.{Delivery}
 use Rattle.pb_reply.specs.Inputs.{StatesPrices}
-use Rattle.pb_reply.specs.Lines.{price_failed, violation_failed}
-use Rattle.pb_reply.specs.Named.{NamesProject, PricesNameProject, ViolationNamesProject}
+use Rattle.pb_reply.specs.Lines.{price_failed, refutation_failed, violation_failed}
+use Rattle.pb_reply.specs.Named.{NamesProject, PricesNameProject, RefutationNamesProject, ViolationNamesProject}
 use Rattle.pb_reply.specs.declared.input.InputName.{InputName}
 
 -- projects
@@ -117,6 +123,31 @@ first-demanded e (Some f) h = h
 pub violation_names_projects : (worth : ℕ → ℕ) (e : Instance) (w : List Bool) (s t : List ℕ) (v : ViolationVerdict)
     → v ≡ violation_verdict_of (FirstV worth e w s t) → IsSet 1 (projects e) t → ViolationNamesProject e v
 violation_names_projects worth e w s t v is set = grind (arith, first-demanded, all-first, violation-names)
+
+-- the same of the failures of a refutation
+abbrev pub NamesWeighted : Instance → RefutationFailure → Type 0
+NamesWeighted e f = NamesProject e (refutation_failed f)
+
+pub refutation-names : (e : Instance) (w : List Bool) (r : Weights)
+    → AllByRecursion (NamesWeighted e) (refutation_failures_of e w r)
+refutation-names e w r =
+    all-append (NamesWeighted e) _ _
+    (all-append (NamesWeighted e) _ _
+    (all-map (NamesWeighted e) refutation_failure.U1 (culprits_of_U1 e w r)
+    (all-filter (IsProject e) _ (all_projects e) (projects-are e)))
+    (all-if (NamesWeighted e) (nat_lt (budgets_taken e w r) (budgets_counted e w r)) (refutation_failure.U2 ∷ []) []
+    (tt, tt) tt))
+    (all-if (NamesWeighted e) (costs_agree (at_most e w r) (at_least e w r) r.cover) (refutation_failure.U3 ∷ []) []
+    (tt, tt) tt)
+
+first-weighted : (e : Instance) (cover : ℕ) (o : Option RefutationFailure) → IfSome o (NamesWeighted e)
+    → RefutationNamesProject e (refutation_verdict_of cover o)
+first-weighted e cover None h = grind arith
+first-weighted e cover (Some f) h = h
+
+pub refutation_names_projects : (e : Instance) (w : List Bool) (r : Weights) (v : RefutationVerdict)
+    → v ≡ refutation_verdict_of r.cover (FirstU e w r) → RefutationNamesProject e v
+refutation_names_projects e w r v is = grind (arith, first-weighted, all-first, refutation-names)
 
 -- the denominator of prices that are stated
 pub denominator-low : (input : InputName) (e : Instance) (d : Delivery) (p : Prices) → StatesPrices input e d (Ok p)

@@ -1,2 +1,3 @@
 pub mod Takings
 pub mod Culprits
+pub mod Promises

@@ -8,9 +8,11 @@ use Rattle.pb_election.specs.Faults as elections
 use Rattle.pb_records.specs.Loading.{Delivery}
 use Rattle.pb_records.specs.Loading as delivery
 use Rattle.pb_election.specs.declared.refusal.Refusal as election
-use Rattle.pb_certificate.specs.Faults.{certificate_records, outcome_form, price_form, violation_form}
+use Rattle.pb_certificate.specs.Faults.{certificate_records, outcome_form, price_form, refutation_form, violation_form}
 use Rattle.pb_certificate.specs.Faults as certificates
 use Rattle.pb_certificate.specs.Violations.Text.{IsViolationText}
+use Rattle.pb_certificate.specs.Refutations.{Weights}
+use Rattle.pb_certificate.specs.Refutations.Text.{IsRefutationText}
 use Rattle.pb_certificate.specs.Outcomes.Text.{IsOutcomeText}
 use Rattle.pb_certificate.specs.Prices.{Prices}
 use Rattle.pb_certificate.specs.Prices.Text.{IsPriceText}
@@ -73,6 +75,12 @@ abbrev pub StatesViolation : InputName → Instance → Delivery → Stated (Mea
 StatesViolation input e delivered stated =
     States input (λ bytes v. IsViolationText (certificate_records bytes) e v.0 v.1 v.2)
     (IsRefusedFile input (violation_form e)) delivered stated
+
+-- a refutation for an election: the weights of projects
+abbrev pub StatesRefutation : Instance → Delivery → Stated Weights → Type 0
+StatesRefutation e delivered stated =
+    States name.Certificate (λ bytes r. IsRefutationText (certificate_records bytes) e r)
+    (IsRefusedFile name.Certificate (refutation_form e)) delivered stated
 
 -- an outcome file for an election: which projects are funded
 abbrev pub StatesOutcome : Instance → Delivery → Stated (List Bool) → Type 0

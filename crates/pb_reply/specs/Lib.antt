@@ -2,6 +2,7 @@ pub mod Lines
 pub mod Named
 pub mod Inputs
 pub mod Certificates
+pub mod Promises
 pub mod Replies
 pub mod Readings
 pub mod Writing

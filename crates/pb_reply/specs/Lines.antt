@@ -4,6 +4,10 @@ use Rattle.std.specs.Option.{option_map}
 use Rattle.pb_certificate.specs.Faults as certificates
 use Rattle.pb_election.specs.Faults as elections
 use Rattle.pb_election.specs.Instance.{Instance, id_of, projects, voters}
+use Rattle.pb_cohesion.specs.declared.RefutationFailure.{RefutationFailure}
+use Rattle.pb_cohesion.specs.declared.RefutationFailure.TheVariants.{U1, U2, U3}
+use Rattle.pb_cohesion.specs.declared.RefutationVerdict.{RefutationVerdict}
+use Rattle.pb_cohesion.specs.declared.RefutationVerdict.TheVariants as refutation_verdict
 use Rattle.pb_cohesion.specs.declared.ViolationFailure.{ViolationFailure}
 use Rattle.pb_cohesion.specs.declared.ViolationFailure.TheVariants.{V1, V2, V3, V4}
 use Rattle.pb_cohesion.specs.declared.ViolationVerdict.{ViolationVerdict}
@@ -97,6 +101,17 @@ violation_failed (V4 i) = record { name = codes "V4"; voter = Some i; project = 
 abbrev pub violation_line : Instance → ViolationVerdict → Text
 violation_line e violation_verdict.Violation = codes "violation"
 violation_line e (violation_verdict.Failed f) = failed_line e (violation_failed f)
+
+-- the line of a verdict on a refutation
+abbrev pub refutation_failed : RefutationFailure → Failed
+refutation_failed (U1 j) = record { name = codes "U1"; voter = None; project = Some j }
+refutation_failed U2 = record { name = codes "U2"; voter = None; project = None }
+refutation_failed U3 = record { name = codes "U3"; voter = None; project = None }
+
+abbrev pub refutation_line : Instance → RefutationVerdict → Text
+refutation_line e refutation_verdict.Unpriceable = codes "unpriceable"
+refutation_line e refutation_verdict.UnpriceableUnderCover = codes "unpriceable cover"
+refutation_line e (refutation_verdict.Failed f) = failed_line e (refutation_failed f)
 
 -- the names of the inputs
 abbrev pub name_of : InputName → Text

@@ -2,6 +2,8 @@
 use Rattle.std.specs.Prelude.{◌≡◌, List, [], ◌∷◌, ◌++◌, flat_map, Ok, Err}
 use Rattle.pb_records.specs.Records.{Text}
 use Rattle.pb_certificate.specs.Prices.Canon.{line_end}
+use Rattle.pb_cohesion.specs.declared.RefutationVerdict.{RefutationVerdict}
+use Rattle.pb_cohesion.specs.declared.RefutationVerdict.TheVariants as refutation_verdict
 use Rattle.pb_cohesion.specs.declared.ViolationVerdict.{ViolationVerdict}
 use Rattle.pb_cohesion.specs.declared.ViolationVerdict.TheVariants as violation_verdict
 use Rattle.pb_price.specs.declared.Verdict.{Verdict}
@@ -46,6 +48,11 @@ price_status (verdict.Failed f) = No
 abbrev pub violation_status : ViolationVerdict → Status
 violation_status violation_verdict.Violation = Yes
 violation_status (violation_verdict.Failed f) = No
+
+abbrev pub refutation_status : RefutationVerdict → Status
+refutation_status refutation_verdict.Unpriceable = Yes
+refutation_status refutation_verdict.UnpriceableUnderCover = Yes
+refutation_status (refutation_verdict.Failed f) = No
 
 -- the answer is the text of one of these replies
 pub record TellsReply (is_reply : Reply → Type 0) (answer : Answer Status) : Type 0 where

@@ -14,5 +14,9 @@ pub use input::{InputFault, InputName, InputRefusal, Stop, stop_at};
 pub use lines::{push_line, push_notes, push_number, read_line};
 pub use loaded::{File, Loaded, bytes_of, optional_file};
 pub use status::{Fault, Status};
-pub use taking::{election_of, outcome_of, take_election, take_outcome, violation_of};
-pub use verdict_lines::{price_line, price_status, violation_line, violation_status};
+pub use taking::{
+    election_of, kind_in, outcome_of, refutation_of, take_election, take_outcome, violation_of,
+};
+pub use verdict_lines::{
+    price_line, price_status, refutation_line, refutation_status, violation_line, violation_status,
+};

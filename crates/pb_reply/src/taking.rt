@@ -2,17 +2,19 @@
 ghost use Rattle.std.specs.Prelude.{◌≡◌, IfOk, option_map};
 ghost use Rattle.pb_election.specs.Instance.{IsSet, projects};
 ghost use Rattle.pb_election.specs.Outcome.{OutcomeFits};
+ghost use Rattle.pb_certificate.specs.Refutations.{WeightsFit};
 ghost use Rattle.pb_certificate.specs.Violations.{ClaimFits};
-ghost use Rattle.pb_reply.specs.Inputs.{StatesElection, StatesOutcome, StatesViolation, its_outcome};
+ghost use Rattle.pb_reply.specs.Inputs.{StatesElection, StatesOutcome, StatesRefutation, StatesViolation, its_outcome};
+ghost use Rattle.pb_reply.specs.Certificates.{kind_in};
 ghost use Rattle.pb_reply.specs.Inside.Loaded.{lent};
 ghost use Rattle.pb_reply.specs.Readings.{file_reading, reading};
 ghost use Rattle.pb_reply.specs.Inside.Taking.{AuditsOutcome, Gives, IfTaken, ReadsOutcome, as_marks, claimed};
 
 use crate::input::{InputFault, InputName, Stop, stop_at};
 use crate::loaded::{File, Loaded, bytes_of};
-use pb_certificate::{Violation, read_outcome};
+use pb_certificate::{Kind, Refutation, Violation, kind_of, read_outcome};
 use pb_election::{Election, Outcome, Source};
-use std::alloc::Global;
+use std::alloc::{AllocError, Global};
 
 /// The election that a file states.
 pub fn election_of(alloc: Global, file: File<'_>) -> Result<Election, Stop>
@@ -22,6 +24,16 @@ pub fn election_of(alloc: Global, file: File<'_>) -> Result<Election, Stop>
     match Election::read(alloc, bytes) {
         Ok(election) => Ok(election),
         Err(refusal) => Err(stop_at(InputName::Election, InputFault::Election(refusal))),
+    }
+}
+
+/// As which kind a certificate is taken. One that wasn't read whole is taken as prices.
+pub fn kind_in(alloc: Global, certificate: File<'_>) -> Result<Kind, AllocError>
+    ensures { IfOk result (λ kind. kind ≡ kind_in (lent certificate.entry)) }
+{
+    match certificate {
+        File::Bytes(bytes) => kind_of(alloc, bytes),
+        File::Unread | File::TooLong => Ok(Kind::Prices),
     }
 }
 
@@ -41,6 +53,18 @@ pub fn violation_of(
     match Violation::read(alloc, bytes, election) {
         Ok(violation) => Ok(violation),
         Err(refusal) => Err(stop_at(input, InputFault::Certificate(refusal))),
+    }
+}
+
+/// The refutation for an election that a file states, as the certificate.
+pub fn refutation_of(alloc: Global, file: File<'_>, election: &Election) -> Result<Refutation, Stop>
+    ensures taken { IfTaken result (StatesRefutation election.now (lent file.entry)) }
+    ensures fits { IfOk result (λ refutation. WeightsFit refutation election.now) }
+{
+    let bytes = bytes_of(InputName::Certificate, file)?;
+    match Refutation::read(alloc, bytes, election) {
+        Ok(refutation) => Ok(refutation),
+        Err(refusal) => Err(stop_at(InputName::Certificate, InputFault::Certificate(refusal))),
     }
 }
 

@@ -2,12 +2,12 @@
 ghost use Rattle.std.specs.Prelude.{◌≡◌, ◌++◌, IfOk, IfSome, OnOk, string_bytes};
 ghost use Rattle.pb_reply.specs.Replies as replies;
 ghost use Rattle.pb_reply.specs.Lines as spec;
-ghost use Rattle.pb_reply.specs.Named.{NamesProject, PricesNameProject, ViolationNamesProject};
+ghost use Rattle.pb_reply.specs.Named.{NamesProject, PricesNameProject, RefutationNamesProject, ViolationNamesProject};
 ghost use Rattle.pb_election.specs.Instance.{IsProject};
 
 use crate::Status;
 use crate::lines::push_number;
-use pb_cohesion::{ViolationFailure, ViolationVerdict};
+use pb_cohesion::{RefutationFailure, RefutationVerdict, ViolationFailure, ViolationVerdict};
 use pb_election::Election;
 use pb_price::{Failure, Verdict};
 use std::alloc::{AllocError, Global};
@@ -66,6 +66,16 @@ fn violation_failed(failure: ViolationFailure) -> FailedAt
     }
 }
 
+fn refutation_failed(failure: RefutationFailure) -> FailedAt
+    ensures { result ≡ spec.refutation_failed failure }
+{
+    match failure {
+        RefutationFailure::U1(j) => failed_at("U1", None, Some(j)),
+        RefutationFailure::U2 => failed_at("U2", None, None),
+        RefutationFailure::U3 => failed_at("U3", None, None),
+    }
+}
+
 /// The line of a verdict on prices, in the stable form or the plain one.
 pub fn price_line(
     alloc: Global,
@@ -117,6 +127,35 @@ pub fn violation_status(verdict: ViolationVerdict) -> Status
     match verdict {
         ViolationVerdict::Violation => Status::Yes,
         ViolationVerdict::Failed(_) => Status::No,
+    }
+}
+
+/// The line of a verdict on a refutation.
+pub fn refutation_line(
+    alloc: Global,
+    election: &Election,
+    verdict: RefutationVerdict,
+) -> Result<String, AllocError>
+    requires { RefutationNamesProject election.now verdict }
+    ensures { IfOk result (λ line. string_bytes line ≡ spec.refutation_line election.now verdict) }
+{
+    match verdict {
+        RefutationVerdict::Unpriceable => String::from_str(alloc, "unpriceable"),
+        RefutationVerdict::UnpriceableUnderCover => String::from_str(alloc, "unpriceable cover"),
+        RefutationVerdict::Failed(failure) => failed_line(
+            alloc,
+            election,
+            &refutation_failed(failure),
+        ),
+    }
+}
+
+pub fn refutation_status(verdict: RefutationVerdict) -> Status
+    ensures { result ≡ replies.refutation_status verdict }
+{
+    match verdict {
+        RefutationVerdict::Unpriceable | RefutationVerdict::UnpriceableUnderCover => Status::Yes,
+        RefutationVerdict::Failed(_) => Status::No,
     }
 }
 

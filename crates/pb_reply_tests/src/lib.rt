@@ -1,4 +1,4 @@
-//! The tests of `pb_explain` and `pb_reply`, and of the calls of `pb_audit` over files in memory.
+//! The tests of `pb_explain` and `pb_reply`.
 #![tactic(auto)]
 
 #[cfg(test)]

@@ -2,19 +2,21 @@
 use crate::file::FileReader;
 use crate::watched::WatchedReader;
 use pb_audit::{
-    Fault, Status, run_both_with_notes, run_explain, run_margins, run_prices, run_read, run_tidy,
-    run_violation,
+    Fault, Status, run_both_with_notes, run_explain, run_margins, run_prices, run_read,
+    run_refutation, run_tidy, run_violation,
 };
 use pb_command::Inputs;
 use pb_election::{Input, Sink};
 use pb_page::{Language, PageNames, run_page};
 use pb_price::Mode;
+use std::alloc::Global;
 use std::cell::Cell;
 use std::io::Read;
 
 /// The files that commands on a certificate share, as readers.
 #[derive(Drop)]
 struct Opened<'a> {
+    alloc: Global,
     election: NamedFile<'a>,
     outcome: Option<NamedFile<'a>>,
     certificate: NamedFile<'a>,
@@ -30,22 +32,24 @@ pub struct Files<'a> {
     pub failure: &'a Cell<Option<i32>>,
 }
 
+/// What is asked of a certificate.
+#[derive(Clone, Copy)]
+pub enum Question<'a> {
+    Prices(Mode),
+    Violation,
+    Refutation,
+    /// The violation certificate is at this path.
+    Both(&'a str, Mode),
+    Explain(Mode),
+    Page(Mode, Language),
+    Margins,
+    Tidy,
+}
+
 impl<'a> Files<'a> {
     /// The file at a path.
     fn open(self, path: &'a str) -> NamedFile<'a> {
         Input::new(WatchedReader::new(FileReader::new(self.rt, path), self.failure))
-    }
-
-    /// The files that commands on a certificate share.
-    fn open_shared(self, inputs: &'a Inputs) -> Opened<'a> {
-        Opened {
-            election: self.open(&inputs.election),
-            outcome: match &inputs.outcome {
-                Some(path) => Some(self.open(path)),
-                None => None,
-            },
-            certificate: self.open(&inputs.certificate),
-        }
     }
 
     /// Answers `read` on an election that is no file.
@@ -59,159 +63,164 @@ impl<'a> Files<'a> {
         run_read(self.rt.alloc(), &mut self.open(election), out)
     }
 
-    /// Answers `prices`, and adds the notes on the election, and on a yes that says little, to `notes`.
-    pub fn prices<O: Sink>(
+    /// Answers the question, and adds the notes on the election, and on a yes that says little, to `notes`, where the
+    /// command has them.
+    pub fn answer<O: Sink>(
         self,
         inputs: &'a Inputs,
+        question: Question<'a>,
+        notes: &mut Vec<String>,
+        out: &mut O,
+    ) -> Result<Status, Fault> {
+        let mut opened = Opened {
+            alloc: self.rt.alloc(),
+            election: self.open(&inputs.election),
+            outcome: match &inputs.outcome {
+                Some(path) => Some(self.open(path)),
+                None => None,
+            },
+            certificate: self.open(&inputs.certificate),
+        };
+        match question {
+            Question::Prices(mode) => opened.prices(mode, notes, out),
+            Question::Violation => opened.violation(notes, out),
+            Question::Refutation => opened.refutation(notes, out),
+            Question::Both(path, mode) => opened.both(&mut self.open(path), mode, notes, out),
+            Question::Explain(mode) => opened.explain(mode, notes, out),
+            Question::Page(mode, language) => opened.page(names_of(inputs), mode, language, out),
+            Question::Margins => opened.margins(out),
+            Question::Tidy => opened.tidy(out),
+        }
+    }
+}
+
+impl Opened<'_> {
+    fn prices<O: Sink>(
+        &mut self,
         mode: Mode,
         notes: &mut Vec<String>,
         out: &mut O,
     ) -> Result<Status, Fault> {
-        let Opened {
-            mut election,
-            mut outcome,
-            mut certificate,
-        } = self.open_shared(inputs);
         run_prices(
-            self.rt.alloc(),
-            &mut election,
-            &mut outcome,
-            &mut certificate,
+            self.alloc,
+            &mut self.election,
+            &mut self.outcome,
+            &mut self.certificate,
             mode,
             notes,
             out,
         )
     }
 
-    /// Answers `violation`, and adds the notes on the election to `notes`.
-    pub fn violation<O: Sink>(
-        self,
-        inputs: &'a Inputs,
+    fn violation<O: Sink>(
+        &mut self,
         notes: &mut Vec<String>,
         out: &mut O,
     ) -> Result<Status, Fault> {
-        let Opened {
-            mut election,
-            mut outcome,
-            mut certificate,
-        } = self.open_shared(inputs);
         run_violation(
-            self.rt.alloc(),
-            &mut election,
-            &mut outcome,
-            &mut certificate,
+            self.alloc,
+            &mut self.election,
+            &mut self.outcome,
+            &mut self.certificate,
             notes,
             out,
         )
     }
 
-    /// Answers `both`, and adds the note on a yes to prices that says little to `notes`.
-    pub fn both<O: Sink>(
-        self,
-        inputs: &'a Inputs,
-        violation: &'a str,
+    fn refutation<O: Sink>(
+        &mut self,
+        notes: &mut Vec<String>,
+        out: &mut O,
+    ) -> Result<Status, Fault> {
+        run_refutation(
+            self.alloc,
+            &mut self.election,
+            &mut self.outcome,
+            &mut self.certificate,
+            notes,
+            out,
+        )
+    }
+
+    fn both<O: Sink>(
+        &mut self,
+        violation: &mut NamedFile<'_>,
         mode: Mode,
         notes: &mut Vec<String>,
         out: &mut O,
     ) -> Result<Status, Fault> {
-        let Opened {
-            mut election,
-            mut outcome,
-            mut certificate,
-        } = self.open_shared(inputs);
         run_both_with_notes(
-            self.rt.alloc(),
-            &mut election,
-            &mut outcome,
-            &mut certificate,
-            &mut self.open(violation),
+            self.alloc,
+            &mut self.election,
+            &mut self.outcome,
+            &mut self.certificate,
+            violation,
             mode,
             notes,
             out,
         )
     }
 
-    /// Answers `explain`, and adds the notes on the election, and on a yes that says little, to `notes`.
-    pub fn explain<O: Sink>(
-        self,
-        inputs: &'a Inputs,
+    fn explain<O: Sink>(
+        &mut self,
         mode: Mode,
         notes: &mut Vec<String>,
         out: &mut O,
     ) -> Result<Status, Fault> {
-        let Opened {
-            mut election,
-            mut outcome,
-            mut certificate,
-        } = self.open_shared(inputs);
         run_explain(
-            self.rt.alloc(),
-            &mut election,
-            &mut outcome,
-            &mut certificate,
+            self.alloc,
+            &mut self.election,
+            &mut self.outcome,
+            &mut self.certificate,
             mode,
             notes,
             out,
         )
     }
 
-    /// Answers `page`.
-    pub fn page<O: Sink>(
-        self,
-        inputs: &'a Inputs,
+    fn page<O: Sink>(
+        &mut self,
+        names: PageNames<'_>,
         mode: Mode,
         language: Language,
         out: &mut O,
     ) -> Result<Status, Fault> {
-        let Opened {
-            mut election,
-            mut outcome,
-            mut certificate,
-        } = self.open_shared(inputs);
-        let names = PageNames {
-            election: name_of(&inputs.election),
-            outcome: match &inputs.outcome {
-                Some(path) => Some(name_of(path)),
-                None => None,
-            },
-            certificate: name_of(&inputs.certificate),
-        };
         run_page(
-            self.rt.alloc(),
+            self.alloc,
             names,
-            &mut election,
-            &mut outcome,
-            &mut certificate,
+            &mut self.election,
+            &mut self.outcome,
+            &mut self.certificate,
             mode,
             language,
             out,
         )
     }
 
-    /// Answers `margins`.
-    pub fn margins<O: Sink>(self, inputs: &'a Inputs, out: &mut O) -> Result<Status, Fault> {
-        let Opened {
-            mut election,
-            mut outcome,
-            mut certificate,
-        } = self.open_shared(inputs);
+    fn margins<O: Sink>(&mut self, out: &mut O) -> Result<Status, Fault> {
         run_margins(
-            self.rt.alloc(),
-            &mut election,
-            &mut outcome,
-            &mut certificate,
+            self.alloc,
+            &mut self.election,
+            &mut self.outcome,
+            &mut self.certificate,
             out,
         )
     }
 
-    /// Answers `tidy`.
-    pub fn tidy<O: Sink>(self, inputs: &'a Inputs, out: &mut O) -> Result<Status, Fault> {
-        let Opened {
-            mut election,
-            outcome: _,
-            mut certificate,
-        } = self.open_shared(inputs);
-        run_tidy(self.rt.alloc(), &mut election, &mut certificate, out)
+    fn tidy<O: Sink>(&mut self, out: &mut O) -> Result<Status, Fault> {
+        run_tidy(self.alloc, &mut self.election, &mut self.certificate, out)
+    }
+}
+
+/// The names of the files, as a page shows them.
+fn names_of(inputs: &Inputs) -> PageNames<'_> {
+    PageNames {
+        election: name_of(&inputs.election),
+        outcome: match &inputs.outcome {
+            Some(path) => Some(name_of(path)),
+            None => None,
+        },
+        certificate: name_of(&inputs.certificate),
     }
 }
 

@@ -73,20 +73,33 @@ fn overlooked_line(rt: &HostRuntime, listing: &Listing) -> Result<Option<String>
     if names.is_empty() {
         return Ok(None);
     }
-    let mut line = String::from_str(rt.alloc(), "pbaudit: not audited: ")?;
+    let mut line = String::new(rt.alloc());
+    push_overlooked(&mut line, &names, listing.has_refutations())?;
+    Ok(Some(line))
+}
+
+fn push_overlooked(
+    line: &mut String,
+    names: &[String],
+    has_refutations: bool,
+) -> Result<(), AllocError> {
+    line.push_str("pbaudit: not audited: ")?;
     for (place, name) in names.iter().take(MOST_NAMED).enumerate() {
         if place > 0 {
             line.push_str(", ")?;
         }
-        push_shown(&mut line, name)?;
+        push_shown(line, name)?;
     }
     if names.len() > MOST_NAMED {
         write!(line, " and {} more", names.len() - MOST_NAMED)?;
     }
     line.push_str(
-        "; an election is NAME.pb, and its certificates are NAME.prices.csv and NAME.violation.csv, with endings in lower case\n",
+        "; an election is NAME.pb, and its certificates are NAME.prices.csv and NAME.violation.csv, with endings in lower case",
     )?;
-    Ok(Some(line))
+    if has_refutations {
+        line.push_str("; a refutation is audited by itself, with pbaudit refutation")?;
+    }
+    line.push('\n')
 }
 
 /// The report on what a folder lists. One entry after the other is loaded, audited and let go.

@@ -14,6 +14,8 @@ pub struct Listing {
     /// The names, with their endings, of files whose endings are the same but for small and capital letters, and of
     /// certificates that have no name before it.
     misnamed: Vec<String>,
+    /// The names, with their endings, of refutations.
+    refutations: Vec<String>,
 }
 
 /// What a file of a folder is.
@@ -23,6 +25,9 @@ enum Role {
     Prices,
     Violation,
 }
+
+/// How the name of a refutation ends, `NAME.refutation.csv`. Those of a folder aren't audited.
+const REFUTATION: &str = ".refutation.csv";
 
 /// Why a folder was not listed.
 #[derive(Clone, Copy, Debug, PartialEq, Eq)]
@@ -65,25 +70,27 @@ impl Listing {
             prices: Vec::new(alloc),
             violations: Vec::new(alloc),
             misnamed: Vec::new(alloc),
+            refutations: Vec::new(alloc),
         };
-        for entry in fs::read_dir(rt, folder)? {
-            listing.take(alloc, &entry?)?;
-        }
+        listing.take_all(rt, folder)?;
         listing.elections.sort_unstable();
         listing.prices.sort_unstable();
         listing.violations.sort_unstable();
         Ok(listing)
     }
 
+    fn take_all(&mut self, rt: &HostRuntime, folder: &str) -> Result<(), ListFault> {
+        for entry in fs::read_dir(rt, folder)? {
+            self.take(rt.alloc(), &entry?)?;
+        }
+        Ok(())
+    }
+
     /// Takes what is listed, where it is an election or a certificate, or has nearly such a name.
     fn take(&mut self, alloc: Global, entry: &DirEntry) -> Result<(), ListFault> {
         let file_name = entry.file_name();
         let Some((role, name)) = split(file_name) else {
-            if is_misnamed(file_name) && is_file(entry)? {
-                let name = String::from_str(alloc, file_name)?;
-                self.misnamed.push(name).map_err(AllocError::from)?;
-            }
-            return Ok(());
+            return self.pass_over(alloc, entry);
         };
         if !is_entry_name(name) || !is_file(entry)? {
             return Ok(());
@@ -98,15 +105,44 @@ impl Listing {
         Ok(())
     }
 
+    /// Notes what is listed, where it is a refutation or has nearly the name of a file that is audited.
+    fn pass_over(&mut self, alloc: Global, entry: &DirEntry) -> Result<(), ListFault> {
+        let name = entry.file_name();
+        let is_refutation = is_like(name, REFUTATION);
+        if !(is_refutation || is_misnamed(name)) || !is_file(entry)? {
+            return Ok(());
+        }
+        let name = String::from_str(alloc, name)?;
+        let noted = match is_refutation {
+            true => self.refutations.push(name),
+            false => self.misnamed.push(name),
+        };
+        noted.map_err(AllocError::from)?;
+        Ok(())
+    }
+
+    /// Whether there are refutations, which aren't audited.
+    pub fn has_refutations(&self) -> bool {
+        !self.refutations.is_empty()
+    }
+
     /// The names, with their endings and in byte order, of the files that may be meant to be audited and aren't: those
-    /// whose endings are right but for small and capital letters, certificates without a name, as `prices.csv`, and
-    /// certificates beside which there is no election.
+    /// whose endings are right but for small and capital letters, certificates without a name, as `prices.csv`,
+    /// certificates beside which there is no election, and refutations.
     /// One whose name begins with that of an election and a point, as `town.stable.prices.csv` beside `town.pb`, is
     /// taken for another one that was put there on purpose.
     pub fn overlooked(&self, alloc: Global) -> Result<Vec<String>, AllocError> {
         let mut names = Vec::new(alloc);
-        for name in &self.misnamed {
-            names.push(name.clone()?)?;
+        self.push_overlooked(alloc, &mut names)?;
+        names.sort_unstable();
+        Ok(names)
+    }
+
+    fn push_overlooked(&self, alloc: Global, names: &mut Vec<String>) -> Result<(), AllocError> {
+        for others in [&self.misnamed, &self.refutations] {
+            for name in others {
+                names.push(name.clone()?)?;
+            }
         }
         for (certificates, ending) in [(&self.prices, PRICES), (&self.violations, VIOLATION)] {
             for name in certificates {
@@ -115,8 +151,7 @@ impl Listing {
                 }
             }
         }
-        names.sort_unstable();
-        Ok(names)
+        Ok(())
     }
 
     /// Whether an election has this name, or the front of it before a point.
@@ -166,12 +201,19 @@ fn split(file_name: &str) -> Option<(Role, &str)> {
 /// Whether a file's name has one of the endings but for small and capital letters, or is that of a certificate without
 /// the name of an election.
 fn is_misnamed(file_name: &str) -> bool {
+    has_ending(file_name, ELECTION) || is_like(file_name, PRICES) || is_like(file_name, VIOLATION)
+}
+
+/// Whether a file's name has this ending but for small and capital letters, or is the ending without its point.
+fn is_like(file_name: &str, ending: &str) -> bool {
+    has_ending(file_name, ending) || is_bare(file_name, ending)
+}
+
+/// Whether a file's name has this ending, but for small and capital letters, behind something else.
+fn has_ending(file_name: &str, ending: &str) -> bool {
     let name = file_name.as_bytes();
-    let has_ending = ROLES.into_iter().any(|(ending, _)| {
-        let front = name.len().saturating_sub(ending.len());
-        front > 0 && name[front..].eq_ignore_ascii_case(ending.as_bytes())
-    });
-    has_ending || is_bare(file_name, PRICES) || is_bare(file_name, VIOLATION)
+    let front = name.len().saturating_sub(ending.len());
+    front > 0 && name[front..].eq_ignore_ascii_case(ending.as_bytes())
 }
 
 /// Whether a file's name is an ending without its point.

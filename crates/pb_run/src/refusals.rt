@@ -141,6 +141,7 @@ fn input_of(task: &Task, input: InputName) -> Option<(FileKind, Option<&str>)> {
             (inputs, FileKind::Prices)
         }
         Task::Violation(inputs) => (inputs, FileKind::Violation),
+        Task::Refutation(inputs) => (inputs, FileKind::Refutation),
         Task::Both {
             inputs,
             violation,

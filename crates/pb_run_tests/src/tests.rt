@@ -1,12 +1,8 @@
-//! Whole runs of the program: its words, its files, folders, hints as they are printed, and exit statuses.
+//! Whole runs: their words, the listing of a folder, and exit statuses. What the program prints and tells on files is tried
+//! from outside, in `tests/` at the top.
 mod ends;
 mod fakes;
-mod folders;
-mod hints;
-mod hints_on_certificates;
-mod hints_on_elections;
-mod hints_on_other_files;
-mod notes;
+mod listing;
 mod room;
 mod runs;
 mod words;

@@ -22,25 +22,14 @@ voter_id;vote
 3;b,c
 ";
 
-/// The sample election behind a byte order mark, with CRLF ends and each line filled up to four fields.
-pub const FILLED_ELECTION: &str = "\
-\u{FEFF}META;;;\r
-key;value;;\r
-description;Sample;;\r
-num_projects;3;;\r
-num_votes;3;;\r
-budget;10;;\r
-vote_type;approval;;\r
-PROJECTS;;;\r
-project_id;cost;name;selected\r
-a;6;Park;1\r
-b;4;Library;1\r
-c;9;Pool;0\r
-VOTES;;;\r
-voter_id;vote;;\r
-1;a,b;;\r
-2;a;;\r
-3;b,c;;\r
+/// A refutation of prices for what the sample election funds, which fails: 6 lines, which are its records.
+pub const REFUTATION: &str = "\
+pb-refutation,1
+cover,0
+role,project,weight
+least,a,2
+most,b,1
+left,c,1
 ";
 
 /// An election with one project and no voters.
@@ -74,26 +63,6 @@ pub const OUTCOME: &str = "pb-outcome,1\nproject,a\nproject,b\n";
 /// An outcome file for the sample election that funds c alone.
 pub const POOL_OUTCOME: &str = "pb-outcome,1\nproject,c\n";
 
-/// A price certificate for that outcome, by which voter 3 pays for c.
-pub const POOL_PRICES: &str = "\
-pb-prices,1
-denominator,1
-voter_budget,9
-voter,project,payment
-3,c,9
-";
-
-/// A price certificate for the sample election by which voter 3 alone pays for b. It is not stable where c is cheap.
-pub const LONE_PRICES: &str = "\
-pb-prices,1
-denominator,1
-voter_budget,4
-voter,project,payment
-1,a,2
-2,a,4
-3,b,4
-";
-
 /// A price certificate for any election, by which the voters have nothing.
 pub const NO_MONEY: &str = "\
 pb-prices,1
@@ -126,7 +95,7 @@ voter,1
 ";
 
 /// The sample prices explained. Each voter has 4. Voter 1 pays 2 and 2, voter 2 pays 4, and voter 3 pays 2 and has 2
-/// left.
+/// left. Only voter 3 approves the unfunded project, and gets the library.
 pub const EXPLAINED: &str = "\
 supported priceable
 
@@ -139,6 +108,9 @@ C3          holds      each funded project is paid for exactly
 C4          holds      nothing is paid for an unfunded project
 C5          holds      project c, the closest, costs 9.00, and its supporters' leftovers come to 2.00
 S5          not asked  with --stable it holds: project c, the closest, costs 9.00, and its supporters' offers come to 2.00
+
+no group is passed over: where a group has members, who all approve an unfunded project, its share of the limit is less than this project and all that was funded for the group cost together
+nearest to that comes project c: the share of its 1 supporters is 3 1/3, it costs 9.00, and 4.00 was funded for them
 ";
 
 /// The table of margins by these prices. Each voter has 4. Voter 1 pays 2 and 2, voter 2 pays 4, and
@@ -183,47 +155,6 @@ voter,project,payment
 1,b,2
 2,\"a\"\"1\",4
 3,b,2
-";
-
-/// An election in which three voters share one project of cost 1.
-pub const SHARED_ELECTION: &str = "\
-META
-key;value
-budget;1
-vote_type;approval
-PROJECTS
-project_id;cost;selected
-x;1;1
-VOTES
-voter_id;vote
-1;x
-2;x
-3;x
-";
-
-/// An election of two projects, each with one supporter, of which one is funded. The other would fit too.
-pub const SPLIT_ELECTION: &str = "\
-META
-key;value
-budget;10
-vote_type;approval
-PROJECTS
-project_id;cost;selected
-a;5;1
-c;5;0
-VOTES
-voter_id;vote
-1;a
-2;c
-";
-
-/// A price certificate for it, by which the funded project is paid for.
-pub const SPLIT_PRICES: &str = "\
-pb-prices,1
-denominator,1
-voter_budget,5
-voter,project,payment
-1,a,5
 ";
 
 /// An election in which half of the voters get nothing.
@@ -273,18 +204,6 @@ voter_id;vote
 4;y
 ";
 
-/// A price certificate for it, by which all four voters pay for y.
-pub const EVEN_PRICES: &str = "\
-pb-prices,1
-denominator,1
-voter_budget,2
-voter,project,payment
-1,y,2
-2,y,2
-3,y,2
-4,y,2
-";
-
 /// An election in which a cheap project is funded and a dear one isn't.
 pub const DEAR_ELECTION: &str = "\
 META
@@ -301,26 +220,6 @@ voter_id;vote
 2;s
 ";
 
-/// An election with the largest amounts.
-pub const LARGEST_ELECTION: &str = "\
-META
-key;value
-budget;1000000000000
-vote_type;approval
-PROJECTS
-project_id;cost;selected
-x;1000000000000;1
-VOTES
-voter_id;vote
-1;x
-";
-
-/// The sample election with an unfunded project c of this cost.
-pub fn with_pool(alloc: Global, cost: u32) -> Result<Vec<u8>, AllocError> {
-    let row = format!(in alloc; "c;{cost};Pool;0\n")?;
-    with_lines(alloc, ELECTION, 11, 1, row.as_bytes())
-}
-
 /// The sample election without its column `selected`.
 pub fn without_outcome(alloc: Global) -> Result<String, AllocError> {
     ELECTION.replace(alloc, "name;selected", "name")
@@ -336,25 +235,4 @@ pub fn certificate(
     format!(in alloc;
         "pb-prices,1\ndenominator,{denominator}\nvoter_budget,{budget}\nvoter,project,payment\n{rows}"
     )
-}
-
-/// A text whose first `kept` lines are kept, with `new` in place of the next `removed` lines.
-pub fn with_lines(
-    alloc: Global,
-    text: &str,
-    kept: usize,
-    removed: usize,
-    new: &[u8],
-) -> Result<Vec<u8>, AllocError> {
-    let mut file = Vec::new(alloc);
-    for line in text.lines().take(kept) {
-        file.extend_from_slice(line.as_bytes())?;
-        file.extend_from_slice(b"\n")?;
-    }
-    file.extend_from_slice(new)?;
-    for line in text.lines().skip(kept).skip(removed) {
-        file.extend_from_slice(line.as_bytes())?;
-        file.extend_from_slice(b"\n")?;
-    }
-    Ok(file)
 }

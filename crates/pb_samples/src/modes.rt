@@ -13,12 +13,6 @@ pub const NOT_EXHAUSTIVE: Mode = Mode {
     ..Mode::PLAIN
 };
 
-/// The plain form with Cover.
-pub const COVER: Mode = Mode {
-    cover: true,
-    ..Mode::PLAIN
-};
-
 /// The stable form with Cover.
 pub const STABLE_AND_COVERED: Mode = Mode {
     cover: true,

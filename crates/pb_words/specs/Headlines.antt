@@ -3,7 +3,7 @@ use Rattle.std.specs.Prelude.{ℕ, List, codes, encode_utf8_all}
 use Rattle.pb_words.specs.declared.language.Language.{Language}
 use Rattle.pb_words.specs.declared.language.Language.TheVariants as language
 use Rattle.pb_words.specs.declared.headlines.Headline.{Headline}
-use Rattle.pb_words.specs.declared.headlines.Headline.TheVariants.{NoViolation, NotSupported, Supported, SupportedStable, Violation}
+use Rattle.pb_words.specs.declared.headlines.Headline.TheVariants.{NoViolation, NotRefuted, NotSupported, Supported, SupportedStable, Unpriceable, UnpriceableUnderCover, Violation}
 
 abbrev pub english : Headline → List ℕ
 english Supported = encode_utf8_all (codes "The prices support this outcome")
@@ -11,6 +11,9 @@ english SupportedStable = encode_utf8_all (codes "The prices support this outcom
 english NotSupported = encode_utf8_all (codes "The prices don’t support this outcome")
 english Violation = encode_utf8_all (codes "This group was treated worse than it deserves")
 english NoViolation = encode_utf8_all (codes "This certificate doesn’t prove unfair treatment")
+english Unpriceable = encode_utf8_all (codes "No prices can support this outcome")
+english UnpriceableUnderCover = encode_utf8_all (codes "No prices with budgets above the limit can support this outcome")
+english NotRefuted = encode_utf8_all (codes "This certificate doesn’t prove that no prices can support this outcome")
 
 abbrev pub polish : Headline → List ℕ
 polish Supported = encode_utf8_all (codes "Ceny uzasadniają ten wynik")
@@ -18,6 +21,9 @@ polish SupportedStable = encode_utf8_all (codes "Ceny uzasadniają ten wynik w w
 polish NotSupported = encode_utf8_all (codes "Ceny nie uzasadniają tego wyniku")
 polish Violation = encode_utf8_all (codes "Tę grupę potraktowano gorzej, niż na to zasługuje")
 polish NoViolation = encode_utf8_all (codes "Ten certyfikat nie dowodzi niesprawiedliwego potraktowania")
+polish Unpriceable = encode_utf8_all (codes "Żadne ceny nie mogą uzasadnić tego wyniku")
+polish UnpriceableUnderCover = encode_utf8_all (codes "Żadne ceny z budżetami większymi niż pula nie mogą uzasadnić tego wyniku")
+polish NotRefuted = encode_utf8_all (codes "Ten certyfikat nie dowodzi, że żadne ceny nie mogą uzasadnić tego wyniku")
 
 abbrev pub german : Headline → List ℕ
 german Supported = encode_utf8_all (codes "Die Preise stützen dieses Ergebnis")
@@ -25,6 +31,9 @@ german SupportedStable = encode_utf8_all (codes "Die Preise stützen dieses Erge
 german NotSupported = encode_utf8_all (codes "Die Preise stützen dieses Ergebnis nicht")
 german Violation = encode_utf8_all (codes "Diese Gruppe wurde schlechter behandelt, als ihr zusteht")
 german NoViolation = encode_utf8_all (codes "Eine ungerechte Behandlung ist damit nicht bewiesen")
+german Unpriceable = encode_utf8_all (codes "Keine Preise können dieses Ergebnis stützen")
+german UnpriceableUnderCover = encode_utf8_all (codes "Keine Preise mit Budgets über dem Gesamtbudget können dieses Ergebnis stützen")
+german NotRefuted = encode_utf8_all (codes "Dass keine Preise dieses Ergebnis stützen können, ist damit nicht bewiesen")
 
 abbrev pub french : Headline → List ℕ
 french Supported = encode_utf8_all (codes "Les prix justifient ce résultat")
@@ -32,6 +41,9 @@ french SupportedStable = encode_utf8_all (codes "Les prix justifient ce résulta
 french NotSupported = encode_utf8_all (codes "Les prix ne justifient pas ce résultat")
 french Violation = encode_utf8_all (codes "Ce groupe a été traité moins bien qu’il ne le mérite")
 french NoViolation = encode_utf8_all (codes "Ce certificat ne prouve aucun traitement injuste")
+french Unpriceable = encode_utf8_all (codes "Aucun prix ne peut justifier ce résultat")
+french UnpriceableUnderCover = encode_utf8_all (codes "Aucun prix dont les budgets dépassent l’enveloppe ne peut justifier ce résultat")
+french NotRefuted = encode_utf8_all (codes "Ce certificat ne prouve pas qu’aucun prix ne peut justifier ce résultat")
 
 -- what an answer says in a language, in UTF-8
 abbrev pub headline_words : Language → Headline → List ℕ

@@ -17,6 +17,12 @@ pub enum Headline {
     Violation,
     /// The certificate proves no violation.
     NoViolation,
+    /// No prices whatever support the outcome.
+    Unpriceable,
+    /// No prices support the outcome whose budgets together are more than the limit.
+    UnpriceableUnderCover,
+    /// The certificate doesn't prove that no prices support the outcome.
+    NotRefuted,
 }
 
 /// What an answer says in a language.
@@ -40,6 +46,11 @@ fn english(headline: Headline) -> &'static str
         Headline::NotSupported => "The prices don’t support this outcome",
         Headline::Violation => "This group was treated worse than it deserves",
         Headline::NoViolation => "This certificate doesn’t prove unfair treatment",
+        Headline::Unpriceable => "No prices can support this outcome",
+        Headline::UnpriceableUnderCover =>
+            "No prices with budgets above the limit can support this outcome",
+        Headline::NotRefuted =>
+            "This certificate doesn’t prove that no prices can support this outcome",
     }
 }
 
@@ -52,6 +63,11 @@ fn polish(headline: Headline) -> &'static str
         Headline::NotSupported => "Ceny nie uzasadniają tego wyniku",
         Headline::Violation => "Tę grupę potraktowano gorzej, niż na to zasługuje",
         Headline::NoViolation => "Ten certyfikat nie dowodzi niesprawiedliwego potraktowania",
+        Headline::Unpriceable => "Żadne ceny nie mogą uzasadnić tego wyniku",
+        Headline::UnpriceableUnderCover =>
+            "Żadne ceny z budżetami większymi niż pula nie mogą uzasadnić tego wyniku",
+        Headline::NotRefuted =>
+            "Ten certyfikat nie dowodzi, że żadne ceny nie mogą uzasadnić tego wyniku",
     }
 }
 
@@ -64,6 +80,11 @@ fn german(headline: Headline) -> &'static str
         Headline::NotSupported => "Die Preise stützen dieses Ergebnis nicht",
         Headline::Violation => "Diese Gruppe wurde schlechter behandelt, als ihr zusteht",
         Headline::NoViolation => "Eine ungerechte Behandlung ist damit nicht bewiesen",
+        Headline::Unpriceable => "Keine Preise können dieses Ergebnis stützen",
+        Headline::UnpriceableUnderCover =>
+            "Keine Preise mit Budgets über dem Gesamtbudget können dieses Ergebnis stützen",
+        Headline::NotRefuted =>
+            "Dass keine Preise dieses Ergebnis stützen können, ist damit nicht bewiesen",
     }
 }
 
@@ -76,5 +97,10 @@ fn french(headline: Headline) -> &'static str
         Headline::NotSupported => "Les prix ne justifient pas ce résultat",
         Headline::Violation => "Ce groupe a été traité moins bien qu’il ne le mérite",
         Headline::NoViolation => "Ce certificat ne prouve aucun traitement injuste",
+        Headline::Unpriceable => "Aucun prix ne peut justifier ce résultat",
+        Headline::UnpriceableUnderCover =>
+            "Aucun prix dont les budgets dépassent l’enveloppe ne peut justifier ce résultat",
+        Headline::NotRefuted =>
+            "Ce certificat ne prouve pas qu’aucun prix ne peut justifier ce résultat",
     }
 }

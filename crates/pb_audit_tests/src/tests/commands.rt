@@ -1,158 +1,177 @@
-//! What the commands print on what readers give, and how they end.
-use super::ends::{Ends, ending_of};
+//! The commands, over readers and in memory, each with sample files and the answer on them.
 use pb_audit::{
-    Status, run_both, run_explain, run_margins, run_prices, run_read, run_tidy, run_violation,
+    Answer, Fault, FolderStatus, Status, both_reply, explained_reply, folder_text, margins_answer,
+    prices_reply, read_reply, refutation_reply, run_both, run_explain, run_margins, run_prices,
+    run_read, run_refutation, run_tidy, run_violation, tidy_answer, violation_reply,
 };
-use pb_election::{Input, Output};
-use pb_price::Mode;
-use std::alloc::Global;
-use std::io::Read;
-use std::test::Fail;
+use pb_certificate::{Prices, WriteFault};
+use pb_election::{Election, Input, Output};
+use pb_samples::files::{
+    ELECTION, EXPLAINED, FAIR_VIOLATION, MARGINS, OUTCOME, PRICES, REFUTATION, UNFAIR_ELECTION,
+    UNTIDY_PRICES, VIOLATION,
+};
+use pb_samples::modes::{PLAIN, STABLE_AND_COVERED};
+use std::alloc::{AllocError, Global};
+use std::io::{Read, Write};
 
-/// The input of an outcome, where one is given.
-fn input_of<O: Read + Drop>(outcome: Option<O>) -> Option<Input<O>> {
-    match outcome {
-        Some(reader) => Some(Input::new(reader)),
-        None => None,
+/// A command, or a text that is written without inputs.
+#[derive(Clone, Copy, Debug, PartialEq, Eq)]
+pub enum Command {
+    Read,
+    Prices,
+    Violation,
+    Refutation,
+    Both,
+    ExplainPrices,
+    ExplainViolation,
+    Margins,
+    Tidy,
+    Folder,
+    Canonical,
+}
+
+pub const COMMANDS: [Command; 11] = [
+    Command::Read,
+    Command::Prices,
+    Command::Violation,
+    Command::Refutation,
+    Command::Both,
+    Command::ExplainPrices,
+    Command::ExplainViolation,
+    Command::Margins,
+    Command::Tidy,
+    Command::Folder,
+    Command::Canonical,
+];
+
+/// What the unfair election funds.
+const UNFAIR_OUTCOME: &str = "pb-outcome,1\nproject,y\n";
+
+/// The violation of the unfair election explained.
+const EXPLAINED_VIOLATION: &str = "\
+violation
+
+V1          holds      2 of 4 voters are in the group
+V2          holds      each member approves each demanded project
+V3          holds      the group's share of the limit is 4.00; the demanded projects cost 4.00
+V4          holds      by count the demanded projects are worth 2, and each member gets at most 0
+";
+
+impl Command {
+    /// The texts of the election, the outcome file and the certificates, empty where it takes no such input.
+    pub fn texts(self) -> [&'static str; 4] {
+        match self {
+            Command::Read => [ELECTION, "", "", ""],
+            Command::Prices => [ELECTION, OUTCOME, PRICES, ""],
+            Command::Violation => [UNFAIR_ELECTION, UNFAIR_OUTCOME, VIOLATION, ""],
+            Command::Refutation => [ELECTION, OUTCOME, REFUTATION, ""],
+            Command::Both => [ELECTION, OUTCOME, PRICES, FAIR_VIOLATION],
+            Command::ExplainPrices => [ELECTION, OUTCOME, PRICES, ""],
+            Command::ExplainViolation => [UNFAIR_ELECTION, UNFAIR_OUTCOME, VIOLATION, ""],
+            Command::Margins => [ELECTION, OUTCOME, PRICES, ""],
+            Command::Tidy => [ELECTION, "", UNTIDY_PRICES, ""],
+            Command::Folder | Command::Canonical => [""; 4],
+        }
+    }
+
+    /// What it answers on them.
+    pub fn answer(self) -> &'static str {
+        match self {
+            Command::Read => "read 3 voters 3 projects 2 funded\n",
+            Command::Prices => "supported priceable\n",
+            Command::Violation => "violation\n",
+            Command::Refutation => "failed U2\n",
+            Command::Both => "supported stable\nfailed V4 voter 1\n",
+            Command::ExplainPrices => EXPLAINED,
+            Command::ExplainViolation => EXPLAINED_VIOLATION,
+            Command::Margins => MARGINS,
+            Command::Tidy | Command::Canonical => PRICES,
+            Command::Folder => "total 0 elections 0 yes 0 no 0 refused\n",
+        }
+    }
+
+    /// How that ends.
+    pub fn status(self) -> Status {
+        match self {
+            Command::Both | Command::Refutation => Status::No,
+            _ => Status::Yes,
+        }
+    }
+
+    /// How it ends on these inputs, of which it takes those that it needs, and on this writer.
+    pub fn run<R: Read + Drop, W: Write>(
+        self,
+        alloc: Global,
+        inputs: (R, R, R, R),
+        out: &mut Output<W>,
+    ) -> Result<Status, Fault> {
+        let (election, outcome, first, second) = inputs;
+        let mut election = Input::new(election);
+        let mut outcome = Some(Input::new(outcome));
+        let mut first = Input::new(first);
+        let mut second = Input::new(second);
+        let mut notes = Vec::new(alloc);
+        let (e, o, notes) = (&mut election, &mut outcome, &mut notes);
+        let (c, v) = (&mut first, &mut second);
+        match self {
+            Command::Read => run_read(alloc, e, out),
+            Command::Prices => run_prices(alloc, e, o, c, PLAIN, notes, out),
+            Command::Violation => run_violation(alloc, e, o, c, notes, out),
+            Command::Refutation => run_refutation(alloc, e, o, c, notes, out),
+            Command::Both => run_both(alloc, e, o, c, v, STABLE_AND_COVERED, out),
+            Command::ExplainPrices | Command::ExplainViolation => {
+                run_explain(alloc, e, o, c, PLAIN, notes, out)
+            }
+            Command::Margins => run_margins(alloc, e, o, c, out),
+            Command::Tidy => run_tidy(alloc, e, c, out),
+            Command::Folder => write_report(alloc, out),
+            Command::Canonical => write_canonical(alloc, out),
+        }
+    }
+
+    /// What it replies on its texts as files in memory.
+    pub fn reply(self, alloc: Global) -> Result<Answer<Status>, AllocError> {
+        let [election, outcome, first, second] = self.texts();
+        let (e, o) = (election.as_bytes(), Some(outcome.as_bytes()));
+        let (c, v) = (first.as_bytes(), second.as_bytes());
+        let reply = match self {
+            Command::Read | Command::Folder | Command::Canonical => read_reply(alloc, e)?,
+            Command::Prices => prices_reply(alloc, e, o, c, PLAIN)?,
+            Command::Violation => violation_reply(alloc, e, o, c)?,
+            Command::Refutation => refutation_reply(alloc, e, o, c)?,
+            Command::Both => both_reply(alloc, e, o, c, v, STABLE_AND_COVERED)?,
+            Command::ExplainPrices | Command::ExplainViolation => {
+                explained_reply(alloc, e, o, c, PLAIN)?
+            }
+            Command::Margins => return margins_answer(alloc, e, o, c),
+            Command::Tidy => return tidy_answer(alloc, e, c),
+        };
+        reply.answer(alloc)
     }
 }
 
-/// What was written, and how it ends.
-fn ended(alloc: Global, written: Vec<u8>, status: Status) -> Result<(String, Ends), Fail> {
-    let text = String::from_utf8(written)?;
-    let ends = ending_of(alloc, &text, status)?;
-    Ok((text, ends))
+/// How it ends to write the report on an empty folder.
+fn write_report<W: Write>(alloc: Global, out: &mut Output<W>) -> Result<Status, Fault> {
+    let Ok(report) = folder_text(alloc, &[], PLAIN) else {
+        return Err(Fault::Memory);
+    };
+    match report.write(out)? {
+        FolderStatus::AllYes => Ok(Status::Yes),
+        _ => Ok(Status::No),
+    }
 }
 
-/// On an election.
-pub fn read<E: Read>(alloc: Global, election: &mut E) -> Result<(String, Ends), Fail> {
-    let mut written = Vec::new(alloc);
-    let status = run_read(
-        alloc,
-        &mut Input::new(election),
-        &mut Output::new(&mut written),
-    )?;
-    ended(alloc, written, status)
-}
-
-/// On a price certificate.
-pub fn prices<E: Read, O: Read + Drop, C: Read>(
-    alloc: Global,
-    election: &mut E,
-    outcome: Option<O>,
-    certificate: &mut C,
-    mode: Mode,
-) -> Result<(String, Ends), Fail> {
-    let mut outcome = input_of(outcome);
-    let mut written = Vec::new(alloc);
-    let status = run_prices(
-        alloc,
-        &mut Input::new(election),
-        &mut outcome,
-        &mut Input::new(certificate),
-        mode,
-        &mut Vec::new(alloc),
-        &mut Output::new(&mut written),
-    )?;
-    ended(alloc, written, status)
-}
-
-/// On a violation certificate.
-pub fn violation<E: Read, O: Read + Drop, C: Read>(
-    alloc: Global,
-    election: &mut E,
-    outcome: Option<O>,
-    certificate: &mut C,
-) -> Result<(String, Ends), Fail> {
-    let mut outcome = input_of(outcome);
-    let mut written = Vec::new(alloc);
-    let status = run_violation(
-        alloc,
-        &mut Input::new(election),
-        &mut outcome,
-        &mut Input::new(certificate),
-        &mut Vec::new(alloc),
-        &mut Output::new(&mut written),
-    )?;
-    ended(alloc, written, status)
-}
-
-/// On a price certificate and a violation certificate.
-pub fn both<E: Read, O: Read + Drop, P: Read, V: Read>(
-    alloc: Global,
-    election: &mut E,
-    outcome: Option<O>,
-    prices: &mut P,
-    violation: &mut V,
-    mode: Mode,
-) -> Result<(String, Ends), Fail> {
-    let mut outcome = input_of(outcome);
-    let mut written = Vec::new(alloc);
-    let status = run_both(
-        alloc,
-        &mut Input::new(election),
-        &mut outcome,
-        &mut Input::new(prices),
-        &mut Input::new(violation),
-        mode,
-        &mut Output::new(&mut written),
-    )?;
-    ended(alloc, written, status)
-}
-
-/// On a certificate of either kind that is to be explained.
-pub fn explain<E: Read, O: Read + Drop, C: Read>(
-    alloc: Global,
-    election: &mut E,
-    outcome: Option<O>,
-    certificate: &mut C,
-    mode: Mode,
-) -> Result<(String, Ends), Fail> {
-    let mut outcome = input_of(outcome);
-    let mut written = Vec::new(alloc);
-    let status = run_explain(
-        alloc,
-        &mut Input::new(election),
-        &mut outcome,
-        &mut Input::new(certificate),
-        mode,
-        &mut Vec::new(alloc),
-        &mut Output::new(&mut written),
-    )?;
-    ended(alloc, written, status)
-}
-
-/// On a price certificate whose margins are asked for.
-pub fn margins<E: Read, O: Read + Drop, C: Read>(
-    alloc: Global,
-    election: &mut E,
-    outcome: Option<O>,
-    certificate: &mut C,
-) -> Result<(String, Ends), Fail> {
-    let mut outcome = input_of(outcome);
-    let mut written = Vec::new(alloc);
-    let status = run_margins(
-        alloc,
-        &mut Input::new(election),
-        &mut outcome,
-        &mut Input::new(certificate),
-        &mut Output::new(&mut written),
-    )?;
-    ended(alloc, written, status)
-}
-
-/// On a price certificate that is to be written in its canonical form.
-pub fn tidy<E: Read, C: Read>(
-    alloc: Global,
-    election: &mut E,
-    certificate: &mut C,
-) -> Result<(String, Ends), Fail> {
-    let mut written = Vec::new(alloc);
-    let status = run_tidy(
-        alloc,
-        &mut Input::new(election),
-        &mut Input::new(certificate),
-        &mut Output::new(&mut written),
-    )?;
-    ended(alloc, written, status)
+/// How it ends to write the sample prices by the call of the library.
+fn write_canonical<W: Write>(alloc: Global, out: &mut Output<W>) -> Result<Status, Fault> {
+    let Ok(election) = Election::read(alloc, ELECTION.as_bytes()) else {
+        return Err(Fault::Memory);
+    };
+    match Prices::read(alloc, PRICES.as_bytes(), &election) {
+        Ok(prices) if prices.fits(&election) => match prices.write(alloc, &election, out) {
+            Ok(()) => Ok(Status::Yes),
+            Err(WriteFault::Write) => Err(Fault::Write),
+            Err(WriteFault::Memory) => Err(Fault::Memory),
+        },
+        _ => Err(Fault::Memory),
+    }
 }

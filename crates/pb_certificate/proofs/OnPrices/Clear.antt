@@ -107,7 +107,7 @@ head-clear : (e : Instance) (r : Rec) → is_text r ≡ true → fields r ≡ co
     → (f : CertFault) → price_fault_stands e [] (Some r) f ≡ false
 head-clear e r text is f = grind arith
 
-value-fits : (r : Rec) (name f : Field) (least most n : ℕ) → fields r ≡ name ∷ f ∷ []
+pub value-fits : (r : Rec) (name f : Field) (least most n : ℕ) → fields r ≡ name ∷ f ∷ []
     → whole_within least most f ≡ Some n → is_none (whole_within least most (cell 1 r)) ≡ false
 value-fits r name f least most n is value = grind (arith, cell-is)
 

@@ -1,21 +1,19 @@
 -- The fault of a row, by the payments that the rows before it state.
-use Rattle.std.proofs.Common.{◌≡◌, ◌∙◌, ℕ, true, false, List, [], ◌∷◌, ◌++◌, refl, sym, ap, inl, inr, arith, Option, Some, None, drop}
-use Rattle.std.specs.Prelude.{◌==◌, filter_map, map, nat_lt}
+use Rattle.std.proofs.Common.{◌≡◌, ◌∙◌, ℕ, true, List, [], ◌∷◌, ◌++◌, refl, sym, ap, arith, Option, Some, None, drop}
+use Rattle.std.specs.Prelude.{filter_map, map, nat_lt}
 use Rattle.std.specs.List.{last_or, list_any}
-use Rattle.std.specs.Str.{bytes_eq}
-use Rattle.std.proofs.lemmas.Bool.{cases_Bool, eq-eqb, false≢true, le-ltb, ne_eqb}
-use Rattle.std.proofs.lemmas.Slice.Eq.{bytes_eq-Decides}
+use Rattle.std.proofs.lemmas.Bool.{le-ltb}
 use Rattle.pb_records.proofs.Lists.{filter_map-all}
-use Rattle.pb_election.specs.Instance.{Instance, id_of}
-use Rattle.pb_records.specs.Records.{Field, Rec}
+use Rattle.pb_election.specs.Instance.{Instance}
+use Rattle.pb_records.specs.Records.{Rec}
 use Rattle.pb_records.specs.Cells.{cell, is_text}
-use Rattle.pb_election.proofs.Elections.{found_is}
-use Rattle.pb_certificate.specs.Fields.{number, project_in}
+use Rattle.pb_certificate.specs.Fields.{number}
 use Rattle.pb_certificate.specs.Prices.Text.{IsPriceHead, Payment, payment_of, same_pair}
 use Rattle.pb_certificate.specs.Prices.RowFaults.{last_number, last_voter, payment_fault, row_fault}
 use Rattle.pb_certificate.specs.Faults.{at_record, price_form, same_cells}
 use Rattle.pb_certificate.specs.declared.refusal.CertFault.{CertFault}
 use Rattle.pb_certificate.proofs.Cells.{cell-is}
+use Rattle.pb_certificate.proofs.Ids.{same-ids}
 use Rattle.pb_certificate.proofs.OnPrices.Clear.{row-number, row-of}
 use Rattle.pb_certificate.proofs.OnPrices.RowFaults.{form-at-row, place_fault}
 use Rattle.pb_certificate.proofs.OnPrices.RowSteps.{voters_of}
@@ -32,22 +30,6 @@ lower-by v n o e (d ∷ ds) (q ∷ qs) h k =
     let first : payment_of e d ≡ Some q = cc in
     let rest : map (payment_of e) ds ≡ map Some qs = cc in
     lower-by v q.voter (Some d) e ds qs (ap (nat_lt v) (row-number e d q (row-of e d q first))) rest
-
--- two ids are the same where they are those of one project
-same-ids : (e : Instance) (a b : Field) (j k : ℕ) → project_in e a ≡ Some j → project_in e b ≡ Some k
-    → bytes_eq a b ≡ (j == k)
-same-ids e a b j k is_a is_b = elim (cases_Bool (bytes_eq a b)) [
-  | inl same ↦
-      let ids : a ≡ b = (bytes_eq-Decides a b).0 same in
-      let equal : j ≡ k = cc in
-      same ∙ sym (eq-eqb j k equal)
-  | inr other ↦
-      let differ : (j == k) ≡ false = ne_eqb j k (λ equal. (
-      let ids : a ≡ b = sym (found_is e a j is_a).1 ∙ ap (id_of e) equal ∙ (found_is e b k is_b).1 in
-      false≢true (sym other ∙ (bytes_eq-Decides a b).1 ids)
-      )) in
-      other ∙ sym differ
-]
 
 same-by : (e : Instance) (r d : Rec) (q m : Payment) → payment_of e r ≡ Some q → payment_of e d ≡ Some m
     → same_cells r d ≡ same_pair q m

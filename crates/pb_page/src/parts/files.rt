@@ -1,113 +1,100 @@
 //! The files that the page is about, and how to check it.
-ghost use Rattle.std.specs.Prelude.{ℕ, List, [], ◌∷◌, ◌++◌, OnOk, map, option_to_list};
+ghost use Rattle.std.specs.Prelude.{ℕ, List, [], ◌∷◌, ◌++◌, IfSome, map, option_to_list};
 ghost use Rattle.pb_page.specs.Sums.{HasInOrder};
 ghost use Rattle.pb_page.specs.Taken as spec;
 ghost use Rattle.pb_page.specs.Taken.{sums_shown};
 
-use crate::case::{Case, Files, InputFile};
-use crate::naming::push_label;
-use crate::saying::Fillings;
+use pb_case::{Case, Files, Fillings, InputFile, push_label};
 use pb_figures::CertificateFigures;
 use pb_markup::{Page, Tag};
-use pb_words::Sentence;
+use pb_words::{Sentence, VERSION};
 use std::alloc::{AllocError, Global};
-
-const VERSION: &str = "0.1.0";
 
 // No file system has longer names, in bytes.
 const MOST_IN_A_WORD: usize = 255;
 
 /// Adds the files with their sizes and sums, and how to check the page, up to the line that the program prints.
-pub(crate) fn push_files(page: &mut Page, case: &Case<'_>) -> Result<(), AllocError>
-    ensures { OnOk result (HasInOrder (sums_shown (case.now).files) page.new) }
+pub(crate) fn push_files(page: &mut Page, case: &Case<'_>)
+    ensures { IfSome page.new (HasInOrder (sums_shown (case.now).files)) }
 {
-    page.open(Tag::Footer)?;
-    page.element(Tag::H2, case.words.say(Sentence::Files))?;
-    page.open_class(Tag::Dl, "files")?;
-    push_file(page, case, Sentence::ElectionFile, &case.files.election)?;
-    push_outcome(page, case, &case.files.outcome)?;
+    page.open(Tag::Footer);
+    page.element(Tag::H2, case.words.say(Sentence::Files));
+    page.open_class(Tag::Dl, "files");
+    push_file(page, case, Sentence::ElectionFile, &case.files.election);
+    push_outcome(page, case, &case.files.outcome);
     push_file(
         page,
         case,
         Sentence::CertificateFile,
         &case.files.certificate,
-    )?;
-    page.close()?;
-    page.append(checks(case)?)
+    );
+    page.close();
+    page.append(checks(case));
 }
 
 /// Adds what stands behind that line, and ends the part.
-pub(crate) fn push_behind_line(page: &mut Page, case: &Case<'_>) -> Result<(), AllocError> {
-    page.close()?;
-    page.element(Tag::P, case.words.say(Sentence::CheckBrowser))?;
-    page.element_class(Tag::P, "note", case.words.say(Sentence::Trust))?;
-    let fillings = Fillings::none(case.words.alloc).and("version", VERSION)?;
-    case.say_in(page, Tag::P, "note", Sentence::MadeBy, &fillings)?;
-    page.close()
+pub(crate) fn push_behind_line(page: &mut Page, case: &Case<'_>) {
+    page.close();
+    page.element(Tag::P, case.words.say(Sentence::CheckBrowser));
+    page.element_class(Tag::P, "note", case.words.say(Sentence::Trust));
+    let fillings = Fillings::none(case.words.alloc).and("version", VERSION);
+    case.say_in(page, Tag::P, "note", Sentence::MadeBy, &fillings);
+    page.close();
 }
 
 // Adds the outcome file, where one is given.
-fn push_outcome(
-    page: &mut Page,
-    case: &Case<'_>,
-    outcome: &Option<InputFile>,
-) -> Result<(), AllocError>
-    ensures { OnOk result ((texts : List (List ℕ)) → HasInOrder texts page.old → HasInOrder (texts ++ map spec.sum_of (option_to_list outcome.now)) page.new) }
+fn push_outcome(page: &mut Page, case: &Case<'_>, outcome: &Option<InputFile>)
+    ensures { (texts : List (List ℕ)) → IfSome page.old (HasInOrder texts) → IfSome page.new (HasInOrder (texts ++ map spec.sum_of (option_to_list outcome.now))) }
 {
     match outcome {
         Some(outcome) => push_file(page, case, Sentence::OutcomeFile, outcome),
-        None => Ok(()),
+        None => {}
     }
 }
 
 // Adds a file, with its sum.
-fn push_file(
-    page: &mut Page,
-    case: &Case<'_>,
-    role: Sentence,
-    file: &InputFile,
-) -> Result<(), AllocError>
-    ensures { OnOk result ((texts : List (List ℕ)) → HasInOrder texts page.old → HasInOrder (texts ++ spec.sum_of file.now ∷ []) page.new) }
+fn push_file(page: &mut Page, case: &Case<'_>, role: Sentence, file: &InputFile)
+    ensures { (texts : List (List ℕ)) → IfSome page.old (HasInOrder texts) → IfSome page.new (HasInOrder (texts ++ spec.sum_of file.now ∷ [])) }
 {
-    page.append(facts_of(case, role, file)?)?;
-    page.element(Tag::Code, &file.sum)?;
-    page.close()?;
-    page.close()
+    page.append(facts_of(case, role, file));
+    page.element(Tag::Code, &file.sum);
+    page.close();
+    page.close();
 }
 
 // A file's name and size, up to its sum.
-fn facts_of(case: &Case<'_>, role: Sentence, file: &InputFile) -> Result<Page, AllocError> {
+fn facts_of(case: &Case<'_>, role: Sentence, file: &InputFile) -> Page {
     let bytes = file.length as u64;
     let mut page = Page::new(case.words.alloc);
-    page.open(Tag::Div)?;
-    page.element(Tag::Dt, case.words.say(role))?;
-    page.open(Tag::Dd)?;
-    push_label(&mut page, case, "named", base_name(file))?;
-    page.text(", ")?;
-    let fillings = Fillings::none(case.words.alloc).and_number("count", bytes)?;
+    page.open(Tag::Div);
+    page.element(Tag::Dt, case.words.say(role));
+    page.open(Tag::Dd);
+    push_label(&mut page, case, "named", base_name(file));
+    page.text(", ");
+    let fillings = Fillings::none(case.words.alloc).and_number("count", bytes);
     case.say(
         &mut page,
         Sentence::Bytes(case.words.plural(bytes)),
         &fillings,
-    )?;
-    page.open(Tag::Br)?;
-    page.text("SHA-256 ")?;
-    Ok(page)
+    );
+    page.open(Tag::Br);
+    page.text("SHA-256 ");
+    page
 }
 
 // How to check the page, up to the line that the program prints.
-fn checks(case: &Case<'_>) -> Result<Page, AllocError> {
+fn checks(case: &Case<'_>) -> Page {
     let mut page = Page::new(case.words.alloc);
-    page.open(Tag::P)?;
+    page.open(Tag::P);
     if fits_a_command(&case.files) {
-        push_command(&mut page, case)?;
+        push_command(&mut page, case);
     } else {
-        push_without_command(&mut page, case)?;
+        push_without_command(&mut page, case);
     }
-    page.open(Tag::Br)?;
-    page.text(case.words.say(Sentence::CheckAnswer))?;
-    page.text(" ")?;
-    Ok(page)
+    page.open(Tag::Br);
+    page.text(case.words.say(Sentence::CheckAnswer));
+    page.text(" ");
+    page
 }
 
 // Whether the files can be named in a command that gives the same answer. Their names stand there whole or not at all.
@@ -145,43 +132,51 @@ fn is_kept(c: char) -> bool {
 }
 
 // Adds the command that gives the same answer.
-fn push_command(page: &mut Page, case: &Case<'_>) -> Result<(), AllocError> {
+fn push_command(page: &mut Page, case: &Case<'_>) {
     let alloc = case.words.alloc;
-    page.text(case.words.say(Sentence::CheckProgram))?;
-    page.open(Tag::Br)?;
-    page.open(Tag::Code)?;
-    page.text("pbaudit explain ")?;
-    push_word(alloc, page, &case.files.election)?;
-    page.text(" ")?;
-    push_word(alloc, page, &case.files.certificate)?;
+    page.text(case.words.say(Sentence::CheckProgram));
+    page.open(Tag::Br);
+    page.open(Tag::Code);
+    page.text("pbaudit explain ");
+    push_word(alloc, page, &case.files.election);
+    page.text(" ");
+    push_word(alloc, page, &case.files.certificate);
     if let Some(outcome) = &case.files.outcome {
-        page.text(" --outcome ")?;
-        push_word(alloc, page, outcome)?;
+        page.text(" --outcome ");
+        push_word(alloc, page, outcome);
     }
-    page.text(&options(case)?)?;
-    page.close()
+    page.text_made(options(case));
+    page.close();
 }
 
 // Adds which files to give to the program, and the options, where their names are no words of a command.
-fn push_without_command(page: &mut Page, case: &Case<'_>) -> Result<(), AllocError> {
-    page.text(case.words.say(Sentence::CheckByHand))?;
+fn push_without_command(page: &mut Page, case: &Case<'_>) {
+    page.text(case.words.say(Sentence::CheckByHand));
+    let Ok(given) = options_by_hand(case) else {
+        return page.fail();
+    };
+    if given.is_empty() {
+        return;
+    }
+    page.text(" ");
+    let fillings = Fillings::none(case.words.alloc).and("options", given.trim_start());
+    case.say(page, Sentence::CheckOptions, &fillings);
+}
+
+// The options to give with files that can't be named, each behind a blank.
+fn options_by_hand(case: &Case<'_>) -> Result<String, AllocError> {
     let mut given = String::new(case.words.alloc);
     if case.files.outcome.is_some() {
         given.push_str(" --outcome")?;
     }
     given.push_str(&options(case)?)?;
-    if given.is_empty() {
-        return Ok(());
-    }
-    page.text(" ")?;
-    let fillings = Fillings::none(case.words.alloc).and("options", given.trim_start())?;
-    case.say(page, Sentence::CheckOptions, &fillings)
+    Ok(given)
 }
 
 // The options that ask for what was asked, each behind a blank.
 fn options(case: &Case<'_>) -> Result<String, AllocError> {
     let mut options = String::new(case.words.alloc);
-    if let CertificateFigures::Violation(_) = case.told.found {
+    if !matches!(case.told.found, CertificateFigures::Prices(_)) {
         return Ok(options);
     }
     let mode = case.told.mode;
@@ -197,20 +192,26 @@ fn options(case: &Case<'_>) -> Result<String, AllocError> {
     Ok(options)
 }
 
-// Adds the name of a file as a word of a command: in quotes, unless it has plain letters alone.
-fn push_word(alloc: Global, page: &mut Page, file: &InputFile) -> Result<(), AllocError> {
+// Adds the name of a file as a word of a command.
+fn push_word(alloc: Global, page: &mut Page, file: &InputFile) {
+    page.open(Tag::Bdi);
+    page.text_made(word_of(alloc, base_name(file)));
+    page.close();
+}
+
+// A name as a word of a command: in quotes, unless it has plain letters alone.
+fn word_of(alloc: Global, name: &str) -> Result<String, AllocError> {
     let mut word = String::new(alloc);
-    let name = base_name(file);
     // What begins with a dash is an option.
     if name.starts_with('-') {
         word.push_str("./")?;
     }
     word.push_str(name)?;
     if word.chars().all(is_plain) {
-        return page.element(Tag::Bdi, &word);
+        return Ok(word);
     }
     let quoted = word.replace(alloc, '\'', "'\\''")?;
-    page.element(Tag::Bdi, &format!(in alloc; "'{quoted}'")?)
+    format!(in alloc; "'{quoted}'")
 }
 
 // The name of a file without its folders.

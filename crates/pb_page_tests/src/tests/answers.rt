@@ -1,96 +1,51 @@
 //! The answer on a page.
-use super::making::page;
+use super::page;
 use pb_page::Language;
 use pb_reply::Status;
-use pb_samples::files::{ELECTION, FAIR_VIOLATION, NO_VOTERS, PRICES, UNFAIR_ELECTION, VIOLATION};
-use pb_samples::modes::PLAIN;
+use pb_samples::files::{ELECTION, FAIR_VIOLATION, PRICES};
 use std::test::Fail;
 
 #[test]
-fn prices_that_support(rt: HostRuntime) -> Result<(), Fail> {
-    let (text, status) = page(
-        rt.alloc(),
-        ELECTION.as_bytes(),
-        PRICES.as_bytes(),
-        PLAIN,
-        Language::English,
-    )?;
-    assert!(rt; text.starts_with("<!DOCTYPE html>\n<html lang=\"en\">"));
-    assert!(rt; text.contains("<h2>The prices support this outcome</h2>"));
-    assert!(rt; text.contains("<code>supported priceable</code>"));
-    assert!(rt; status == Status::Yes);
-    Ok(())
-}
-
-#[test]
-fn violation_in_polish(rt: HostRuntime) -> Result<(), Fail> {
-    let alloc = rt.alloc();
-    let (text, status) = page(
-        alloc,
-        ELECTION.as_bytes(),
-        FAIR_VIOLATION.as_bytes(),
-        PLAIN,
-        Language::Polish,
-    )?;
-    assert!(rt; text.contains("<html lang=\"pl\">"));
-    assert!(rt; text.contains("<code>failed V4 voter 1</code>"));
-    assert!(rt; status == Status::No);
-    Ok(())
-}
-
-#[test]
-fn violation_by_its_measure(rt: HostRuntime) -> Result<(), Fail> {
-    let alloc = rt.alloc();
-    for (head, said) in [
+fn answer_has_its_line_and_its_language(rt: HostRuntime) -> Result<(), Fail> {
+    for (certificate, language, start, line, status) in [
         (
-            "pb-violation,2\nsatisfaction,count\n",
-            "(EJR). This is so by counting: each project is worth 1.</p>",
+            PRICES,
+            Language::English,
+            "<!DOCTYPE html>\n<html lang=\"en\">",
+            "<code>supported priceable</code>",
+            Status::Yes,
         ),
         (
-            "pb-violation,2\nsatisfaction,cost\n",
-            "(EJR). This is so by cost: each project is worth what it costs.</p>",
+            FAIR_VIOLATION,
+            Language::Polish,
+            "<!DOCTYPE html>\n<html lang=\"pl\">",
+            "<code>failed V4 voter 1</code>",
+            Status::No,
         ),
     ] {
-        let certificate = VIOLATION.replace(alloc, "pb-violation,1\n", head)?;
-        let (text, status) = page(
-            alloc,
-            UNFAIR_ELECTION.as_bytes(),
-            certificate.as_bytes(),
-            PLAIN,
-            Language::English,
-        )?;
-        assert!(rt; status == Status::Yes, "{text}");
-        assert!(rt; text.contains(said), "{text}");
+        let (text, ends) = page(rt.alloc(), ELECTION, b"c.csv", certificate, language)?;
+        assert!(rt;
+            text.starts_with(start) && text.contains(line) && ends == status,
+            "{text}"
+        );
     }
     Ok(())
 }
 
 #[test]
-fn group_without_voters(rt: HostRuntime) -> Result<(), Fail> {
-    let (text, _) = page(
-        rt.alloc(),
-        NO_VOTERS.as_bytes(),
-        b"pb-violation,1\nproject,x\n",
-        PLAIN,
-        Language::English,
-    )?;
-    assert!(rt; text.contains("<p>There are no voters.</p>"), "{text}");
-    Ok(())
-}
-
-#[test]
 fn refusal_is_a_line(rt: HostRuntime) -> Result<(), Fail> {
+    let certificate = "pb-prices,2\n";
     let (text, status) = page(
         rt.alloc(),
-        ELECTION.as_bytes(),
-        b"pb-prices,2\n",
-        PLAIN,
+        ELECTION,
+        b"c.csv",
+        certificate,
         Language::German,
     )?;
+    let line = "refused certificate 21 BadHead record 1\n";
     assert!(rt;
-        text.as_str() == "refused certificate 21 BadHead record 1\n",
+        text.as_str() == line && matches!(status, Status::Refused(_)),
         "{text}"
     );
-    assert!(rt; matches!(status, Status::Refused(_)));
     Ok(())
 }

@@ -1,8 +1,5 @@
 //! SHA-256 sums, by the examples of FIPS 180-4, and for other lengths by Python's `hashlib`.
-use pb_page::{Language, PageFile, PageFiles, page_answer, sum_of};
-use pb_price::Mode;
-use pb_reply::File;
-use pb_samples::files::{ELECTION, OUTCOME, PRICES};
+use pb_page::sum_of;
 use std::test::Fail;
 
 #[test]
@@ -60,37 +57,6 @@ fn as_many_letters_a(rt: HostRuntime) -> Result<(), Fail> {
         let bytes = vec![in rt.alloc(); b'a'; count]?;
         let text = sum_of(rt.alloc(), &bytes)?;
         assert!(rt; text.as_str() == sum, "{count}: {text}");
-    }
-    Ok(())
-}
-
-#[test]
-fn page_has_the_sums_of_its_files(rt: HostRuntime) -> Result<(), Fail> {
-    let files = PageFiles {
-        election: PageFile {
-            name: b"town.pb",
-            file: File::in_memory(ELECTION.as_bytes()),
-        },
-        outcome: Some(PageFile {
-            name: b"outcome.csv",
-            file: File::in_memory(OUTCOME.as_bytes()),
-        }),
-        certificate: PageFile {
-            name: b"prices.csv",
-            file: File::in_memory(PRICES.as_bytes()),
-        },
-    };
-    let answer = page_answer(rt.alloc(), files, Mode::PLAIN, Language::English)?;
-    let text = String::from_utf8_lossy(rt.alloc(), &answer.text)?;
-    let mut rest = text.as_str();
-    for sum in [
-        "40a516fa60f763ce7f0fac9196bab57bf98e3957fe6b779ff52664b0107071ad",
-        "cbde2135ead4791870cd61fc9c4fb3afb4013a1a722af9019701056bbb21c1e1",
-        "75400c41a65f3944405afb84a26c331a9a87efb06b488f78af8a1fe46605b56e",
-    ] {
-        let (between, behind) = rest.split_once(sum).unwrap_or((rest, ""));
-        assert!(rt; between.ends_with("SHA-256 <code>"), "{sum}");
-        rest = behind;
     }
     Ok(())
 }

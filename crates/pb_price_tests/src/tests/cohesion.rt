@@ -1,3 +1,118 @@
-//! Verdicts on violations, and what each test comes to.
-mod findings;
-mod measures;
+//! Verdicts on violations and refutations, with the findings behind them, one by each call. What they are on other files
+//! is tried from outside.
+use pb_certificate::{Measure, Refutation, Violation};
+use pb_cohesion::{
+    Cost, Count, MisplacedRows, MissingApprovals, RefutationFindings, RefutationVerdict,
+    Satisfaction, SatisfiedMembers, ViolationFailure, ViolationFindings, ViolationVerdict,
+    check_refutation, check_violation, refutation_findings, violation_findings,
+};
+use pb_election::{Election, Outcome};
+use pb_samples::files::{DEAR_ELECTION, ELECTION, REFUTATION, SMALL_SHARE_ELECTION, VIOLATION};
+use std::alloc::Global;
+use std::process::Abort;
+use std::test::Fail;
+
+/// What is found, and the verdict, by a measure.
+type Judged = (ViolationFindings, ViolationVerdict);
+
+/// Voters 1 and 2, who demand two projects for 2 each, and get one for 8, judged by a measure.
+fn judged<S: Satisfaction>(alloc: Global, measure: &S) -> Result<Judged, Fail> {
+    let election = Election::read(alloc, SMALL_SHARE_ELECTION.as_bytes())?;
+    let outcome = Outcome::selected(alloc, &election)?;
+    let violation = Violation::read(alloc, VIOLATION.as_bytes(), &election)?;
+    Ok((
+        violation_findings(&election, &outcome, &violation, measure),
+        check_violation(&election, &outcome, &violation, measure),
+    ))
+}
+
+/// The certificate counts, and yet a caller may judge it by cost.
+#[test]
+fn group_is_judged_by_the_measure_that_is_given(rt: HostRuntime) -> Result<(), Fail> {
+    let counted = ViolationFindings {
+        members: 2,
+        cost: 4_000_000,
+        unapproved: MissingApprovals {
+            first: None,
+            count: 0,
+        },
+        demanded: 2,
+        satisfied: SatisfiedMembers {
+            first: None,
+            count: 0,
+        },
+        gets: 1,
+    };
+    let by_cost = ViolationFindings {
+        demanded: 4_000_000,
+        satisfied: SatisfiedMembers {
+            first: Some(1),
+            count: 2,
+        },
+        gets: 8_000_000,
+        ..counted
+    };
+    let counted = (counted, ViolationVerdict::Violation);
+    let by_cost = (by_cost, ViolationVerdict::Failed(ViolationFailure::V4(1)));
+    for (found, want) in [
+        (judged(rt.alloc(), &Count)?, counted),
+        (judged(rt.alloc(), &Measure::ByCount)?, counted),
+        (judged(rt.alloc(), &Cost)?, by_cost),
+        (judged(rt.alloc(), &Measure::ByCost)?, by_cost),
+    ] {
+        assert_eq!(rt; found, want);
+    }
+    Ok(())
+}
+
+#[test]
+fn project_is_worth_one_or_its_cost(rt: HostRuntime) -> Result<(), Fail> {
+    let election = Election::read(rt.alloc(), DEAR_ELECTION.as_bytes())?;
+    assert_eq!(rt; election.projects(), 2);
+    let counted = [
+        Count.worth(&election, 2),
+        Measure::ByCount.worth(&election, 2),
+    ];
+    let by_cost = [
+        Cost.worth(&election, 2),
+        Measure::ByCost.worth(&election, 2),
+    ];
+    assert_eq!(rt; (counted, by_cost), ([1, 1], [6_000_000, 6_000_000]));
+    Ok(())
+}
+
+/// Weights for three projects are to refute prices by these sums.
+fn expect_refuted(rt: &impl Abort, election: &Election, outcome: &Outcome, weights: &Refutation) {
+    assert!(rt; outcome.fits(election) && weights.fits(election));
+    let findings = RefutationFindings {
+        misplaced: MisplacedRows {
+            first: None,
+            count: 0,
+        },
+        cover: 0,
+        counted: 2,
+        taken: 2,
+        at_least: 12_000_000,
+        at_most: 11_000_000,
+    };
+    assert_eq!(rt; refutation_findings(election, outcome, weights), findings);
+    let verdict = check_refutation(election, outcome, weights);
+    assert_eq!(rt; verdict, RefutationVerdict::Unpriceable);
+}
+
+/// Voter 2 wants the pool alone, which costs 7. At least 12 is paid for the park, and at most 4 for the library, so that
+/// more than 7 is left for the pool.
+#[test]
+fn weights_refute_all_prices(rt: HostRuntime) -> Result<(), Fail> {
+    let text = ELECTION.replace(
+        rt.alloc(),
+        "c;9;Pool;0\nVOTES\nvoter_id;vote\n1;a,b\n2;a\n",
+        "\
+        c;7;Pool;0\nVOTES\nvoter_id;vote\n1;a,b\n2;c\n",
+    )?;
+    let election = Election::read(rt.alloc(), text.as_bytes())?;
+    let outcome = Outcome::selected(rt.alloc(), &election)?;
+    let weights = Refutation::read(rt.alloc(), REFUTATION.as_bytes(), &election)?;
+    expect_refuted(&rt, &election, &outcome, &weights);
+    Ok(())
+}

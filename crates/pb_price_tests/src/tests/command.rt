@@ -45,6 +45,14 @@ fn gives_each_task(rt: HostRuntime) -> Result<(), Fail> {
             "Violation(Inputs { election: \"e.pb\", certificate: \"v.csv\", outcome: Some(\"o.csv\") })",
         ),
         (
+            "pbaudit refutation e.pb r.csv",
+            "Refutation(Inputs { election: \"e.pb\", certificate: \"r.csv\", outcome: None })",
+        ),
+        (
+            "pbaudit refutation --outcome o.csv -- -e.pb -r.csv",
+            "Refutation(Inputs { election: \"-e.pb\", certificate: \"-r.csv\", outcome: Some(\"o.csv\") })",
+        ),
+        (
             "pbaudit both e.pb p.csv v.csv --stable --cover",
             "Both { inputs: Inputs { election: \"e.pb\", certificate: \"p.csv\", outcome: None }, violation: \"v.csv\", mode: Mode { stable: true, exhaustive: true, cover: true } }",
         ),
@@ -59,6 +67,14 @@ fn gives_each_task(rt: HostRuntime) -> Result<(), Fail> {
         (
             "pbaudit explain --no-exhaustive --cover -- -e.pb -c.csv",
             "Explain { inputs: Inputs { election: \"-e.pb\", certificate: \"-c.csv\", outcome: None }, mode: Mode { stable: false, exhaustive: false, cover: true } }",
+        ),
+        (
+            "pbaudit page e.pb c.csv --cover",
+            "Page { inputs: Inputs { election: \"e.pb\", certificate: \"c.csv\", outcome: None }, mode: Mode { stable: false, exhaustive: true, cover: true }, language: English }",
+        ),
+        (
+            "pbaudit page e.pb c.csv --language de --outcome o.csv",
+            "Page { inputs: Inputs { election: \"e.pb\", certificate: \"c.csv\", outcome: Some(\"o.csv\") }, mode: Mode { stable: false, exhaustive: true, cover: false }, language: German }",
         ),
         (
             "pbaudit margins e.pb c.csv --outcome o.csv",
@@ -97,9 +113,15 @@ fn tells_help_from_usage(rt: HostRuntime) -> Result<(), Fail> {
         ("pbaudit violation e.pb v.csv --cover", "usage\n"),
         ("pbaudit prices e.pb c.csv --outcome", "usage\n"),
         ("pbaudit violation e.pb v.csv --stable", "usage\n"),
+        ("pbaudit refutation e.pb", "usage\n"),
+        ("pbaudit refutation e.pb r.csv --cover", "usage\n"),
         ("pbaudit both e.pb p.csv", "usage\n"),
         ("pbaudit both e.pb p.csv v.csv w.csv", "usage\n"),
         ("pbaudit explain e.pb", "usage\n"),
+        (
+            "pbaudit page e.pb c.csv --language xx",
+            "usage\nerror: the language of a page has to be en, pl, de or fr\n",
+        ),
         ("pbaudit margins e.pb", "usage\n"),
         ("pbaudit margins e.pb c.csv --stable", "usage\n"),
         ("pbaudit tidy e.pb", "usage\n"),

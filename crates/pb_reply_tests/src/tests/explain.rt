@@ -1,7 +1,7 @@
-//! What is said of findings that were made up for it, with texts that were worked out by hand.
+//! What is said of findings that were made up for it, with texts that were worked out by hand. What is said of those that
+//! files lead to is tried from outside.
 mod amounts;
-mod price_table;
-mod violation_table;
+mod tables;
 
 use pb_price::Finding;
 

@@ -17,13 +17,3 @@ pub fn in_election(fault: ElectionFault, place: u64) -> InputFault {
 pub fn in_certificate(fault: CertFault, place: u64) -> InputFault {
     InputFault::Certificate(CertRefusal { fault, place })
 }
-
-/// The status of a reply on an input whose first record is not the head that it has to be.
-pub fn bad_head(input: InputName) -> Status {
-    refused(input, in_certificate(CertFault::BadHead, 1))
-}
-
-/// The status of a reply on an election that is empty.
-pub fn empty_election() -> Status {
-    refused(InputName::Election, in_election(ElectionFault::NoMeta, 1))
-}

@@ -1,5 +1,4 @@
-//! Replies: the inputs, the lines, and how an answer is written.
+//! Replies: the inputs and the lines.
 mod answers;
 mod lines;
 mod taking;
-mod writing;

@@ -67,25 +67,3 @@ impl Env for FakeWords<'_> {
         Err(FillError::NotPresent)
     }
 }
-
-/// A terminal that keeps what is written on it.
-#[derive(Drop)]
-pub struct FakeTerminal {
-    pub written: Vec<u8>,
-}
-
-impl IsTerminal for FakeTerminal {
-    fn is_terminal(&self) -> bool {
-        true
-    }
-}
-
-impl Write for FakeTerminal {
-    fn write(&mut self, buf: &[u8]) -> io::Result<usize> {
-        self.written.write(buf)
-    }
-
-    fn flush(&mut self) -> io::Result<()> {
-        Ok(())
-    }
-}

@@ -30,30 +30,10 @@ impl<'a> Room<'a> {
         Ok(self.path.clone()?)
     }
 
-    /// The path of this name in the folder.
-    pub fn path_of(&self, name: &str) -> Result<String, Fail> {
-        Ok(format!(in self.rt.alloc(); "{}/{name}", self.path)?)
-    }
-
     /// Writes a file of this name, and gives its path.
     pub fn write(&self, name: &str, bytes: &[u8]) -> Result<String, Fail> {
-        let path = self.path_of(name)?;
+        let path = format!(in self.rt.alloc(); "{}/{name}", self.path)?;
         fs::write(self.rt, &path, bytes)?;
         Ok(path)
-    }
-
-    /// These words, where each word with a dot in it is the path of that name in the folder.
-    pub fn line_of(&self, words: &str) -> Result<String, Fail> {
-        let mut line = String::new(self.rt.alloc());
-        for (number, word) in words.split(' ').enumerate() {
-            if number > 0 {
-                line.push(' ')?;
-            }
-            if word.contains('.') {
-                write!(line, "{}/", self.path)?;
-            }
-            line.push_str(word)?;
-        }
-        Ok(line)
     }
 }

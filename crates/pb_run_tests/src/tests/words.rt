@@ -23,20 +23,6 @@ fn words_are_taken_in_order(rt: HostRuntime) -> Result<(), Fail> {
 }
 
 #[test]
-fn word_that_is_not_text_is_a_usage_fault(rt: HostRuntime) -> Result<(), Fail> {
-    let alloc = rt.alloc();
-    let list = [b"pbaudit".as_slice(), b"read", b"\xff.pb"];
-    let words = words_of(&(FakeWords(&list), alloc));
-    let (mut out, mut err) = (FakeWriter::new(alloc), FakeWriter::new(alloc));
-    let mut input = b"".as_slice();
-    assert_eq!(rt; run(&rt, words, &mut input, &mut out, &mut err), 3);
-    assert!(rt; out.written.is_empty());
-    let told = b"error: an argument is not UTF-8\n".as_slice();
-    assert!(rt; err.written.as_slice() == told);
-    Ok(())
-}
-
-#[test]
 fn words_that_find_no_memory_are_a_memory_fault(rt: HostRuntime) -> Result<(), Fail> {
     let alloc = rt.alloc();
     let words = Err(without_words(&io::Error::from(ErrorKind::OutOfMemory)));

@@ -25,6 +25,16 @@ pub fn wording(sentence: Sentence) -> &'static str {
             "Alle Mitglieder der Gruppe haben für die verlangten Projekte gestimmt, und der Anteil \
              der Gruppe am Gesamtbudget würde dafür reichen. Doch von den geförderten Projekten \
              bekommt jedes Mitglied weniger, als die verlangten wert sind.",
+        Sentence::WhyUnpriceable =>
+            "Wie groß das gleiche Budget aller Abstimmenden auch wäre und wie sie sich die Kosten \
+             der Projekte, für die sie sind, auch teilten: Eine Bedingung an die Preise wäre \
+             verletzt, in der einfachen Form wie in der stabilen. Die Gewichte dieses Zertifikats \
+             beweisen es.",
+        Sentence::WhyUnpriceableUnderCover =>
+            "Wie sich die Abstimmenden die Kosten der Projekte, für die sie sind, auch teilten: \
+             Eine Bedingung an die Preise wäre verletzt, in der einfachen Form wie in der \
+             stabilen, wenn ihre gleich großen Budgets zusammen mehr als das Gesamtbudget ergeben. \
+             Die Gewichte dieses Zertifikats beweisen es. Über kleinere Budgets sagen sie nichts.",
         Sentence::SaysLittle =>
             "Doch dieses Ja sagt wenig: Die Budgets aller Abstimmenden ergeben zusammen {budgets}, \
              und das ist weniger als das Gesamtbudget von {limit}. Jede Gruppe kann also weniger \
@@ -34,6 +44,21 @@ pub fn wording(sentence: Sentence) -> &'static str {
             "Doch dieses Ja sagt weniger, als es könnte: Die Budgets aller Abstimmenden ergeben \
              zusammen {budgets}, und das ist weniger als das Gesamtbudget von {limit}. Jede Gruppe \
              kann also weniger ausgeben als ihren Anteil am Gesamtbudget.",
+        Sentence::GroupsWithinReach =>
+            "Wo sich eine Gruppe von Abstimmenden über ein nicht gefördertes Projekt einig ist, \
+             ist ihr Anteil am Gesamtbudget nicht größer als die Kosten dieses Projekts und von \
+             allem, was für die Gruppe gefördert wird, zusammen.",
+        Sentence::NoGroupPassedOver =>
+            "Keine Gruppe von Abstimmenden wird übergangen: Wo sich eine Gruppe über ein nicht \
+             gefördertes Projekt einig ist, ist ihr Anteil am Gesamtbudget kleiner als die Kosten \
+             dieses Projekts und von allem, was für die Gruppe gefördert wird, zusammen.",
+        Sentence::NearestGroup(Plural::One) =>
+            "Am nächsten kommt Projekt {project}: Der Anteil seiner {count} unterstützenden Person \
+             ist {share}. Es kostet {cost}, und für sie wird Weiteres für {funded} gefördert.",
+        Sentence::NearestGroup(Plural::Few | Plural::Many) =>
+            "Am nächsten kommt Projekt {project}: Der Anteil seiner {count} Unterstützenden ist \
+             {share}. Es kostet {cost}, und für mindestens eine dieser Personen wird Weiteres für \
+             {funded} gefördert.",
         Sentence::AskedPlain =>
             "Geprüft wurde die einfache Form: Haben die Unterstützenden eines anderen Projekts \
              zusammen mehr übrig, als es kostet?",
@@ -51,6 +76,11 @@ pub fn wording(sentence: Sentence) -> &'static str {
             "Nicht geprüft: Ergeben die Budgets aller Abstimmenden mehr als das Gesamtbudget?",
         Sentence::AskedByCount => "Gezählt wird nach Projekten: Jedes ist 1 wert.",
         Sentence::AskedByCost => "Gezählt wird nach Kosten: Jedes Projekt ist wert, was es kostet.",
+        Sentence::AskedRefutation =>
+            "Geprüft wurde: Beweisen die Gewichte, dass keine Preise dieses Ergebnis stützen?",
+        Sentence::AskedRefutationUnderCover =>
+            "Geprüft wurde: Beweisen die Gewichte, dass keine Preise mit Budgets über dem \
+             Gesamtbudget dieses Ergebnis stützen?",
         Sentence::StableToo =>
             "In der stabilen Form, die mehr verlangt, wäre die Antwort ebenfalls ja.",
         Sentence::NotStable(Plural::One) =>
@@ -159,6 +189,22 @@ pub fn wording(sentence: Sentence) -> &'static str {
         Sentence::IsFunded => "gefördert",
         Sentence::IsUnfunded => "nicht gefördert",
         Sentence::PartOfShare => "Teil des Anteils der Gruppe",
+        Sentence::Weights => "Die Gewichte",
+        Sentence::HowWeights =>
+            "Jedes Gewicht sagt, wie oft eine Bedingung an dieses Projekt gezählt wird. \
+             Zusammengezählt widersprechen die Bedingungen einander.",
+        Sentence::HowWeightsFail =>
+            "Jedes Gewicht sagt, wie oft eine Bedingung an dieses Projekt gezählt wird. \
+             Zusammengezählt sollten die Bedingungen einander widersprechen.",
+        Sentence::NoWeights => "Das Zertifikat gibt keinem Projekt ein Gewicht.",
+        Sentence::CoverWeight => "Gewicht größerer Budgets",
+        Sentence::PaidAtLeast => "Nach Gewichten mindestens zu zahlen",
+        Sentence::PaidAtMost => "Nach Gewichten höchstens zu zahlen",
+        Sentence::Counts => "Was gezählt wird",
+        Sentence::CountsLeast => "mindestens seine Kosten werden gezahlt",
+        Sentence::CountsMost => "höchstens seine Kosten werden gezahlt",
+        Sentence::CountsLeft => "den Unterstützenden bleiben höchstens seine Kosten",
+        Sentence::Weight => "Gewicht",
         Sentence::Conditions => "Die Bedingungen im Einzelnen",
         Sentence::Tests => "Die Prüfungen im Einzelnen",
         Sentence::Holds => "erfüllt",
@@ -179,6 +225,9 @@ pub fn wording(sentence: Sentence) -> &'static str {
         Sentence::NameV2 => "Alle Mitglieder wollen dasselbe",
         Sentence::NameV3 => "Die Gruppe ist groß genug",
         Sentence::NameV4 => "Kein Mitglied bekommt so viel",
+        Sentence::NameU1 => "Jedes Gewicht ist von der richtigen Art",
+        Sentence::NameU2 => "Die Budgets decken, was gezählt wird",
+        Sentence::NameU3 => "Die Summen widersprechen einander",
         Sentence::AsksFeasible =>
             "Die geförderten Projekte dürfen zusammen nicht mehr kosten als das Gesamtbudget. \
              Mehr, als da ist, kann niemand versprechen.",
@@ -214,6 +263,15 @@ pub fn wording(sentence: Sentence) -> &'static str {
         Sentence::AsksV4 =>
             "Jedes Mitglied bekommt von den geförderten Projekten weniger, als die verlangten wert \
              sind. Eine Gruppe, in der jemand so viel oder mehr bekommt, wurde gehört.",
+        Sentence::AsksU1 =>
+            "Bei einem geförderten Projekt darf gezählt werden, was dafür gezahlt wird, bei einem \
+             anderen, was seine Unterstützenden übrig haben.",
+        Sentence::AsksU2 =>
+            "Das Budget einer Person darf so oft gezählt werden, wie bei den nicht geförderten \
+             Projekten, für die sie ist, gezählt wird, was sie übrig hat, und nicht öfter.",
+        Sentence::AsksU3 =>
+            "Was mindestens zu zahlen ist, muss mehr sein, als höchstens gezahlt werden kann. Nur \
+             dann gibt es keine solchen Preise.",
         Sentence::FoundFeasible =>
             "Die geförderten Projekte kosten zusammen {total}; das Gesamtbudget ist {limit}.",
         Sentence::BrokenFeasible =>
@@ -280,10 +338,34 @@ pub fn wording(sentence: Sentence) -> &'static str {
         Sentence::BrokenV4 =>
             "Person {voter} gehört zur Gruppe und bekommt von den geförderten Projekten {gets}, \
              also so viel, wie die verlangten zusammen wert sind ({demanded}), oder mehr.",
+        Sentence::FoundU1 => "Jede Zeile ist von einer Art, die zu ihrem Projekt passt.",
+        Sentence::BrokenU1Funded =>
+            "Projekt {project} ist gefördert, und seine Zeile zählt, was seine Unterstützenden \
+             übrig haben.",
+        Sentence::BrokenU1Unfunded =>
+            "Projekt {project} ist nicht gefördert, und seine Zeile zählt, was dafür gezahlt wird.",
+        Sentence::FoundU2 =>
+            "Die Zahlungen zählen das Budget einer Person höchstens {counted} Mal, über alle \
+             Abstimmenden; was sie übrig haben, zählt es {taken} Mal.",
+        Sentence::BrokenU2 =>
+            "Die Zahlungen können das Budget einer Person {counted} Mal zählen, über alle \
+             Abstimmenden; was sie übrig haben, zählt es nur {taken} Mal.",
+        Sentence::FoundU3 =>
+            "Nach diesen Gewichten ist mindestens {least} zu zahlen, und höchstens {most} kann \
+             gezahlt werden.",
+        Sentence::FoundU3UnderCover =>
+            "Nach diesen Gewichten ist mehr als {least} zu zahlen, wenn die Budgets mehr als das \
+             Gesamtbudget ergeben, und höchstens {most} kann gezahlt werden.",
+        Sentence::BrokenU3 =>
+            "Nach diesen Gewichten ist mindestens {least} zu zahlen, und {most} kann gezahlt \
+             werden: Das ist kein Widerspruch.",
         Sentence::NotSaid => "Was diese Seite nicht beantwortet",
         Sentence::NotSaidOthers =>
             "Ob andere Projekte ebenso gerecht gewesen wären. Oft lassen sich mehrere Ergebnisse \
              stützen.",
+        Sentence::NotSaidGroups =>
+            "Ob keine Gruppe von Abstimmenden übergangen wird. Um das zu zeigen, müssen die \
+             Budgets aller Abstimmenden zusammen mindestens das Gesamtbudget ergeben.",
         Sentence::NotSaidPayments =>
             "Ob das Ergebnis ungerecht ist. Dieses Nein gilt nur für diese Zahlungen, und andere \
              können dieselben Projekte stützen.",
@@ -294,6 +376,12 @@ pub fn wording(sentence: Sentence) -> &'static str {
             "Ob das Ergebnis allen Gruppen gerecht wird. Die Antwort gilt nur für diese Gruppe und \
              diese Forderung.",
         Sentence::NotSaidWhich => "Welche Projekte stattdessen hätten gefördert werden sollen.",
+        Sentence::NotSaidUnfair =>
+            "Ob eine bestimmte Gruppe schlecht behandelt wurde. Das zeigt nur ein Zertifikat über \
+             eine Verletzung.",
+        Sentence::NotSaidWeights =>
+            "Ob es Preise gibt, die das Ergebnis stützen. Dieses Nein gilt nur für diese Gewichte, \
+             und andere können es widerlegen.",
         Sentence::NotSaidFiles =>
             "Ob diese Dateien die sind, die die Gemeinde veröffentlicht hat. Vergleichen Sie ihre \
              Prüfsummen mit den veröffentlichten.",
@@ -329,6 +417,16 @@ pub fn wording(sentence: Sentence) -> &'static str {
             "Die Budgets aller Abstimmenden zusammen sind kleiner als das Gesamtbudget.",
         Sentence::ClaimNoViolation =>
             "Dieses Zertifikat zeigt keine Verletzung. Es zeigt nicht, dass es keine gibt.",
+        Sentence::ClaimUnpriceable =>
+            "Keine Preise stützen dieses Ergebnis, gleich welches gleich große Budget die \
+             Abstimmenden bekommen und wie sie sich die Kosten der Projekte teilen, für die sie \
+             sind.",
+        Sentence::ClaimUnpriceableUnderCover =>
+            "Keine Preise stützen dieses Ergebnis, wenn die gleich großen Budgets der Abstimmenden \
+             zusammen mehr als das Gesamtbudget ergeben.",
+        Sentence::ClaimNotRefuted =>
+            "Dieses Zertifikat beweist nicht, dass keine Preise das Ergebnis stützen. Mehr lässt \
+             sich nicht sagen.",
         Sentence::ClaimHow =>
             "Nennen Sie die Dateien mit ihren Prüfsummen, damit es jeder nachprüfen kann.",
         Sentence::Words => "Begriffe auf dieser Seite",
@@ -352,6 +450,8 @@ pub fn wording(sentence: Sentence) -> &'static str {
             "Der Teil des Gesamtbudgets, der einer Gruppe nach der Zahl ihrer Mitglieder zukommt.",
         Sentence::WordDemand => "Forderung",
         Sentence::MeansDemand => "Die Projekte, die das Zertifikat für die Gruppe verlangt.",
+        Sentence::WordWeight => "Gewicht",
+        Sentence::MeansWeight => "Wie oft das Zertifikat eine Bedingung an ein Projekt zählt.",
         Sentence::Files => "Die Dateien, und wie Sie das nachprüfen",
         Sentence::ElectionFile => "Abstimmung",
         Sentence::OutcomeFile => "Ergebnis",

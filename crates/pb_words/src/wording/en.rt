@@ -23,6 +23,15 @@ pub fn wording(sentence: Sentence) -> &'static str {
             "All its members approve the projects that it demands, and its share of the limit \
              would pay for them. Yet from the funded projects each member gets less than the \
              demanded ones are worth.",
+        Sentence::WhyUnpriceable =>
+            "Whatever equal budget the voters had, and however they shared the costs of the \
+             projects that they approve, a condition on prices would fail, in the plain form and \
+             in the stable one. The weights of this certificate prove it.",
+        Sentence::WhyUnpriceableUnderCover =>
+            "However the voters shared the costs of the projects that they approve, a condition on \
+             prices would fail, in the plain form and in the stable one, if their equal budgets \
+             come to more than the limit together. The weights of this certificate prove it. Of \
+             smaller budgets they say nothing.",
         Sentence::SaysLittle =>
             "But this yes says little: the budgets of all voters come to {budgets} together, which \
              is less than the limit of {limit}. So each group has less to spend than its share of \
@@ -31,6 +40,20 @@ pub fn wording(sentence: Sentence) -> &'static str {
             "But this yes says less than it could: the budgets of all voters come to {budgets} \
              together, which is less than the limit of {limit}. So each group has less to spend \
              than its share of the limit.",
+        Sentence::GroupsWithinReach =>
+            "Where a group of voters agrees on a project that wasn’t funded, its share of the \
+             limit is no more than that project costs and all that was funded for the group, \
+             together.",
+        Sentence::NoGroupPassedOver =>
+            "No group of voters is passed over: where a group agrees on a project that wasn’t \
+             funded, its share of the limit is less than that project costs and all that was \
+             funded for the group, together.",
+        Sentence::NearestGroup(Plural::One) =>
+            "Project {project} comes nearest: the share of its {count} supporter is {share}. It \
+             costs {cost}, and {funded} was funded for that voter.",
+        Sentence::NearestGroup(Plural::Few | Plural::Many) =>
+            "Project {project} comes nearest: the share of its {count} supporters is {share}. It \
+             costs {cost}, and {funded} was funded for at least one of them.",
         Sentence::AskedPlain =>
             "Asked in the plain form: do the supporters of another project have more left together \
              than it costs?",
@@ -45,6 +68,11 @@ pub fn wording(sentence: Sentence) -> &'static str {
             "Not asked: do the budgets of all voters come to more than the limit?",
         Sentence::AskedByCount => "Asked by counting: each project is worth 1.",
         Sentence::AskedByCost => "Asked by cost: each project is worth what it costs.",
+        Sentence::AskedRefutation =>
+            "Asked: do the weights prove that no prices at all support this outcome?",
+        Sentence::AskedRefutationUnderCover =>
+            "Asked: do the weights prove that no prices with budgets above the limit support this \
+             outcome?",
         Sentence::StableToo =>
             "In the stable form, which asks more, the answer would be yes as well.",
         Sentence::NotStable(Plural::One) =>
@@ -151,6 +179,22 @@ pub fn wording(sentence: Sentence) -> &'static str {
         Sentence::IsFunded => "funded",
         Sentence::IsUnfunded => "not funded",
         Sentence::PartOfShare => "Part of the group’s share",
+        Sentence::Weights => "The weights",
+        Sentence::HowWeights =>
+            "Each weight says how often a condition on this project is counted. Added up, the \
+             conditions contradict each other.",
+        Sentence::HowWeightsFail =>
+            "Each weight says how often a condition on this project is counted. Added up, the \
+             conditions were to contradict each other.",
+        Sentence::NoWeights => "The certificate gives no project a weight.",
+        Sentence::CoverWeight => "Weight of larger budgets",
+        Sentence::PaidAtLeast => "By weight, at least to be paid",
+        Sentence::PaidAtMost => "By weight, at most to be paid",
+        Sentence::Counts => "What is counted",
+        Sentence::CountsLeast => "at least its cost is paid",
+        Sentence::CountsMost => "at most its cost is paid",
+        Sentence::CountsLeft => "its supporters have at most its cost left",
+        Sentence::Weight => "Weight",
         Sentence::Conditions => "The conditions, one by one",
         Sentence::Tests => "The tests, one by one",
         Sentence::Holds => "holds",
@@ -171,6 +215,9 @@ pub fn wording(sentence: Sentence) -> &'static str {
         Sentence::NameV2 => "All members want the same",
         Sentence::NameV3 => "The group is large enough",
         Sentence::NameV4 => "Nobody in it gets as much",
+        Sentence::NameU1 => "Each weight is of the right kind",
+        Sentence::NameU2 => "The budgets cover what is counted",
+        Sentence::NameU3 => "The sums contradict each other",
         Sentence::AsksFeasible =>
             "The funded projects may not cost more than the limit together. No more can be \
              promised than there is.",
@@ -205,6 +252,15 @@ pub fn wording(sentence: Sentence) -> &'static str {
         Sentence::AsksV4 =>
             "Each member gets less from the funded projects than the demanded ones are worth. A \
              group in which one member gets as much or more was heard.",
+        Sentence::AsksU1 =>
+            "Of a funded project it may be counted what is paid for it, and of another one what \
+             its supporters have left.",
+        Sentence::AsksU2 =>
+            "A voter’s budget may be counted as often as what it has left is counted, over the \
+             projects that it approves and that were not funded, and not more often.",
+        Sentence::AsksU3 =>
+            "What is to be paid at least has to be more than what can be paid at most. Only then \
+             are there no such prices.",
         Sentence::FoundFeasible =>
             "The funded projects cost {total} together; the limit is {limit}.",
         Sentence::BrokenFeasible =>
@@ -262,9 +318,31 @@ pub fn wording(sentence: Sentence) -> &'static str {
         Sentence::BrokenV4 =>
             "Voter {voter} is in the group and gets {gets} from the funded projects, as much as \
              the demanded ones are worth together ({demanded}) or more.",
+        Sentence::FoundU1 => "Each row is of a kind for its project.",
+        Sentence::BrokenU1Funded =>
+            "Project {project} is funded, and its row counts what its supporters have left.",
+        Sentence::BrokenU1Unfunded =>
+            "Project {project} isn’t funded, and its row counts what is paid for it.",
+        Sentence::FoundU2 =>
+            "Payments count a voter’s budget {counted} times at the most, over all voters; what \
+             voters have left counts it {taken} times.",
+        Sentence::BrokenU2 =>
+            "Payments may count a voter’s budget {counted} times, over all voters; what voters \
+             have left counts it only {taken} times.",
+        Sentence::FoundU3 =>
+            "By these weights at least {least} is to be paid, and at most {most} can be.",
+        Sentence::FoundU3UnderCover =>
+            "By these weights more than {least} is to be paid, if the budgets come to more than \
+             the limit, and at most {most} can be.",
+        Sentence::BrokenU3 =>
+            "By these weights at least {least} is to be paid, and {most} can be: that is no \
+             contradiction.",
         Sentence::NotSaid => "What this doesn’t say",
         Sentence::NotSaidOthers =>
             "Whether other projects would have been as fair. Several outcomes can be supported.",
+        Sentence::NotSaidGroups =>
+            "That no group of voters is passed over. To show that, the budgets of all voters have \
+             to come to the limit at least.",
         Sentence::NotSaidPayments =>
             "That the outcome is unfair. This no speaks of these payments alone, and others may \
              support the same projects.",
@@ -275,6 +353,12 @@ pub fn wording(sentence: Sentence) -> &'static str {
             "That the outcome treats all groups well. This speaks of this group and this demand \
              alone.",
         Sentence::NotSaidWhich => "Which projects should have been funded instead.",
+        Sentence::NotSaidUnfair =>
+            "That a certain group was treated badly. That would be for a violation certificate to \
+             show.",
+        Sentence::NotSaidWeights =>
+            "That there are prices that support the outcome. This no speaks of these weights \
+             alone, and others may refute it.",
         Sentence::NotSaidFiles =>
             "Whether these files are what the council published. Compare their checksums with the \
              published ones.",
@@ -305,6 +389,15 @@ pub fn wording(sentence: Sentence) -> &'static str {
         Sentence::ClaimLess => "The budgets of all voters together are less than the limit.",
         Sentence::ClaimNoViolation =>
             "This certificate shows no violation. It doesn’t show that there is none.",
+        Sentence::ClaimUnpriceable =>
+            "No prices support this outcome: whatever equal budget the voters are given, and \
+             however they share the costs of the projects that they approve.",
+        Sentence::ClaimUnpriceableUnderCover =>
+            "No prices support this outcome if the voters’ equal budgets come to more than the \
+             limit together.",
+        Sentence::ClaimNotRefuted =>
+            "This certificate doesn’t prove that no prices support the outcome. More can’t be \
+             said.",
         Sentence::ClaimHow =>
             "Say which files this is about, with their checksums, so that anybody can check it.",
         Sentence::Words => "Words on this page",
@@ -329,6 +422,8 @@ pub fn wording(sentence: Sentence) -> &'static str {
         Sentence::WordDemand => "Demand",
         Sentence::MeansDemand =>
             "The projects that the certificate asks for on the group’s behalf.",
+        Sentence::WordWeight => "Weight",
+        Sentence::MeansWeight => "How often the certificate counts a condition on a project.",
         Sentence::Files => "The files, and how to check this",
         Sentence::ElectionFile => "Election",
         Sentence::OutcomeFile => "Outcome",

@@ -24,6 +24,17 @@ pub fn wording(sentence: Sentence) -> &'static str {
             "Tous ses membres approuvent les projets qu’il demande, et sa part de l’enveloppe \
              suffirait à les payer. Pourtant, ce que chaque membre obtient grâce aux projets \
              financés vaut moins que les projets demandés.",
+        Sentence::WhyUnpriceable =>
+            "Quel que soit le budget égal des votants, et de quelque façon qu’ils se partagent les \
+             coûts des projets qu’ils approuvent, une condition sur les prix ne serait pas \
+             remplie, sous la forme simple comme sous la forme stable. Les poids de ce certificat \
+             le prouvent.",
+        Sentence::WhyUnpriceableUnderCover =>
+            "De quelque façon que les votants se partagent les coûts des projets qu’ils \
+             approuvent, une condition sur les prix ne serait pas remplie, sous la forme simple \
+             comme sous la forme stable, si leurs budgets égaux font ensemble plus que \
+             l’enveloppe. Les poids de ce certificat le prouvent. De budgets plus petits, ils ne \
+             disent rien.",
         Sentence::SaysLittle =>
             "Mais ce oui dit peu\u{a0}: les budgets de tous les votants font ensemble {budgets}, \
              moins que l’enveloppe de {limit}. Chaque groupe a donc moins à dépenser que sa part \
@@ -32,6 +43,20 @@ pub fn wording(sentence: Sentence) -> &'static str {
             "Mais ce oui dit moins qu’il ne pourrait\u{a0}: les budgets de tous les votants font \
              ensemble {budgets}, moins que l’enveloppe de {limit}. Chaque groupe a donc moins à \
              dépenser que sa part de l’enveloppe.",
+        Sentence::GroupsWithinReach =>
+            "Là où un groupe de votants s’accorde sur un projet non financé, sa part de \
+             l’enveloppe ne dépasse pas ce que coûtent ensemble ce projet et tout ce qui a été \
+             financé pour le groupe.",
+        Sentence::NoGroupPassedOver =>
+            "Aucun groupe de votants n’est oublié\u{a0}: là où un groupe s’accorde sur un projet \
+             non financé, sa part de l’enveloppe est inférieure à ce que coûtent ensemble ce \
+             projet et tout ce qui a été financé pour le groupe.",
+        Sentence::NearestGroup(Plural::One) =>
+            "Le projet {project} en est le plus proche\u{a0}: la part de son {count} soutien est \
+             de {share}. Il coûte {cost}, et {funded} ont été financés pour ce votant.",
+        Sentence::NearestGroup(Plural::Few | Plural::Many) =>
+            "Le projet {project} en est le plus proche\u{a0}: la part de ses {count} soutiens est \
+             de {share}. Il coûte {cost}, et {funded} ont été financés pour au moins l’un d’eux.",
         Sentence::AskedPlain =>
             "Question posée sous la forme simple\u{a0}: reste-t-il ensemble aux soutiens d’un \
              autre projet plus que son coût\u{202f}?",
@@ -51,6 +76,11 @@ pub fn wording(sentence: Sentence) -> &'static str {
              l’enveloppe\u{202f}?",
         Sentence::AskedByCount => "On compte les projets\u{a0}: chacun vaut 1.",
         Sentence::AskedByCost => "On compte les coûts\u{a0}: chaque projet vaut ce qu’il coûte.",
+        Sentence::AskedRefutation =>
+            "Question\u{a0}: les poids prouvent-ils qu’aucun prix ne justifie ce résultat\u{202f}?",
+        Sentence::AskedRefutationUnderCover =>
+            "Question\u{a0}: les poids prouvent-ils qu’aucun prix dont les budgets dépassent \
+             l’enveloppe ne justifie ce résultat\u{202f}?",
         Sentence::StableToo => "Sous la forme stable, plus exigeante, la réponse serait oui aussi.",
         Sentence::NotStable(Plural::One) =>
             "Sous la forme stable, plus exigeante, la réponse serait non\u{a0}: pour {count} \
@@ -162,6 +192,22 @@ pub fn wording(sentence: Sentence) -> &'static str {
         Sentence::IsFunded => "financé",
         Sentence::IsUnfunded => "non financé",
         Sentence::PartOfShare => "Part de ce qui revient au groupe",
+        Sentence::Weights => "Les poids",
+        Sentence::HowWeights =>
+            "Chaque poids dit combien de fois une condition sur ce projet est comptée. \
+             Additionnées, les conditions se contredisent.",
+        Sentence::HowWeightsFail =>
+            "Chaque poids dit combien de fois une condition sur ce projet est comptée. \
+             Additionnées, les conditions devaient se contredire.",
+        Sentence::NoWeights => "Le certificat ne donne de poids à aucun projet.",
+        Sentence::CoverWeight => "Poids de budgets plus grands",
+        Sentence::PaidAtLeast => "Selon les poids, à payer au moins",
+        Sentence::PaidAtMost => "Selon les poids, à payer au plus",
+        Sentence::Counts => "Ce qui est compté",
+        Sentence::CountsLeast => "au moins son coût est payé",
+        Sentence::CountsMost => "au plus son coût est payé",
+        Sentence::CountsLeft => "il reste à ses soutiens au plus son coût",
+        Sentence::Weight => "Poids",
         Sentence::Conditions => "Les conditions, une à une",
         Sentence::Tests => "Les tests, un à un",
         Sentence::Holds => "respectée",
@@ -182,6 +228,9 @@ pub fn wording(sentence: Sentence) -> &'static str {
         Sentence::NameV2 => "Tous les membres veulent la même chose",
         Sentence::NameV3 => "Le groupe est assez grand",
         Sentence::NameV4 => "Personne n’y obtient autant",
+        Sentence::NameU1 => "Chaque poids est du bon genre",
+        Sentence::NameU2 => "Les budgets couvrent ce qui est compté",
+        Sentence::NameU3 => "Les sommes se contredisent",
         Sentence::AsksFeasible =>
             "Les projets financés ne peuvent coûter ensemble plus que l’enveloppe. On ne peut \
              promettre plus que ce qu’il y a.",
@@ -216,6 +265,15 @@ pub fn wording(sentence: Sentence) -> &'static str {
         Sentence::AsksV4 =>
             "Ce que chaque membre obtient grâce aux projets financés vaut moins que les projets \
              demandés. Un groupe où quelqu’un obtient autant ou plus a été entendu.",
+        Sentence::AsksU1 =>
+            "D’un projet financé on peut compter ce qui est payé pour lui, et d’un autre ce qui \
+             reste à ses soutiens.",
+        Sentence::AsksU2 =>
+            "Le budget d’un votant peut être compté aussi souvent qu’est compté ce qui lui reste, \
+             pour les projets non financés qu’il approuve, et pas plus souvent.",
+        Sentence::AsksU3 =>
+            "Ce qui est à payer au moins doit dépasser ce qui peut être payé au plus. C’est alors \
+             seulement qu’il n’y a pas de tels prix.",
         Sentence::FoundFeasible =>
             "Les projets financés coûtent ensemble {total}\u{202f}; l’enveloppe est de {limit}.",
         Sentence::BrokenFeasible =>
@@ -281,10 +339,32 @@ pub fn wording(sentence: Sentence) -> &'static str {
         Sentence::BrokenV4 =>
             "Le votant {voter} est dans le groupe et obtient {gets} grâce aux projets financés, \
              autant que ce que valent ensemble les projets demandés ({demanded}) ou plus.",
+        Sentence::FoundU1 => "Chaque ligne est d’un genre qui convient à son projet.",
+        Sentence::BrokenU1Funded =>
+            "Le projet {project} est financé, et sa ligne compte ce qui reste à ses soutiens.",
+        Sentence::BrokenU1Unfunded =>
+            "Le projet {project} n’est pas financé, et sa ligne compte ce qui est payé pour lui.",
+        Sentence::FoundU2 =>
+            "Les paiements comptent le budget d’un votant {counted} fois au plus, pour tous les \
+             votants\u{202f}; ce qui leur reste le compte {taken} fois.",
+        Sentence::BrokenU2 =>
+            "Les paiements peuvent compter le budget d’un votant {counted} fois, pour tous les \
+             votants\u{202f}; ce qui leur reste ne le compte que {taken} fois.",
+        Sentence::FoundU3 =>
+            "Selon ces poids, au moins {least} est à payer, et au plus {most} peut l’être.",
+        Sentence::FoundU3UnderCover =>
+            "Selon ces poids, plus de {least} est à payer, si les budgets dépassent l’enveloppe, \
+             et au plus {most} peut l’être.",
+        Sentence::BrokenU3 =>
+            "Selon ces poids, au moins {least} est à payer, et {most} peut l’être\u{a0}: ce n’est \
+             pas une contradiction.",
         Sentence::NotSaid => "Ce que cela ne dit pas",
         Sentence::NotSaidOthers =>
             "Si d’autres projets auraient été aussi équitables. Plusieurs résultats peuvent se \
              justifier.",
+        Sentence::NotSaidGroups =>
+            "Qu’aucun groupe de votants n’est oublié. Pour le montrer, il faut que les budgets de \
+             tous les votants atteignent ensemble au moins l’enveloppe.",
         Sentence::NotSaidPayments =>
             "Que le résultat est injuste. Ce non ne vaut que pour ces paiements, et d’autres \
              peuvent justifier les mêmes projets.",
@@ -295,6 +375,12 @@ pub fn wording(sentence: Sentence) -> &'static str {
             "Que le résultat traite bien tous les groupes. La réponse ne vaut que pour ce groupe \
              et cette demande.",
         Sentence::NotSaidWhich => "Quels projets auraient dû être financés à la place.",
+        Sentence::NotSaidUnfair =>
+            "Qu’un certain groupe a été mal traité. C’est un certificat de violation qui le \
+             montrerait.",
+        Sentence::NotSaidWeights =>
+            "Qu’il y a des prix qui justifient le résultat. Ce non ne vaut que pour ces poids, et \
+             d’autres peuvent le réfuter.",
         Sentence::NotSaidFiles =>
             "Si ces fichiers sont ceux que la commune a publiés. Comparez leurs sommes de contrôle \
              à celles qui sont publiées.",
@@ -330,6 +416,15 @@ pub fn wording(sentence: Sentence) -> &'static str {
             "Les budgets de tous les votants font ensemble moins que l’enveloppe.",
         Sentence::ClaimNoViolation =>
             "Ce certificat ne montre pas de violation. Il ne montre pas qu’il n’y en a pas.",
+        Sentence::ClaimUnpriceable =>
+            "Aucun prix ne justifie ce résultat, quel que soit le budget égal donné aux votants et \
+             de quelque façon qu’ils partagent les coûts des projets qu’ils approuvent.",
+        Sentence::ClaimUnpriceableUnderCover =>
+            "Aucun prix ne justifie ce résultat si les budgets égaux des votants font ensemble \
+             plus que l’enveloppe.",
+        Sentence::ClaimNotRefuted =>
+            "Ce certificat ne prouve pas qu’aucun prix ne justifie le résultat. On ne peut en dire \
+             plus.",
         Sentence::ClaimHow =>
             "Dites de quels fichiers il s’agit, avec leurs sommes de contrôle, pour que chacun \
              puisse vérifier.",
@@ -354,6 +449,9 @@ pub fn wording(sentence: Sentence) -> &'static str {
             "La partie de l’enveloppe qui revient à un groupe selon son nombre de votants.",
         Sentence::WordDemand => "Demande",
         Sentence::MeansDemand => "Les projets que le certificat réclame au nom du groupe.",
+        Sentence::WordWeight => "Poids",
+        Sentence::MeansWeight =>
+            "Combien de fois le certificat compte une condition sur un projet.",
         Sentence::Files => "Les fichiers, et comment vérifier",
         Sentence::ElectionFile => "Vote",
         Sentence::OutcomeFile => "Résultat",

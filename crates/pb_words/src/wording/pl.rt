@@ -25,6 +25,15 @@ pub fn wording(sentence: Sentence) -> &'static str {
             "Wszyscy jej członkowie popierają projekty, których grupa żąda, a przypadająca jej \
              część puli wystarczyłaby na nie. Mimo to każdy członek dostaje z wybranych projektów \
              mniej, niż warte są żądane.",
+        Sentence::WhyUnpriceable =>
+            "Jakikolwiek równy budżet mieliby głosujący i jakkolwiek podzieliliby między siebie \
+             koszty popieranych projektów, jakiś warunek na ceny nie byłby spełniony, w wersji \
+             podstawowej i w stabilnej. Dowodzą tego wagi z tego certyfikatu.",
+        Sentence::WhyUnpriceableUnderCover =>
+            "Jakkolwiek głosujący podzieliliby między siebie koszty popieranych projektów, jakiś \
+             warunek na ceny nie byłby spełniony, w wersji podstawowej i w stabilnej, jeśli ich \
+             równe budżety dają razem więcej niż pula. Dowodzą tego wagi z tego certyfikatu. O \
+             mniejszych budżetach nic nie mówią.",
         Sentence::SaysLittle =>
             "Ta odpowiedź mówi jednak niewiele: budżety wszystkich głosujących dają razem \
              {budgets}, a to mniej niż pula {limit}. Każda grupa może więc wydać mniej, niż wynosi \
@@ -33,6 +42,22 @@ pub fn wording(sentence: Sentence) -> &'static str {
             "Ta odpowiedź mówi jednak mniej, niż mogłaby: budżety wszystkich głosujących dają \
              razem {budgets}, a to mniej niż pula {limit}. Każda grupa może więc wydać mniej, niż \
              wynosi jej część puli.",
+        Sentence::GroupsWithinReach =>
+            "Gdy grupa głosujących zgodnie popiera niewybrany projekt, przypadająca jej część puli \
+             nie przekracza kosztu tego projektu i wszystkiego, co wybrano dla grupy, razem \
+             wziętych.",
+        Sentence::NoGroupPassedOver =>
+            "Żadnej grupy głosujących nie pominięto: gdy grupa zgodnie popiera niewybrany projekt, \
+             przypadająca jej część puli jest mniejsza od kosztu tego projektu i wszystkiego, co \
+             wybrano dla grupy, razem wziętych.",
+        Sentence::NearestGroup(Plural::One) =>
+            "Najbliżej jest projekt {project}: część puli przypadająca jego {count} zwolennikowi \
+             to {share}. Projekt kosztuje {cost}, a dla tego głosującego wybrano projekty za \
+             {funded}.",
+        Sentence::NearestGroup(Plural::Few | Plural::Many) =>
+            "Najbliżej jest projekt {project}: część puli przypadająca jego {count} zwolennikom to \
+             {share}. Projekt kosztuje {cost}, a dla przynajmniej jednego z nich wybrano projekty \
+             za {funded}.",
         Sentence::AskedPlain =>
             "Sprawdzono w wersji podstawowej: czy zwolennikom innego projektu zostało łącznie \
              więcej, niż on kosztuje?",
@@ -48,6 +73,11 @@ pub fn wording(sentence: Sentence) -> &'static str {
             "Nie sprawdzano, czy budżety wszystkich głosujących dają razem więcej niż pula.",
         Sentence::AskedByCount => "Liczy się liczba projektów: każdy jest wart 1.",
         Sentence::AskedByCost => "Liczy się koszt: każdy projekt jest wart tyle, ile kosztuje.",
+        Sentence::AskedRefutation =>
+            "Pytanie: czy wagi dowodzą, że żadne ceny nie uzasadniają tego wyniku?",
+        Sentence::AskedRefutationUnderCover =>
+            "Pytanie: czy wagi dowodzą, że żadne ceny z budżetami większymi niż pula nie \
+             uzasadniają tego wyniku?",
         Sentence::StableToo =>
             "W wersji stabilnej, która wymaga więcej, odpowiedź też byłaby twierdząca.",
         Sentence::NotStable(Plural::One) =>
@@ -160,6 +190,22 @@ pub fn wording(sentence: Sentence) -> &'static str {
         Sentence::IsFunded => "wybrany",
         Sentence::IsUnfunded => "niewybrany",
         Sentence::PartOfShare => "Część tego, co należy się grupie",
+        Sentence::Weights => "Wagi",
+        Sentence::HowWeights =>
+            "Każda waga mówi, ile razy liczy się warunek dotyczący tego projektu. Dodane do siebie \
+             warunki są ze sobą sprzeczne.",
+        Sentence::HowWeightsFail =>
+            "Każda waga mówi, ile razy liczy się warunek dotyczący tego projektu. Dodane do siebie \
+             warunki miały być ze sobą sprzeczne.",
+        Sentence::NoWeights => "Certyfikat nie nadaje wagi żadnemu projektowi.",
+        Sentence::CoverWeight => "Waga większych budżetów",
+        Sentence::PaidAtLeast => "Według wag do zapłaty co najmniej",
+        Sentence::PaidAtMost => "Według wag do zapłaty co najwyżej",
+        Sentence::Counts => "Co się liczy",
+        Sentence::CountsLeast => "płaci się co najmniej jego koszt",
+        Sentence::CountsMost => "płaci się co najwyżej jego koszt",
+        Sentence::CountsLeft => "zwolennikom zostaje co najwyżej jego koszt",
+        Sentence::Weight => "Waga",
         Sentence::Conditions => "Warunki po kolei",
         Sentence::Tests => "Kryteria po kolei",
         Sentence::Holds => "spełniony",
@@ -180,6 +226,9 @@ pub fn wording(sentence: Sentence) -> &'static str {
         Sentence::NameV2 => "Wszyscy chcą tego samego",
         Sentence::NameV3 => "Grupa jest dość duża",
         Sentence::NameV4 => "Nikt z grupy nie dostaje tyle",
+        Sentence::NameU1 => "Każda waga jest właściwego rodzaju",
+        Sentence::NameU2 => "Budżety pokrywają to, co się liczy",
+        Sentence::NameU3 => "Sumy są ze sobą sprzeczne",
         Sentence::AsksFeasible =>
             "Wybrane projekty nie mogą kosztować razem więcej niż pula. Nie można obiecać więcej, \
              niż jest.",
@@ -214,6 +263,15 @@ pub fn wording(sentence: Sentence) -> &'static str {
         Sentence::AsksV4 =>
             "Każdy członek dostaje z wybranych projektów mniej, niż warte są żądane. Grupę, w \
              której ktoś dostaje tyle lub więcej, wysłuchano.",
+        Sentence::AsksU1 =>
+            "Przy wybranym projekcie liczyć można to, co się za niego płaci, a przy innym to, co \
+             zostało jego zwolennikom.",
+        Sentence::AsksU2 =>
+            "Budżet głosującego można policzyć tyle razy, ile razy liczy się to, co mu zostało, we \
+             wszystkich popieranych przez niego niewybranych projektach, i nie więcej razy.",
+        Sentence::AsksU3 =>
+            "To, co trzeba zapłacić co najmniej, musi być większe od tego, co można zapłacić co \
+             najwyżej. Tylko wtedy takich cen nie ma.",
         Sentence::FoundFeasible => "Wybrane projekty kosztują razem {total}; pula to {limit}.",
         Sentence::BrokenFeasible =>
             "Wybrane projekty kosztują razem {total}, a to więcej niż pula {limit}.",
@@ -271,9 +329,31 @@ pub fn wording(sentence: Sentence) -> &'static str {
         Sentence::BrokenV4 =>
             "Głosujący {voter} należy do grupy i dostaje z wybranych projektów {gets}, czyli tyle, \
              ile razem warte są żądane ({demanded}), lub więcej.",
+        Sentence::FoundU1 => "Każdy wiersz jest rodzaju właściwego dla swojego projektu.",
+        Sentence::BrokenU1Funded =>
+            "Projekt {project} jest wybrany, a jego wiersz liczy to, co zostało jego zwolennikom.",
+        Sentence::BrokenU1Unfunded =>
+            "Projekt {project} nie jest wybrany, a jego wiersz liczy to, co się za niego płaci.",
+        Sentence::FoundU2 =>
+            "Płatności liczą budżet głosującego co najwyżej {counted} razy, łącznie dla wszystkich \
+             głosujących; to, co im zostało, liczy go {taken} razy.",
+        Sentence::BrokenU2 =>
+            "Płatności mogą liczyć budżet głosującego {counted} razy, łącznie dla wszystkich \
+             głosujących; to, co im zostało, liczy go tylko {taken} razy.",
+        Sentence::FoundU3 =>
+            "Według tych wag trzeba zapłacić co najmniej {least}, a można co najwyżej {most}.",
+        Sentence::FoundU3UnderCover =>
+            "Według tych wag trzeba zapłacić więcej niż {least}, jeśli budżety dają razem więcej \
+             niż pula, a można co najwyżej {most}.",
+        Sentence::BrokenU3 =>
+            "Według tych wag trzeba zapłacić co najmniej {least}, a można {most}: to nie jest \
+             sprzeczność.",
         Sentence::NotSaid => "Czego to nie mówi",
         Sentence::NotSaidOthers =>
             "Czy inne projekty byłyby równie sprawiedliwe. Uzasadnić można nieraz kilka wyników.",
+        Sentence::NotSaidGroups =>
+            "Że nie pominięto żadnej grupy głosujących. Żeby to wykazać, budżety wszystkich \
+             głosujących muszą razem sięgać co najmniej puli.",
         Sentence::NotSaidPayments =>
             "Że wynik jest niesprawiedliwy. Ta odpowiedź dotyczy tylko tych płatności; inne mogą \
              uzasadniać te same projekty.",
@@ -283,6 +363,12 @@ pub fn wording(sentence: Sentence) -> &'static str {
             "Że wynik dobrze traktuje wszystkie grupy. Odpowiedź dotyczy tylko tej grupy i tego \
              żądania.",
         Sentence::NotSaidWhich => "Które projekty należało wybrać zamiast tych.",
+        Sentence::NotSaidUnfair =>
+            "Że źle potraktowano jakąś określoną grupę. To wykazałby dopiero certyfikat \
+             naruszenia.",
+        Sentence::NotSaidWeights =>
+            "Że istnieją ceny, które uzasadniają ten wynik. Ta odpowiedź dotyczy tylko tych wag; \
+             inne mogą go obalać.",
         Sentence::NotSaidFiles =>
             "Czy to te pliki, które ogłosiła gmina. Porównaj ich sumy kontrolne z ogłoszonymi.",
         Sentence::Claim => "Co można powiedzieć publicznie",
@@ -314,6 +400,15 @@ pub fn wording(sentence: Sentence) -> &'static str {
         Sentence::ClaimLess => "Budżety wszystkich głosujących dają razem mniej niż pula.",
         Sentence::ClaimNoViolation =>
             "Ten certyfikat nie wykazuje naruszenia. Nie wykazuje też, że go nie ma.",
+        Sentence::ClaimUnpriceable =>
+            "Żadne ceny nie uzasadniają tego wyniku: jakikolwiek równy budżet dostaliby głosujący \
+             i jakkolwiek podzieliliby koszty popieranych projektów.",
+        Sentence::ClaimUnpriceableUnderCover =>
+            "Żadne ceny nie uzasadniają tego wyniku, jeśli równe budżety głosujących dają razem \
+             więcej niż pula.",
+        Sentence::ClaimNotRefuted =>
+            "Ten certyfikat nie dowodzi, że żadne ceny nie uzasadniają wyniku. Więcej powiedzieć \
+             nie można.",
         Sentence::ClaimHow =>
             "Podaj, o które pliki chodzi, wraz z sumami kontrolnymi, żeby każdy mógł to sprawdzić.",
         Sentence::Words => "Słowa na tej stronie",
@@ -337,6 +432,8 @@ pub fn wording(sentence: Sentence) -> &'static str {
         Sentence::MeansShare => "Część puli, która przypada grupie według liczby głosujących.",
         Sentence::WordDemand => "Żądanie",
         Sentence::MeansDemand => "Projekty, o które certyfikat upomina się w imieniu grupy.",
+        Sentence::WordWeight => "Waga",
+        Sentence::MeansWeight => "Ile razy certyfikat liczy warunek dotyczący projektu.",
         Sentence::Files => "Pliki i jak to sprawdzić",
         Sentence::ElectionFile => "Głosowanie",
         Sentence::OutcomeFile => "Wynik",

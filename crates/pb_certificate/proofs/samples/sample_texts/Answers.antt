@@ -1,5 +1,5 @@
 use Rattle.std.proofs.Common.{refl, [], ◌∷◌, arith}
-use Rattle.std.specs.Prelude.{codes}
+use Rattle.std.specs.Prelude.{◌++◌, codes}
 use Rattle.std.specs.List.{IsDistinct}
 use Rattle.std.specs.Str.{chars, is_utf8}
 use Rattle.std.specs.Char.{encode_utf8}
@@ -8,7 +8,8 @@ use Rattle.pb_money.specs.Digits.{drop_back, drop_front}
 use Rattle.pb_records.specs.Cells.{is_blank, is_text}
 use Rattle.pb_certificate.specs.Fields.{whole_in}
 use Rattle.pb_certificate.specs.NamedRows.Named.{Voter, Project}
-use Rattle.pb_certificate.specs.Samples.{demand_x1, demand_x2, member_1, price_columns, row_1a, row_1b, row_2a, row_3b, two}
+use Rattle.pb_certificate.specs.Samples.{demand_x1, demand_x2, least_a, left_c, member_1, most_b, price_columns, row_1a, row_1b, row_2a, row_3b, three, two}
+use Rattle.pb_certificate.specs.declared.refutations.weighting.Role.TheVariants.{Least, Most, Left}
 use Rattle.pb_certificate.proofs.OnPrices.Clear.{cons-rises, nil-rises}
 use Rattle.pb_certificate.proofs.samples.sample_texts.Goals as goal
 
@@ -78,4 +79,44 @@ returns-clause-outcome c = record {
   named = record { each_row = refl; once = ((refl, tt), (tt, tt)) };
   projects_alone = (refl, (refl, tt));
   same_outcome = refl;
+}
+
+pub returns-clause-weights : goal.returns-clause-weights
+unfolding field_at drop_front drop_back is_blank is_text whole_in is_utf8 chars encode_utf8 IsDistinct
+returns-clause-weights c = record {
+  head = two (codes "pb-refutation") (codes "1");
+  cover = two (codes "cover") (codes "0");
+  columns = three (codes "role") (codes "project") (codes "weight");
+  rows = least_a ∷ most_b ∷ left_c ∷ [];
+  stated = record { project = 1; states = record { role = Least; weight = 2 } }
+      ∷ record { project = 2; states = record { role = Most; weight = 1 } }
+      ∷ record { project = 3; states = record { role = Left; weight = 1 } } ∷ [];
+  cut = refl;
+  text = (refl, (refl, (refl, (refl, (refl, (refl, tt))))));
+  is_head = refl;
+  is_cover = (codes "0", refl, refl);
+  is_columns = refl;
+  each_row = refl;
+  once = ((refl, (refl, tt)), ((refl, tt), (tt, tt)));
+  same_rows = refl;
+}
+
+pub returns-clause-lenient : goal.returns-clause-lenient
+unfolding field_at drop_front drop_back is_blank is_text whole_in is_utf8 chars encode_utf8 IsDistinct
+returns-clause-lenient c = record {
+  head = two (codes "pb-refutation") (codes " 1");
+  cover = two (codes "cover") (codes "000");
+  columns = three (codes "role") (codes "project") (codes "weight");
+  rows = left_c ∷ (most_b ++ ([] ∷ [] ∷ [])) ∷ three (codes "least") (codes " a") (codes "02") ∷ [];
+  stated = record { project = 3; states = record { role = Left; weight = 1 } }
+      ∷ record { project = 2; states = record { role = Most; weight = 1 } }
+      ∷ record { project = 1; states = record { role = Least; weight = 2 } } ∷ [];
+  cut = refl;
+  text = (refl, (refl, (refl, (refl, (refl, (refl, tt))))));
+  is_head = refl;
+  is_cover = (codes "000", refl, refl);
+  is_columns = refl;
+  each_row = refl;
+  once = ((refl, (refl, tt)), ((refl, tt), (tt, tt)));
+  same_rows = refl;
 }

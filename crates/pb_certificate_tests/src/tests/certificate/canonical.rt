@@ -1,12 +1,13 @@
 //! The canonical text of prices.
 use pb_certificate::{Prices, canonical_text_of};
 use pb_election::{Election, Output};
-use pb_samples::files::{ELECTION, PRICES, QUOTED_ELECTION, QUOTED_PRICES, UNTIDY_PRICES};
+use pb_samples::files::{QUOTED_ELECTION, QUOTED_PRICES};
 use std::alloc::Global;
 use std::process::Abort;
 use std::test::Fail;
 
-/// The untidy sample prices where a is named a"1.
+/// The sample prices where a is named a"1, with blanks, leading zeros, an empty line, empty fields at the end, a payment
+/// of 0, and a voter's rows in another order.
 const UNTIDY_QUOTED_PRICES: &str = "\
 pb-prices, 1
 denominator,1
@@ -20,40 +21,22 @@ voter,project,payment
 3,b,2
 ";
 
-/// The prices of a certificate are to be written as this text.
-fn expect_written(
-    rt: &impl Abort,
-    alloc: Global,
-    election: &str,
-    certificate: &str,
-    want: &str,
-) -> Result<(), Fail> {
-    let election = Election::read(alloc, election.as_bytes())?;
-    let prices = Prices::read(alloc, certificate.as_bytes(), &election)?;
-    assert!(rt; prices.fits(&election));
+/// Prices are to be written in their canonical form.
+fn expect_written(rt: &impl Abort, alloc: Global, election: &Election, prices: &Prices) {
+    assert!(rt; prices.fits(election));
     let mut written = Vec::new(alloc);
-    let done = prices.write(alloc, &election, &mut Output::new(&mut written));
+    let done = prices.write(alloc, election, &mut Output::new(&mut written));
     assert_eq!(rt; done, Ok(()));
-    assert!(rt; written.as_slice() == want.as_bytes(), "{certificate}");
-    Ok(())
+    assert!(rt; written.as_slice() == QUOTED_PRICES.as_bytes());
 }
 
 #[test]
-fn prices_of_any_spelling_are_written_in_one_way(rt: HostRuntime) -> Result<(), Fail> {
-    for (election, certificate, want) in [
-        (ELECTION, PRICES, PRICES),
-        (ELECTION, UNTIDY_PRICES, PRICES),
-        (QUOTED_ELECTION, UNTIDY_QUOTED_PRICES, QUOTED_PRICES),
-    ] {
-        expect_written(&rt, rt.alloc(), election, certificate, want)?;
-    }
-    Ok(())
-}
-
-#[test]
-fn certificate_is_put_in_canonical_form(rt: HostRuntime) -> Result<(), Fail> {
+fn prices_are_written_in_one_way(rt: HostRuntime) -> Result<(), Fail> {
     let election = Election::read(rt.alloc(), QUOTED_ELECTION.as_bytes())?;
-    let text = canonical_text_of(rt.alloc(), UNTIDY_QUOTED_PRICES.as_bytes(), &election)?;
+    let bytes = UNTIDY_QUOTED_PRICES.as_bytes();
+    let prices = Prices::read(rt.alloc(), bytes, &election)?;
+    expect_written(&rt, rt.alloc(), &election, &prices);
+    let text = canonical_text_of(rt.alloc(), bytes, &election)?;
     assert!(rt; text.as_slice() == QUOTED_PRICES.as_bytes());
     Ok(())
 }

@@ -7,7 +7,7 @@ use Rattle.pb_reply.specs.Named.{PricesNameProject}
 use Rattle.pb_reply.specs.declared.input.InputName.TheVariants.{Certificate}
 use Rattle.pb_reply.proofs.Culprits.{denominator-low, told_names_project}
 use Rattle.pb_figures.specs.declared.told.CertificateFigures.TheVariants.{Prices}
-use Rattle.pb_page.specs.Shown.{ShowsLine}
+use Rattle.pb_case.specs.Shown.{ShowsLine}
 use Rattle.pb_page.proofs.Tells.{tells-prices}
 use Rattle.pb_page.proofs.telling.prices_told.Goals as goal
 

@@ -18,7 +18,7 @@ const SIXTHS: u64 = 6_000_000;
 const FINEST: u64 = 1_000_000_000_000_000;
 
 /// The most that an amount comes to, 10^33 grains, and the least, -10^34.
-const MOST: u128 = 1_000_000_000_000_000_000_000_000_000_000_000;
+const MOST: i128 = 1_000_000_000_000_000_000_000_000_000_000_000;
 
 const LEAST: i128 = -10_000_000_000_000_000_000_000_000_000_000_000;
 
@@ -41,32 +41,52 @@ const NO_AMOUNTS: Findings = Findings {
     s5: NOTHING_SHOWN,
 };
 
-/// An amount is to be told like this, as the cost of the outcome and as the limit.
+/// An amount is to be told like this, as what the supporters of project 3 have left, and, unless it is below 0, as the
+/// cost of the outcome and the limit.
 fn expect_amount(
     rt: &impl Abort,
     alloc: Global,
     election: &Election,
     grains_per_unit: u64,
-    grains: u128,
+    grains: i128,
     want: &str,
 ) -> Result<(), Fail> {
-    assert!(rt; 1_000_000 <= grains_per_unit);
+    assert!(rt; 1_000_000 <= grains_per_unit && election.projects() == 3);
+    let (total, shown) = if grains < 0 {
+        (0, "0.00")
+    } else {
+        (grains.unsigned_abs(), want)
+    };
+    let left = Comparison {
+        at: 3,
+        bound: 0,
+        amount: grains,
+    };
     let findings = Findings {
         grains_per_unit,
-        total: grains,
-        limit: grains,
+        total,
+        limit: total,
+        c5: Finding {
+            shown: Some(left),
+            ..NOTHING_SHOWN
+        },
         ..NO_AMOUNTS
     };
-    let line = format!(in alloc;
-        "Feasible    holds      the funded projects cost {want}; the limit is {want}"
-    )?;
     let mut lines = Vec::new(alloc);
     push_price_table(alloc, &mut lines, election, &findings, Mode::PLAIN)?;
-    assert!(rt; lines.first() == Some(&line), "{line}");
+    let feasible = format!(in alloc;
+        "Feasible    holds      the funded projects cost {shown}; the limit is {shown}"
+    )?;
+    assert!(rt; lines.first() == Some(&feasible), "{feasible}");
+    let c5 = format!(in alloc;
+        "C5          holds      project c, the closest, costs 0.00, and its supporters' leftovers come to {want}"
+    )?;
+    assert!(rt; lines.get(7) == Some(&c5), "{c5}");
     Ok(())
 }
 
-/// Decimals have from two to six places, whatever a grain is, and fractions are in lowest terms.
+/// Decimals have from two to six places, whatever a grain is, and fractions are in lowest terms. What is below 0 has its
+/// sign in front, of a fraction too.
 #[test]
 fn amounts_are_decimals_or_fractions_in_lowest_terms(rt: HostRuntime) -> Result<(), Fail> {
     let election = Election::read(rt.alloc(), ELECTION.as_bytes())?;
@@ -93,50 +113,6 @@ fn amounts_are_decimals_or_fractions_in_lowest_terms(rt: HostRuntime) -> Result<
         (MILLION, MOST, "1000000000000000000000000000.00"),
         (THIRDS, MOST, "333333333333333333333333333 1/3"),
         (FINEST, MOST, "1000000000000000000.00"),
-    ] {
-        expect_amount(&rt, rt.alloc(), &election, grains_per_unit, grains, want)?;
-    }
-    Ok(())
-}
-
-/// An amount is to be told like this, as what the supporters of project 3 have left.
-fn expect_balance(
-    rt: &impl Abort,
-    alloc: Global,
-    election: &Election,
-    grains_per_unit: u64,
-    grains: i128,
-    want: &str,
-) -> Result<(), Fail> {
-    assert!(rt; 1_000_000 <= grains_per_unit && election.projects() == 3);
-    let left = Comparison {
-        at: 3,
-        bound: 0,
-        amount: grains,
-    };
-    let findings = Findings {
-        grains_per_unit,
-        c5: Finding {
-            shown: Some(left),
-            ..NOTHING_SHOWN
-        },
-        ..NO_AMOUNTS
-    };
-    let line = format!(in alloc;
-        "C5          holds      project c, the closest, costs 0.00, and its supporters' leftovers come to {want}"
-    )?;
-    let mut lines = Vec::new(alloc);
-    push_price_table(alloc, &mut lines, election, &findings, Mode::PLAIN)?;
-    assert!(rt; lines.get(7) == Some(&line), "{line}");
-    Ok(())
-}
-
-/// Those below 0 have their sign in front, of a fraction too.
-#[test]
-fn sign_stands_in_front_of_what_is_below_0(rt: HostRuntime) -> Result<(), Fail> {
-    let election = Election::read(rt.alloc(), ELECTION.as_bytes())?;
-    for (grains_per_unit, grains, want) in [
-        (MILLION, 0, "0.00"),
         (MILLION, 12_500_000, "12.50"),
         (MILLION, -12_500_000, "-12.50"),
         (MILLION, -1, "-0.000001"),
@@ -144,7 +120,7 @@ fn sign_stands_in_front_of_what_is_below_0(rt: HostRuntime) -> Result<(), Fail> 
         (THIRDS, -38_596_000_000, "-12865 1/3"),
         (MILLION, LEAST, "-10000000000000000000000000000.00"),
     ] {
-        expect_balance(&rt, rt.alloc(), &election, grains_per_unit, grains, want)?;
+        expect_amount(&rt, rt.alloc(), &election, grains_per_unit, grains, want)?;
     }
     Ok(())
 }

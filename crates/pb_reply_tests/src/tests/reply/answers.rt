@@ -18,12 +18,6 @@ fn reply(alloc: Global) -> Result<Reply, AllocError> {
     Ok(reply)
 }
 
-/// A reply has these lines and this status.
-fn expect_reply(rt: &impl Abort, reply: &Reply, lines: &[&str], status: Status) {
-    expect_lines(rt, &reply.lines, lines);
-    assert_eq!(rt; reply.status, status);
-}
-
 /// An answer has this text and this status.
 fn expect_answer(rt: &impl Abort, answer: &Answer<Status>, text: &str, status: Status) {
     assert!(rt; answer.text.as_slice() == text.as_bytes(), "{text}");
@@ -31,85 +25,33 @@ fn expect_answer(rt: &impl Abort, answer: &Answer<Status>, text: &str, status: S
 }
 
 #[test]
-fn reply_is_answered_by_its_lines_each_with_its_end(rt: HostRuntime) -> Result<(), Fail> {
-    let alloc = rt.alloc();
-    let reply = reply(alloc)?;
-    expect_reply(&rt, &reply, &["supported stable", "failed V1"], Status::No);
-    let answer = reply.answer(alloc)?;
-    expect_answer(&rt, &answer, "supported stable\nfailed V1\n", Status::No);
-    Ok(())
-}
-
-#[test]
 fn work_that_came_to_its_end_is_settled_as_it_is(rt: HostRuntime) -> Result<(), Fail> {
     let alloc = rt.alloc();
     let own = settled(alloc, Ok(reply(alloc)?))?;
-    expect_reply(&rt, &own, &["supported stable", "failed V1"], Status::No);
+    expect_lines(&rt, &own.lines, &["supported stable", "failed V1"]);
+    assert_eq!(rt; own.status, Status::No);
     let answer = settled(alloc, Ok(own.answer(alloc)?))?;
     expect_answer(&rt, &answer, "supported stable\nfailed V1\n", Status::No);
     Ok(())
 }
 
-/// What stopped the work is told by this line alone.
-fn expect_stopped(
-    rt: &impl Abort,
-    alloc: Global,
-    input: InputName,
-    fault: InputFault,
-    line: &str,
-) -> Result<(), Fail> {
-    let stop = stop_at(input, fault);
-    let status = refused(input, fault);
-    expect_reply(rt, &stopped(alloc, &stop)?, &[line], status);
-    let reply: Reply = settled(alloc, Err(stop))?;
-    expect_reply(rt, &reply, &[line], status);
-    let text = format!(in alloc; "{line}\n")?;
-    let answer: Answer<Status> = settled(alloc, Err(stop))?;
-    expect_answer(rt, &answer, &text, status);
-    Ok(())
-}
-
 #[test]
-fn refused_input_is_told_in_a_line(rt: HostRuntime) -> Result<(), Fail> {
-    for (input, fault, line) in [
-        (
-            InputName::Election,
-            in_election(ElectionFault::UnknownProject, 17),
-            "refused election 14 UnknownProject record 17",
-        ),
-        (
-            InputName::Election,
-            in_election(ElectionFault::NoOutcome, 0),
-            "refused election 17 NoOutcome record 0",
-        ),
-        (
-            InputName::Outcome,
-            in_certificate(CertFault::BadHead, 1),
-            "refused outcome 21 BadHead record 1",
-        ),
-        (
-            InputName::Certificate,
-            in_certificate(CertFault::OutOfOrder, 6),
-            "refused certificate 26 OutOfOrder record 6",
-        ),
-        (
-            InputName::Prices,
-            InputFault::TooLong,
-            "refused prices 19 TooLong record 0",
-        ),
-        (
-            InputName::Violation,
-            InputFault::Unread,
-            "refused violation 18 Read record 0",
-        ),
-        (
-            InputName::Folder,
-            InputFault::Unread,
-            "refused folder 18 Read record 0",
-        ),
-    ] {
-        expect_stopped(&rt, rt.alloc(), input, fault, line)?;
-    }
+fn what_stopped_the_work_is_told_in_a_line(rt: HostRuntime) -> Result<(), Fail> {
+    let alloc = rt.alloc();
+    let (input, fault) = (
+        InputName::Certificate,
+        in_certificate(CertFault::OutOfOrder, 6),
+    );
+    let line = "refused certificate 26 OutOfOrder record 6";
+    let stop = stop_at(input, fault);
+    let reply = stopped(alloc, &stop)?;
+    expect_lines(&rt, &reply.lines, &[line]);
+    assert_eq!(rt; reply.status, refused(input, fault));
+    let stop = stop_at(InputName::Folder, InputFault::Unread);
+    let answer: Answer<Status> = settled(alloc, Err(stop))?;
+    let status = refused(InputName::Folder, InputFault::Unread);
+    let text = "refused folder 18 Read record 0\n";
+    expect_answer(&rt, &answer, text, status);
     Ok(())
 }
 

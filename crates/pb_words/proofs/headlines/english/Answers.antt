@@ -9,3 +9,7 @@ returns-in-NotSupported c = search rules
 pub returns-in-NoViolation : goal.returns-in-NoViolation
 unfolding encode_utf8
 returns-in-NoViolation c = search rules
+
+pub returns-in-NotRefuted : goal.returns-in-NotRefuted
+unfolding encode_utf8
+returns-in-NotRefuted c = search rules

@@ -17,3 +17,15 @@ returns-in-NotSupported c = search rules
 pub returns-in-Violation : goal.returns-in-Violation
 unfolding encode_utf8
 returns-in-Violation c = search rules
+
+pub returns-in-UnpriceableUnderCover : goal.returns-in-UnpriceableUnderCover
+unfolding encode_utf8
+returns-in-UnpriceableUnderCover c = search rules
+
+pub returns-in-NotRefuted : goal.returns-in-NotRefuted
+unfolding encode_utf8
+returns-in-NotRefuted c = search rules
+
+pub returns-in-Unpriceable : goal.returns-in-Unpriceable
+unfolding encode_utf8
+returns-in-Unpriceable c = search rules

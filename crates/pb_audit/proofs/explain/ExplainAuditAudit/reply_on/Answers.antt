@@ -1,14 +1,19 @@
 use Rattle.std.proofs.Common.{◌∙◌, sym}
 use Rattle.pb_reply.specs.Inside.Loaded.{lent}
-use Rattle.pb_audit.proofs.Explained.{as_prices, as_violation}
+use Rattle.pb_audit.proofs.Explained.{as_prices, as_refutation, as_violation}
 use Rattle.pb_audit.proofs.explain.ExplainAuditAudit.reply_on.Goals as goal
 
-pub returns-then-branch-clause-reply : goal.returns-then-branch-clause-reply
-returns-then-branch-clause-reply c =
-    as_violation c.args.self.now.mode c.args.election.now c.args.outcome.now.marks (lent c.args.certificate) _
-    (sym c.in_ok-claims_violation.ensures ∙ c.if-branch.true) c.violation_on.ensures
-
-pub returns-else-branch-clause-reply : goal.returns-else-branch-clause-reply
-returns-else-branch-clause-reply c =
+pub returns-in-Prices-clause-reply : goal.returns-in-Prices-clause-reply
+returns-in-Prices-clause-reply c =
     as_prices c.args.self.now.mode c.args.election.now c.args.outcome.now.marks (lent c.args.certificate) _
-    (sym c.in_ok-claims_violation.ensures ∙ c.if-branch.false) c.prices_on.ensures
+    (sym c.in_ok-kind_in.ensures ∙ c.in-Prices.is) c.prices_on.ensures
+
+pub returns-in-Violation-clause-reply : goal.returns-in-Violation-clause-reply
+returns-in-Violation-clause-reply c =
+    as_violation c.args.self.now.mode c.args.election.now c.args.outcome.now.marks (lent c.args.certificate) _
+    (sym c.in_ok-kind_in.ensures ∙ c.in-Violation.is) c.violation_on.ensures
+
+pub returns-in-Refutation-clause-reply : goal.returns-in-Refutation-clause-reply
+returns-in-Refutation-clause-reply c =
+    as_refutation c.args.self.now.mode c.args.election.now c.args.outcome.now.marks (lent c.args.certificate) _
+    (sym c.in_ok-kind_in.ensures ∙ c.in-Refutation.is) c.refutation_on.ensures

@@ -1,23 +1,21 @@
-use Rattle.std.proofs.Common.{◌∙◌, ap, List, [], ◌∷◌, ◌++◌, map, subst, sym}
+use Rattle.std.proofs.Common.{List, [], ◌∷◌, map}
 use Rattle.std.specs.Prelude.{option_to_list}
-use Rattle.std.proofs.lemmas.Result.{on_ok_weaker}
 use Rattle.pb_markup.specs.Pieces.{Close, Piece}
 use Rattle.pb_page.specs.Sums.{HasInOrder, code_box}
 use Rattle.pb_page.specs.Taken.{sum_of, sums_shown}
+use Rattle.pb_markup.proofs.Adding.{adds-step, append-step, of-any}
 use Rattle.pb_markup.proofs.InOrder.{in-order-before}
 use Rattle.pb_page.proofs.parts.files.push_files.Goals as goal
 
 pub returns : goal.returns
 returns c =
     let files = c.args.case.now.files in
+    let sums = sums_shown files in
+    let has : List Piece → Type 0 = HasInOrder sums in
     let outcome = map sum_of (option_to_list files.outcome) in
-    let one = c.in_ok-push_file.ensures [] tt in
-    let two = c.in_ok-push_outcome.ensures (sum_of files.election ∷ []) one in
-    let all = c.in_ok-push_file-2.ensures (sum_of files.election ∷ outcome) two in
-    on_ok_weaker c.append.result
-    (λ appended.
-    let is = appended ∙ ap (λ (l : List Piece). l ++ c.in_ok-checks.field-0) c.in_ok-close.ensures in
-    subst (HasInOrder (sums_shown files)) (sym is)
-    (in-order-before code_box (sums_shown files) _ c.in_ok-checks.field-0
-    (in-order-before code_box (sums_shown files) _ (Close ∷ []) all)))
-    c.append.ensures
+    let one = c.push_file.ensures [] (of-any (HasInOrder []) _ (λ (pieces : List Piece). tt)) in
+    let two = c.push_outcome.ensures (sum_of files.election ∷ []) one in
+    let all = c.push_file-2.ensures (sum_of files.election ∷ outcome) two in
+    let closed =
+    adds-step has has _ _ (Close ∷ []) (λ these. in-order-before code_box sums these (Close ∷ [])) all c.close.ensures in
+    append-step has has _ _ _ (in-order-before code_box sums) closed c.append.ensures

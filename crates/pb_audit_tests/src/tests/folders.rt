@@ -1,0 +1,56 @@
+//! The report on entries of a folder.
+use pb_audit::{Entry, FolderReport, FolderStatus, Loaded, folder_text};
+use pb_election::Output;
+use pb_samples::files::{ELECTION, FAIR_VIOLATION, PRICES};
+use pb_samples::modes::PLAIN;
+use std::alloc::{AllocError, Global};
+use std::test::Fail;
+
+/// A file of this text.
+fn file(alloc: Global, text: &str) -> Result<Loaded, AllocError> {
+    Ok(Loaded::Bytes(Vec::from_slice(alloc, text.as_bytes())?))
+}
+
+/// Two elections, of which the first has a certificate of each kind, and the second can't be read.
+fn entries(alloc: Global) -> Result<Vec<Entry>, AllocError> {
+    let one = Entry {
+        name: String::from_str(alloc, "one")?,
+        election: file(alloc, ELECTION)?,
+        prices: Some(file(alloc, PRICES)?),
+        violation: Some(file(alloc, FAIR_VIOLATION)?),
+    };
+    let two = Entry {
+        name: String::from_str(alloc, "two")?,
+        election: Loaded::Unread,
+        prices: Some(file(alloc, PRICES)?),
+        violation: None,
+    };
+    Ok(vec![in alloc; one, two]?)
+}
+
+const REPORT: &str = "\
+one.pb: read 3 voters 3 projects 2 funded
+one.prices.csv: supported priceable
+one.violation.csv: failed V4 voter 1
+two.pb: refused election 18 Read record 0
+total 2 elections 1 yes 1 no 1 refused
+";
+
+#[test]
+fn entries_are_reported_at_once_or_one_by_one(rt: HostRuntime) -> Result<(), Fail> {
+    let alloc = rt.alloc();
+    let entries = entries(alloc)?;
+    let report = folder_text(alloc, &entries, PLAIN)?;
+    assert!(rt; report.text.as_slice() == REPORT.as_bytes());
+    assert!(rt; report.status == FolderStatus::SomeRefused);
+    let mut one_by_one = FolderReport::new(alloc, PLAIN);
+    for entry in &entries {
+        one_by_one = one_by_one.add(alloc, entry)?;
+    }
+    let report = one_by_one.finish()?;
+    let mut written = Vec::new(alloc);
+    let status = report.write(&mut Output::new(&mut written))?;
+    assert!(rt; status == FolderStatus::SomeRefused);
+    assert!(rt; written.as_slice() == REPORT.as_bytes());
+    Ok(())
+}

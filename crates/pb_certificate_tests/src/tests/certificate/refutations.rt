@@ -1,0 +1,68 @@
+//! Refutations for three voters and the projects a, b and c.
+use pb_certificate::{Refutation, Role};
+use pb_election::Election;
+use pb_samples::files::{ELECTION, NO_VOTERS, REFUTATION};
+use std::process::Abort;
+use std::test::Fail;
+
+/// The roles of the three projects, and their weights.
+type Weights = [(Option<Role>, u64); 3];
+
+/// A refutation is to have these weights of Cover and of the three projects, by their roles.
+fn expect_weights(rt: &impl Abort, refutation: &Refutation, cover: u64, weights: Weights) {
+    assert_eq!(rt; refutation.cover(), cover);
+    for (place, (role, weight)) in weights.into_iter().enumerate() {
+        let project = place as u32 + 1;
+        let found = (refutation.role(project), refutation.weight(project));
+        assert_eq!(rt; found, (role, weight), "at {project}");
+    }
+}
+
+/// A project without a row has the weight 0 and no role, and one with a row of weight 0 has a role.
+#[test]
+fn refutation_is_read_in_any_order_with_its_weights(rt: HostRuntime) -> Result<(), Fail> {
+    let election = Election::read(rt.alloc(), ELECTION.as_bytes())?;
+    let all = [
+        (Some(Role::Least), 2),
+        (Some(Role::Most), 1),
+        (Some(Role::Left), 1),
+    ];
+    let greatest = [
+        (None, 0),
+        (Some(Role::Left), 1_000_000_000_000),
+        (Some(Role::Most), 0),
+    ];
+    // As it should be, in another order, with blanks, quotes, an empty line and empty fields at the end, and the limits.
+    for (text, cover, weights) in [
+        (REFUTATION, 0, all),
+        (
+            "\u{FEFF} pb-refutation ,1,\n,\ncover, 000\nrole,project,weight,,\n\"most\", b,1\n\nleast,a,02\nleft,c,1",
+            0,
+            all,
+        ),
+        (
+            "pb-refutation,1\ncover,1000000000000\nrole,project,weight\nmost,c,0\nleft,b,1000000000000\n",
+            1_000_000_000_000,
+            greatest,
+        ),
+        (
+            "pb-refutation,1\ncover,1\nrole,project,weight\n",
+            1,
+            [(None, 0); 3],
+        ),
+    ] {
+        let refutation = Refutation::read(rt.alloc(), text.as_bytes(), &election)?;
+        assert!(rt; refutation.fits(&election));
+        expect_weights(&rt, &refutation, cover, weights);
+    }
+    Ok(())
+}
+
+#[test]
+fn refutation_fits_as_many_projects(rt: HostRuntime) -> Result<(), Fail> {
+    let election = Election::read(rt.alloc(), ELECTION.as_bytes())?;
+    let refutation = Refutation::read(rt.alloc(), REFUTATION.as_bytes(), &election)?;
+    let other = Election::read(rt.alloc(), NO_VOTERS.as_bytes())?;
+    assert!(rt; !refutation.fits(&other));
+    Ok(())
+}

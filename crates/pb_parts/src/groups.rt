@@ -1,0 +1,95 @@
+//! What a yes to prices says of every group of voters.
+use pb_case::{Case, Fillings};
+use pb_election::{Election, Outcome};
+use pb_explain::{NearestGroup, nearest_group};
+use pb_figures::{CertificateFigures, Told};
+use pb_markup::{Page, Tag};
+use pb_price::Verdict;
+use pb_words::Sentence;
+use std::alloc::{AllocError, Global};
+
+// A unit of the currency in millionths.
+const MILLION: u64 = 1_000_000;
+
+/// What a yes to prices says of groups, by whether the budgets of all voters together are the limit or more.
+pub(crate) fn said_of_groups(told: &Told) -> Option<Sentence> {
+    let CertificateFigures::Prices(figures) = &told.found else {
+        return None;
+    };
+    let findings = &figures.findings;
+    if findings.verdict(told.mode) != Verdict::Supported || findings.budgets < findings.limit {
+        return None;
+    }
+    if findings.budgets == findings.limit {
+        Some(Sentence::GroupsWithinReach)
+    } else {
+        Some(Sentence::NoGroupPassedOver)
+    }
+}
+
+/// Whether the answer is a yes by prices, and the budgets of all voters together are less than the limit.
+pub fn says_little(case: &Case<'_>) -> bool {
+    let CertificateFigures::Prices(figures) = &case.told.found else {
+        return false;
+    };
+    let findings = &figures.findings;
+    findings.verdict(case.told.mode) == Verdict::Supported && findings.budgets < findings.limit
+}
+
+/// The supporters of an unfunded project who come nearest to their share, where something is said of groups.
+pub fn nearest_of(
+    alloc: Global,
+    election: &Election,
+    outcome: &Outcome,
+    told: &Told,
+) -> Result<Option<NearestGroup>, AllocError> {
+    if said_of_groups(told).is_none() || election.voters() == 0 || !outcome.fits(election) {
+        return Ok(None);
+    }
+    nearest_group(alloc, election, outcome)
+}
+
+/// Adds what the answer says of groups, where it says something, and the group that comes nearest.
+pub fn push_groups(page: &mut Page, case: &Case<'_>) {
+    let Some(sentence) = said_of_groups(&case.told) else {
+        return;
+    };
+    page.open_class(Tag::P, "groups");
+    page.text(case.words.say(sentence));
+    if let Some(group) = &case.nearest {
+        page.text(" ");
+        push_nearest(page, case, group);
+    }
+    page.close();
+}
+
+fn push_nearest(page: &mut Page, case: &Case<'_>, group: &NearestGroup) {
+    let count = u64::from(group.supporters);
+    let fillings = Fillings::none(case.words.alloc)
+        .and_label("project", case.project(group.project))
+        .and_number("count", count)
+        .and_scaled(
+            "share",
+            share_of(case, group),
+            MILLION * u64::from(case.election.voters()),
+        )
+        .and_scaled("cost", cost_of(case, group.project), MILLION)
+        .and_scaled("funded", group.funded_for, MILLION);
+    case.say(
+        page,
+        Sentence::NearestGroup(case.words.plural(count)),
+        &fillings,
+    );
+}
+
+// The share of a group in the limit: of a millionth cut into as many parts as there are voters it is a whole number.
+fn share_of(case: &Case<'_>, group: &NearestGroup) -> u128 {
+    u128::from(group.supporters) * u128::from(case.election.limit().millionths())
+}
+
+fn cost_of(case: &Case<'_>, j: u32) -> u128 {
+    if j == 0 || j > case.election.projects() {
+        return 0;
+    }
+    u128::from(case.election.cost(j).millionths())
+}

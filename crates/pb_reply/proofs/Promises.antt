@@ -1,0 +1,130 @@
+-- What an answer promises where no input was refused.
+use Rattle.std.proofs.Common.{◌≡◌, ◌≤◌, refl, Bool, true, false, List, Option, ℕ, if◌then◌else◌, arith, subst}
+use Rattle.std.specs.Prelude.{Err, None, Ok, Some}
+use Rattle.pb_election.specs.Instance.{Instance}
+use Rattle.pb_records.specs.Loading.{Delivery}
+use Rattle.pb_certificate.specs.Prices.{Prices}
+use Rattle.pb_certificate.specs.Refutations.{Weights}
+use Rattle.pb_certificate.specs.declared.violations.measure.Measure.{Measure}
+use Rattle.pb_cohesion.specs.FirstU.{FirstU, refutation_verdict_of}
+use Rattle.pb_cohesion.specs.FirstV.{FirstV, violation_verdict_of}
+use Rattle.pb_cohesion.specs.Refutations.{Refutes}
+use Rattle.pb_cohesion.specs.Satisfactions.{worth_by}
+use Rattle.pb_cohesion.specs.declared.RefutationFailure.{RefutationFailure}
+use Rattle.pb_cohesion.specs.declared.RefutationVerdict.TheVariants as refutation_verdict
+use Rattle.pb_cohesion.proofs.Refuted.{refutes-iff}
+use Rattle.pb_cohesion.proofs.Refuting.{none_support, none_with_cover_support}
+use Rattle.pb_cohesion.proofs.Shares.{demands_reach, no_demand_passed_over}
+use Rattle.pb_cohesion.proofs.Verdicts.{violates-iff}
+use Rattle.pb_price.specs.First.{First, verdict_of}
+use Rattle.pb_price.specs.declared.Failure.{Failure}
+use Rattle.pb_price.specs.declared.Mode.{Mode}
+use Rattle.pb_price.proofs.Groups.{budgets, fair, no-violation, passes-nobody-over, plain-no, plain-yes, shares, stable-no, stable-yes, unrefuted}
+use Rattle.pb_price.proofs.FirstFalse.{supports-iff}
+use Rattle.pb_certificate.specs.declared.kind.Kind.{Kind}
+use Rattle.pb_certificate.specs.declared.kind.Kind.TheVariants as kind
+use Rattle.pb_reply.specs.Certificates.{Certificate, OfPrices, OfRefutation, OfViolation, StatesCertificate, StatesKind, as_certificate, certificate_status, kind_in}
+use Rattle.pb_reply.specs.Inputs.{Stated, StatesPrices}
+use Rattle.pb_reply.specs.Replies.{price_status, refutation_status, violation_status}
+use Rattle.pb_reply.specs.declared.input.InputName.{InputName}
+use Rattle.pb_reply.specs.declared.input.InputName.TheVariants as name
+use Rattle.pb_reply.proofs.Culprits.{denominator-low}
+use Rattle.pb_reply.specs.Promises.{CertificatePromises, PricesPromise, RefutationPromises, ViolationPromises}
+use Rattle.pb_reply.specs.declared.status.Status.TheVariants.{Yes, No}
+
+pub no-yes : {A : Type 0} → No ≡ Yes → A
+no-yes h = cc
+
+-- what a verdict on prices that are stated promises
+pub prices_promise : (m : Mode) (input : InputName) (e : Instance) (w : List Bool) (d : Delivery) (p : Prices)
+    → StatesPrices input e d (Ok p) → PricesPromise m (price_status (verdict_of (First m e w p))) e w p
+prices_promise m input e w d p given = by_first (First m e w p) refl
+  where
+    low : 1 ≤ p.denominator
+    low = denominator-low input e d p given
+
+    by_first : (f : Option Failure) → First m e w p ≡ f → PricesPromise m (price_status (verdict_of f)) e w p
+    by_first None is = record {
+      exactly = (λ yes'. (supports-iff m e w p).0 is, λ s. refl);
+      plain_yes = λ yes' plain. plain-yes m e w p is plain;
+      stable_yes = λ yes' stable. stable-yes m e w p is stable;
+      any_yes = λ yes'. budgets m e w p is;
+      share_yes = λ yes' reached. shares m e w p low is reached;
+      pjr_plus_yes = λ yes' cover. passes-nobody-over m e w p is cover;
+      demand_yes = λ yes' reached. demands_reach e w (shares m e w p low is reached);
+      pjr_yes = λ yes' cover. no_demand_passed_over e w (passes-nobody-over m e w p is cover);
+      unrefuted_yes = λ yes'. unrefuted m e w p low is;
+      fair_yes = λ yes' stable. fair m e w p is stable;
+      covered_yes = λ yes' stable cover. no-violation m e w p is stable cover;
+      plain_no = λ c h. plain-no m e w p c h;
+      stable_no = λ c h. stable-no m e w p c h;
+    }
+    by_first (Some f) is = record {
+      exactly = (λ yes'. no-yes yes', λ s. let none : First m e w p ≡ None = (supports-iff m e w p).1 s in cc);
+      plain_yes = λ yes' plain. no-yes yes';
+      stable_yes = λ yes' stable. no-yes yes';
+      any_yes = λ yes'. no-yes yes';
+      share_yes = λ yes' reached. no-yes yes';
+      pjr_plus_yes = λ yes' cover. no-yes yes';
+      demand_yes = λ yes' reached. no-yes yes';
+      pjr_yes = λ yes' cover. no-yes yes';
+      unrefuted_yes = λ yes'. no-yes yes';
+      fair_yes = λ yes' stable. no-yes yes';
+      covered_yes = λ yes' stable cover. no-yes yes';
+      plain_no = λ c h. plain-no m e w p c h;
+      stable_no = λ c h. stable-no m e w p c h;
+    }
+
+-- what a verdict on a group and its demand promises
+pub violation_promises : (e : Instance) (w : List Bool) (claim : Measure × List ℕ × List ℕ)
+    → ViolationPromises (violation_status (violation_verdict_of (FirstV (worth_by claim.0 e) e w claim.1 claim.2))) e w claim
+violation_promises e w claim = grind (arith, violates-iff, no-yes)
+
+-- both verdicts where no test fails are a yes
+either-yes : (is_whatever : Bool)
+    → refutation_status
+    (if is_whatever then refutation_verdict.Unpriceable else refutation_verdict.UnpriceableUnderCover)
+    ≡ Yes
+either-yes true = refl
+either-yes false = refl
+
+-- what a verdict on weights promises
+pub refutation_promises : (e : Instance) (w : List Bool) (r : Weights)
+    → RefutationPromises (refutation_status (refutation_verdict_of r.cover (FirstU e w r))) e w r
+refutation_promises e w r = by_first (FirstU e w r) refl
+  where
+    by_first : (f : Option RefutationFailure) → FirstU e w r ≡ f
+        → RefutationPromises (refutation_status (refutation_verdict_of r.cover f)) e w r
+    by_first None is =
+        let refutes : Refutes e w r = (refutes-iff e w r).0 is in
+        record {
+          exactly = (λ yes'. refutes, λ h. either-yes _);
+          whatever_yes = λ yes' none. none_support e w r refutes none;
+          cover_yes = λ yes' some. none_with_cover_support e w r refutes some;
+        }
+    by_first (Some f) is = record {
+      exactly = (λ yes'. no-yes yes', λ h. let none : FirstU e w r ≡ None = (refutes-iff e w r).1 h in cc);
+      whatever_yes = λ yes' none. no-yes yes';
+      cover_yes = λ yes' some. no-yes yes';
+    }
+
+-- a certificate that states prices is taken as prices, and states them as such
+prices_stated : (k : Kind) (e : Instance) (d : Delivery) (p : Prices) → StatesKind k e d (Ok (OfPrices p))
+    → StatesPrices name.Certificate e d (Ok p)
+prices_stated kind.Prices e d p h = go h.0 h.1 h.2
+  where
+    go : (s : Stated Prices) → StatesPrices name.Certificate e d s → Ok (OfPrices p) ≡ as_certificate OfPrices s
+        → StatesPrices name.Certificate e d (Ok p)
+    go (Ok q) states same =
+        let is : q ≡ p = cc in subst (λ (x : Prices). StatesPrices name.Certificate e d (Ok x)) is states
+    go (Err r) states same = cc
+prices_stated kind.Violation e d p h = grind arith
+prices_stated kind.Refutation e d p h = grind arith
+
+-- what the audit of a certificate of any kind promises
+pub certificate_promises : (m : Mode) (e : Instance) (w : List Bool) (d : Delivery) (c : Certificate)
+    → StatesCertificate e d (Ok c) → CertificatePromises m (certificate_status m e w c) e w c
+certificate_promises m e w d (OfPrices p) given =
+    prices_promise m name.Certificate e w d p (prices_stated (kind_in d) e d p given)
+certificate_promises m e w d (OfViolation v) given = violation_promises e w v
+certificate_promises m e w d (OfRefutation r) given = refutation_promises e w r

@@ -1,0 +1,53 @@
+-- What the status of an audit promises of what the inputs state.
+use Rattle.std.specs.Prelude.{◌≡◌, ◌<◌, ◌↔◌, ℕ, IsFalse, IsTrue, Bool, List, Some}
+use Rattle.pb_election.specs.Instance.{Instance}
+use Rattle.pb_certificate.specs.Prices.{Prices}
+use Rattle.pb_certificate.specs.Refutations.{Weights}
+use Rattle.pb_certificate.specs.declared.violations.measure.Measure.{Measure}
+use Rattle.pb_cohesion.specs.Conditions.{Cover}
+use Rattle.pb_cohesion.specs.EveryGroup.{BudgetsAreWithinReach, BudgetsReachTheLimit, DemandsAreWithinReach, GroupsGetTheirShare, NoDemandIsPassedOver, NoGroupHasMoreLeft, NoGroupIsPassedOver, NoViolationByCounting, NothingBlocks, SharesAreWithinReach, SupportersBlock, SupportersHaveMoreLeft}
+use Rattle.pb_cohesion.specs.Groups.{Violates}
+use Rattle.pb_cohesion.specs.Refutations.{NoPricesSupport, NoPricesWithCoverSupport, NothingRefutes, Refutes}
+use Rattle.pb_cohesion.specs.Satisfactions.{worth_by}
+use Rattle.pb_price.specs.First.{First}
+use Rattle.pb_price.specs.Supports.{Supports}
+use Rattle.pb_price.specs.declared.Failure.TheVariants as failure
+use Rattle.pb_price.specs.declared.Mode.{Mode}
+use Rattle.pb_reply.specs.Certificates.{Certificate, OfPrices, OfRefutation, OfViolation}
+use Rattle.pb_reply.specs.declared.status.Status.{Status}
+use Rattle.pb_reply.specs.declared.status.Status.TheVariants.{Yes}
+
+-- The status is yes exactly where the prices support the outcome. What is more, a yes speaks of every group of
+-- voters and of every refutation, and a no by the last condition of the supporters of the project that it names.
+pub record PricesPromise (m : Mode) (status : Status) (e : Instance) (w : List Bool) (p : Prices) : Type 0 where
+  pub exactly : (status ≡ Yes) ↔ Supports m e w p
+  pub plain_yes : status ≡ Yes → IsFalse m.stable → NoGroupHasMoreLeft e w p
+  pub stable_yes : status ≡ Yes → IsTrue m.stable → NothingBlocks e w p
+  pub any_yes : status ≡ Yes → BudgetsAreWithinReach e w p
+  pub share_yes : status ≡ Yes → BudgetsReachTheLimit e p → SharesAreWithinReach e w
+  pub pjr_plus_yes : status ≡ Yes → Cover e p → NoGroupIsPassedOver e w
+  pub demand_yes : status ≡ Yes → BudgetsReachTheLimit e p → DemandsAreWithinReach e w
+  pub pjr_yes : status ≡ Yes → Cover e p → NoDemandIsPassedOver e w
+  pub fair_yes : status ≡ Yes → IsTrue m.stable → GroupsGetTheirShare e w p
+  pub covered_yes : status ≡ Yes → IsTrue m.stable → IsTrue m.cover → NoViolationByCounting e w
+  pub unrefuted_yes : status ≡ Yes → NothingRefutes m.cover e w
+  pub plain_no : (c : ℕ) → First m e w p ≡ Some (failure.C5 c) → SupportersHaveMoreLeft e p c
+  pub stable_no : (c : ℕ) → First m e w p ≡ Some (failure.S5 c) → SupportersBlock e w p c
+
+-- The status is yes exactly where the group and its demand are a violation, by the measure that the certificate states.
+abbrev pub ViolationPromises : Status → Instance → List Bool → Measure × List ℕ × List ℕ → Type 0
+ViolationPromises status e w claim = (status ≡ Yes) ↔ Violates (worth_by claim.0 e) e w claim.1 claim.2
+
+-- The status is yes exactly where the weights refute. Then no prices whatever support the outcome where Cover has no
+-- weight, which the line `unpriceable` says, and none whose budgets exceed the limit where it has one, which the line
+-- `unpriceable cover` says.
+pub record RefutationPromises (status : Status) (e : Instance) (w : List Bool) (r : Weights) : Type 0 where
+  pub exactly : (status ≡ Yes) ↔ Refutes e w r
+  pub whatever_yes : status ≡ Yes → r.cover ≡ 0 → NoPricesSupport e w
+  pub cover_yes : status ≡ Yes → 0 < r.cover → NoPricesWithCoverSupport e w
+
+-- what the status of an audit of a certificate of any kind promises
+abbrev pub CertificatePromises : Mode → Status → Instance → List Bool → Certificate → Type 0
+CertificatePromises m status e w (OfPrices p) = PricesPromise m status e w p
+CertificatePromises m status e w (OfViolation v) = ViolationPromises status e w v
+CertificatePromises m status e w (OfRefutation r) = RefutationPromises status e w r

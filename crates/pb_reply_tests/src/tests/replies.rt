@@ -1,4 +1,0 @@
-//! What is replied on files in memory.
-mod explained;
-mod files;
-mod folders;
