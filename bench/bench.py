@@ -8,9 +8,10 @@ PROGRAM is release/pbaudit, or crates/pbaudit/out/pbaudit. Without VOTERS and PR
 Every voter approves 8 projects and pays one amount for each of those that are funded, so that each funded project costs
 what is paid for it. An unfunded project costs as much as its supporters' budgets together. So the prices support the
 outcome in both forms, and every condition is gone through to its end. The group of the violation certificate is all
-supporters of the first project, who demand it, and by the outcome file nothing is funded. Less memory than that of Python
-itself, about 12 MB, is not told apart. With --peer the script bench/prices.py answers the same question beside 'prices'. With --plain the program
-PLAIN answers those of 'read' and 'violation' beside them: bench/plain/build FOLDER builds it from Rust as FOLDER/release/plain.
+supporters of the first project, who demand it, and by the outcome file nothing is funded. The refutation weighs every
+project, and holds for another outcome, by which every fourth of these projects is funded. Less memory than that of
+Python itself, about 12 MB, is not told apart. With --peer the script bench/prices.py answers the same question beside 'prices'. With --plain the program PLAIN
+answers those of 'read' and 'violation' beside them: bench/plain/build FOLDER builds it from Rust as FOLDER/release/plain.
 """
 import argparse
 import os
@@ -65,7 +66,11 @@ def write_election(path, voters, projects):
     return ballots
 
 
-def write_files(election, prices, violation, outcome, voters, projects):
+# How the files of an election end, in the order of write_files.
+ENDINGS = ("pb", "prices.csv", "violation.csv", "outcome.csv", "refutation.csv", "refutation.outcome.csv")
+
+
+def write_files(election, prices, violation, outcome, refutation, refuted, voters, projects):
     ballots = write_election(election, voters, projects)
     with open(prices, "w") as out:
         out.write(f"pb-prices,1\ndenominator,100\nvoter_budget,{100 * BUDGET}\nvoter,project,payment\n")
@@ -76,6 +81,12 @@ def write_files(election, prices, violation, outcome, voters, projects):
         out.writelines(f"voter,{i}\n" for i, ballot in enumerate(ballots, 1) if ballot[0] == 0)
     with open(outcome, "w") as out:
         out.write("pb-outcome,1\n")
+    with open(refutation, "w") as out:
+        out.write("pb-refutation,1\ncover,2000\nrole,project,weight\n")
+        out.writelines(f"left,p{j},1\n" if j % 2 else f"left,p{j},1000\n" if j % 8 else f"most,p{j},3000\n" for j in range(projects))
+    with open(refuted, "w") as out:
+        out.write("pb-outcome,1\n")
+        out.writelines(f"project,p{j}\n" for j in range(0, projects, 8))
 
 
 def in_child(work, *words):
@@ -101,12 +112,14 @@ def run(program, words, out):
 
 def measure(program, voters, projects, peer, plain):
     with tempfile.TemporaryDirectory() as room:
-        names = ("e.pb", "prices.csv", "violation.csv", "outcome.csv", "out")
-        election, prices, violation, outcome, out = (f"{room}/{name}" for name in names)
-        in_child(write_files, election, prices, violation, outcome, voters, projects)
+        files = [f"{room}/e.{ending}" for ending in ENDINGS]
+        election, prices, violation, outcome, refutation, refuted = files
+        out = f"{room}/out"
+        in_child(write_files, *files, voters, projects)
         print(f"{voters} voters, {projects} projects, {os.path.getsize(election) / 1e6:.1f} MB, certificate {os.path.getsize(prices) / 1e6:.1f} MB")
         for words in (["read"], ["prices", prices], ["prices", prices, "--stable"], ["explain", prices], ["page", prices],
-                      ["violation", violation, "--outcome", outcome], ["tidy", prices]):
+                      ["violation", violation, "--outcome", outcome], ["refutation", refutation, "--outcome", refuted],
+                      ["tidy", prices]):
             command = [words[0], election, *words[1:]]
             tell(program, command, out)
         if plain:

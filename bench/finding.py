@@ -29,8 +29,10 @@ SECONDS = 600
 SIZES = [(1_000, 60, 1_000), (10_000, 100, 10_000), (100_000, 200, 15_000)]
 # Stable prices are looked for in elections of up to so many voters.
 MOST_STABLE = 1_000
-SEARCHES = [("prices", {"violation": False}), ("stable", {"violation": False, "stable": True}),
-            ("violation", {"prices": False})]
+SEARCHES = [("prices", {"refutation": False, "violation": False}),
+            ("stable", {"refutation": False, "violation": False, "stable": True}),
+            ("refutation", {"prices": False, "violation": False}),
+            ("violation", {"prices": False, "refutation": False})]
 
 
 def euclidean(chance, voters, projects):
@@ -110,6 +112,9 @@ def one(path, switches):
     os.sched_setaffinity(0, {max(os.sched_getaffinity(0))})
     found = pbaudit.find(path, seconds=SECONDS, **switches)
     told = [] if found.prices is None else ["with Cover" if found.prices.cover else "without Cover"]
+    if found.refutation:
+        weights = len(found.refutation.file.splitlines()) - 3
+        told.append(f"refuted by {weights} weights")
     told += [f"by {violation.by}, {len(violation.projects)} demanded" for violation in found.violations]
     mine, solver = (resource.getrusage(whose) for whose in (resource.RUSAGE_SELF, resource.RUSAGE_CHILDREN))
     seconds = sum(used.ru_utime + used.ru_stime for used in (mine, solver))
@@ -123,7 +128,7 @@ def measure(name, path, voters=0):
     for what, switches in SEARCHES:
         if what == "stable" and voters > MOST_STABLE:
             continue
-        print(f"  {what:10}{search(path, switches)}", flush=True)
+        print(f"  {what:11}{search(path, switches)}", flush=True)
 
 
 def paths_given():

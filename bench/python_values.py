@@ -6,11 +6,13 @@ the best of three, and the greatest memory that is taken on top, beside the size
 
 The library or the program has to be built. Every voter approves 8 projects and pays an equal part of each that is
 funded, as whole numbers, as Fractions, as rational numbers of gmpy2, in matrices, and as floats with the noise of a
-solver. Then the Method of Equal Shares on an election of that size, and a folder of 500 elections of 300 voters: in one
-process, by a pool, and by Dask where it is installed.
+solver. Then the Method of Equal Shares on an election of that size, as a function and as the command, and a folder of 500
+elections of 300 voters: in one process, by a pool, and by Dask where it is installed.
 """
 import os
 import random
+import resource
+import subprocess
 import sys
 import tempfile
 import time
@@ -139,11 +141,26 @@ def measure_shares(voters, projects):
     profile = [set(chance.choices(made, popular, k=APPROVALS)) for _ in range(voters)]
     instance = Instance(made, 50 * voters)
     for given in ({"by": "cost"}, {"by": "count"}, {"by": "cost", "completion": "add1"}):
-        began = time.perf_counter()
+        began, at_work = time.perf_counter(), time.process_time()
         shares = pbaudit.equal_shares(instance, profile, **given)
         told = " ".join(f"{key}={value}" for key, value in given.items())
-        found = f"{len(shares.funded)} projects, {shares.runs} runs"
-        print(f"{time.perf_counter() - began:7.2f} s  equal_shares {told}: {found}", flush=True)
+        found = f"{len(shares.funded)} projects, {shares.runs} budgets"
+        seconds = f"{time.perf_counter() - began:7.2f} s {time.process_time() - at_work:7.2f} s"
+        print(f"{seconds}  equal_shares {told}: {found}", flush=True)
+    measure_command(instance, profile)
+
+
+def measure_command(instance, profile):
+    """The command `equal-shares` in a process of its own: with reading the file, rounding and auditing."""
+    with tempfile.TemporaryDirectory() as room:
+        pbaudit.write_election(instance, profile, path=f"{room}/town.pb")
+        began, before = time.perf_counter(), resource.getrusage(resource.RUSAGE_CHILDREN)
+        words = [sys.executable, "-m", "pbaudit", "equal-shares", f"{room}/town.pb", "-o", f"{room}/town.prices.csv"]
+        done = subprocess.run(words, stdout=subprocess.DEVNULL, check=False)
+        after = resource.getrusage(resource.RUSAGE_CHILDREN)
+        worked = after.ru_utime + after.ru_stime - before.ru_utime - before.ru_stime
+        told = f"the command equal-shares, {after.ru_maxrss / 1000:.0f} MB, status {done.returncode}"
+        print(f"{time.perf_counter() - began:7.2f} s {worked:7.2f} s  {told}", flush=True)
 
 
 def measure_folder():

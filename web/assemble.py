@@ -4,9 +4,10 @@
     python3 web/assemble.py MODULE PAGE [FILE..]
 
 MODULE is the WebAssembly module, or a page that has it: with release/pbaudit.html there the page can be worked on
-without the kit. PAGE is the file that is written, and FILEs are put into it to be audited. Each script and each style
-is allowed by its hash in the page's policy, and nothing else may run. The English words stand in the file itself, for
-browsers in which no script runs.
+without the kit. PAGE is the file that is written, and FILEs are put into it to be audited. esbuild makes one script of
+the modules of the page, and one of those of each of its workers. Each script and each style is allowed by its hash in
+the page's policy, and nothing else may run. The English words stand in the file itself, for browsers in which no script
+runs.
 """
 import base64
 import hashlib
@@ -14,23 +15,37 @@ import html
 import json
 import pathlib
 import re
+import subprocess
 import sys
 
 HERE = pathlib.Path(__file__).resolve().parent
+sys.path.append(str(HERE.parent / "python"))
+from pbaudit.readers_page import file_element, with_files  # noqa: E402
+
 EXAMPLES = HERE.parent / "examples"
 # The example has names of its own, by which it is told apart from files that are given.
 EXAMPLE = {"example.pb": "district.pb", "example.prices.csv": "district.prices.csv"}
 FRAME_STYLE = HERE.parent / "crates" / "pb_page" / "src" / "style.rt"
-# In the order in which they build on each other.
-WORKER = ["statuses.js", "auditor.js", "kinds.js", "worker.js"]
 LANGUAGES = ["en", "pl", "de", "fr"]
-SCRIPTS = [*[f"words/{code}.js" for code in LANGUAGES], "statuses.js", "elements.js", "names.js", "pieces.js",
-           "gather.js", "audits.js", "lists.js", "notes.js", "answer.js", "page.js", "start.js"]
+# The module that each script begins with, and the oldest browsers that it is for.
+SCRIPTS = {"page": "src/page/start.ts", "worker": "src/worker/worker.ts", "finder": "src/worker/finder.ts"}
+BUNDLE = ["--bundle", "--format=iife", "--charset=utf8", "--log-level=warning", "--target=chrome97,firefox102,safari16"]
 MODULE_IN_PAGE = re.compile(rb'<script type="text/plain" id="module">([^<]*)</script>')
 
 
 def text_of(name):
     return (HERE / name).read_text(encoding="utf-8")
+
+
+def script_of(name):
+    """One script of all the modules that this one begins with. Its bytes don't tell where the repository lies."""
+    try:
+        made = subprocess.run(["esbuild", SCRIPTS[name], *BUNDLE], cwd=HERE, stdout=subprocess.PIPE, check=False)
+    except FileNotFoundError:
+        sys.exit("assemble.py: esbuild is not on the PATH (on Debian: apt install esbuild)")
+    if made.returncode != 0:
+        sys.exit(f"assemble.py: esbuild ended with {made.returncode}")
+    return made.stdout.decode("utf-8")
 
 
 def hash_of(data):
@@ -54,8 +69,8 @@ def module_of(data):
 
 
 def words_of(code):
-    """What the page says in a language, without the texts that have names or numbers in them."""
-    found = re.findall(r'^  (\w+): ("(?:[^"\\]|\\.)*"),$', text_of(f"words/{code}.js"), re.MULTILINE)
+    """What the page says in a language."""
+    found = re.findall(r'^  (\w+): ("(?:[^"\\]|\\.)*"),$', text_of(f"src/words/{code}.ts"), re.MULTILINE)
     return {name: json.loads(text) for name, text in found}
 
 
@@ -89,33 +104,26 @@ def policy(scripts, styles):
     return "; ".join(f"{name} {' '.join(values)}" for name, values in rules.items())
 
 
-def data_element(attributes, data):
-    """An element with bytes that scripts read, and that shows nothing."""
-    written = " ".join(f'{name}="{html.escape(value)}"' for name, value in attributes.items())
-    return f'<script type="text/plain" {written}>{base64.b64encode(data).decode()}</script>'
+def module_element(module):
+    return f'<script type="text/plain" id="module">{base64.b64encode(module).decode()}</script>'
 
 
-def file_element(kind, name, file):
-    return data_element({"class": kind, "data-name": name}, file.read_bytes())
-
-
-def page_of(module, files):
-    scripts = [text_of(name) for name in SCRIPTS]
-    style = text_of("style.css")
+def page_of(module):
+    style, script = text_of("style.css"), script_of("page")
     fields = {
-        "policy": policy([script.encode() for script in scripts], [style.encode(), frame_style(module)]),
+        "policy": policy([script.encode()], [style.encode(), frame_style(module)]),
         "style": style,
-        "worker": "".join(map(text_of, WORKER)),
+        "worker": script_of("worker"),
+        "finder": script_of("finder"),
         "data": "\n".join([
-            data_element({"id": "module"}, module),
-            *[file_element("example", name, EXAMPLES / file) for name, file in EXAMPLE.items()],
-            *[file_element("brought", file.name, file) for file in files],
+            module_element(module),
+            *[file_element("example", name, (EXAMPLES / file).read_bytes()).decode() for name, file in EXAMPLE.items()],
         ]),
         "unstarted": unstarted(),
-        "scripts": "\n".join(f"<script>{script}</script>" for script in scripts),
+        "script": script,
     }
-    for name in ("worker", "scripts"):
-        if "<!--" in fields[name]:
+    for name in ("worker", "finder", "script"):
+        if re.search("<!--|</?script", fields[name], re.IGNORECASE):
             sys.exit(f"assemble.py: {name} would end its element early")
     page = with_words(text_of("page.html"), words_of("en"))
     return re.sub(r"\{(\w+)\}", lambda found: fields[found[1]], page)
@@ -125,7 +133,8 @@ def main():
     if len(sys.argv) < 3:
         sys.exit("usage: assemble.py MODULE PAGE [FILE..]")
     module, page, *files = map(pathlib.Path, sys.argv[1:])
-    page.write_bytes(page_of(module_of(module.read_bytes()), files).encode("utf-8"))
+    made = page_of(module_of(module.read_bytes())).encode("utf-8")
+    page.write_bytes(with_files(made, [(file.name, file.read_bytes()) for file in files]))
 
 
 if __name__ == "__main__":

@@ -1,0 +1,126 @@
+/* Calls of the proved library as a WebAssembly module. A file is put into the module's memory, a call answers a status
+   and bytes. Room that was given isn't taken back before the next audit, for which all memory is as it was at first. */
+
+import { callOf, COMMANDS, INPUTS } from "./commands.js";
+import { OutOfMemory, YES } from "./statuses.js";
+import type { Command, Input, Place, Question, Row, Word } from "./commands.js";
+import type { Hint } from "./lines.js";
+
+export interface Reply {
+  readonly status: number;
+  readonly bytes: Uint8Array;
+}
+
+/** What was refused, and why. */
+export interface Refusal {
+  readonly input: Input;
+  readonly number: number;
+  readonly record: number;
+}
+
+/** What the module exports. */
+interface Calls {
+  readonly memory: WebAssembly.Memory;
+  readonly [name: string]: unknown;
+}
+
+/** The room for an answer that is guessed at first: for a text, and for some lines. */
+const TEXT_ROOM = 1 << 22, LINES_ROOM = 1 << 16;
+
+/** The canonical text of a certificate is about as long as the certificate. */
+function guessFor(command: Command, { files }: Question): number {
+  const { isShort }: Row = COMMANDS[command];
+  if (isShort) return LINES_ROOM;
+  return TEXT_ROOM + (command === "tidy" ? Number(files.certificate?.length ?? 0) : 0);
+}
+
+export class Auditor {
+  readonly calls: Calls;
+  /** The memory below the heap, as it was at first. */
+  private readonly first: Uint8Array;
+  private answer: Place | undefined;
+  private needed: Place | undefined;
+
+  constructor(module: WebAssembly.Module) {
+    this.calls = new WebAssembly.Instance(module, {}).exports as unknown as Calls;
+    this.first = this.bytes({ at: 0n, length: this.room(0).at }).slice();
+  }
+
+  /** Whether the module has a command, which an older one may lack. */
+  knows(command: Command): boolean {
+    return `pbaudit_${command}` in this.calls;
+  }
+
+  /** The bytes of memory that the module has taken. */
+  get taken(): number {
+    return this.calls.memory.buffer.byteLength;
+  }
+
+  /** Makes the memory what it was at first, but for how much there is. */
+  reset(): void {
+    const top = this.room(0).at;
+    this.bytes({ at: 0n, length: top }).fill(0, this.first.length);
+    this.bytes({ at: 0n, length: top }).set(this.first);
+    this.answer = this.needed = undefined;
+  }
+
+  private export(name: string): (...words: Word[]) => Word {
+    return this.calls[name] as (...words: Word[]) => Word;
+  }
+
+  /** Room for so many bytes. */
+  room(length: number): Place {
+    const at = this.export("pbaudit_room")(BigInt(length)) as bigint;
+    if (!at) throw new OutOfMemory();
+    return { at, length: BigInt(length) };
+  }
+
+  /** The bytes of a place, as long as the memory doesn't grow. */
+  bytes(place: Place): Uint8Array {
+    return new Uint8Array(this.calls.memory.buffer, Number(place.at), Number(place.length));
+  }
+
+  put(bytes: Uint8Array): Place {
+    const place = this.room(bytes.length);
+    this.bytes(place).set(bytes);
+    return place;
+  }
+
+  putText(text: string): Place {
+    return this.put(new TextEncoder().encode(text));
+  }
+
+  /** Calls a command. Where the answer needs more than the room that was guessed, the command is called again. */
+  ask(command: Command, asked: Question, guess = guessFor(command, asked)): Reply {
+    return this.call(`pbaudit_${command}`, callOf(command, asked), guess);
+  }
+
+  /** Why a file was refused, beside the election where it is another file. */
+  hint({ input, number, record }: Refusal, file: Place, election?: Place): Hint {
+    const line = this.room(8);
+    const beside: Word[] = election ? [election.at, election.length, 1] : [file.at, 0n, 0];
+    const words = [INPUTS[input], number, BigInt(record), file.at, file.length, ...beside, line.at];
+    const { status, bytes } = this.call("pbaudit_hint", words, TEXT_ROOM);
+    if (status !== YES) return { line: 0, sentences: [] };
+    const sentences = new TextDecoder().decode(bytes).split("\n").filter(Boolean);
+    return { line: this.number(line), sentences };
+  }
+
+  number(place: Place): number {
+    return Number(new DataView(this.calls.memory.buffer).getBigUint64(Number(place.at), true));
+  }
+
+  /** Calls a function of the module. The room of an answer is used again for the next. */
+  private call(name: string, words: Word[], guess: number): Reply {
+    const needed = this.needed ??= this.room(8);
+    let room = this.answer && this.answer.length >= guess ? this.answer : this.room(guess);
+    for (;; room = this.room(this.number(needed))) {
+      this.answer = room;
+      const status = this.export(name)(...words, room.at, room.length, needed.at) as number;
+      const length = this.number(needed);
+      if (length <= Number(room.length)) {
+        return { status, bytes: this.bytes({ at: room.at, length: BigInt(length) }).slice() };
+      }
+    }
+  }
+}

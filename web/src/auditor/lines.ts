@@ -1,0 +1,120 @@
+/* What the lines say that the library prints (docs/FORMATS.md, Printed lines). Nothing else takes them apart. */
+
+/** A yes to prices. */
+export interface Supported {
+  readonly says: "supported";
+  readonly form: "priceable" | "stable";
+}
+
+/** A yes to a violation. */
+export interface Violated {
+  readonly says: "violation";
+}
+
+/** A yes to a refutation: no prices support the outcome, or none that satisfy condition Cover. */
+export interface Unpriceable {
+  readonly says: "unpriceable";
+  readonly cover: boolean;
+}
+
+/** A no: the condition or the test that is false first, with the voter and the project at which it is. */
+export interface Failed {
+  readonly says: "failed";
+  readonly condition: string;
+  readonly voter?: number;
+  readonly project?: string;
+}
+
+/** A file that is refused: which, the number and the name of its error, and the record. */
+export interface RefusedLine {
+  readonly says: "refused";
+  readonly input: string;
+  readonly number: number;
+  readonly name: string;
+  readonly record: number;
+}
+
+/** An election that was read. Without a column `selected` it says nothing of funded projects. */
+export interface ReadLine {
+  readonly says: "read";
+  readonly voters: number;
+  readonly projects: number;
+  readonly funded?: number;
+}
+
+/** What is remarked on an election. */
+export type Note =
+  | { readonly says: "otherCount"; readonly of: "votes" | "projects"; readonly said: string; readonly counted: string }
+  | { readonly says: "oddSelected"; readonly projects: string };
+
+export type Line = Supported | Violated | Unpriceable | Failed | RefusedLine | ReadLine;
+
+/** The line of the file on which what was refused begins (0: it has none), and sentences on why. */
+export interface Hint {
+  readonly line: number;
+  readonly sentences: readonly string[];
+}
+
+/** The number of a refusal for want of an outcome. */
+export const NO_OUTCOME = 17;
+
+export const linesOf = (text: string): string[] => text.split("\n").filter(Boolean);
+
+const FAILED = /^failed (\w+)(?: voter (\d+))?(?: project (.*))?$/s;
+const REFUSED = /^refused (\w+) (\d+) (\w+) record (\d+)$/;
+const READ = /^read (\d+) voters (\d+) projects (?:(\d+) funded|no outcome)$/;
+
+function failedOf([, condition, voter, project]: RegExpExecArray): Failed {
+  return {
+    says: "failed", condition,
+    ...voter === undefined ? {} : { voter: Number(voter) },
+    ...project === undefined ? {} : { project },
+  };
+}
+
+function readOf([, voters, projects, funded]: RegExpExecArray): ReadLine {
+  const counts = { voters: Number(voters), projects: Number(projects) };
+  return { says: "read", ...counts, ...funded === undefined ? {} : { funded: Number(funded) } };
+}
+
+function refusedOf([, input, number, name, record]: RegExpExecArray): RefusedLine {
+  return { says: "refused", input, number: Number(number), name, record: Number(record) };
+}
+
+/** What a line says, or undefined where it is none of an answer. */
+export function lineOf(line: string): Line | undefined {
+  if (line === "violation") return { says: "violation" };
+  if (line === "unpriceable") return { says: "unpriceable", cover: false };
+  if (line === "unpriceable cover") return { says: "unpriceable", cover: true };
+  if (line === "supported priceable") return { says: "supported", form: "priceable" };
+  if (line === "supported stable") return { says: "supported", form: "stable" };
+  const failed = FAILED.exec(line), read = READ.exec(line), refused = REFUSED.exec(line);
+  return failed ? failedOf(failed) : read ? readOf(read) : refused ? refusedOf(refused) : undefined;
+}
+
+/** The refusal that a text begins with. */
+export function refusalIn(text: string): RefusedLine | undefined {
+  const line = lineOf(linesOf(text)[0] ?? "");
+  return line?.says === "refused" ? line : undefined;
+}
+
+/** What a note on an election says, or undefined where it is another note. */
+export function noteOf(note: string): Note | undefined {
+  const [, of, said, counted] = /^note: num_(votes|projects) says (\d+), counted (\d+)$/.exec(note) ?? [];
+  const [, projects] = /^note: selected is neither 0 nor 1 in (\d+) projects$/.exec(note) ?? [];
+  if (projects) return { says: "oddSelected", projects };
+  return of === "votes" || of === "projects" ? { says: "otherCount", of, said, counted } : undefined;
+}
+
+/** The answer of a page in a sentence. */
+export const sentenceIn = (page: string): string | undefined =>
+  /<section class="answer[^>]*><h2>([^<]*)/.exec(page)?.[1];
+
+/** The sentences of a hint, each of which may say on which other line of the file it is. */
+export function sentenceOf(sentence: string): { line?: number; text: string } {
+  const [, line, text] = /^line (\d+): (.*)$/s.exec(sentence) ?? [];
+  return line === undefined ? { text: sentence } : { line: Number(line), text };
+}
+
+/** The sentence of a hint on a record that isn't at hand, without its front, which is the record's number. */
+export const recordSentence = (sentence: string): string => sentence.replace(/^record \d+: /, "");

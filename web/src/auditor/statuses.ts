@@ -1,0 +1,20 @@
+/* The statuses that a call answers, how it ends without one, the most bytes that a file may have, and what is asked of
+   prices unless somebody asks otherwise. */
+
+export const YES = 0, NO = 1, REFUSED = 2, NO_MEMORY = 4;
+export const LONGEST_FILE = 2 ** 28;
+
+/** The module has no memory left, and no more is given. */
+export class OutOfMemory extends Error {}
+
+/** What is asked of prices. */
+export interface Mode {
+  readonly stable: boolean;
+  readonly exhaustive: boolean;
+  readonly cover: boolean;
+}
+
+export const USUAL_MODE: Mode = { stable: false, exhaustive: true, cover: false };
+
+export const isSameMode = (one: Mode | undefined, other: Mode | undefined): boolean =>
+  one?.stable === other?.stable && one?.exhaustive === other?.exhaustive && one?.cover === other?.cover;

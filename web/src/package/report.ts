@@ -1,0 +1,39 @@
+/* The report on a folder: a line for each file, and the totals. */
+
+import { lineOf, linesOf } from "../auditor/lines.js";
+import { NO, REFUSED, YES } from "../auditor/statuses.js";
+import { ENDINGS } from "./entries.js";
+import type { Reply } from "../auditor/auditor.js";
+import type { Entry, EntryRole } from "./entries.js";
+import type { Report, Reported } from "./facts.js";
+
+/** Asks a command of the files of an entry: of the election, or of a certificate beside it. */
+export type AskEntry = (command: "read" | "prices" | "violation", entry: Entry, role: EntryRole) => Reply;
+
+interface Row {
+  readonly file: string;
+  readonly role: EntryRole;
+  readonly status: number;
+  readonly line: string;
+}
+
+/** What is said of the files of an entry. If its election is refused, nothing is said of the others. */
+function* rowsOf(entry: Entry, ask: AskEntry): Generator<Row> {
+  for (const role of entry.roles) {
+    const { status, bytes } = ask(role === "election" ? "read" : role, entry, role);
+    const [line] = linesOf(new TextDecoder().decode(bytes));
+    yield { file: `${entry.name}${ENDINGS[role]}`, role, status, line };
+    if (role === "election" && status === REFUSED) return;
+  }
+}
+
+export function reportOf(entries: readonly Entry[], ask: AskEntry): Report {
+  const rows = entries.flatMap(entry => [...rowsOf(entry, ask)]);
+  const count = (status: number): number =>
+    rows.filter(row => row.status === status && (row.role !== "election" || status === REFUSED)).length;
+  const [yes, no, refused] = [YES, NO, REFUSED].map(count);
+  const total = `total ${entries.length} elections ${yes} yes ${no} no ${refused} refused`;
+  const text = [...rows.map(({ file, line }) => `${file}: ${line}`), total].map(line => `${line}\n`).join("");
+  const files = rows.map(({ file, line }): Reported => ({ file, says: lineOf(line)! }));
+  return { status: refused > 0 ? 2 : no > 0 ? 1 : 0, answer: "report", files, text };
+}

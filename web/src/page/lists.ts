@@ -1,0 +1,85 @@
+/* The lists of the page: the files that were given, and the audits with their answers. */
+
+import { shownName, toldName } from "../files/names.js";
+import { pathOf } from "../files/pieces.js";
+import { fill } from "../words/words.js";
+import { fileOf } from "./audits.js";
+import { choicesOf } from "./choices.js";
+import { make, makeButton, makeChoice, sizeOf } from "./elements.js";
+import { sumItems } from "./sums.js";
+import { badgeOf, noteLine, sentenceOf } from "./told.js";
+import type { Kind } from "../auditor/kinds.js";
+import type { Piece } from "../files/pieces.js";
+import type { Words } from "../words/words.js";
+import type { Audit } from "./audits.js";
+import type { Page } from "./page.js";
+
+const KINDS: readonly Kind[] = ["election", "prices", "violation", "refutation", "outcome"];
+
+const kindWord = (words: Words, kind: Kind): string => ({
+  election: words.isElection, prices: words.isPrices, violation: words.isViolation,
+  refutation: words.isRefutation, outcome: words.isOutcome, unknown: words.isUnknown,
+})[kind];
+
+const nameOf = (piece: Piece): HTMLElement => make("bdi", {}, shownName(pathOf(piece)));
+
+/** What a file is: a word where the auditor told it, and else a choice. */
+function kindItem(page: Page, piece: Piece): HTMLElement {
+  const { words } = page;
+  if (piece.isTold) return make("span", { class: "soft kind" }, kindWord(words, piece.kind));
+  const kinds = piece.kind === "unknown" ? [...KINDS, piece.kind] : KINDS;
+  const label = fill(words.kindOf, { file: toldName(piece.file.name) });
+  return makeChoice(label, kinds.map(kind => kindWord(words, kind)), kinds.indexOf(piece.kind),
+                    at => page.setKind(piece, kinds[at]));
+}
+
+/** A file, with what it is. */
+export function pieceItem(page: Page, piece: Piece): HTMLElement {
+  const { words } = page, file = toldName(piece.file.name);
+  return make(
+    "li", {},
+    make("span", { class: "grows" }, nameOf(piece)),
+    make("span", { class: "soft" }, sizeOf(piece.file.size, page.language)),
+    ...sumItems(words, page.checksums, piece),
+    kindItem(page, piece),
+    makeButton(words.replace, fill(words.replaceFile, { file }), () => page.replace(piece)),
+    makeButton(words.remove, fill(words.removeFile, { file }), () => page.remove(piece)),
+  );
+}
+
+/**
+ * What is below an answer: the election and the outcome that a certificate is checked with, and what is remarked on the
+ * election.
+ */
+function belowOf(page: Page, { task, notes }: Audit): HTMLElement[] {
+  const { words } = page, { certificate, election, outcome } = task, below: HTMLElement[] = [];
+  if (certificate && election) {
+    const whose = task.asks ? "?" : outcome ? toldName(outcome.file.name) : words.ownOutcome;
+    const told = fill(words.checkedWith, { election: toldName(election.file.name), outcome: whose });
+    below.push(make("span", { class: "soft with" }, told));
+  }
+  return [...below, ...(notes ?? []).map(note => make("span", { class: "note" }, noteLine(page, note)))];
+}
+
+/** The buttons of an audit: to show its answer, or to make it again where it has none. */
+function buttonsOf(page: Page, audit: Audit): HTMLElement[] {
+  const { words } = page, { task, state, problem } = audit, file = toldName(fileOf(audit).name);
+  const canShow = audit.page !== undefined || audit.refused || (task.certificate && !problem);
+  if (state === "stopped" || problem) {
+    return [makeButton(words.checkAgain, `${words.checkAgain}: ${file}`, () => page.again(audit))];
+  }
+  if (state !== "done" || page.shown === audit || !canShow) return [];
+  return [makeButton(words.show, fill(words.showPage, { file }), () => page.show(audit))];
+}
+
+/** An audit, with its answer. */
+export function auditItem(page: Page, audit: Audit): HTMLElement {
+  const { task, state } = audit, piece = (task.certificate ?? task.election)!;
+  return make(
+    "li", { "data-state": state, ...page.shown === audit ? { class: "shown" } : {} },
+    badgeOf(page.words, audit),
+    make("span", { class: "grows" }, nameOf(piece), make("br"), sentenceOf(page, audit), ...belowOf(page, audit)),
+    ...buttonsOf(page, audit),
+    ...choicesOf(page, audit),
+  );
+}

@@ -1,0 +1,57 @@
+/* What can be done with a list of audits: find some of them, check all again, and save the list. */
+
+import { NO, REFUSED, YES } from "../auditor/statuses.js";
+import { csvOf } from "../files/csv.js";
+import { pathOf } from "../files/pieces.js";
+import { fill } from "../words/words.js";
+import { inOrder } from "./audits.js";
+import { element, elementOf, input } from "./elements.js";
+import { badgeOf, sentenceOf } from "./told.js";
+import type { Piece } from "../files/pieces.js";
+import type { Audit } from "./audits.js";
+import type { Page } from "./page.js";
+
+/** The answers that somebody may ask for, by their values in the page. */
+const IS_ASKED: Readonly<Record<string, (audit: Audit) => boolean>> = {
+  no: audit => audit.status === NO, yes: audit => audit.status === YES && audit.task.certificate !== null,
+  refused: audit => audit.status === REFUSED, open: audit => audit.status === undefined,
+};
+
+const which = (): HTMLSelectElement => elementOf("which", HTMLSelectElement);
+
+const namesOf = ({ task: { certificate, election, outcome } }: Audit): string =>
+  [certificate, election, outcome].map(piece => piece ? pathOf(piece) : "").join("\n").toLowerCase();
+
+/** The audits that are asked for, in the order of the list. A short list is shown whole. */
+export function listed(audits: readonly Audit[]): Audit[] {
+  if (audits.length < 2) return [...audits];
+  const asked = IS_ASKED[which().value] ?? (() => true), text = input("search").value.toLowerCase();
+  return inOrder(audits).filter(audit => asked(audit) && namesOf(audit).includes(text));
+}
+
+/** Shows the tools of a list, and how much of it is shown. */
+export function drawTools({ words, audits }: Page, shown: number): void {
+  element("tools").hidden = audits.length < 2;
+  const count = { count: shown, all: audits.length };
+  element("shown-of").textContent = shown < audits.length ? fill(words.shownOf, count) : "";
+}
+
+export function listenToTools(page: Page): void {
+  input("search").addEventListener("input", () => page.draw());
+  which().addEventListener("change", () => page.draw());
+  element("check-all").addEventListener("click", () => page.againAll());
+  element("save-list").addEventListener("click", () => page.saveList());
+}
+
+/** The list as a table, which has names and lines as they are. */
+export function tableOf(page: Page): string {
+  const nameOf = (piece: Piece | null): string => piece ? pathOf(piece) : "";
+  const head = ["certificate", "election", "outcome", "answer", "sentence", "line"];
+  const rows = listed(page.audits).map(audit => {
+    const { certificate, election, outcome } = audit.task, said = sentenceOf(page, audit);
+    for (const code of said.querySelectorAll("code")) code.remove();
+    const answer = badgeOf(page.words, audit).textContent ?? "", sentence = said.textContent?.trim() ?? "";
+    return [nameOf(certificate), nameOf(election), nameOf(outcome), answer, sentence, audit.line ?? ""];
+  });
+  return csvOf([head, ...rows]);
+}
