@@ -1,9 +1,10 @@
 """Writes the wheel of pbaudit by the standard library alone, so that `pip install` needs no other package.
 
-The wheel holds the proved library: that of the folder `lib` beside this folder's parent, where no source is newer; else
-that of the folder `release`, where it was made of these sources. Where neither is so and `rt` is on the PATH, it is
-built by `./pbaudit-library`, and where that fails there is no wheel. Without `rt` the one in `lib` is taken, however old
-it is; and where there is none nothing is installed. The same files give the same bytes.
+The wheel holds the proved library and, as its command `pbaudit`, the proved program. Each is the one that was built here, in
+`lib` and in `crates/pbaudit/out`, where no source is newer; else that of the folder `release`, where it was made of these
+sources. Where neither is so and `rt` is on the PATH, it is built, and where that fails there is no wheel. Without `rt` the
+one that was built is taken, however old it is; and where there is none nothing is installed. The same files give the same
+bytes.
 """
 import base64
 import hashlib
@@ -15,18 +16,31 @@ import struct
 import subprocess
 import sys
 import zipfile
+from typing import List, NamedTuple, Tuple
 
 PYTHON = pathlib.Path(__file__).resolve().parent.parent
 REPOSITORY = PYTHON.parent
-LIBRARY = REPOSITORY / "lib" / "libpbaudit.so"
-# What the library is built of, as ./install has it.
-SOURCES = ("crates.txt", "HANDLES", "include", "pbaudit-library", "crates/*/src", "crates/*/specs", "crates/*/proofs")
+# What both are built of, as ./install has it.
+SOURCES = ("crates.txt", "HANDLES", "crates/*/src", "crates/*/specs", "crates/*/proofs")
 PROJECT = (PYTHON / "pyproject.toml").read_text(encoding="utf-8")
 # What stands in a zip file has a date, which is the same for every build.
 DATE = (1980, 1, 1, 0, 0, 0)
 
 
-class NoLibrary(SystemExit):
+class Part(NamedTuple):
+    """What the wheel holds: its name in `release`, where it is built, by what command, and of what beside SOURCES."""
+
+    name: str
+    built: str
+    command: List[str]
+    sources: Tuple[str, ...]
+
+
+LIBRARY = Part("libpbaudit.so", "lib/libpbaudit.so", ["pbaudit-library"], ("include", "pbaudit-library"))
+PROGRAM = Part("pbaudit", "crates/pbaudit/out/pbaudit", ["pbaudit", "--build"], ())
+
+
+class NoWheel(SystemExit):
     """Ends the installation with a sentence."""
 
 
@@ -36,65 +50,64 @@ def field(name):
 
 
 def version():
-    """The version, which stands in CHANGELOG.md alone."""
-    changelog = REPOSITORY / "CHANGELOG.md"
-    if not changelog.exists():
-        raise NoLibrary(f"pbaudit: {changelog} is missing: install from a whole copy of the repository, by pip 21.3 or "
-                        "later, or install the wheel of its folder release")
-    return re.search(r"^## \[(\d+\.\d+\.\d+)\]", changelog.read_text(encoding="utf-8"), re.MULTILINE)[1]
+    """The version, which stands in the sources of the program alone."""
+    source = REPOSITORY / "crates" / "pb_words" / "src" / "version.rt"
+    if not source.exists():
+        raise NoWheel(f"pbaudit: {source} is missing: install from a whole copy of the repository, by pip 21.3 or later, "
+                      "or install the wheel of its folder release")
+    return re.search(r'^pub const VERSION: &str = "(\d+\.\d+\.\d+)";$', source.read_text(encoding="utf-8"), re.MULTILINE)[1]
 
 
-def is_current():
-    """Whether the library is there and no source is newer."""
-    if not LIBRARY.exists():
+def is_current(part):
+    """Whether it is built and no source is newer."""
+    built = REPOSITORY / part.built
+    if not built.exists():
         return False
-    built = LIBRARY.stat().st_mtime_ns
-    sources = (path for pattern in SOURCES for path in REPOSITORY.glob(pattern))
-    return all(path.lstat().st_mtime_ns <= built for source in sources for path in (source, *source.rglob("*")))
+    sources = (path for pattern in (*SOURCES, *part.sources) for path in REPOSITORY.glob(pattern))
+    return all(path.lstat().st_mtime_ns <= built.stat().st_mtime_ns
+               for source in sources for path in (source, *source.rglob("*")))
 
 
-def released_library():
-    """The library of the folder `release`, or None where it isn't of these sources."""
+def released(part):
+    """That of the folder `release`, or None where it isn't of these sources."""
     command = REPOSITORY / "packaging" / "released"
     if not command.exists() or not shutil.which("bash"):
         return None
-    done = subprocess.run(["bash", str(command), "libpbaudit.so"], stdout=subprocess.PIPE, check=False)
+    done = subprocess.run(["bash", str(command), part.name], stdout=subprocess.PIPE, check=False)
     return pathlib.Path(done.stdout.decode().rstrip("\n")) if done.returncode == 0 else None
 
 
 def is_for_this_machine():
-    """Whether the library, which is for x86-64 Linux with glibc, can be loaded here."""
+    """Whether they, which are for x86-64 Linux with glibc, can be run here."""
     return (sys.platform == "linux" and platform.machine() in ("x86_64", "AMD64") and struct.calcsize("P") == 8
             and platform.libc_ver()[0] == "glibc")
 
 
-def library():
-    """The library for the wheel, built first where that is needed and can be done."""
-    if not is_for_this_machine():
-        raise NoLibrary("pbaudit: there is no library for this machine: it is for x86-64 Linux with glibc")
-    if is_current():
-        return LIBRARY
-    released = released_library()
-    if released:
-        return released
-    builder = REPOSITORY / "pbaudit-library"
-    if builder.exists() and shutil.which("rt"):
-        print("pbaudit: building the library: everything is proved first", file=sys.stderr)
-        subprocess.run([str(builder)], check=True, stdout=sys.stderr)
-    if not LIBRARY.exists():
-        raise NoLibrary("pbaudit: the library is not built, the one in release/ may not be made of these sources, and "
-                        "rt, the command of the Rattle kit, is not on the PATH; the wheel in release/ can be installed")
-    return LIBRARY
+def found(part):
+    """Its bytes for the wheel. It is built first where that is needed and can be done."""
+    if is_current(part):
+        return (REPOSITORY / part.built).read_bytes()
+    of_release = released(part)
+    if of_release:
+        return of_release.read_bytes()
+    builder, *words = part.command
+    if (REPOSITORY / builder).exists() and shutil.which("rt"):
+        print(f"pbaudit: building {part.name}: everything is proved first", file=sys.stderr)
+        subprocess.run([str(REPOSITORY / builder), *words], check=True, stdout=sys.stderr)
+    if not (REPOSITORY / part.built).exists():
+        raise NoWheel(f"pbaudit: {part.name} is not built, the one in release/ may not be made of these sources, and rt, "
+                      "the command of the Rattle kit, is not on the PATH; the wheel in release/ can be installed")
+    return (REPOSITORY / part.built).read_bytes()
 
 
-def tags_of(data):
-    """The tags of the wheel: for every Python 3, and for the oldest glibc that has what the library asks of it. Tags that
+def tags_of(binaries, machine):
+    """The tags of the wheel: for every Python 3, and for the oldest glibc that has what its binaries ask of it. Tags that
     older versions of pip know stand beside it."""
-    asked = {tuple(map(int, found)) for found in re.findall(rb"\0GLIBC_(\d+)\.(\d+)", data)}
+    asked = {tuple(map(int, found)) for data in binaries for found in re.findall(rb"\0GLIBC_(\d+)\.(\d+)", data)}
     major, minor = max(asked, default=(2, 5))
-    platforms = [f"manylinux_{major}_{minor}_x86_64"]
+    platforms = [f"manylinux_{major}_{minor}_{machine}"]
     if (major, minor) <= (2, 17):
-        platforms.append("manylinux2014_x86_64")
+        platforms.append(f"manylinux2014_{machine}")
     return [f"py3-none-{platform}" for platform in platforms]
 
 
@@ -127,13 +140,18 @@ def metadata():
     return "".join(f"{name}: {value}\n" for name, value in said) + "\n" + readme
 
 
-def files_of(data, tags):
-    """The files of the wheel with what is in them, the library's bytes among it."""
-    folder = f"{field('name')}-{version()}.dist-info"
+def files_of(library, program, tags):
+    """The files of the wheel with what is in them. Without a program the command is a script, which asks the library."""
+    head = f"{field('name')}-{version()}"
+    folder = f"{head}.dist-info"
     files = {str(path.relative_to(PYTHON)): path.read_bytes() for path in sorted((PYTHON / "pbaudit").rglob("*.py"))}
     files["pbaudit/_version.py"] = f'"""The version of this package."""\nVERSION = "{version()}"\n'.encode()
     files["pbaudit/py.typed"] = b""
-    files["pbaudit/libpbaudit.so"] = data
+    files["pbaudit/libpbaudit.so"] = library
+    if program is None:
+        files[f"{folder}/entry_points.txt"] = b"[console_scripts]\npbaudit = pbaudit.__main__:main\n"
+    else:
+        files[f"{head}.data/scripts/pbaudit"] = program
     files[f"{folder}/LICENSE"] = (REPOSITORY / "LICENSE").read_bytes()
     files[f"{folder}/METADATA"] = metadata().encode()
     lines = ["Wheel-Version: 1.0", "Generator: pbaudit", "Root-Is-Purelib: false", *(f"Tag: {tag}" for tag in tags)]
@@ -146,18 +164,21 @@ def files_of(data, tags):
 def build_wheel(wheel_directory, config_settings=None, metadata_directory=None):
     """Writes the wheel and answers its name, as PEP 517 asks."""
     version()
-    return write_wheel(wheel_directory, library().read_bytes())
+    if not is_for_this_machine():
+        raise NoWheel("pbaudit: this folder has neither library nor program for this machine, but for x86-64 Linux with "
+                      "glibc; on ARM install the wheel for it in release/")
+    return write_wheel(wheel_directory, found(LIBRARY), found(PROGRAM))
 
 
-def write_wheel(folder, data):
-    """Writes the wheel with a library into a folder, and answers its name."""
-    tags = tags_of(data)
+def write_wheel(folder, library, program=None, machine="x86_64"):
+    """Writes the wheel for a machine, with a library and perhaps a program, into a folder, and answers its name."""
+    tags = tags_of([library] if program is None else [library, program], machine)
     platforms = ".".join(tag.rpartition("-")[2] for tag in tags)
     name = f"{field('name')}-{version()}-py3-none-{platforms}.whl"
     with zipfile.ZipFile(pathlib.Path(folder) / name, "w", zipfile.ZIP_DEFLATED) as wheel:
-        for path, content in files_of(data, tags).items():
+        for path, content in files_of(library, program, tags).items():
             entry = zipfile.ZipInfo(path, DATE)
-            entry.external_attr = 0o644 << 16
+            entry.external_attr = (0o100755 if content is program else 0o100644) << 16
             wheel.writestr(entry, content, zipfile.ZIP_DEFLATED, 9)
     return name
 

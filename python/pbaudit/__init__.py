@@ -2,13 +2,13 @@
 
     from pbaudit import audit_prices, price_certificate, validate_price_system
 
-Audits of files are `read`, `audit_prices`, `audit_violation`, `audit_both`, `explain`, `margins`, `tidy` and
-`audit_folder`; of Python values `validate_price_system`. `write_page` shows what was found on a page for people, and
-`write_folder_pages` writes the pages of a folder with an index. `write_election`, `write_outcome`, `write_prices` and
-`write_violation` write the files, `price_certificate` makes exact prices of a solver's floats, `equal_shares` has
-those of a rule, and `find` looks for prices and violations of any outcome. The answers are those of the program
-`pbaudit`: they come from the proved library, or from the program where the library isn't there. What this package does
-before and after isn't proved.
+Audits of files are `read`, `audit_prices`, `audit_violation`, `audit_refutation`, `audit_both`, `explain`, `margins`,
+`tidy` and `audit_folder`; of Python values `validate_price_system`. `write_page` shows what was found on a page for
+people, and `write_folder_pages` writes the pages of a folder with an index. `write_election`, `write_outcome`,
+`write_prices`, `write_violation` and `write_refutation` write the files, `price_certificate` makes exact prices of a
+solver's floats, `equal_shares` has those of a rule, and `find` and `find_folder` look for prices, refutations and
+violations of any outcome. The answers are those of the program `pbaudit`: they come from the proved library, or from
+the program where the library isn't there. What this package does before and after isn't proved.
 
 Voters are numbered from 1, in the order of the profile. Amounts are in the currency of the costs. Files are given by
 their paths (`str` or `os.PathLike`), as bytes, or as binary files that are open. Where Python values are taken, what no
@@ -24,46 +24,46 @@ from ._version import VERSION
 if TYPE_CHECKING:
     from .amounts import TooManyDenominators
     from .auditing import (
-        Explanation, Finding, ProjectMargins, Refusal, Summary, Verdict, audit_both, audit_prices, audit_violation,
-        explain, margins, read, tidy,
+        Explanation, Finding, ProjectMargins, Refusal, Summary, Verdict, audit_both, audit_prices, audit_refutation,
+        audit_violation, explain, margins, read, tidy,
     )
     from .certificates import PriceCertificate, price_certificate
     from .elections import Instance, Project
-    from .finding import find
-    from .finding.results import Found, FoundPrices, FoundViolation
+    from .finding import find, find_folder
+    from .finding.results import Found, FoundFolder, FoundPrices, FoundRefutation, FoundRow, FoundViolation
     from .folder_pages import NotReplaced, write_folder_pages
     from .folders import FileResult, FolderReport, audit_folder
     from .pages import page, write_page
     from .price_systems import validate_price_system
     from .rounding import CannotKeep
     from .shares import EqualShares, equal_shares
-    from .writing import write_election, write_outcome, write_prices, write_violation
+    from .writing import write_election, write_outcome, write_prices, write_refutation, write_violation
 
 __version__ = VERSION
 __all__ = [
-    "CannotKeep", "EqualShares", "Explanation", "FileResult", "Finding", "FolderReport", "Found", "FoundPrices",
-    "FoundViolation", "Instance", "NotReplaced", "PriceCertificate", "Project", "ProjectMargins", "Refusal", "Summary",
-    "TooManyDenominators", "Verdict", "audit_both", "audit_folder", "audit_prices", "audit_violation", "equal_shares",
-    "explain", "find", "margins", "page", "price_certificate", "read", "tidy", "validate_price_system",
-    "write_election", "write_folder_pages",
-    "write_outcome", "write_page", "write_prices", "write_violation",
+    "CannotKeep", "EqualShares", "Explanation", "FileResult", "Finding", "FolderReport", "Found", "FoundFolder",
+    "FoundPrices", "FoundRefutation", "FoundRow", "FoundViolation", "Instance", "NotReplaced", "PriceCertificate",
+    "Project", "ProjectMargins", "Refusal", "Summary", "TooManyDenominators", "Verdict", "audit_both", "audit_folder",
+    "audit_prices", "audit_refutation", "audit_violation", "equal_shares", "explain", "find", "find_folder", "margins",
+    "page", "price_certificate", "read", "tidy", "validate_price_system", "write_election", "write_folder_pages",
+    "write_outcome", "write_page", "write_prices", "write_refutation", "write_violation",
 ]
 # The parts are loaded when they are first used, since an import of all takes long beside an audit.
 _PARTS = {
     "amounts": ("TooManyDenominators",),
     "auditing": ("Explanation", "Finding", "ProjectMargins", "Refusal", "Summary", "Verdict", "audit_both",
-                 "audit_prices", "audit_violation", "explain", "margins", "read", "tidy"),
+                 "audit_prices", "audit_refutation", "audit_violation", "explain", "margins", "read", "tidy"),
     "certificates": ("PriceCertificate", "price_certificate"),
     "elections": ("Instance", "Project"),
-    "finding": ("find",),
-    "finding.results": ("Found", "FoundPrices", "FoundViolation"),
+    "finding": ("find", "find_folder"),
+    "finding.results": ("Found", "FoundFolder", "FoundPrices", "FoundRefutation", "FoundRow", "FoundViolation"),
     "folder_pages": ("NotReplaced", "write_folder_pages"),
     "folders": ("FileResult", "FolderReport", "audit_folder"),
     "pages": ("page", "write_page"),
     "price_systems": ("validate_price_system",),
     "rounding": ("CannotKeep",),
     "shares": ("EqualShares", "equal_shares"),
-    "writing": ("write_election", "write_outcome", "write_prices", "write_violation"),
+    "writing": ("write_election", "write_outcome", "write_prices", "write_refutation", "write_violation"),
 }
 _PART_OF = {name: part for part, names in _PARTS.items() for name in names}
 

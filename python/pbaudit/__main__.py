@@ -1,5 +1,6 @@
-"""The commands of the package: `python -m pbaudit page` writes a page about a certificate, `equal-shares` certifies
-outcomes of the Method of Equal Shares, and `find` looks for certificates of any outcome."""
+"""The commands of the package: `python -m pbaudit page` writes a page about a certificate, `readers-page` one for browsers
+with files in it, `equal-shares` certifies outcomes of the Method of Equal Shares, and `find` looks for certificates of any
+outcome. The other commands of the program are here as well."""
 import argparse
 import errno
 import io
@@ -10,9 +11,11 @@ from fractions import Fraction
 from typing import IO, List, NoReturn, Optional, Sequence
 
 from ._version import VERSION
+from .audit_commands import COMMANDS, add_to as add_audits, answer as audited, mode_of, run_program
 from .auditing import Refusal
 from .finding.command import Answer, add_to as add_find, answer, folder_answer
 from .pages import LANGUAGES, replaced, write_page
+from .readers_page import NoPage, add_to as add_readers_page, replaces, write_readers_page
 from .rounding import CannotKeep
 from .shares import COMPLETIONS, MEASURES, checked_increment
 from .shown import shown, visible
@@ -59,9 +62,13 @@ def _parser(by_folder: bool) -> _Parser:
     parser = _Parser(prog="python -m pbaudit", description="Shows what pbaudit finds, and certifies outcomes.",
                      allow_abbrev=False)
     parser.add_argument("--version", action="version", version=f"pbaudit {VERSION}")
+    parser.set_defaults(run=_audit)
     commands = parser.add_subparsers(dest="command", required=True)
     _add_page(commands, by_folder)
+    add_audits(commands)
     _add_equal_shares(commands)
+    readers = add_readers_page(commands)
+    readers.set_defaults(run=_readers_page, end_by_usage=readers.error)
     find = add_find(commands, by_folder)
     find.set_defaults(run=_find_in_folder if by_folder else _find, end_by_usage=find.error)
     return parser
@@ -113,14 +120,40 @@ def main(words: Optional[Sequence[str]] = None) -> int:
     if isinstance(sys.stdout, io.TextIOWrapper):
         # As the program writes, whatever the terminal is said to read; a path may have bytes that are no letters.
         sys.stdout.reconfigure(encoding="utf-8", errors="surrogateescape")
-    given = _parser(by_folder=any(word.partition("=")[0] == "--folder" for word in words)).parse_args(words)
     try:
+        if words and words[0] in COMMANDS:
+            run_program(list(words))
+        given = _parser(by_folder=any(word.partition("=")[0] == "--folder" for word in words)).parse_args(words)
         status: int = given.run(given)
     except MemoryError:
         return _fault("fault memory")
     except (ImportError, RuntimeError) as why:
         return _fault(f"fault: {why}")
     return status
+
+
+def _audit(given: argparse.Namespace) -> int:
+    if given.command == "folder":
+        return _folder(given)
+    try:
+        status, text, notes = audited(given)
+    except Refusal as refusal:
+        return _refused(refusal.printed, "\n".join(refusal.sentences()))
+    except OSError as unread:
+        return _refused(f"refused {_role(given, unread.filename)} 18 Read record 0", _reason(unread))
+    for note in notes:
+        _tell(note)
+    return _told_bytes(text, status)
+
+
+def _folder(given: argparse.Namespace) -> int:
+    from .folders import audit_folder
+    try:
+        os.listdir(given.folder)
+        report = audit_folder(given.folder, **vars(mode_of(given)))
+    except OSError as unlisted:
+        return _refused("refused folder 18 Read record 0", _reason(unlisted))
+    return _told([report.text.rstrip("\n")], report.status)
 
 
 def _page(given: argparse.Namespace) -> int:
@@ -140,6 +173,18 @@ def _page(given: argparse.Namespace) -> int:
             file.write(page)
     except OSError as unwritten:
         return _fault(f"fault write: {_reason(unwritten)}")
+    return 0
+
+
+def _readers_page(given: argparse.Namespace) -> int:
+    if replaces(given.output, [given.page, *given.files]):
+        given.end_by_usage("-o names one of the files, which the page would replace")
+    try:
+        write_readers_page(given.page, given.files, given.output)
+    except NoPage as why:
+        given.end_by_usage(f"{shown(given.page)}: {visible(str(why))}")
+    except OSError as why:
+        return _fault(f"fault: {_reason(why)}")
     return 0
 
 
@@ -225,9 +270,15 @@ def _told(lines: List[str], status: int) -> int:
     return status
 
 
+def _told_bytes(text: bytes, status: int) -> int:
+    """Prints a text as `_told` does, byte by byte."""
+    return _told([text.decode("utf-8", "surrogateescape").removesuffix("\n")], status)
+
+
 def _role(given: argparse.Namespace, path: Optional[str]) -> str:
     """Which of the files that the words name this is."""
-    return next((role for role in ("election", "outcome") if getattr(given, role) == path), "certificate")
+    roles = ("election", "outcome", "prices", "violation")
+    return next((role for role in roles if vars(given).get(role) == path), "certificate")
 
 
 def _reason(error: OSError) -> str:

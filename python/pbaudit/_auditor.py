@@ -6,15 +6,13 @@ import ctypes
 import os
 import pathlib
 import re
-import shutil
 import subprocess
 import tempfile
 from dataclasses import dataclass
 from typing import Any, Dict, List, Optional, Protocol, Tuple, Union
 
-_HERE = pathlib.Path(__file__).resolve().parent
-# Beside this file where the package is installed, and in the folder `lib` of a checkout.
-_LIBRARIES = [_HERE / "libpbaudit.so", _HERE.parent.parent / "lib" / "libpbaudit.so"]
+from . import _places
+
 _HOW_TO_BUILD = (
     "neither libpbaudit.so nor the program pbaudit was found; from the repository of pbaudit, install this package again "
     "with pip install ./python, or the program with ./install into a folder on the PATH"
@@ -97,6 +95,9 @@ class Auditor(Protocol):
     def ask(self, question: Question) -> Tuple[int, bytes]:
         """The status and the text that answer a question."""
 
+    def has(self, command: str) -> bool:
+        """Whether it has this command, which an older one may lack."""
+
     def says_little(self, question: Question) -> bool:
         """Whether the voter budgets of prices, to which the answer is yes, are together less than the limit."""
 
@@ -104,12 +105,12 @@ class Auditor(Protocol):
         """What is told of a refusal, or None where this auditor has no hints."""
 
 
-_WITH_OUTCOME = ("prices", "violation", "both", "margins", "explain", "page")
+_WITH_OUTCOME = ("prices", "violation", "refutation", "both", "margins", "explain", "page")
 _WITH_MODE = ("prices", "both", "explain", "page")
 _ANY_CERTIFICATE = 4
 _INPUTS = {"election": 0, "outcome": 1, "prices": 2, "violation": 3}
 # What kind the one certificate of a command is.
-_KINDS = {"prices": 2, "violation": 3, "margins": 2, "tidy": 2, "explain": _ANY_CERTIFICATE,
+_KINDS = {"prices": 2, "violation": 3, "refutation": 5, "margins": 2, "tidy": 2, "explain": _ANY_CERTIFICATE,
           "page": _ANY_CERTIFICATE}
 _OUT_OF_MEMORY = "pbaudit: fault memory"
 # How the program's note ends that stands beside a yes to prices with small voter budgets.
@@ -128,19 +129,24 @@ class _Library:
         "read": _FILE,
         "prices": _FILE + _OUTCOME + _FILE + _MODE,
         "violation": _FILE + _OUTCOME + _FILE,
+        "refutation": _FILE + _OUTCOME + _FILE,
         "both": _FILE + _OUTCOME + _FILE + _FILE + _MODE,
         "margins": _FILE + _OUTCOME + _FILE,
         "explain": _FILE + _OUTCOME + _FILE + _MODE,
         "tidy": _FILE + _FILE,
         "page": _FILE + _FILE + _FILE + _FILE + [ctypes.c_bool] + _FILE + _FILE + _MODE + _FILE,
     }
+    # An older library has none of these.
+    _LATER = ("refutation",)
     _HINT: List[Any] = [ctypes.c_uint8, ctypes.c_uint32, ctypes.c_uint64, *_FILE, *_OUTCOME,
                         ctypes.POINTER(ctypes.c_uint64)]
     _NOTE: List[Any] = [*_FILE, *_FILE]
 
     def __init__(self, path: Union[str, pathlib.Path]):
         library = ctypes.CDLL(str(path))
-        self._functions = {command: self._function(library, command, types) for command, types in self._TYPES.items()}
+        self._path = path
+        self._functions = {command: self._function(library, command, types) for command, types in self._TYPES.items()
+                           if command not in self._LATER or hasattr(library, f"pbaudit_{command}")}
         self._note = self._function(library, "note", self._NOTE)
         # An older library has none.
         self._hint = self._function(library, "hint", self._HINT) if hasattr(library, "pbaudit_hint") else None
@@ -152,7 +158,12 @@ class _Library:
         return function
 
     def ask(self, question: Question) -> Tuple[int, bytes]:
+        if not self.has(question.command):
+            raise RuntimeError(f"{self._path} is older than this package, and has no {question.command}")
         return self._call(self._functions[question.command], self.words(question), self.room(question))
+
+    def has(self, command: str) -> bool:
+        return command in self._functions
 
     def says_little(self, question: Question) -> bool:
         words: List[Any] = []
@@ -219,6 +230,10 @@ class _Program:
     def ask(self, question: Question) -> Tuple[int, bytes]:
         status, text, _, _ = self._answer(question)
         return status, text
+
+    def has(self, command: str) -> bool:
+        words = [self._path, command, "--help"]
+        return subprocess.run(words, stdin=subprocess.DEVNULL, capture_output=True, check=False).returncode == 0
 
     def says_little(self, question: Question) -> bool:
         _, _, told, _ = self._answer(question)
@@ -322,12 +337,12 @@ def _loaded(path: pathlib.Path) -> _Library:
 
 
 def _find() -> Auditor:
-    for path in _LIBRARIES:
-        if path.exists():
-            return _loaded(path)
-    program = shutil.which("pbaudit")
-    if program:
-        return _Program(program)
+    library = _places.library()
+    if library is not None:
+        return _loaded(library)
+    program = _places.program()
+    if program is not None:
+        return _Program(str(program))
     raise ImportError(_HOW_TO_BUILD)
 
 

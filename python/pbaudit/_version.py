@@ -1,2 +1,2 @@
-"""The version of this package. It stands in CHANGELOG.md, and a wheel has it here."""
+"""The version of this package. It stands in the sources of the program, and a wheel has it here."""
 VERSION = "unknown"

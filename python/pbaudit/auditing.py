@@ -12,7 +12,7 @@ import os
 import re
 from dataclasses import dataclass, replace
 from fractions import Fraction
-from typing import Any, ClassVar, Dict, List, Optional, Tuple
+from typing import Any, ClassVar, Dict, List, Literal, Optional, Tuple
 
 from ._auditor import Mode, PageWords, Place, Question, ask, hint, says_little
 from .files import MOST_BYTES, File, bytes_of, path_of
@@ -21,10 +21,13 @@ from .records import records
 
 __all__ = [
     "MOST_BYTES", "Explanation", "File", "Finding", "ProjectMargins", "Refusal", "Summary", "Verdict", "answered",
-    "audit_both", "audit_prices", "audit_violation", "bytes_of", "explain", "margins", "read", "tidy", "verdict",
+    "audit_both", "audit_prices", "audit_refutation", "audit_violation", "bytes_of", "explain", "margins", "read", "tidy",
+    "verdict",
 ]
 # The lines of a yes.
-_YES = ("supported priceable", "supported stable", "violation")
+_YES = ("supported priceable", "supported stable", "violation", "unpriceable", "unpriceable cover")
+Refutes = Literal["all", "with Cover"]
+_REFUTES: Dict[str, Refutes] = {"unpriceable": "all", "unpriceable cover": "with Cover"}
 # Longer bytes are no path.
 _LONGEST_PATH = 4096
 
@@ -71,12 +74,17 @@ class Refusal(ValueError):
 class Verdict:
     """The answer to an audit: true where all that was asked holds. `str` is the line that the program prints.
 
-    Where something fails, `condition` names the first that does, as "C3" or "V4", and `voter` (numbered from 1, by the
-    ballots) and `project` (the id) say where, each None where the condition names none. `moved` is None but where
+    Where something fails, `condition` names the first that does, as "C3", "V4" or "U2", and `voter` (numbered from 1, by
+    the ballots) and `project` (the id) say where, each None where the condition names none. `moved` is None but where
     `validate_price_system` was asked for prices near the given ones: then it is how far the payment that moved farthest
-    did, in the currency of the costs. `says_little` is true of a yes to prices whose voter budgets together are less than
-    the limit: then nearly any outcome that costs little is supported. A notebook shows a verdict as the page about its
-    certificate.
+    did, in the currency of the costs. A notebook shows a verdict as the page about its certificate.
+
+    A yes to prices has one of two consequences. Where the voter budgets together reach the limit,
+    `no_group_passed_over` is true: the share of the limit of each group is no more than the cost of an unfunded project
+    that all of it approve and of all that was funded for it together, and under Cover less, which is PJR+ up to any
+    project, by cost (Brill and Peters 2023). Where they don't, `says_little` is true: then nearly any outcome that costs
+    little is supported. Of a yes to a refutation `refutes` says which prices can't support the outcome: "all", or "with
+    Cover", those whose voter budgets together are more than the limit; it is None of any other verdict.
 
     >>> verdict = audit_prices("town.pb", write_prices(4, [{"a": 2, "b": 2}, {"a": 4}, {"b": 1}]))
     >>> bool(verdict), verdict.condition, verdict.project
@@ -92,6 +100,8 @@ class Verdict:
     project: Optional[str] = None
     moved: Optional[Fraction] = None
     says_little: bool = False
+    no_group_passed_over: bool = False
+    refutes: Optional[Refutes] = None
     # What was asked; and of a verdict that was pickled the page. They are no fields, and so no part of it.
     _kept: ClassVar[Optional[Kept]] = None
     _page: ClassVar[Optional[str]] = None
@@ -157,7 +167,8 @@ class Finding:
 @dataclass(frozen=True)
 class Explanation:
     r"""What each condition comes to, in their order, with the answer to the audit itself, and true where that is.
-    `str` is the text that the program prints.
+    `groups` has, of a yes to prices, a sentence on what it says of every group, and one on the unfunded project whose
+    supporters come nearest to being passed over. `str` is the text that the program prints.
 
     >>> str(explain("town.pb", "town.prices.csv")).split("\n")[0]
     'supported priceable'
@@ -166,6 +177,7 @@ class Explanation:
     verdict: Verdict
     findings: Tuple[Finding, ...]
     text: str
+    groups: Tuple[str, ...] = ()
 
     def _repr_html_(self) -> Optional[str]:
         """The page about the certificate, as a notebook shows it."""
@@ -236,6 +248,19 @@ def audit_violation(election: File, certificate: File, outcome: Optional[File] =
     return _only_verdict(_Asked("violation", election, certificate=certificate, outcome=outcome))
 
 
+def audit_refutation(election: File, certificate: File, outcome: Optional[File] = None) -> Verdict:
+    """Whether the weights of a refutation prove that no prices whatever support the outcome, in any form; with a weight
+    of Cover, none whose voter budgets together are more than the limit. The outcome is as for `audit_prices`. Raises
+    Refusal, OSError and MemoryError.
+
+    >>> claim = write_refutation(least={"a": 2}, most={"b": 1}, left={"c": 1})
+    >>> verdict = audit_refutation("town.pb", claim)
+    >>> bool(verdict), verdict.condition
+    (False, 'U2')
+    """
+    return _only_verdict(_Asked("refutation", election, certificate=certificate, outcome=outcome))
+
+
 def audit_both(election: File, prices: File, violation: File, outcome: Optional[File] = None, *, stable: bool = False,
                exhaustive: bool = True, cover: bool = False) -> Tuple[Verdict, Verdict]:
     """The verdict on a price certificate and then that on a violation certificate, for one outcome. The switches are
@@ -271,9 +296,9 @@ def margins(election: File, certificate: File, outcome: Optional[File] = None) -
 
 def explain(election: File, certificate: File, outcome: Optional[File] = None, *, stable: bool = False,
             exhaustive: bool = True, cover: bool = False) -> Explanation:
-    """What each condition comes to by a price certificate, or each test by a violation certificate, with the verdict of
-    `audit_prices` or `audit_violation`. The outcome and the switches are as for `audit_prices`; a violation doesn't
-    depend on the switches. Raises Refusal, OSError and MemoryError.
+    """What each condition comes to by a price certificate, or each test by a violation certificate or a refutation, with
+    the verdict of `audit_prices`, `audit_violation` or `audit_refutation`. The outcome and the switches are as for
+    `audit_prices`; only prices depend on the switches. Raises Refusal, OSError and MemoryError.
 
     >>> told = explain("town.pb", "town.prices.csv")
     >>> [finding.name for finding in told.findings if finding.state != "holds"]
@@ -293,10 +318,11 @@ def _explained(question: Question, kept: Optional[Kept]) -> Explanation:
 
 
 def _explanation(found: Verdict, text: bytes) -> Explanation:
-    _, _, *rows = text.decode("utf-8").rstrip("\n").split("\n")
+    # The verdict, the table, and what a yes says of groups, with an empty line between them.
+    _, table, *groups = text.decode("utf-8").rstrip("\n").split("\n\n")
     # Names stand in 12 columns and states in 11.
-    findings = tuple(Finding(row[:12].rstrip(), row[12:23].rstrip(), row[23:]) for row in rows)
-    return Explanation(found, findings, text.decode("utf-8"))
+    findings = tuple(Finding(row[:12].rstrip(), row[12:23].rstrip(), row[23:]) for row in table.split("\n"))
+    return Explanation(found, findings, text.decode("utf-8"), tuple(line for part in groups for line in part.split("\n")))
 
 
 def tidy(election: File, certificate: File) -> bytes:
@@ -310,35 +336,53 @@ def tidy(election: File, certificate: File) -> bytes:
 
 
 def page_bytes(election: File, certificate: File, outcome: Optional[File], mode: Mode, page: PageWords) -> bytes:
-    """The page about a certificate. That a file is refused stands before that one behind it can't be read, as with the
-    program. Raises Refusal, OSError and MemoryError."""
+    """The page about a certificate. Raises as `printed`."""
+    return _judged("page", election, outcome, mode, page, certificate=certificate).text()
+
+
+def printed(command: str, election: File, outcome: Optional[File], mode: Mode, **certificates: File) -> Tuple[int, bytes, bool]:
+    """The status and the text of a command, and whether it is a yes to prices that says little. Raises Refusal, OSError
+    and MemoryError; that a file is refused stands before that one behind it can't be read, as with the program."""
+    asked = _judged(command, election, outcome, mode, PageWords(), **certificates)
+    status, text = asked.answer()
+    return status, text, text.startswith(b"supported ") and says_little(asked.question)
+
+
+def _judged(command: str, election: File, outcome: Optional[File], mode: Mode, page: PageWords,
+            **certificates: File) -> "_Asked":
     try:
-        asked = _Asked("page", election, certificate=certificate, outcome=outcome, mode=mode, page=page)
+        return _Asked(command, election, outcome=outcome, mode=mode, page=page, **certificates)
     except OSError:
-        _judge_ahead(election, outcome)
+        given = {"election": election, **({} if outcome is None else {"outcome": outcome}), **certificates}
+        _judge_ahead(Question(command, b"", mode=mode, page=page), given)
         raise
-    return asked.text()
 
 
-def _judge_ahead(election: File, outcome: Optional[File]) -> None:
+def _judge_ahead(question: Question, given: Dict[str, File]) -> None:
     """Raises the refusal of a file that is judged ahead of one that can't be read. An open file can't be read again."""
-    given: Dict[str, File] = {"election": election} if outcome is None else {"election": election, "outcome": outcome}
     if not all(isinstance(file, (bytes, bytearray, memoryview, str, os.PathLike)) for file in given.values()):
         return
-    ahead, chosen = ["election", "outcome"], None
+    data: Dict[str, bytes] = {}
     try:
-        chosen = None if outcome is None else bytes_of(outcome)
+        for name, file in given.items():
+            data[name] = bytes_of(file)
     except OSError:
-        ahead, chosen = ["election"], b""
+        pass
+    if "election" not in data:
+        return
+    # What can't be read, and what is behind it, is empty here.
+    certificates = [data.get(name, b"") for name in given if name not in ("election", "outcome")]
+    first, second = (*certificates, None, None)[:2]
+    outcome = data.get("outcome", b"") if "outcome" in given else None
     try:
-        answered(Question("explain", bytes_of(election), b"", None, chosen), given)
+        answered(replace(question, election=data["election"], certificate=first, violation=second, outcome=outcome), given)
     except Refusal as refusal:
-        if refusal.input in ahead:
+        if refusal.input in data:
             raise refusal from None
 
 
 def verdict(question: Question) -> Verdict:
-    """The verdict that answers a question on prices or on a violation, with files that were made of values."""
+    """The verdict that answers a question on a certificate, with files that were made of values."""
     status, text = answered(question)
     found = _verdict(text.decode("utf-8").rstrip("\n"), question, keep(question))
     _check_status(status, [found])
@@ -364,7 +408,10 @@ def _verdict(line: str, question: Question, kept: Optional[Kept]) -> Verdict:
         condition, voter, project = failed.groups()
         found = Verdict(False, line, condition, None if voter is None else int(voter), project)
     elif line in _YES:
-        found = Verdict(True, line, says_little=line != "violation" and says_little(question))
+        is_of_prices = line.startswith("supported ")
+        is_little = is_of_prices and says_little(question)
+        found = Verdict(True, line, says_little=is_little, no_group_passed_over=is_of_prices and not is_little,
+                        refutes=_REFUTES.get(line))
     else:
         raise RuntimeError(f"pbaudit answers {line!r}")
     object.__setattr__(found, "_kept", kept)

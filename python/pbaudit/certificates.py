@@ -10,7 +10,7 @@ from .amounts import (
 )
 from .auditing import audit_prices
 from .files import Path, checked_path, write_to
-from .matrices import check_rows
+from .matrices import AT_ONCE, check_rows
 from .records import records
 from .rounding import CannotKeep, Given, Rounding
 from .town import Town
@@ -355,5 +355,6 @@ def _farthest(rounding: Rounding, given: Given) -> Fraction:
 
 def _payers(rounding: Rounding) -> Payers:
     town = rounding.town
-    for voter, (start, end) in enumerate(zip(town.starts, town.starts[1:]), 1):
-        yield voter, town.project_of[start:end], rounding.paid[start:end]
+    for start in range(0, len(rounding.paid), AT_ONCE):
+        these = slice(start, start + AT_ONCE)
+        yield [voter + 1 for voter in town.voter_of[these]], town.project_of[these], rounding.paid[these]

@@ -9,6 +9,7 @@ from typing import Iterator, List, Optional, Set
 
 from . import auditing
 from ._auditor import Question
+from ._places import command
 from .amounts import MILLION, money
 from .auditing import Explanation
 from .certificates import PriceCertificate, certified
@@ -57,14 +58,15 @@ class Certified:
     def checked_by(self, election: str, certificate: str, outcome: Optional[str] = None) -> Optional[str]:
         """The command by which anybody checks what was written, or none where a path has letters that aren't seen."""
         paths = [election, certificate, *([] if outcome is None else [outcome])]
-        if any(map(is_hidden, "".join(paths))):
+        called = command()
+        if any(map(is_hidden, "".join(called + paths))):
             return None
         # None is taken for an option.
         election, certificate, *others = (os.path.join(".", path) if path.startswith("-") else path for path in paths)
         more = [word for other in others for word in ("--outcome", other)]
         if self._holds("Exhaustive") != "holds":
             more.append("--no-exhaustive")
-        return shlex.join(["pbaudit", "prices", election, certificate, *more])
+        return shlex.join([*called, "prices", election, certificate, *more])
 
     def _off(self) -> str:
         """How far the certificate's amounts are from the rule's."""

@@ -11,7 +11,7 @@ from .amounts import MILLION, MOST_COST, MOST_DENOMINATOR, MOST_NUMERATOR, commo
 from .auditing import Verdict, verdict
 from .town import Town
 from .values import Payments, Projects
-from .writing import Payers, election_file, price_file
+from .writing import Payers, election_file, price_file, voters_of
 
 # Whether these hold is the same by both certificates; or, of C3, where the auditor sees that it fails.
 TOLD = ("Feasible", "Exhaustive", "C1", "C3", "C4")
@@ -50,19 +50,18 @@ def _rests(projects: Projects, payments: Payments, costs: Dict[int, int]) -> Opt
 
 def _payers(projects: Projects, payments: Payments, rests: Dict[int, int]) -> Payers:
     waiting = dict(rests)
-    for voter, places, numerators in _signs(projects, payments):
-        yield voter, places, [waiting.pop(place, 1) if numerator else 0 for place, numerator in zip(places, numerators)]
+    for voters, places, numerators in _signs(projects, payments):
+        yield voters, places, [waiting.pop(place, 1) if numerator else 0 for place, numerator in zip(places, numerators)]
 
 
 def _signs(projects: Projects, payments: Payments) -> Payers:
     """For each payment 1, or 0 where it is 0."""
-    for voter, function in enumerate(payments.functions, 1):
-        what = f"voter {voter} pays for"
-        places = projects.once(projects.places(function, what), what)
-        numerators = []
-        for place, (numerator, denominator) in zip(places, payments.ratios(voter, function)):
+    for first, functions in payments.blocks():
+        voters = voters_of(first, functions)
+        places = projects.places_of_each(functions, first, "pays for", is_once=True)
+        ratios = payments.ratios(first, functions)
+        for voter, place, (numerator, denominator) in zip(voters, places, ratios):
             if numerator < 0:
                 paid = f"voter {voter} pays {Fraction(numerator, denominator)} for {projects.ids[place]}"
                 raise ValueError(f"{paid}, and a certificate has no payments below 0")
-            numerators.append(int(numerator > 0))
-        yield voter, places, numerators
+        yield voters, places, [int(numerator > 0) for numerator, _ in ratios]

@@ -4,7 +4,7 @@ import html
 import os
 from dataclasses import dataclass
 from functools import lru_cache, partial
-from typing import Dict, List, Tuple
+from typing import Dict, List
 from urllib.parse import quote
 
 from ._auditor import Mode, PageWords, Question, ask

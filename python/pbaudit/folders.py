@@ -119,9 +119,7 @@ def audit_folder(path: Path, executor: Optional[Executor] = None, *, stable: boo
     town.prices.csv: supported priceable
     total 1 elections 1 yes 0 no 0 refused
     """
-    if executor is not None and not callable(getattr(executor, "submit", None)):
-        raise TypeError(f"the executor is {executor!r}, which has no submit: give one of concurrent.futures, such as a "
-                        "ProcessPoolExecutor")
+    check_executor(executor)
     entries = entries_of(path, Mode(stable, exhaustive, cover))
 
     def tell(entry: Entry, lines: Optional[List[Line]]) -> None:
@@ -135,6 +133,13 @@ def audit_folder(path: Path, executor: Optional[Executor] = None, *, stable: boo
         found[entry] = audit_entry(entry)
         tell(entry, found[entry])
     return report_on(entries, found)
+
+
+def check_executor(executor: Optional[Executor]) -> None:
+    """Raises TypeError for what is no executor, and not None."""
+    if executor is not None and not callable(getattr(executor, "submit", None)):
+        raise TypeError(f"the executor is {executor!r}, which has no submit: give one of concurrent.futures, such as a "
+                        "ProcessPoolExecutor")
 
 
 def _text_of(path: Path) -> str:

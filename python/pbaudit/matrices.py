@@ -3,6 +3,9 @@ project in the order of the instance; and tables of pandas, whose columns have t
 their shape, so that neither is needed."""
 from typing import Any, Callable, Dict, Iterator, List, Sequence, Set, Tuple
 
+# How many voters are looked at together.
+AT_ONCE = 4096
+
 
 def is_matrix(values: object) -> bool:
     """Whether values are an array of two dimensions."""
@@ -65,9 +68,9 @@ def mapping_of(series: Any, what: str) -> Dict[Any, Any]:
     return made
 
 
-def ballots_in(matrix: Any, ids: Sequence[str]) -> Iterator[List[int]]:
-    """The places of the projects that each voter approves, which are those of the ones in its row; the rest is 0.
-    Raises TypeError and ValueError."""
+def ballots_in(matrix: Any, ids: Sequence[str]) -> Iterator[Tuple[List[int], List[int]]]:
+    """The rising places of the projects that voters approve, which are those of the ones in their rows, and where each
+    voter's end; the rest is 0. Raises TypeError and ValueError."""
     for first, ends, places, approved in _blocks(matrix, ids, "the profile"):
         is_one = approved == 1
         if not is_one.all():
@@ -75,8 +78,7 @@ def ballots_in(matrix: Any, ids: Sequence[str]) -> Iterator[List[int]]:
             voter = first + next(row for row, end in enumerate(ends) if at < end)
             raise TypeError(f"the row of voter {voter} has {approved[at]}, not only 0 and 1: only approvals are "
                             "audited")
-        for start, end in zip([0, *ends], ends):
-            yield places[start:end]
+        yield places, ends
 
 
 class PlacedRow:
@@ -109,6 +111,29 @@ class PlacedRow:
         return zip(self, self._amounts)
 
 
+class PlacedRows(Sequence[PlacedRow]):
+    """Rows of a matrix of payments that are looked at together: the places and the amounts of all, one row after the
+    other. Each row is made when it is asked for."""
+
+    def __init__(self, ends: List[int], places: List[int], amounts: Sequence[Any], ids: Sequence[str]):
+        self.places, self.amounts = places, amounts
+        self._ends, self._ids = ends, ids
+
+    def sizes(self) -> List[int]:
+        """How many amounts each row has."""
+        return [end - start for start, end in zip([0, *self._ends], self._ends)]
+
+    def __len__(self) -> int:
+        return len(self._ends)
+
+    def __iter__(self) -> Iterator[PlacedRow]:
+        return (PlacedRow(self.places[start:end], self.amounts[start:end], self._ids)
+                for start, end in zip([0, *self._ends], self._ends))
+
+    def __getitem__(self, row: Any) -> Any:
+        return list(self)[row]
+
+
 class PaymentRows(Sequence[PlacedRow]):
     """The rows of a matrix of payments. They are made anew each time, so that they take no memory."""
 
@@ -125,30 +150,25 @@ class PaymentRows(Sequence[PlacedRow]):
     def kinds(self) -> Set[type]:
         """The types of the amounts: one, but where the matrix has objects."""
         kinds: Set[type] = set()
-        for _, numbers in self._numbers():
-            kinds.update(map(type, numbers))
+        for _, rows in self.blocks():
+            kinds.update(map(type, rows.amounts))
             if kinds and self._matrix.dtype.kind != "O":
                 break
         return kinds
 
-    def _numbers(self) -> Iterator[Tuple[Tuple[List[int], List[int]], Sequence[Any]]]:
-        """Where rows that are looked at together end, and the columns and the numbers of what isn't 0 in them."""
+    def blocks(self) -> Iterator[Tuple[int, PlacedRows]]:
+        """Some thousand rows at a time, behind the number of the first voter."""
         kind = self._matrix.dtype
         is_same = kind.kind in self._SAME_IN_PYTHON or kind.kind == "f" and kind.itemsize == self._SIZE_OF_A_FLOAT
-        for _, ends, places, amounts in _blocks(self._matrix, self._ids, "the matrix of payments"):
-            yield (ends, places), amounts.tolist() if is_same else list(amounts)
+        for first, ends, places, amounts in _blocks(self._matrix, self._ids, "the matrix of payments"):
+            yield first, PlacedRows(ends, places, amounts.tolist() if is_same else list(amounts), self._ids)
 
     def __iter__(self) -> Iterator[PlacedRow]:
-        for (ends, places), numbers in self._numbers():
-            for start, end in zip([0, *ends], ends):
-                yield PlacedRow(places[start:end], numbers[start:end], self._ids)
+        for _, rows in self.blocks():
+            yield from rows
 
     def __getitem__(self, voter: Any) -> Any:
         return list(self)[voter]
-
-
-# How many rows are looked at together.
-_AT_ONCE = 4096
 
 
 def _blocks(matrix: Any, ids: Sequence[str], what: str) -> Iterator[Tuple[int, List[int], List[int], Any]]:
@@ -157,8 +177,8 @@ def _blocks(matrix: Any, ids: Sequence[str], what: str) -> Iterator[Tuple[int, L
     columns = matrix.shape[1]
     if columns != len(ids):
         raise ValueError(f"{what} has {columns} columns, and the instance has {len(ids)} projects")
-    for start in range(0, matrix.shape[0], _AT_ONCE):
-        block = matrix[start:start + _AT_ONCE]
+    for start in range(0, matrix.shape[0], AT_ONCE):
+        block = matrix[start:start + AT_ONCE]
         if getattr(block[0], "ndim", None) != 1:
             raise TypeError(f"{what} is a {type(matrix).__name__}, whose rows aren't arrays: give it as an array of "
                             "numpy")

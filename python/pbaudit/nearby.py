@@ -15,7 +15,7 @@ from .certificates import NOISE, certified, payable
 from .rounding import CannotKeep
 from .town import Town
 from .values import Payments, Projects, check_count
-from .writing import election_file, price_file
+from .writing import Payers, election_file, price_file
 
 # A condition, and the voter (from 1) and the place of the project where it fails, as far as it names them.
 Place = Tuple[str, Optional[int], Optional[int]]
@@ -129,9 +129,10 @@ class _Rounded:
         return max([-(-budget.numerator // budget.denominator),
                     *(sum(mine.values()) for voter, mine in enumerate(self.paid, 1) if not self._is_over(voter))])
 
-    def payers(self) -> List[Tuple[int, List[int], List[int]]]:
+    def payers(self) -> Payers:
         """The payments as a certificate has them."""
-        return [(voter, list(mine), list(mine.values())) for voter, mine in enumerate(self.paid, 1)]
+        for voter, mine in enumerate(self.paid, 1):
+            yield [voter] * len(mine), list(mine), list(mine.values())
 
     def is_plain(self, found: Verdict, place: Optional[int], stable: bool) -> bool:
         """Whether the given prices fail by more than noise where the auditor found that the rounded ones do."""

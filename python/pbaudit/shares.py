@@ -13,6 +13,7 @@ from math import gcd
 from typing import Callable, Dict, Iterator, List, Literal, Optional, Sequence, Set, Tuple
 
 from .amounts import Amount, exact_cost, least_multiple
+from .leaps import Between, Leap, Unsure, level
 from .values import AnyInstance, Ballots, Profile, Projects, ballots_of, projects_of
 
 Measure = Literal["cost", "count"]
@@ -38,7 +39,7 @@ Tell = Callable[[Progress], None]
 class EqualShares:
     """What the Method of Equal Shares comes to: the ids of the funded projects in the order of their purchase, the
     budget of each voter, and for each voter what it pays, by the ids of projects. Amounts are exact, in the currency
-    of the costs. `runs` is how often the rule was run, which is once without a completion.
+    of the costs. `runs` is how many budgets of a voter the rule was gone through for, which is one without a completion.
 
     >>> shares = equal_shares(Instance([Project("a", 6)], 10), [["a"], ["a"]])
     >>> shares.payments
@@ -68,8 +69,9 @@ def equal_shares(instance: AnyInstance, profile: Profile, *, by: Measure = "cost
     A project is worth to each supporter what it costs (`by="cost"`), or 1 (`by="count"`). The budget of a voter is the
     limit over the number of voters. With `completion="add1"` it is raised by 1, in the currency of the costs, until no
     other project fits within the limit or the next outcome would cost more than the limit. `increment` is another step
-    than 1: a larger one is quicker where costs are large, and may end at another outcome. Ties go to the project that
-    stands first. A project that costs nothing is bought where it has a supporter. Raises ValueError and TypeError.
+    than 1, by which it may end at another outcome. Steps that change nothing are mostly taken together. Ties go to the
+    project that stands first. A project that costs nothing is bought where it has a supporter. Raises ValueError and
+    TypeError.
 
     >>> town = Instance([Project("a", 6), Project("b", 4)], 10)
     >>> shares = equal_shares(town, [["a", "b"], ["a"]])
@@ -105,7 +107,7 @@ class Rule:
 
     def completed(self, completion: str, step: Fraction = Fraction(1),
                   tell: Optional[Tell] = None) -> Tuple[List[Purchase], Fraction, int]:
-        """What is bought, the budget of a voter, and how often the rule was run."""
+        """What is bought, the budget of a voter, and for how many budgets the rule was gone through."""
         if completion not in COMPLETIONS:
             raise ValueError(f"the completion is {completion!r}, not 'none' or 'add1'")
         budget, runs = self.limit / max(1, self.voters), 1
@@ -114,15 +116,32 @@ class Rule:
         return Run(self, budget, runs, tell).bought, budget, runs
 
     def _raised(self, budget: Fraction, step: Fraction, tell: Optional[Tell]) -> Tuple[Fraction, int]:
-        """The budget of a voter that is raised by a step as often as that can be, and how often the rule was run."""
-        runs, funded = 1, self.funded_by(budget, 1, tell)
+        """The budget of a voter that is raised by a step as often as that can be, and for how many budgets the rule was
+        gone through: one by one, or many at once where it is sure that the same is bought by all of them."""
+        runs, funded, leap = 1, self.funded_by(budget, 1, tell), Leap()
         while self._has_room(funded):
+            if leap.steps > 1:
+                if self._is_same_up_to(budget, budget + leap.steps * step):
+                    runs, budget = runs + leap.steps, budget + leap.steps * step
+                    leap.has_held()
+                else:
+                    leap.has_failed()
+                continue
             runs += 1
             more = self.funded_by(budget + step, runs, tell)
             if self._spent(more) > self.limit:
                 break
             funded, budget = more, budget + step
+            leap.has_stepped()
         return budget, runs
+
+    def _is_same_up_to(self, low: Fraction, high: Fraction) -> bool:
+        """Whether the same is bought by all budgets from one to another. Only a yes is sure."""
+        try:
+            Between(self, low, high)
+        except Unsure:
+            return False
+        return True
 
     def funded_by(self, budget: Fraction, number: int = 1, tell: Optional[Tell] = None) -> Set[int]:
         """What is bought by a budget of each voter. That is found from rounded amounts where these leave no doubt."""
@@ -139,10 +158,6 @@ class Rule:
         left = self.limit - self._spent(funded)
         return any(cost <= left for project, cost in enumerate(self.costs)
                    if project not in funded and self.supporters[project])
-
-
-class Unsure(Exception):
-    """Rounded amounts leave a doubt."""
 
 
 @dataclass(frozen=True)
@@ -208,7 +223,7 @@ class Run:
             if waiting and waiting[0] < (price, project):
                 heappush(waiting, (price, project, error))
                 continue
-            if waiting and 0 < error + waiting[0][2] >= waiting[0][0] - price:
+            if any(0 < error + other >= bound - price for bound, _, other in waiting):
                 raise Unsure
             yield project, shared
             fresh.clear()
@@ -216,21 +231,12 @@ class Run:
     def _shared(self, project: int) -> Optional[Shared]:
         """How the cost of a project is shared; None where the supporters can't pay for it."""
         lefts = list(filter(None, map(self._left.__getitem__, self.rule.supporters[project])))
-        missing, total = self._cost(project), sum(lefts)
-        self._check_sure(total - missing, len(lefts) * self._error)
-        if total < missing:
+        payers, cost = len(lefts), self._cost(project)
+        self._check_sure(sum(lefts) - cost, payers * self._error)
+        found = level(lefts, cost)
+        if found is None:
             return None
-        payers, richest = len(lefts), 0
-        while True:
-            # Who has less than an equal share of what is missing pays all.
-            most = -(-missing // len(lefts))
-            poor = [left for left in lefts if left < most]
-            if not poor:
-                break
-            richest = max(richest, max(poor))
-            missing -= sum(poor)
-            # Somebody is left, since all together have as much as is missing.
-            lefts = [left for left in lefts if left >= most]
+        missing, lefts, richest = found
         error = (payers - len(lefts)) * self._error // len(lefts) + 1 if len(lefts) < payers and self._error else 0
         if self._error:
             share = missing // len(lefts)

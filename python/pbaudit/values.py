@@ -5,8 +5,8 @@ approval ballots, one for each voter, and each is an iterable of projects; a pro
 `str`. A profile or payments may also be a matrix (matrices.py). Within the package projects are places in the order of
 the instance, from 0.
 
-What takes long for many voters is done for a whole ballot or payment function at a time by functions that Python has
-built in. Where one of these stumbles, the values are gone through one by one, which tells what is wrong with which.
+What takes long for many voters is done for some thousand of them at a time by functions that Python has built in. Where
+one of these stumbles, the values are gone through one by one, which tells what is wrong with which.
 """
 import reprlib
 from array import array
@@ -14,15 +14,19 @@ from collections.abc import Collection as AnyCollection, Mapping as AnyMapping, 
 from decimal import Decimal
 from fractions import Fraction
 from functools import lru_cache
+from itertools import chain, islice
 from numbers import Rational, Real
-from operator import attrgetter, index
+from operator import attrgetter, index, methodcaller
 from typing import (
-    Any, Collection, Dict, Iterable, Iterator, List, Mapping, Optional, Protocol, Sequence, Set, Tuple, Union, cast,
+    Any, Collection, Dict, Iterable, Iterator, List, Mapping, Optional, Protocol, Sequence, Set, Sized, Tuple, TypeVar,
+    Union, cast,
 )
 
 from .amounts import Amount, NearAmount, exact_cost, exact_price, near, ratio
 from .elections import Instance
-from .matrices import PaymentRows, PlacedRow, array_of, ballots_in, is_matrix, is_series, mapping_of
+from .matrices import (
+    AT_ONCE, PaymentRows, PlacedRow, PlacedRows, array_of, ballots_in, is_matrix, is_series, mapping_of,
+)
 
 BLANKS = " \t\n\v\f\r"
 PROJECTS = "projects or their ids"
@@ -51,6 +55,8 @@ AnyBallot = Iterable[AnyProject]
 Profile = Iterable[AnyBallot]
 PaymentFunction = Mapping[Any, Amount]
 NearPaymentFunction = Mapping[Any, NearAmount]
+Row = TypeVar("Row")
+Entry = TypeVar("Entry")
 
 
 class Projects:
@@ -89,6 +95,41 @@ class Projects:
             self._are_texts = type(next(iter(projects))) is str
             return [self._place(project, what) for project in projects]
 
+    def places_of_each(self, rows: Sequence[Collection[AnyProject]], first: int, does: str,
+                       is_once: bool = False) -> List[int]:
+        """The places of the projects that voters name, one voter after the other. The first has that number; what they
+        do is told in errors. With `is_once` the rows are mappings, and a project that one has twice is a ValueError."""
+        return _as_many(first, rows, self._placed(rows, first, does, is_once))
+
+    def met_before(self, rows: Sequence[Collection[AnyProject]]) -> Optional[List[int]]:
+        """The places of the projects that voters name, one voter after the other, where all are given in one way and
+        were met before. Otherwise None."""
+        projects = chain.from_iterable(rows)
+        try:
+            if not self._are_texts:
+                return list(map(self._places.__getitem__, map(id, projects)))
+            return list(map(self.place.__getitem__, projects))  # type: ignore[arg-type]
+        except (KeyError, TypeError):
+            return None
+
+    def are_single(self) -> bool:
+        """Whether no project was met as several objects."""
+        return len(set(self._places.values())) == len(self._places)
+
+    def _placed(self, rows: Sequence[Collection[AnyProject]], first: int, does: str, is_once: bool) -> List[int]:
+        if isinstance(rows, PlacedRows):
+            return rows.places
+        # No key is in a mapping twice. So a project is only where it is met as several objects.
+        met = self.met_before(rows) if not is_once or self.are_single() else None
+        if met is not None:
+            return met
+        placed: List[int] = []
+        for voter, row in enumerate(rows, first):
+            what = f"voter {voter} {does}"
+            places = self.places(row, what)
+            placed += self.once(places, what) if is_once else places
+        return placed
+
     def _place(self, project: AnyProject, what: str) -> int:
         name = id_of(project, what)
         if name not in self.place:
@@ -118,8 +159,23 @@ class Ballots:
     def __init__(self, ballots: Iterable[Iterable[int]]):
         self.places, self._ends = array("I"), array("I")
         for ballot in ballots:
-            self.places.extend(sorted(set(ballot)))
+            self.places.fromlist(sorted(set(ballot)))
             self._ends.append(len(self.places))
+
+    def add(self, places: List[int], ends: List[int]) -> None:
+        """Adds ballots: their rising places, one ballot after the other, and where each ends among these."""
+        before = len(self.places)
+        self.places.fromlist(places)
+        self._ends.extend(before + end for end in ends)
+
+    def blocks(self) -> Iterator[Tuple[int, Sequence[int], List[int]]]:
+        """Some thousand ballots at a time: the number of the first voter, their places, one ballot after the other, and
+        where each ends among these."""
+        start = 0
+        for first in range(0, len(self), AT_ONCE):
+            ends = self._ends[first:first + AT_ONCE]
+            yield first + 1, self.places[start:ends[-1]], [end - start for end in ends]
+            start = ends[-1]
 
     def __len__(self) -> int:
         return len(self._ends)
@@ -161,15 +217,18 @@ class Payments:
 
     def _kinds(self) -> Set[type]:
         """The types of all amounts. Raises TypeError where a function is no mapping."""
-        kinds: Set[type] = set()
-        known: Set[type] = set()
-        for voter, function in enumerate(self.functions, 1):
-            if type(function) not in known and not callable(getattr(function, "values", None)):
+        wrong = {type(one) for one in _first_of_each_type(self.functions) if not callable(getattr(one, "values", None))}
+        for voter, function in enumerate(self.functions, 1) if wrong else ():
+            if type(function) in wrong:
                 raise TypeError(f"the payment function of voter {voter} is {reprlib.repr(function)}, not a mapping "
                                 "from projects to amounts")
-            known.add(type(function))
-            kinds.update(map(type, function.values()))
-        return kinds
+        return set(map(type, _amounts(self.functions)))
+
+    def blocks(self) -> Iterator[Tuple[int, Sequence[NearPaymentFunction]]]:
+        """The functions of some thousand voters at a time, behind the number of the first."""
+        if isinstance(self.functions, PaymentRows):
+            return cast(Iterator[Tuple[int, Sequence[NearPaymentFunction]]], self.functions.blocks())
+        return in_blocks(self.functions)
 
     @property
     def has_floats(self) -> bool:
@@ -187,15 +246,16 @@ class Payments:
         if self._is_whole:
             return
         seen: Set[int] = set()
-        for voter, function in enumerate(self.functions, 1):
-            found = {denominator for _, denominator in self.ratios(voter, function)}
+        for first, functions in self.blocks():
+            found = {denominator for _, denominator in self.ratios(first, functions)}
             yield from found - seen
             if len(seen) < 2**16:
                 seen |= found
 
-    def ratios(self, voter: int, function: NearPaymentFunction) -> Sequence[Tuple[int, int]]:
-        """A numerator and a denominator of each amount of a voter, as Python's own numbers."""
-        values = function.values()
+    def ratios(self, first: int, functions: Sequence[NearPaymentFunction]) -> Sequence[Tuple[int, int]]:
+        """A numerator and a denominator of each amount of voters, the first of whom has that number, as Python's own
+        numbers."""
+        values = _as_many(first, functions, list(_amounts(functions)))
         try:
             if self._is_rational:
                 numerators, denominators = (list(map(index, map(part, values))) for part in _PARTS)
@@ -205,7 +265,8 @@ class Payments:
                 return [amount.as_integer_ratio() for amount in values]  # type: ignore[union-attr]
         except (TypeError, ValueError, OverflowError):
             pass
-        return [ratio(amount, _what(voter, project)) for project, amount in function.items()]
+        return [ratio(amount, _what(voter, project)) for voter, function in enumerate(functions, first)
+                for project, amount in function.items()]
 
     def own(self, voter: int, function: NearPaymentFunction) -> Collection[NearAmount]:
         """The amounts of a voter as numbers of Python and of its library, which are exact."""
@@ -214,12 +275,44 @@ class Payments:
         return [amount if _is_own(amount) else near(amount, _what(voter, project))
                 for project, amount in function.items()]
 
-    def numerators(self, voter: int, function: NearPaymentFunction, denominator: int) -> List[int]:
-        """The amounts of a voter as numerators over a common denominator."""
+    def numerators(self, first: int, functions: Sequence[NearPaymentFunction], denominator: int) -> List[int]:
+        """The amounts of voters, the first of whom has that number, as numerators over a common denominator."""
         if self._is_whole:
-            values: Collection[Any] = function.values()
-            return list(values) if denominator == 1 else [amount * denominator for amount in values]
-        return [numerator * (denominator // part) for numerator, part in self.ratios(voter, function)]
+            values: List[Any] = _as_many(first, functions, list(_amounts(functions)))
+            return values if denominator == 1 else [amount * denominator for amount in values]
+        return [numerator * (denominator // part) for numerator, part in self.ratios(first, functions)]
+
+
+def _amounts(functions: Iterable[NearPaymentFunction]) -> Iterator[NearAmount]:
+    """All amounts, one voter after the other."""
+    if isinstance(functions, PlacedRows):
+        return iter(functions.amounts)
+    return chain.from_iterable(map(methodcaller("values"), functions))
+
+
+def _as_many(first: int, rows: Sequence[Sized], entries: List[Entry]) -> List[Entry]:
+    """The entries of voters, the first of whom has that number. A row that has more or fewer than its length says is a
+    ValueError, since the entries behind it would be taken for another voter's."""
+    if sum(sizes_of(rows)) != len(entries):
+        raise ValueError(f"of the voters {first} to {first + len(rows) - 1} one has more or fewer projects, or amounts, "
+                         "than its length says")
+    return entries
+
+
+def sizes_of(rows: Sequence[Sized]) -> Iterable[int]:
+    """How many projects or amounts each voter has, by the length that is told."""
+    return rows.sizes() if isinstance(rows, PlacedRows) else map(len, rows)
+
+
+def in_blocks(rows: Iterable[Row]) -> Iterator[Tuple[int, List[Row]]]:
+    """What voters gave, for some thousand of them at a time, behind the number of the first."""
+    rest, first = iter(rows), 1
+    while True:
+        block = list(islice(rest, AT_ONCE))
+        if not block:
+            return
+        yield first, block
+        first += len(block)
 
 
 def _is_own(amount: object) -> bool:
@@ -270,9 +363,39 @@ def limit_of(instance: AnyInstance) -> Fraction:
 def ballots_of(profile: Profile, projects: Projects) -> Ballots:
     """The ballots of a profile."""
     if is_matrix(profile):
-        return Ballots(ballots_in(array_of(profile, projects.ids, projects.columns, "the profile"), projects.ids))
-    return Ballots(projects.places(ballot, f"voter {voter} approves")
-                   for voter, ballot in enumerate(_ballots(profile), 1))
+        blocks = ballots_in(array_of(profile, projects.ids, projects.columns, "the profile"), projects.ids)
+    else:
+        blocks = _placed(profile, projects)
+    ballots = Ballots([])
+    for places, ends in blocks:
+        ballots.add(places, ends)
+    return ballots
+
+
+def _placed(profile: Profile, projects: Projects) -> Iterator[Tuple[List[int], List[int]]]:
+    """The rising places of some thousand ballots, one after the other, and where each ends."""
+    for first, ballots in in_blocks(_ballots(profile)):
+        met = projects.met_before(ballots)
+        # Nothing is in a set twice. So a project is only where it is met as several objects.
+        are_sets = all(issubclass(kind, (set, frozenset)) for kind in set(map(type, ballots)))
+        is_once = are_sets and met is not None and projects.are_single()
+        named = projects.places_of_each(ballots, first, "approves") if met is None else _as_many(first, ballots, met)
+        places: List[int] = []
+        ends, start = [], 0
+        for size in map(len, ballots):
+            mine = named[start:start + size]
+            if not is_once:
+                mine = list(set(mine))
+            mine.sort()
+            places += mine
+            ends.append(len(places))
+            start += size
+        yield places, ends
+
+
+def _first_of_each_type(values: Sequence[Row]) -> Collection[Row]:
+    """The first value of each type that there is."""
+    return dict(zip(map(type, reversed(values)), reversed(values))).values()
 
 
 def _ballots(profile: Profile) -> Iterator[Collection[AnyProject]]:
@@ -299,8 +422,7 @@ def _ballots(profile: Profile) -> Iterator[Collection[AnyProject]]:
 def functions_of(payment_functions: Iterable[NearPaymentFunction]) -> List[NearPaymentFunction]:
     """The payment functions as a list, also where they are an iterator. Series of pandas are mappings as well."""
     functions = list(listed(payment_functions, "the payment functions are", "mappings, one for each voter", AnyMapping))
-    one_of_each = {type(function): function for function in functions}
-    series = {kind for kind, one in one_of_each.items() if is_series(one)}
+    series = {type(one) for one in _first_of_each_type(functions) if is_series(one)}
     return functions if not series else [
         mapping_of(function, f"voter {voter} pays for") if type(function) in series else function
         for voter, function in enumerate(functions, 1)]

@@ -5,24 +5,31 @@ refused by a ValueError with the reason, and a value of another kind than is wan
 by a TypeError. Values are taken by their shape, as values.py says.
 """
 import io
+import reprlib
+from collections.abc import Mapping as AnyMapping
 from fractions import Fraction
-from typing import Collection, Iterable, List, Literal, Mapping, Optional, Sequence, Tuple
+from itertools import chain, repeat, starmap
+from types import MappingProxyType
+from typing import Any, Collection, Iterable, Iterator, List, Literal, Mapping, Optional, Sequence, Sized, Tuple
 
 from .amounts import (
     MOST_DENOMINATOR, MOST_NUMERATOR, Amount, TooManyDenominators, exact_price, least_multiple, money, own,
 )
 from .files import MOST_BYTES, Path, write_to
 from .values import (
-    AnyInstance, AnyProject, Ballots, PaymentFunction, Payments, Profile, Projects, ballots_of, funded_of, ids_of,
-    listed, once, projects_of,
+    AnyInstance, AnyProject, Ballots, PaymentFunction, Payments, Profile, Projects, ballots_of, funded_of, id_of, ids_of,
+    listed, once, projects_of, sizes_of,
 )
 
 Satisfaction = Literal["count", "cost"]
+# Whole numbers by projects.
+Weights = Mapping[Any, int]
 # How many of each an election has at most, and how many rows a price certificate.
 MOST_PROJECTS, MOST_VOTERS, MOST_APPROVALS = 20_000, 10**6, 2 * 10**7
 MOST_PAYMENTS = 10**7
-# The numbers of voters and the places and numerators of what they pay, by rising voter.
-Payers = Iterable[Tuple[int, Sequence[int], Sequence[int]]]
+MOST_WEIGHT = 10**12
+# Payments, many at a time: the numbers of the voters, which rise, the places of the projects, and the numerators.
+Payers = Iterable[Tuple[Sequence[int], Sequence[int], Sequence[int]]]
 
 
 def write_election(instance: AnyInstance, profile: Profile, budget_allocation: Optional[Iterable[AnyProject]] = None,
@@ -87,12 +94,40 @@ def write_violation(voters: Iterable[int], projects: Iterable[AnyProject],
         raise ValueError(f"the satisfaction is {satisfaction!r}, not 'count' or 'cost'")
     head = [["pb-violation", "1"]] if satisfaction is None else [["pb-violation", "2"], ["satisfaction", satisfaction]]
     ids = ids_of(projects, "the demand is", "the demand names")
-    group = once(list(map(_whole, listed(voters, "the group is", "numbers of voters"))), "the group names voter")
-    for voter in group:
+    group = [_whole(voter, f"the group names voter {voter!r}, which")
+             for voter in listed(voters, "the group is", "numbers of voters")]
+    for voter in once(group, "the group names voter"):
         if not 1 <= voter <= MOST_VOTERS:
             raise ValueError(f"the group names voter {voter}, and voters are numbered from 1 to {MOST_VOTERS}")
     rows = [["project", project] for project in ids] + [["voter", str(voter)] for voter in group]
     return write_to(path, _written(head + rows))
+
+
+def write_refutation(*, least: Weights = MappingProxyType({}), most: Weights = MappingProxyType({}),
+                     left: Weights = MappingProxyType({}), cover: int = 0, path: Optional[Path] = None) -> bytes:
+    """A refutation: the weights of projects, by their roles, `least` and `most` of funded ones and `left` of unfunded
+    ones, and the weight of Cover, all of them whole numbers from 0 to 10^12. Raises ValueError, TypeError and OSError.
+
+    >>> write_refutation(left={"c": 5}, most={"a": 5, "b": 5}, cover=3).split()
+    [b'pb-refutation,1', b'cover,3', b'role,project,weight', b'most,a,5', b'most,b,5', b'left,c,5']
+    """
+    rows = []
+    for role, weights in (("least", least), ("most", most), ("left", left)):
+        if not isinstance(weights, AnyMapping):
+            raise TypeError(f"the weights of {role} are {reprlib.repr(weights)}, not a mapping from projects to numbers")
+        for project, weight in weights.items():
+            name = id_of(project, "the refutation names")
+            rows.append([role, name, str(_weight(weight, f"the weight of {name}"))])
+    once([name for _, name, _ in rows], "the refutation names")
+    head = [["pb-refutation", "1"], ["cover", str(_weight(cover, "the weight of Cover"))], ["role", "project", "weight"]]
+    return write_to(path, _written(head + rows))
+
+
+def _weight(weight: object, what: str) -> int:
+    number = _whole(weight, f"{what} is {weight!r}, which")
+    if not 0 <= number <= MOST_WEIGHT:
+        raise ValueError(f"{what} is {number}, and weights are from 0 to 10^12")
+    return number
 
 
 def election_file(projects: Projects, costs: Sequence[Fraction], limit: Fraction, ballots: Ballots,
@@ -112,11 +147,22 @@ def election_file(projects: Projects, costs: Sequence[Fraction], limit: Fraction
         f"budget;{money(limit, 'the budget limit')}", "vote_type;approval", "PROJECTS",
         *(";".join(_field(text, ";") for text in row) for row in zip(*columns)), "VOTES", "voter_id;vote",
     ])
-    named, is_odd = projects.ids.__getitem__, any(set('";') & set(name) for name in projects.ids)
-    for voter, ballot in enumerate(ballots, 1):
-        vote = ",".join(map(named, ballot))
-        lines.add([f"{voter};{_field(vote, ';') if is_odd else vote}"])
+    for votes in _votes(projects, ballots):
+        lines.add(votes)
     return lines.data()
+
+
+def _votes(projects: Projects, ballots: Ballots) -> Iterator[List[str]]:
+    """The lines of ballots, many at a time."""
+    is_odd = any(set('";') & set(name) for name in projects.ids)
+    for first, places, ends in ballots.blocks():
+        names, start = list(map(projects.ids.__getitem__, places)), 0
+        votes = []
+        for voter, end in enumerate(ends, first):
+            vote = ",".join(names[start:end])
+            votes.append(f"{voter};{_field(vote, ';') if is_odd else vote}")
+            start = end
+        yield votes
 
 
 def _check_commas(projects: Projects, ballots: Ballots) -> None:
@@ -137,25 +183,28 @@ def price_file(denominator: int, voter_budget: int, projects: Projects, payers: 
         raise ValueError("the voter budget is below 0")
     head = ["pb-prices,1", f"denominator,{denominator}", f"voter_budget,{voter_budget}", "voter,project,payment"]
     lines = _Lines(head)
-    count = last = 0
+    payments = last = 0
     fields: List[str] = []
-    for voter, places, numerators in payers:
+    for voters, places, numerators in payers:
         if len(fields) < len(projects.ids):
-            fields += (_field(name, ",") for name in projects.ids[len(fields):])
+            fields += (f",{_field(name, ',')}," for name in projects.ids[len(fields):])
         if numerators and not (min(numerators) >= 0 and max(numerators) <= MOST_NUMERATOR):
-            raise _beyond(voter, [projects.ids[at] for at in places], numerators, denominator)
-        rows = [f"{voter},{fields[at]},{numerator}" for at, numerator in zip(places, numerators) if numerator]
+            raise _beyond(voters, [projects.ids[at] for at in places], numerators, denominator)
+        # Most numbers are there several times.
+        texts = {number: str(number) for number in {*voters, *numerators}}.__getitem__
+        columns = map(texts, voters), map(fields.__getitem__, places), map(texts, numerators)
+        rows = [f"{voter}{field}{paid}" for voter, field, paid in zip(*columns) if paid != "0"]
         if rows:
+            last, payments = int(rows[-1].partition(",")[0]), payments + len(rows)
             lines.add(rows)
-            count, last = count + len(rows), voter
-    _at_most(MOST_PAYMENTS, count, "payments")
+    _at_most(MOST_PAYMENTS, payments, "payments")
     _at_most(MOST_VOTERS, last, "voters")
     return lines.data()
 
 
-def _beyond(voter: int, names: List[str], numerators: Sequence[int], denominator: int) -> ValueError:
-    name, numerator = next((name, number) for name, number in zip(names, numerators)
-                           if not 0 <= number <= MOST_NUMERATOR)
+def _beyond(voters: Sequence[int], names: List[str], numerators: Sequence[int], denominator: int) -> ValueError:
+    voter, name, numerator = next(payment for payment in zip(voters, names, numerators)
+                                  if not 0 <= payment[2] <= MOST_NUMERATOR)
     if numerator < 0:
         amount = Fraction(numerator, denominator)
         return ValueError(f"voter {voter} pays {amount} for {name}, and a certificate has no payments below 0")
@@ -165,10 +214,14 @@ def _beyond(voter: int, names: List[str], numerators: Sequence[int], denominator
 
 def payers_of(payments: Payments, projects: Projects, denominator: int) -> Payers:
     """Payments as numerators over a common denominator."""
-    for voter, function in enumerate(payments.functions, 1):
-        what = f"voter {voter} pays for"
-        places = projects.once(projects.places(function, what), what)
-        yield voter, places, payments.numerators(voter, function, denominator)
+    for first, functions in payments.blocks():
+        places = projects.places_of_each(functions, first, "pays for", is_once=True)
+        yield voters_of(first, functions), places, payments.numerators(first, functions, denominator)
+
+
+def voters_of(first: int, functions: Sequence[Sized]) -> List[int]:
+    """For each payment of some functions the number of the voter, where the first voter has that number."""
+    return list(chain.from_iterable(starmap(repeat, enumerate(sizes_of(functions), first))))
 
 
 class _Lines:
@@ -196,13 +249,14 @@ class _Lines:
         return data
 
 
-def _whole(voter: object) -> int:
+def _whole(value: object, told: str) -> int:
+    """A whole number; what is told of another value goes on."""
     try:
-        if not isinstance(voter, bool):
-            return own(voter)
+        if not isinstance(value, bool):
+            return own(value)
     except TypeError:
         pass
-    raise TypeError(f"the group names voter {voter!r}, which isn't a whole number")
+    raise TypeError(f"{told} isn't a whole number")
 
 
 def _at_most(most: int, number: int, what: str) -> None:

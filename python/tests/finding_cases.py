@@ -149,6 +149,29 @@ def best_margin(case, stable=False, covered=True):
     return -found.fun if found.status == 0 else None
 
 
+def is_refutation(case, refutation):
+    """U1 to U3 of what was found, as they are defined."""
+    places = {f"p{at}": at for at in range(len(case.costs))}
+    roles = {places[name]: role for role in ("least", "most", "left") for name in getattr(refutation, role)}
+    if any((role == "left") == (at in case.funded) for at, role in roles.items()):
+        return False
+    weight = {places[name]: number for role in ("least", "most", "left")
+              for name, number in getattr(refutation, role).items()}
+    signed = {at: -weight[at] if roles[at] == "most" else weight[at] for at in weight}
+    spending = supported = 0
+    for ballot in case.ballots:
+        left = sum(weight.get(at, 0) for at in ballot if at not in case.funded)
+        spending += max([0] + [signed.get(at, 0) + left for at in ballot if at in case.funded])
+    for at in case.unfunded:
+        supported += weight.get(at, 0) * sum(at in ballot for ballot in case.ballots)
+    if spending + len(case.ballots) * refutation.cover > supported:
+        return False
+    paid = sum(signed.get(at, 0) * Fraction(case.costs[at]) for at in case.funded)
+    paid += refutation.cover * Fraction(case.limit)
+    owed = sum(weight.get(at, 0) * Fraction(case.costs[at]) for at in case.unfunded)
+    return paid > owed or paid == owed and refutation.cover > 0
+
+
 def smallest_violation(case, by):
     """By trying all demands: how many projects the smallest demand of a violation has, and by how much more the share
     of the group of such a demand covers than it costs, at most; or None."""

@@ -12,7 +12,7 @@ from fractions import Fraction
 from unittest import mock
 
 import pbaudit
-from pbaudit import Refusal, _auditor
+from pbaudit import Refusal, _auditor, _places
 
 REPOSITORY = pathlib.Path(__file__).resolve().parents[2]
 EXAMPLES = REPOSITORY / "examples"
@@ -61,6 +61,10 @@ class Answers(unittest.TestCase):
         for auditor in (_auditor._find(), _auditor._Program(str(PROGRAM))):
             with self.subTest(auditor=auditor), mock.patch.object(_auditor, "_found", auditor):
                 self.assertTrue(pbaudit.audit_prices(*school[:2], exhaustive=False).says_little)
+                self.assertEqual([self.of_groups(*files, exhaustive=False) for files in (school[:2], district)],
+                                 [False, True])
+                self.assertFalse(self.of_groups(*school[:2]), "a no")
+                self.assertFalse(pbaudit.audit_violation(school[0], school[2]).no_group_passed_over)
                 self.assertFalse(pbaudit.audit_prices(*school[:2]).says_little, "a no")
                 self.assertFalse(pbaudit.audit_prices(*district).says_little)
                 of_prices, of_violation = pbaudit.audit_both(*school, exhaustive=False)
@@ -71,6 +75,11 @@ class Answers(unittest.TestCase):
             verdict = pbaudit.validate_price_system(
                 pbaudit.Instance([bench], limit), voters, ["bench"], budget, [{"bench": Fraction(1, 3)}] * 3)
             self.assertEqual((bool(verdict), verdict.says_little), (True, little), (budget, limit))
+            self.assertEqual(verdict.no_group_passed_over, not little)
+
+    @staticmethod
+    def of_groups(*files, **switches):
+        return pbaudit.audit_prices(*files, **switches).no_group_passed_over
 
     def test_library_is_asked_once(self):
         """Answers of tidy and margins are about as long as the files."""
@@ -114,7 +123,7 @@ class Answers(unittest.TestCase):
         with tempfile.TemporaryDirectory() as room:
             junk = pathlib.Path(room, "libpbaudit.so")
             junk.write_bytes(b"junk")
-            with mock.patch.object(_auditor, "_LIBRARIES", [junk]):
+            with mock.patch.object(_places, "library", lambda: junk):
                 with self.assertRaisesRegex(ImportError, "libpbaudit.so can't be used: .*pbaudit-library"):
                     _auditor._find()
                 with mock.patch.object(ctypes, "CDLL", lambda path: object()):
@@ -229,6 +238,16 @@ class Audits(unittest.TestCase):
         self.assertEqual([found.name for found in told.findings if found.state == "holds"], ["V1", "V2", "V3", "V4"])
         with self.assertRaises(Refusal):
             pbaudit.explain(*reversed(files[:2]))
+
+    def test_what_is_explained_of_groups(self):
+        """Behind the table of a yes, and apart from it."""
+        text = b"supported priceable\n\nC1          holds      x\n\nno group is passed over: y\nnearest to that comes z\n"
+        library = mock.Mock(ask=lambda question: (0, text), says_little=lambda question: False)
+        with mock.patch.object(_auditor, "_found", library):
+            told = pbaudit.explain(b"", b"")
+        self.assertEqual([(found.name, found.state, found.sentence) for found in told.findings], [("C1", "holds", "x")])
+        self.assertEqual(told.groups, ("no group is passed over: y", "nearest to that comes z"))
+        self.assertEqual(str(told), text.decode())
 
     def test_tidy(self):
         untidy = EXAMPLES / "sample.untidy.prices.csv"
@@ -369,7 +388,3 @@ class Audits(unittest.TestCase):
             with self.assertRaises(Refusal) as caught:
                 pbaudit.read(path)
         self.assertEqual(caught.exception.name, "TooLong")
-
-
-if __name__ == "__main__":
-    unittest.main()

@@ -192,7 +192,3 @@ class Roundings(unittest.TestCase):
         halves = Instance([Project("a", Fraction("1.5"))], 2)
         with self.assertRaisesRegex(ValueError, "^the denominator has to be .* and a multiple of 2, so that "):
             price_certificate(halves, [{"a"}], ["a"], 2, [{"a": Fraction(3, 2)}], denominator=3)
-
-
-if __name__ == "__main__":
-    unittest.main()

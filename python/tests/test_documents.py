@@ -1,6 +1,5 @@
 """The examples of docs/LIBRARY.md, which print what stands there, and the job array of docs/MANY.md."""
 import contextlib
-import importlib.util
 import io
 import os
 import pathlib
@@ -12,6 +11,7 @@ import sys
 import tempfile
 import textwrap
 import unittest
+from unittest import mock
 
 import pbaudit
 
@@ -32,8 +32,28 @@ def block(begin, page="LIBRARY.md"):
     return found
 
 
+def put_on_the_path(case):
+    """Has a program pbaudit on the PATH while a test runs."""
+    room = tempfile.TemporaryDirectory()
+    case.addCleanup(room.cleanup)
+    program = pathlib.Path(room.name, "pbaudit")
+    program.write_text(f"#!/bin/sh\nexec {shlex.quote(str(PROGRAM))} \"$@\"\n", encoding="utf-8")
+    program.chmod(0o755)
+    path = mock.patch.dict(os.environ, PATH=os.pathsep.join([room.name, os.environ["PATH"]]))
+    path.start()
+    case.addCleanup(path.stop)
+
+
+def without_pbaudit():
+    """The environment without the folders of the PATH that have a pbaudit."""
+    folders = os.environ["PATH"].split(os.pathsep)
+    path = os.pathsep.join(folder for folder in folders if not os.path.exists(os.path.join(folder, "pbaudit")))
+    return {**os.environ, "PATH": path}
+
+
 class Library(unittest.TestCase):
     def setUp(self):
+        put_on_the_path(self)
         room = tempfile.TemporaryDirectory()
         self.addCleanup(room.cleanup)
         self.room = room.name
@@ -52,21 +72,18 @@ class Library(unittest.TestCase):
         town = pbaudit.write_election(values["instance"], values["profile"], [values["a"], values["b"]])
         self.assertTrue(pbaudit.audit_prices(town, f"{self.room}/town.prices.csv"))
 
-    @unittest.skipUnless(importlib.util.find_spec("numpy"), "numpy isn't installed")
-    def test_matrices(self):
-        values, out = {}, io.StringIO()
+    def test_a_refutation(self):
+        values, out = {"Instance": pbaudit.Instance, "Project": pbaudit.Project}, io.StringIO()
         with contextlib.redirect_stdout(out):
-            exec(block("from pbaudit import Instance"), values)
-            out.seek(out.truncate(0))
-            exec(block("import numpy"), values)
-        self.assertEqual(out.getvalue(), "supported priceable\n")
+            exec(block("from pbaudit import audit_refutation"), values)
+        self.assertIn(f"\nprints `{out.getvalue().rstrip()}`. Their share",
+                      (REPOSITORY / "docs" / "LIBRARY.md").read_text(encoding="utf-8"))
 
-    def test_a_refusal(self):
-        told = block("refused certificate 24")
-        with in_folder(REPOSITORY):
-            with self.assertRaises(pbaudit.Refusal) as caught:
-                pbaudit.audit_violation("examples/district.pb", "examples/district.voter-id.violation.csv")
-        self.assertEqual("".join(line + "\n" for line in str(caught.exception).split("\n")[:2]), told)
+    def test_verifying_files(self):
+        """An answer, a no, and a file of another kind, with what they print."""
+        with in_folder(REPOSITORY), contextlib.redirect_stdout(io.StringIO()) as out:
+            exec(block("from pbaudit import Refusal, audit_prices"), {})
+        self.assertEqual(out.getvalue(), block("True supported priceable"))
 
     def test_equal_shares(self):
         _, _, _, command, election, *words = block("~/pbaudit/bin/python -m pbaudit equal-shares").split()
@@ -79,37 +96,35 @@ class Library(unittest.TestCase):
 
 class C(unittest.TestCase):
     def test_the_functions(self):
-        """Those of the header and no others, with the arguments that they have there, of which `..` are one or more."""
+        """The table has those of the header and no others, with their arguments in order but for lengths and the last three."""
         header = (REPOSITORY / "include" / "pbaudit.h").read_text(encoding="utf-8")
-        owed = {name: ",".join(re.findall(r"(\w+)(?:,|$)", words)) for name, words in declared(header)}
-        told = dict(declared("".join(blocks())))
-        self.assertEqual(told.keys(), owed.keys())
-        for name, words in told.items():
-            form = r"\w+(?:,\w+)*".join(map(re.escape, "".join(words.split()).split("..")))
-            self.assertRegex(owed[name], f"^{form}$")
+        owed = {name: [word for word in re.findall(r"(\w+)(?:,|$)", words)
+                       if not word.endswith("_length") and word not in ("out", "room", "needed")]
+                for name, words in re.findall(r"uint8_t (pbaudit_\w+)\(([^)]*)\);", header)}
+        table = (REPOSITORY / "docs" / "LIBRARY.md").read_text(encoding="utf-8").split("## From C\n")[1]
+        told = {name: re.findall(r"`(\w+)`", words)
+                for names, words in re.findall(r"^\| (`pbaudit_.*?) \| (.*) \|$", table, re.MULTILINE)
+                for name in re.findall(r"`(\w+)`", names)}
+        self.assertEqual(told, owed)
 
     def test_a_call(self):
+        """With the prototype that is shown, which a compiler refuses where it isn't that of the header."""
+        files = {"election": "district.pb", "certificate": "district.short.prices.csv"}
+        arrays = [f"static const uint8_t {name}[] = {{{','.join(map(str, (EXAMPLES / file).read_bytes()))}}};\n"
+                  f"size_t {name}_length = sizeof {name};\n" for name, file in files.items()]
         with tempfile.TemporaryDirectory() as room:
-            election = (EXAMPLES / "sample.pb").read_bytes()
             source = pathlib.Path(room, "call.c")
-            source.write_text("#include <pbaudit.h>\n#include <stdio.h>\n#include <stdlib.h>\nint main(void) {\n"
-                              f"const uint8_t election[] = {{{','.join(map(str, election))}}};\n"
-                              "size_t election_length = sizeof election;\n"
-                              f"{block('uint8_t text[4096]')}return status;\n}}\n", encoding="utf-8")
+            source.write_text("#include <pbaudit.h>\n#include <stdio.h>\n" + block("uint8_t pbaudit_prices(const")
+                              + "int main(void) {\n" + "".join(arrays) + block("uint8_t text[4096]")
+                              + "return status;\n}\n", encoding="utf-8")
             words = ["-I", REPOSITORY / "include", REPOSITORY / "lib" / "libpbaudit.a", "-o", f"{room}/call"]
             subprocess.run(["cc", "-Wall", "-Werror", source, *words], check=True)
             done = subprocess.run([f"{room}/call"], capture_output=True, check=False)
-        wanted = subprocess.run([PROGRAM, "read", EXAMPLES / "sample.pb"], capture_output=True, check=False)
-        self.assertEqual((done.returncode, done.stdout), (0, wanted.stdout))
-
-
-def declared(text):
-    """The functions of a text, each with what stands in its brackets."""
-    return re.findall(r"uint8_t pbaudit_(\w+)\(([^)]*)\);", text)
+        self.assertEqual((done.returncode, done.stdout), (1, b"failed C3 project 101\n"))
 
 
 class JobArray(unittest.TestCase):
-    """The commands for Slurm, by a shell that runs the tasks one after the other."""
+    """The commands for Slurm, with an `sbatch` that runs the tasks one after the other."""
 
     def test_the_commands(self):
         with tempfile.TemporaryDirectory() as room:
@@ -122,12 +137,11 @@ class JobArray(unittest.TestCase):
                 shutil.copy(EXAMPLES / election, elections / f"{number} a.pb")
                 if prices:
                     shutil.copy(EXAMPLES / prices, elections / f"{number} a.prices.csv")
-            task = pathlib.Path(room, "audit.sbatch")
-            task.write_text(block("#!/bin/bash\n#SBATCH", "MANY.md"), encoding="utf-8")
+            pathlib.Path(room, "examples").symlink_to(EXAMPLES)
             script = "\n".join([
-                f"pbaudit() {{ {shlex.quote(str(PROGRAM))} \"$@\"; }}; export -f pbaudit", block("count=0", "MANY.md"),
-                "for at in $(seq 0 $(((count - 1) / 100))); do SLURM_ARRAY_TASK_ID=$at bash audit.sbatch; done",
-                block("for part in", "MANY.md")])
+                f"pbaudit() {{ {shlex.quote(str(PROGRAM))} \"$@\"; }}; export -f pbaudit",
+                'sbatch() { for at in $(seq 0 "${2#--array=0-}"); do SLURM_ARRAY_TASK_ID=$at "$3"; done; }',
+                block("tasks=", "MANY.md")])
             done = subprocess.run(["bash", "-c", script], cwd=room, capture_output=True, text=True, check=False)
             wanted = subprocess.run([PROGRAM, "folder", elections], capture_output=True, text=True, check=False)
             self.assertEqual((done.stdout, done.stderr), (wanted.stdout, ""))
@@ -143,7 +157,3 @@ def in_folder(folder):
         yield
     finally:
         os.chdir(before)
-
-
-if __name__ == "__main__":
-    unittest.main()

@@ -1,5 +1,5 @@
 """Searches for certificates of invented elections, and of such at the edges. PBAUDIT_ELECTIONS says how many are
-invented, in the place of 60."""
+invented, in the place of 300; some tests take a fifth of them."""
 import importlib.util
 import os
 import pathlib
@@ -10,12 +10,13 @@ from fractions import Fraction
 from unittest import mock
 
 import pbaudit
-from finding_cases import Case, best_margin, cases, odd_cases, smallest_violation
+from finding_cases import Case, best_margin, cases, is_refutation, odd_cases, smallest_violation
 
 REPOSITORY = pathlib.Path(__file__).resolve().parents[2]
 EXAMPLES = REPOSITORY / "examples"
 PROGRAM = REPOSITORY / "crates" / "pbaudit" / "out" / "pbaudit"
-ELECTIONS = int(os.environ.get("PBAUDIT_ELECTIONS", "60"))
+ELECTIONS = int(os.environ.get("PBAUDIT_ELECTIONS", "300"))
+FEWER = ELECTIONS // 5
 HAS_SCIPY = unittest.skipUnless(importlib.util.find_spec("scipy"), "scipy isn't installed")
 # Below this, what is left to spare may be lost by rounding.
 SPARE = 1e-4
@@ -28,6 +29,9 @@ def audits(file, found):
         yield pbaudit.audit_prices(file, prices.file, stable=prices.stable, exhaustive=prices.exhaustive,
                                    cover=prices.cover).line
         yield from by_program(file, prices.file, "prices", *prices.options)
+    if found.refutation:
+        yield pbaudit.audit_refutation(file, found.refutation.file).line
+        yield from by_program(file, found.refutation.file, "refutation")
     for violation in found.violations:
         yield pbaudit.audit_violation(file, violation.file).line
         yield from by_program(file, violation.file, "violation")
@@ -43,6 +47,8 @@ def by_program(election, certificate, command, *options):
             yield done.stdout.rstrip("\n")
 
 
+# What is answered on what is found without --stable and --cover.
+YES = ("supported priceable", "unpriceable", "violation")
 # In the place of water-filling, so that all is found by the programme.
 NO_WATER = mock.patch("pbaudit.finding.prices.by_water", lambda *_: (None, []))
 
@@ -50,19 +56,23 @@ NO_WATER = mock.patch("pbaudit.finding.prices.by_water", lambda *_: (None, []))
 @HAS_SCIPY
 class Invented(unittest.TestCase):
     def test_what_is_found(self):
-        """Every certificate is accepted; prices are found just where a dense programme has some, and with Cover where
-        it has some with that; an outcome of Equal Shares always has some."""
-        tally = {"prices": 0, "none": 0, "count": 0, "cost": 0}
+        """Every certificate is accepted; there are prices or a refutation, and never both; prices are found just where a
+        dense programme has some, and with Cover where it has some with that; an outcome of Equal Shares always has
+        some."""
+        tally = {"prices": 0, "refuted": 0, "count": 0, "cost": 0}
         for case in (case for seed in range(ELECTIONS) for case in cases(seed)):
             with self.subTest(case=case.name):
                 file = case.file()
                 found = pbaudit.find(file)
                 for line in audits(file, found):
-                    self.assertIn(line, ("supported priceable", "violation"))
+                    self.assertIn(line, YES)
                 self.check_prices(case, found)
+                self.assertNotEqual(found.prices is None, found.refutation is None)
+                if found.refutation:
+                    self.assertTrue(is_refutation(case, found.refutation))
                 if "Shares by" in case.name:
                     self.assertTrue(found.prices and found.prices.cover)
-                tally["prices" if found.prices else "none"] += 1
+                tally["prices" if found.prices else "refuted"] += 1
                 for violation in found.violations:
                     tally[violation.by] += 1
         self.assertGreater(min(tally.values()), ELECTIONS // 20, tally)
@@ -76,38 +86,53 @@ class Invented(unittest.TestCase):
             if margin is not None and abs(margin) > SPARE:
                 self.assertEqual(is_found, margin > 0, margin)
 
+    def test_a_thousand_voters(self):
+        """Prices or a refutation, and never both."""
+        refuted = 0
+        for case in (case for seed in range(FEWER // 20) for case in cases(seed, ((1000, 20),))):
+            with self.subTest(case=case.name):
+                file = case.file()
+                found = pbaudit.find(file, violation=False)
+                self.assertNotEqual(found.prices is None, found.refutation is None)
+                for line in audits(file, found):
+                    self.assertIn(line, YES)
+                refuted += found.refutation is not None
+        self.assertGreater(refuted, 0)
+
     def test_by_the_programme_alone(self):
         tally = {True: 0, False: 0}
-        for case in (case for seed in range(ELECTIONS // 4) for case in cases(seed, ((10, 5), (20, 10), (30, 12)))):
+        for case in (case for seed in range(FEWER // 4) for case in cases(seed, ((10, 5), (20, 10), (30, 12)))):
             with self.subTest(case=case.name), NO_WATER:
                 file = case.file()
                 found = pbaudit.find(file, violation=False)
                 for line in audits(file, found):
-                    self.assertEqual(line, "supported priceable")
+                    self.assertIn(line, YES)
                 self.check_prices(case, found)
-                tally[bool(found)] += 1
-        self.assertGreater(min(tally.values()), ELECTIONS // 30, tally)
+                self.assertNotEqual(found.prices is None, found.refutation is None)
+                tally[bool(found.prices)] += 1
+        self.assertGreater(min(tally.values()), FEWER // 30, tally)
 
     def test_stable(self):
         tally = {True: 0, False: 0}
-        for case in (case for seed in range(ELECTIONS // 3) for case in cases(seed, ((10, 5), (20, 10), (30, 12)))):
+        for case in (case for seed in range(FEWER // 3) for case in cases(seed, ((10, 5), (20, 10), (30, 12)))):
             with self.subTest(case=case.name):
                 file = case.file()
                 found = pbaudit.find(file, stable=True, violation=False)
                 for line in audits(file, found):
-                    self.assertEqual(line, "supported stable")
+                    self.assertIn(line, ("supported stable", "unpriceable"))
                 margin = best_margin(case, stable=True, covered=False)
                 if margin is not None and abs(margin) > SPARE:
                     self.assertEqual(found.prices is not None, margin > 0, margin)
-                tally[bool(found)] += 1
-        self.assertGreater(min(tally.values()), ELECTIONS // 10, tally)
+                self.assertFalse(found.prices and found.refutation)
+                tally[bool(found.prices)] += 1
+        self.assertGreater(min(tally.values()), FEWER // 10, tally)
 
     def test_violations_are_the_smallest(self):
         """As by trying all demands, for both measures: as few projects, and as large a share over their cost."""
         sizes = set()
-        small = (case for seed in range(ELECTIONS // 3) for case in cases(seed, ((10, 5), (10, 8), (25, 8))))
-        for case in [*small, *(case for seed in range(2 * ELECTIONS) for case in odd_cases(seed))]:
-            found = pbaudit.find(case.file(), prices=False)
+        small = (case for seed in range(FEWER // 3) for case in cases(seed, ((10, 5), (10, 8), (25, 8))))
+        for case in [*small, *(case for seed in range(2 * FEWER) for case in odd_cases(seed))]:
+            found = pbaudit.find(case.file(), prices=False, refutation=False)
             by_measure = {violation.by: violation for violation in found.violations}
             for by in ("count", "cost"):
                 with self.subTest(case=case.name, by=by):
@@ -122,6 +147,19 @@ class Invented(unittest.TestCase):
                         self.assertIn("all demands that the share of a group covers were tried", str(found))
         self.assertLessEqual({(by, size) for by in ("count", "cost") for size in (1, 2)}, sizes)
 
+    def test_progress(self):
+        """What is tried is told, with its round, and how long is left for it: never more than for all."""
+        case, told = next(case for case in cases(1) if case.name.endswith("greedy by votes")), []
+        pbaudit.find(case.file(), seconds=900, on_progress=lambda *words: told.append(words))
+        texts = [text for text, _ in told]
+        for form in ("prices with Cover", "prices"):
+            self.assertIn(f"{form}: water-filling, round 2 of at most 60", texts)
+            left = [seconds for text, seconds in told if text.startswith(f"{form}: ")]
+            self.assertEqual(left, sorted(left, reverse=True))
+        last = f"(?m)^refutation: linear programme over [0-9]+ of {len(case.unfunded)} unfunded projects$"
+        self.assertRegex("\n".join(texts), last)
+        self.assertTrue(all(800 > seconds > 0 for _, seconds in told))
+
     def test_same_bytes(self):
         for case in cases(2):
             for switches in ({}, {"stable": True}):
@@ -129,7 +167,7 @@ class Invented(unittest.TestCase):
                 with NO_WATER:
                     third, fourth = pbaudit.find(case.file(), **switches), pbaudit.find(case.file(), **switches)
                 for one, other in ((first, second), (third, fourth)):
-                    self.assertEqual(*([each.prices and each.prices.file, each.violations, each.sentences]
+                    self.assertEqual(*([each.prices and each.prices.file, each.refutation, each.violations, each.sentences]
                                        for each in (one, other)))
 
 
@@ -140,13 +178,14 @@ class Edges(unittest.TestCase):
         file = Case("edge", costs, limit, ballots, funded).file()
         found = pbaudit.find(file, **switches)
         for line in audits(file, found):
-            self.assertIn(line, ("supported priceable", "supported stable", "violation"))
+            self.assertIn(line, (*YES, "supported stable", "unpriceable cover"))
+        self.assertFalse(found.prices and found.refutation)
         return found
 
     def test_nobody(self):
         self.assertIsNotNone(self.find([3], 2, [], []).prices)
         found = self.find([3], 3, [], [0])
-        self.assertFalse(found)
+        self.assertEqual(found.refutation.least, {"p0": 1})
         self.assertIn("p0 is funded, it costs something, and nobody approves it", str(found))
         self.assertIsNotNone(self.find([0], 3, [], [0]).prices)
 
@@ -168,7 +207,7 @@ class Edges(unittest.TestCase):
         self.assertEqual([(each.by, each.projects) for each in found.violations], [("count", ["p0", "p1"])])
         found = self.find([4, 0], 6, [[0], [1]], [0])
         self.assertEqual([(each.by, each.projects, each.voters) for each in found.violations], [("count", ["p1"], [2])])
-        self.assertIsNone(found.prices)
+        self.assertIsNotNone(found.refutation)
         self.assertTrue(self.find([0, 0, 5], 5, [[0, 2], [1, 2]], [0, 1, 2]).prices.cover)
 
     def test_equal_ballots(self):
@@ -177,7 +216,7 @@ class Edges(unittest.TestCase):
         self.assertTrue(found.prices.cover)
         self.assertEqual(found.violations, [])
         found = self.find([40, 30, 20], 60, [[1]] * 20 + [[0, 2]] * 20, [0, 2])
-        self.assertIsNone(found.prices)
+        self.assertIsNotNone(found.refutation)
         self.assertEqual([(each.by, each.projects, each.voters) for each in found.violations],
                          [(by, ["p1"], list(range(1, 21))) for by in ("count", "cost")])
 
@@ -196,6 +235,7 @@ class Edges(unittest.TestCase):
             town = [limit / Fraction(2)] * 2, limit, [[0]] * (voters // 2) + [[1]] * (voters // 2), [1]
             with NO_WATER:
                 self.assertFalse(self.find(*town, violation=False).prices.cover)
+            self.assertGreater(self.find(*town, violation=False, cover=True).refutation.cover, 0)
             found = self.find(*town)
             made = found.prices.certificate
             self.assertEqual(Fraction(made.voter_budget, made.denominator) * voters, limit)
@@ -206,7 +246,7 @@ class Edges(unittest.TestCase):
     def test_just_too_little(self):
         """As before, but what isn't funded costs less by a millionth."""
         found = self.find([5 - Fraction(1, 10**6), 5], 10, [[0]] * 5 + [[1]] * 5, [1])
-        self.assertIsNone(found.prices)
+        self.assertEqual(found.refutation.cover, 0)
 
     def test_too_much_is_funded(self):
         found = self.find([4, 4], 5, [[0, 1]], [0, 1])
@@ -223,13 +263,15 @@ class Edges(unittest.TestCase):
         self.assertEqual(self.find(*tie, violation=False).violations, [])
         self.assertIsNone(self.find(*tie, prices=False).prices)
         self.assertTrue(self.find(*tie, stable=True).prices.stable)
-        with self.assertRaisesRegex(ValueError, "neither prices nor violations"):
-            self.find(*tie, prices=False, violation=False)
+        self.assertIsNone(self.find(*tie, cover=True, refutation=False).refutation)
+        with self.assertRaisesRegex(ValueError, "neither prices nor a refutation nor violations"):
+            self.find(*tie, prices=False, refutation=False, violation=False)
 
     def test_an_outcome_file(self):
         district, outcome = EXAMPLES / "district.pb", EXAMPLES / "district.other.outcome.csv"
         found = pbaudit.find(district, outcome)
         self.assertIsNone(found.prices)
+        self.assertTrue(pbaudit.audit_refutation(district, found.refutation.file, outcome))
         self.assertEqual([pbaudit.audit_violation(district, each.file, outcome).line for each in found.violations],
                          ["violation"] * 2)
         self.assertTrue(pbaudit.find(district).prices.cover)
@@ -250,9 +292,5 @@ class Edges(unittest.TestCase):
         case = next(case for case in cases(1) if "by votes" in case.name)
         found = pbaudit.find(case.file(), seconds=1e-9)
         for line in audits(case.file(), found):
-            self.assertIn(line, ("supported priceable", "violation"))
+            self.assertIn(line, YES)
         self.assertNotIn("the linear programme has none", str(found))
-
-
-if __name__ == "__main__":
-    unittest.main()

@@ -1,6 +1,7 @@
 """The command that looks for certificates: what it writes and tells, how it ends, and what stops it."""
 import contextlib
 import csv
+import dataclasses
 import importlib
 import importlib.util
 import io
@@ -16,6 +17,8 @@ import sys
 import tempfile
 import time
 import unittest
+from concurrent.futures import Future, ProcessPoolExecutor, ThreadPoolExecutor
+from multiprocessing import get_context
 from unittest import mock
 
 import pbaudit
@@ -24,7 +27,8 @@ from pbaudit._auditor import Mode
 from pbaudit.finding import command, helpers, telling, writing
 from pbaudit.finding.results import Wanted
 from pbaudit.folders import entries_of
-from test_documents import block
+from test_documents import block, put_on_the_path, without_pbaudit
+from test_folders import HAS_DASK, cluster
 
 REPOSITORY = pathlib.Path(__file__).resolve().parents[2]
 EXAMPLES = REPOSITORY / "examples"
@@ -49,6 +53,22 @@ def killed_at_fair(asked):
     return searched(asked)
 
 
+class LosingExecutor(ThreadPoolExecutor):
+    """Loses one election, as a cluster does, and takes no more after so many."""
+
+    most = 10
+
+    def submit(self, work, asked, call):
+        self.most -= 1
+        if self.most < 0:
+            raise RuntimeError("cannot schedule new futures after shutdown")
+        if asked.name != "fair":
+            return super().submit(work, asked, call)
+        lost = Future()
+        lost.set_exception(RuntimeError("the worker died"))
+        return lost
+
+
 def words_of(*words):
     return [sys.executable, "-m", "pbaudit", "find", *map(str, words)]
 
@@ -57,6 +77,7 @@ class Commands(unittest.TestCase):
     def setUp(self):
         self.room = pathlib.Path(tempfile.mkdtemp())
         self.addCleanup(shutil.rmtree, self.room)
+        put_on_the_path(self)
 
     def put(self, name, case):
         path = self.room / name
@@ -113,7 +134,7 @@ class Found(Commands):
     def test_what_is_asked_for(self):
         town = self.put("town.pb", TIE)
         for words, names in ((["--prices"], ["prices"]), (["--violation"], ["cost.violation", "violation"]),
-                             (["--prices", "--stable"], ["prices"])):
+                             (["--prices", "--stable"], ["prices"]), (["--refutation", "--cover"], ["refutation"])):
             self.run_find(town, *words, "--output", "out")
             self.assertEqual(sorted(self.files("out")), [f"town.{name}.csv" for name in names])
             shutil.rmtree(self.room / "out")
@@ -121,6 +142,24 @@ class Found(Commands):
         self.assertEqual(done.stdout.splitlines()[-1], "No prices with Cover were found: the linear programme has "
                          "none. It computes in rounded numbers, so that this is no proof.")
         self.assertFalse((self.room / "out").exists())
+        done = self.run_find(town, "--refutation", "--output", "out", status=1)
+        self.assertEqual(len(done.stdout.splitlines()), 1)
+        self.assertIn("No refutation was found: ", done.stdout)
+
+    def test_a_refutation(self):
+        """Of all prices, and where these are asked for, of those with Cover."""
+        for case, words, line in ((PASSED_OVER, [], "unpriceable"), (PASSED_OVER, ["--cover"], "unpriceable"),
+                                  (TIE, ["--cover"], "unpriceable cover")):
+            town = self.put("town.pb", case)
+            done = self.run_find(town, *words, "--output", "out")
+            path = f"out{os.sep}town.refutation.csv"
+            self.assertEqual(done.stdout.splitlines()[:2], [
+                f"{path}: {line}", f"  check it by: pbaudit refutation {town} {path}"])
+            self.assertTrue(pbaudit.audit_refutation(town, self.room / path))
+            self.assertFalse((self.room / "out" / "town.prices.csv").exists())
+            if PROGRAM.exists():
+                subprocess.run([PROGRAM, "refutation", town, self.room / path], check=True, stdout=subprocess.DEVNULL)
+            shutil.rmtree(self.room / "out")
 
     def test_the_options_of_what_was_found_are_told(self):
         town = self.put("town.pb", Case("room", [4, 1, 1], 10, [[0]] * 4 + [[1]], [0]))
@@ -131,7 +170,8 @@ class Found(Commands):
     def test_an_outcome_file(self):
         done = self.run_find(EXAMPLES / "district.pb", "--outcome", EXAMPLES / "district.other.outcome.csv", "--output",
                              "out")
-        self.assertEqual(sorted(self.files("out")), ["district.cost.violation.csv", "district.violation.csv"])
+        self.assertEqual(sorted(self.files("out")), ["district.cost.violation.csv", "district.refutation.csv",
+                                                     "district.violation.csv"])
         for line in re.findall("check it by: pbaudit (.*)", done.stdout):
             self.assertIn("--outcome", line)
             if PROGRAM.exists():
@@ -156,7 +196,7 @@ class Found(Commands):
     def test_nothing_is_overwritten(self):
         """Nor looked for in vain: that is told first."""
         town = self.put("town.pb", TIE)
-        for name in ("town.prices.csv", "town.violation.csv", "town.cost.violation.csv"):
+        for name in ("town.prices.csv", "town.refutation.csv", "town.violation.csv", "town.cost.violation.csv"):
             self.put(name, b"mine")
             done = self.run_find(town, status=3)
             self.assertIn(f"{self.room / name} is there already", done.stderr)
@@ -205,8 +245,9 @@ class Found(Commands):
         self.assertEqual(done.stdout, "refused outcome 18 Read record 0\n")
 
     def test_usage(self):
-        for words in ([], ["--prices", "--violation", "x.pb"], ["--time", "0", "x.pb"], ["--time", "nan", "x.pb"],
-                      ["--sta", "x.pb"], ["--folder", ".", "--outcome", "x"], ["--folder", ".", "x.pb"]):
+        for words in ([], ["--prices", "--violation", "x.pb"], ["--prices", "--refutation", "x.pb"],
+                      ["--time", "0", "x.pb"], ["--time", "nan", "x.pb"], ["--sta", "x.pb"],
+                      ["--folder", ".", "--outcome", "x"], ["--folder", ".", "x.pb"]):
             self.run_find(*words, status=3)
 
     def test_without_scipy(self):
@@ -226,6 +267,15 @@ class Found(Commands):
                                "import pbaudit, pydoc; print('find(' in pydoc.plain(pydoc.render_doc(pbaudit)))"],
                               capture_output=True, text=True, check=False)
         self.assertEqual(told.stdout, "True\n", told.stderr)
+
+    def test_a_command_without_the_program(self):
+        """Where no pbaudit is on the PATH, the command that is told is that of the package, and works."""
+        town = self.put("my town.pb", TIE)
+        done = self.run_find(town, "--prices", env=without_pbaudit())
+        told = re.search("check it by: (.*)", done.stdout)[1]
+        self.assertEqual(shlex.split(told)[:5], [sys.executable, "-m", "pbaudit", "prices", str(town)])
+        checked = subprocess.run(["sh", "-c", told], capture_output=True, cwd=self.room, env=without_pbaudit(), check=False)
+        self.assertEqual((checked.returncode, checked.stdout), (0, b"supported priceable\n"), checked.stderr)
 
     def test_hostile_names(self):
         """What doesn't print isn't printed, and a shell takes each name for what it is."""
@@ -279,7 +329,7 @@ class Stopped(Commands):
 
     def test_where_nothing_was_found(self):
         words = words_of(self.put("town.pb", ENDLESS), "--violation", "--time", "100000")
-        out, status = self.stopped(words, b"violation")
+        out, status = self.stopped(words, b" s left")
         self.assertEqual((status, out), (1, "This was stopped while a violation by counting was looked for.\n"))
         self.assertEqual(list(self.files()), ["town.pb"])
 
@@ -366,24 +416,24 @@ class Folders(Commands):
     def test_a_table(self):
         done = self.run_find("--folder", self.room)
         head, *rows = self.rows()
-        self.assertEqual(head, ["election", "rule", "prices", "stable", "violation", "seconds", "note"])
-        self.assertEqual([row[:5] + row[6:] for row in rows], [
-            ["a tie.pb", 'greedy, "quoted"', "without Cover", "yes", "by counting and by cost", ""],
-            ["fair.pb", "", "with Cover", "yes", "none found", ""],
-            ["none.pb", "", "none found", "", "by counting and by cost", ""]])
+        self.assertEqual(head, ["election", "rule", "prices", "stable", "refuted", "violation", "seconds", "note"])
+        self.assertEqual([row[:6] + row[7:] for row in rows], [
+            ["a tie.pb", 'greedy, "quoted"', "without Cover", "yes", "", "by counting and by cost", ""],
+            ["fair.pb", "", "with Cover", "yes", "", "none found", ""],
+            ["none.pb", "", "none found", "", "yes", "by counting and by cost", ""]])
         shown = [re.split("  +", line) for line in done.stdout.splitlines()]
         self.assertEqual(shown[0], head)
         self.assertEqual([line[0] for line in shown[1:]], [row[0] for row in rows])
         self.assertEqual(self.files()["a tie.prices.csv"], pbaudit.find(self.room / "a tie.pb").prices.file)
         self.assertEqual({name for name in self.files() if not name.endswith(".pb")}, {
             "a tie.prices.csv", "a tie.violation.csv", "a tie.cost.violation.csv", "fair.prices.csv", "found.csv",
-            "none.violation.csv", "none.cost.violation.csv"})
+            "none.refutation.csv", "none.violation.csv", "none.cost.violation.csv"})
 
     def test_one_bad_file_ends_nothing(self):
         self.put("bad.pb", b"no election")
         self.put("empty.pb", b"")
         done = self.run_find("--folder", self.room, "--output", self.room / "out", status=2)
-        notes = {row[0]: row[6] for row in self.rows("out")[1:]}
+        notes = {row[0]: row[7] for row in self.rows("out")[1:]}
         self.assertEqual({name for name, note in notes.items() if note}, {"bad.pb", "empty.pb"})
         for name in ("bad.pb", "empty.pb"):
             with self.assertRaises(pbaudit.Refusal) as caught:
@@ -397,11 +447,11 @@ class Folders(Commands):
         self.put("none.violation.csv", b"mine")
         self.put("a tie.cost.violation.csv", b"mine")
         self.run_find("--folder", self.room, "--output", "elsewhere")
-        self.assertEqual(len(self.files("elsewhere")), 7)
+        self.assertEqual(len(self.files("elsewhere")), 8)
         self.run_find("--folder", self.room, "--prices", status=1)
-        rows = {row[0]: row[2:5] for row in self.rows()[1:]}
-        self.assertEqual(rows["fair.pb"], ["there already", "", ""])
-        self.assertEqual([rows[name][2] for name in ("a tie.pb", "none.pb")], ["there already"] * 2)
+        rows = {row[0]: row[2:6] for row in self.rows()[1:]}
+        self.assertEqual(rows["fair.pb"], ["there already", "", "", ""])
+        self.assertEqual([rows[name][3] for name in ("a tie.pb", "none.pb")], ["there already"] * 2)
         self.assertEqual({data for name, data in self.files().items() if name in (
             "fair.prices.csv", "none.violation.csv", "a tie.cost.violation.csv")}, {b"mine"})
         self.assertNotIn("a tie.violation.csv", self.files())
@@ -410,6 +460,18 @@ class Folders(Commands):
         self.run_find("--folder", self.room, "--replace")
         self.assertNotEqual(self.files()["fair.prices.csv"], b"mine")
         self.assertNotEqual(self.files()["none.violation.csv"], b"mine")
+
+    def test_no_prices_are_looked_for_beside_a_refutation(self):
+        """Nor a refutation beside prices, unless it is asked for alone."""
+        self.put("none.refutation.csv", b"mine")
+        self.put("fair.prices.csv", b"mine")
+        self.run_find("--folder", self.room, status=1)
+        rows = {row[0]: row[2:5] for row in self.rows()[1:]}
+        self.assertEqual(rows["none.pb"], ["", "", "there already"])
+        self.assertEqual(rows["fair.pb"], ["there already", "", ""])
+        (self.room / "found.csv").unlink()
+        self.run_find("--folder", self.room, "--refutation", status=1)
+        self.assertEqual([row[4] for row in self.rows()[1:]], ["none found", "none found", "there already"])
 
     def test_no_folder(self):
         done = self.run_find("--folder", self.room / "missing", status=2)
@@ -428,6 +490,57 @@ class Folders(Commands):
                          [("a tie.pb", ""), ("fair.pb", "fault worker"), ("none.pb", "")])
         self.assertEqual(folder.status(), 4)
 
+    def test_by_executors(self):
+        """The same files and, but for the time, the same rows as by processes of its own."""
+        wanted = pbaudit.find_folder(self.room, output=self.room / "wanted")
+        self.assertEqual((len(wanted.rows), wanted.status), (3, 0))
+        with ProcessPoolExecutor(2, mp_context=get_context("spawn")) as executor:
+            self.check_executor(executor, "processes", wanted)
+
+    def check_executor(self, executor, name, wanted):
+        told = []
+        found = pbaudit.find_folder(self.room, executor, output=self.room / name, on_progress=told.append)
+        self.assertEqual(self.rows_but_times(found), self.rows_but_times(wanted))
+        self.assertEqual(found.status, wanted.status)
+        files, others = self.files(name), self.files("wanted")
+        self.assertEqual(files.pop("found.csv").count(b"\n"), others.pop("found.csv").count(b"\n"))
+        self.assertEqual(files, others)
+        self.assertIn("0 of 3 elections", told)
+
+    @staticmethod
+    def rows_but_times(found):
+        return [dataclasses.replace(row, seconds="") for row in found.rows]
+
+    @HAS_DASK
+    def test_by_a_dask_cluster(self):
+        wanted = pbaudit.find_folder(self.room, output=self.room / "wanted")
+        with cluster() as client:
+            self.check_executor(client.get_executor(), "dask", wanted)
+
+    def test_an_executor_that_loses_workers(self):
+        """What it loses, and what it takes no more, is looked at here."""
+        wanted = pbaudit.find_folder(self.room, output=self.room / "wanted")
+        for most in (10, 1, 0):
+            with LosingExecutor(1) as executor, mock.patch.object(folders.LOG, "warning") as warning:
+                executor.most = most
+                self.check_executor(executor, f"lost{most}", wanted)
+            self.assertEqual(warning.call_count, 1)
+
+    def test_the_function_writes_over_nothing(self):
+        self.put("found.csv", b"mine")
+        with self.assertRaises(FileExistsError) as caught:
+            pbaudit.find_folder(self.room)
+        self.assertEqual(caught.exception.filename, str(self.room / "found.csv"))
+        self.assertEqual(self.files()["found.csv"], b"mine")
+        with self.assertRaises(FileNotFoundError):
+            pbaudit.find_folder(self.room / "missing")
+        with self.assertRaises(ValueError):
+            pbaudit.find_folder(self.room, prices=False, refutation=False, violation=False)
+        with self.assertRaisesRegex(TypeError, "the executor is 4"):
+            pbaudit.find_folder(self.room, 4, replace=True)
+        pbaudit.find_folder(self.room, prices=False, refutation=False, replace=True)
+        self.assertNotEqual(self.files()["found.csv"], b"mine")
+
     def test_an_election_that_fails(self):
         with mock.patch.object(folders, "Seeker", mock.Mock(side_effect=ZeroDivisionError("x"))):
             result = folders.searched(folders.Asked(str(self.room), "fair", Wanted()))
@@ -436,13 +549,16 @@ class Folders(Commands):
 
 @HAS_SCIPY
 class Documents(unittest.TestCase):
+    def setUp(self):
+        put_on_the_path(self)
+
     def test_the_command(self):
         words = block("~/pbaudit/bin/pip install './python[find]'").splitlines()[1].split()[3:]
         with tempfile.TemporaryDirectory() as room:
             shutil.copytree(EXAMPLES, f"{room}/examples", ignore=shutil.ignore_patterns("*.prices.csv"))
             done = subprocess.run([sys.executable, "-m", "pbaudit", *words], cwd=room, capture_output=True, text=True,
                                   check=False)
-        self.assertEqual((done.stdout, done.stderr), (block("found/district.violation.csv"), ""))
+        self.assertEqual((done.stdout, done.stderr), (block("found/district.refutation.csv"), ""))
 
     def test_the_function(self):
         values, out = {}, io.StringIO()
@@ -463,12 +579,8 @@ class Wheel(unittest.TestCase):
     def test_the_wheel_has_it(self):
         sys.path.append(str(REPOSITORY / "python" / "backend"))
         import wheel_writer
-        files = wheel_writer.files_of(b"", ["py3-none-any"])
+        files = wheel_writer.files_of(b"", b"", ["py3-none-any"])
         here = pathlib.Path(helpers.__file__).parent
         self.assertEqual({name for name in files if name.startswith("pbaudit/finding/")},
                          {f"pbaudit/finding/{path.name}" for path in here.glob("*.py")})
         self.assertIn("Provides-Extra: find\nRequires-Dist: scipy>=1.7; extra == 'find'\n", wheel_writer.metadata())
-
-
-if __name__ == "__main__":
-    unittest.main()

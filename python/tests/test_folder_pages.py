@@ -186,7 +186,3 @@ class FolderPages(unittest.TestCase):
         self.assertEqual((missing.returncode, missing.stdout), (2, b"refused folder 18 Read record 0\n"))
         (self.folder / "file").write_bytes(b"")
         self.assertEqual(run("--folder", self.folder, "-o", self.folder / "file" / "out").returncode, 4)
-
-
-if __name__ == "__main__":
-    unittest.main()

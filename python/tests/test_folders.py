@@ -315,7 +315,3 @@ class Folders(unittest.TestCase):
         entries = [folders.Entry("", str(at), (), 1, folders.Mode()) for at in range(120)]
         self.assertEqual([len(task) for task in folders._tasks(entries)], [50, 50, 20])
         self.assertEqual([entry for task in folders._tasks(entries) for entry in task], entries)
-
-
-if __name__ == "__main__":
-    unittest.main()

@@ -121,7 +121,3 @@ class Tables(unittest.TestCase):
         numbered = Instance([Project("1", 6), Project("0", 4)], 10)
         with self.assertRaisesRegex(ValueError, "^the profile has columns that may be named by projects or numbered"):
             validate_price_system(numbered, self.table([[1, 1]]), ["1", "0"], 10, [{"1": 6, "0": 4}])
-
-
-if __name__ == "__main__":
-    unittest.main()

@@ -151,7 +151,3 @@ class Near(unittest.TestCase):
             self.assertEqual((str(verdict), verdict.moved), (line, 0))
             with self.assertRaisesRegex(TypeError, "price_certificate"):
                 validate_price_system(SAMPLE, PROFILE, [A, B], budget, [{A: 2, B: 2}, {A: 4}, {B: 2}])
-
-
-if __name__ == "__main__":
-    unittest.main()

@@ -252,7 +252,3 @@ class Numbers(unittest.TestCase):
         for odd in (Ratio(1.0, 2.0), Ratio("1", "2")):
             with self.assertRaisesRegex(TypeError, "^what voter 1 pays for a is .*, not a number"):
                 validate_price_system(Instance([Project("a", 4)], 4), [["a"]], ["a"], 2, [{"a": odd}])
-
-
-if __name__ == "__main__":
-    unittest.main()

@@ -168,8 +168,9 @@ class Kept(unittest.TestCase):
 
     def test_files_are_no_part_of_it(self):
         verdict = pbaudit.audit_prices(*(file.read_bytes() for file in self.FILES))
-        self.assertEqual(dataclasses.asdict(verdict), {"holds": True, "line": "supported priceable", "condition": None,
-                                                       "voter": None, "project": None, "moved": None, "says_little": False})
+        self.assertEqual(dataclasses.asdict(verdict), {
+            "holds": True, "line": "supported priceable", "condition": None, "voter": None, "project": None, "moved": None,
+            "says_little": False, "no_group_passed_over": True, "refutes": None})
         self.assertNotIn("META", repr(vars(pickle.loads(pickle.dumps(verdict)))).replace("&lt;META", ""))
 
     def test_files_that_have_changed(self):
@@ -207,7 +208,3 @@ def kept_bytes(value):
             line += each.values() if isinstance(each, dict) else each if isinstance(each, (tuple, list)) else [
                 getattr(each, "__dict__", {})]
     return found
-
-
-if __name__ == "__main__":
-    unittest.main()

@@ -362,7 +362,3 @@ class Commands(unittest.TestCase):
     def test_the_version_is_that_of_the_program(self):
         told = subprocess.run([PROGRAM, "--version"], capture_output=True, check=True).stdout.decode()
         self.assertIn(command_line.VERSION, told.split())
-
-
-if __name__ == "__main__":
-    unittest.main()

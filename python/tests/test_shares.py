@@ -12,9 +12,10 @@ from fractions import Fraction
 from unittest import mock
 
 import pbaudit
-from pbaudit import Instance, Project, certified_shares, equal_shares, shares, values
+from pbaudit import Instance, Project, _places, certified_shares, equal_shares, shares, values
 from pbaudit.election_files import election_of
 from test_certificates import an_election
+from test_documents import put_on_the_path, without_pbaudit
 
 REPOSITORY = pathlib.Path(__file__).resolve().parents[2]
 EXAMPLES = REPOSITORY / "examples"
@@ -115,6 +116,29 @@ class Rule(unittest.TestCase):
             with self.assertRaisesRegex(error, "^the increment is "):
                 equal_shares(instance, [["a"]], completion="add1", increment=odd)
 
+    def test_steps_that_change_nothing_are_taken_together(self):
+        """A million and more of them; and what is bought stays what it is by each of them alone."""
+        instance = Instance([Project("a", 4 * 10**6), Project("b", 5 * 10**6), Project("c", 6 * 10**6)], 10**7)
+        with mock.patch.object(shares, "Run", wraps=shares.Run) as run:
+            found = equal_shares(instance, [["a"], ["b"], ["c"]], completion="add1")
+        self.assertEqual((found.funded, found.voter_budget), (["a", "b"], Fraction(10**7, 3) + 1666667))
+        self.assertEqual((found.runs, run.call_count < 50), (1666668, True))
+
+    def test_budgets_by_which_the_same_is_bought(self):
+        """Where that is said to be sure, it is so at both ends and between them."""
+        answers = set()
+        for seed in range(60):
+            instance, profile, by = an_election(seed)
+            rule = self.rule_of(instance, profile, by)
+            low = rule.limit / rule.voters
+            for width in (low / 1000, low / 30, low / 3, low * 5):
+                is_sure = rule._is_same_up_to(low, low + width)
+                budgets = [low + width * at / 7 for at in range(8)]
+                bought = {tuple(sorted(rule.funded_by(budget))) for budget in budgets}
+                self.assertTrue(len(bought) == 1 or not is_sure, (seed, width))
+                answers.add((is_sure, len(bought) == 1))
+        self.assertLessEqual({(True, True), (False, False)}, answers)
+
     def test_rounded_amounts_leave_no_doubt(self):
         """What is bought is found from rounded amounts as from exact ones, with ties too, and where these leave a doubt
         an exact run decides."""
@@ -202,6 +226,19 @@ class Commands(unittest.TestCase):
         room = tempfile.TemporaryDirectory()
         self.addCleanup(room.cleanup)
         self.room = pathlib.Path(room.name)
+        put_on_the_path(self)
+
+    def test_a_command_without_the_program(self):
+        """Where no pbaudit is on the PATH, the command that is told is that of the package, and works."""
+        done = run(EXAMPLES / "district.pb", "-o", self.room / "d.prices.csv", env=without_pbaudit())
+        told = done.stdout.splitlines()[-1].partition("check it by: ")[2]
+        self.assertEqual(shlex.split(told)[:4], [sys.executable, "-m", "pbaudit", "prices"])
+        checked = subprocess.run(["sh", "-c", told], capture_output=True, env=without_pbaudit(), check=False)
+        self.assertEqual((checked.returncode, checked.stdout), (0, b"supported priceable\n"), checked.stderr)
+        with mock.patch.dict(os.environ, without_pbaudit(), clear=True):
+            for called, name in ((["./my 'python'", "-m"], "./my 'python'"), ([], sys.executable), ([""], sys.executable)):
+                with mock.patch.object(sys, "orig_argv", called, create=True):
+                    self.assertEqual(_places.command(), [name, "-m", "pbaudit"])
 
     def test_the_files_are_those_of_the_example(self):
         done = run(EXAMPLES / "district.pb", "-o", self.room / "d.prices.csv")
@@ -348,7 +385,3 @@ class Commands(unittest.TestCase):
         self.assertEqual((done.returncode, done.stderr), (0, ""))
         self.assertTrue(pbaudit.audit_prices(city, self.room / "city.prices.csv", self.room / "city.outcome.csv",
                                              exhaustive=False))
-
-
-if __name__ == "__main__":
-    unittest.main()

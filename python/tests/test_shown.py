@@ -18,7 +18,3 @@ class Names(unittest.TestCase):
         self.assertEqual(visible("a\u202edetroppus\u2028b \u00fc"), "a\\u{202e}detroppus\\u{2028}b \u00fc")
         self.assertEqual(visible("x" * 3 * MOST), "x" * 3 * MOST)
         self.assertEqual((shown("x" * MOST), shown("x" * MOST + "y")), ("x" * MOST, "x" * MOST + "\u2026"))
-
-
-if __name__ == "__main__":
-    unittest.main()

@@ -22,55 +22,66 @@ import wheel_writer  # noqa: E402
 
 # What tells of a library what it asks of glibc.
 OLD, NEW = b"old\0GLIBC_2.2.5\0GLIBC_2.14\0", b"new\0GLIBC_2.28\0GLIBC_2.4\0"
+OLD_PROGRAM, NEW_PROGRAM = b"old program\0GLIBC_2.2.5\0", b"new program\0GLIBC_2.3\0"
+STATES_VERSION = "crates/pb_words/src/version.rt"
 
 
 def version():
-    return re.search(r"^## \[(\d+\.\d+\.\d+)\]", (TOP / "CHANGELOG.md").read_text(encoding="utf-8"), re.MULTILINE)[1]
+    return re.search(r'VERSION: &str = "(.*)"', (TOP / STATES_VERSION).read_text(encoding="utf-8"))[1]
 
 
 class Wheels(unittest.TestCase):
-    """A repository with a library and a source, with times in seconds, and a builder that writes another library."""
+    """A repository with a library, a program and a source, with times in seconds, and builders that write others."""
 
     def setUp(self):
         self.top = pathlib.Path(tempfile.mkdtemp())
         self.addCleanup(shutil.rmtree, self.top)
-        self.library, self.built = self.top / "lib" / "libpbaudit.so", []
+        self.library, self.program = self.top / "lib/libpbaudit.so", self.top / "crates/pbaudit/out/pbaudit"
+        self.built = []
         for name in ("crates/pb_money/src/lib.rt", "crates/pb_money/specs/Lib.antt", "crates/pb_money/proofs/Lib.antt",
-                     "crates.txt", "HANDLES", "include/pbaudit.h", "pbaudit-library"):
+                     "crates.txt", "HANDLES", "include/pbaudit.h", "pbaudit-library", "pbaudit"):
             path = self.top / name
             path.parent.mkdir(parents=True, exist_ok=True)
             path.write_bytes(b"old")
-        for name in ("CHANGELOG.md", "LICENSE", "packaging"):
+        for name in ("LICENSE", "packaging", STATES_VERSION):
+            (self.top / name).parent.mkdir(parents=True, exist_ok=True)
             (shutil.copytree if (TOP / name).is_dir() else shutil.copy)(TOP / name, self.top / name)
-        self.library.parent.mkdir()
-        self.library.write_bytes(OLD)
+        for path, data in ((self.library, OLD), (self.program, OLD_PROGRAM)):
+            path.parent.mkdir(parents=True)
+            path.write_bytes(data)
         for path in [*self.top.rglob("*"), self.top]:
             os.utime(path, (1000, 1000))
-        os.utime(self.library, (2000, 2000))
+        for path in (self.library, self.program):
+            os.utime(path, (2000, 2000))
 
     def build(self, command, **given):
-        """In the place of pbaudit-library; what asks of the release runs as it is."""
+        """In the place of pbaudit-library and pbaudit; what asks of the release runs as it is."""
         if command[0] == "bash":
             return RUN(command, **given)
-        self.built.append(command)
-        self.library.write_bytes(NEW)
+        name, *words = command
+        self.built.append([str(pathlib.Path(name).relative_to(self.top)), *words])
+        path, data = (self.program, NEW_PROGRAM) if words else (self.library, NEW)
+        path.write_bytes(data)
 
-    def release(self, data=NEW):
+    def release(self, **given):
         """Makes a release of the sources as they are."""
         release = self.top / "release"
         release.mkdir(exist_ok=True)
-        (release / "libpbaudit.so").write_bytes(data)
+        files = {"libpbaudit.so": given.get("library", NEW), "pbaudit": given.get("program", NEW_PROGRAM)}
+        for name, data in files.items():
+            (release / name).write_bytes(data)
         sums = [f"{part} {RUN([self.top / 'packaging' / 'sources', part], capture_output=True, text=True, check=True).stdout}"
                 for part in ("crates", "library")]
         (release / "MADE-OF").write_text("".join(sums))
-        (release / "SHA256SUMS").write_text(f"{hashlib.sha256(data).hexdigest()}  libpbaudit.so\n")
+        lines = [f"{hashlib.sha256(data).hexdigest()}  {name}\n" for name, data in files.items()]
+        (release / "SHA256SUMS").write_text("".join(lines))
         return release
 
     @contextlib.contextmanager
     def wheel(self, rt="/usr/bin/rt", build=None):
         """The wheel, as a zip file, and its name."""
         which = shutil.which
-        with mock.patch.multiple(wheel_writer, REPOSITORY=self.top, LIBRARY=self.library), \
+        with mock.patch.object(wheel_writer, "REPOSITORY", self.top), \
                 mock.patch.object(shutil, "which", lambda name: rt if name == "rt" else which(name)), \
                 mock.patch.object(subprocess, "run", build or self.build), tempfile.TemporaryDirectory() as room, \
                 contextlib.redirect_stderr(io.StringIO()):
@@ -79,32 +90,43 @@ class Wheels(unittest.TestCase):
                 yield wheel, name
 
     def in_the_wheel(self, **given):
-        """The library in the wheel."""
+        """The library and the program in the wheel."""
         with self.wheel(**given) as (wheel, _):
             self.assertIn("pbaudit/py.typed", wheel.namelist())
-            return wheel.read("pbaudit/libpbaudit.so")
+            command = f"pbaudit-{version()}.data/scripts/pbaudit"
+            self.assertEqual(wheel.getinfo(command).external_attr >> 16, 0o100755)
+            return wheel.read("pbaudit/libpbaudit.so"), wheel.read(command)
 
-    def test_a_library_that_is_current_is_taken(self):
+    def test_what_is_current_is_taken(self):
         self.release()
-        self.assertEqual((self.in_the_wheel(), self.built), (OLD, []))
+        self.assertEqual((self.in_the_wheel(), self.built), ((OLD, OLD_PROGRAM), []))
 
-    def test_one_that_is_missing_or_older_than_a_source_is_built(self):
-        for newer in ("crates/pb_money/src/lib.rt", "crates/pb_money/src", "crates.txt", "HANDLES",
-                      "include/pbaudit.h"):
+    def test_what_is_missing_or_older_than_a_source_is_built(self):
+        builds_library, builds_program = ["pbaudit-library"], ["pbaudit", "--build"]
+        for newer in ("crates/pb_money/src/lib.rt", "crates/pb_money/src", "crates.txt", "HANDLES"):
             with self.subTest(newer=newer):
                 self.setUp()
                 os.utime(self.top / newer, (3000, 3000))
-                self.assertEqual((self.in_the_wheel(), self.built), (NEW, [[str(self.top / "pbaudit-library")]]))
-        self.library.unlink()
-        self.assertEqual(self.in_the_wheel(), NEW)
+                self.assertEqual((self.in_the_wheel(), self.built), ((NEW, NEW_PROGRAM), [builds_library, builds_program]))
+        for newer in ("include/pbaudit.h", "pbaudit-library"):
+            with self.subTest(newer=newer):
+                self.setUp()
+                os.utime(self.top / newer, (3000, 3000))
+                self.assertEqual((self.in_the_wheel(), self.built), ((NEW, OLD_PROGRAM), [builds_library]))
+        for missing, wanted in (("library", (NEW, OLD_PROGRAM)), ("program", (OLD, NEW_PROGRAM))):
+            with self.subTest(missing=missing):
+                self.setUp()
+                getattr(self, missing).unlink()
+                self.assertEqual(self.in_the_wheel(), wanted)
 
     def test_what_is_released_of_these_sources_is_taken(self):
         self.library.unlink()
+        self.program.unlink()
         self.release()
         for rt in ("/usr/bin/rt", None):
-            self.assertEqual((self.in_the_wheel(rt=rt), self.built), (NEW, []))
+            self.assertEqual((self.in_the_wheel(rt=rt), self.built), ((NEW, NEW_PROGRAM), []))
         os.utime(self.top / "crates.txt", (3000, 3000))
-        self.assertEqual((self.in_the_wheel(rt=None), self.built), (NEW, []))
+        self.assertEqual((self.in_the_wheel(rt=None), self.built), ((NEW, NEW_PROGRAM), []))
 
     def test_what_is_released_of_other_sources_is_not_taken(self):
         for name in ("crates/pb_money/src/lib.rt", "crates.txt", "HANDLES", "include/pbaudit.h", "pbaudit-library"):
@@ -115,35 +137,41 @@ class Wheels(unittest.TestCase):
                 (self.top / name).write_bytes(b"changed")
                 with self.assertRaisesRegex(SystemExit, "release/ may not be made of these sources"):
                     self.in_the_wheel(rt=None)
-                self.assertEqual(self.in_the_wheel(), NEW)
-                self.assertEqual(self.built, [[str(self.top / "pbaudit-library")]])
+                self.assertEqual(self.in_the_wheel()[0], NEW)
+                self.assertIn(["pbaudit-library"], self.built)
 
-    def test_a_released_library_with_a_wrong_byte_is_not_taken(self):
-        self.library.unlink()
-        (self.release() / "libpbaudit.so").write_bytes(OLD)
-        with self.assertRaises(SystemExit):
-            self.in_the_wheel(rt=None)
+    def test_a_released_file_with_a_wrong_byte_is_not_taken(self):
+        for name in ("library", "program"):
+            with self.subTest(name=name):
+                self.setUp()
+                getattr(self, name).unlink()
+                (self.release() / getattr(self, name).name).write_bytes(OLD)
+                with self.assertRaises(SystemExit):
+                    self.in_the_wheel(rt=None)
 
     def test_without_rt_what_is_there_is_taken(self):
         os.utime(self.top / "crates.txt", (3000, 3000))
-        self.assertEqual((self.in_the_wheel(rt=None), self.built), (OLD, []))
+        self.assertEqual((self.in_the_wheel(rt=None), self.built), ((OLD, OLD_PROGRAM), []))
 
-    def test_without_a_library_nothing_is_installed(self):
-        self.library.unlink()
-        with self.assertRaisesRegex(SystemExit, "^pbaudit: the library is not built, "):
-            self.in_the_wheel(rt=None)
+    def test_without_both_nothing_is_installed(self):
+        for name in ("library", "program"):
+            with self.subTest(missing=name):
+                self.setUp()
+                getattr(self, name).unlink()
+                with self.assertRaisesRegex(SystemExit, "^pbaudit: (libpbaudit.so|pbaudit) is not built, "):
+                    self.in_the_wheel(rt=None)
 
     def test_on_another_machine_nothing_is_installed(self):
         for where, answer in (("platform.machine", "aarch64"), ("platform.libc_ver", ("", "")), ("struct.calcsize", 4)):
             with self.subTest(where=where), mock.patch(where, lambda *_, answer=answer: answer), \
-                    self.assertRaisesRegex(SystemExit, "^pbaudit: there is no library for this machine"):
+                    self.assertRaisesRegex(SystemExit, "^pbaudit: this folder has neither library nor program for this machine"):
                 self.in_the_wheel()
         with mock.patch.object(sys, "platform", "darwin"), self.assertRaises(SystemExit):
             self.in_the_wheel()
 
     def test_a_copy_of_the_folder_alone_is_not_installed(self):
-        (self.top / "CHANGELOG.md").unlink()
-        with self.assertRaisesRegex(SystemExit, "CHANGELOG.md is missing"):
+        (self.top / STATES_VERSION).unlink()
+        with self.assertRaisesRegex(SystemExit, "version.rt is missing"):
             self.in_the_wheel()
 
     def test_a_build_that_fails_leaves_no_wheel(self):
@@ -166,6 +194,21 @@ class Wheels(unittest.TestCase):
         os.utime(self.library, (2000, 2000))
         with self.wheel() as (_, name):
             self.assertEqual(name, f"pbaudit-{version()}-py3-none-manylinux_2_28_x86_64.whl")
+        self.library.write_bytes(OLD)
+        self.program.write_bytes(NEW)
+        for path in (self.library, self.program):
+            os.utime(path, (2000, 2000))
+        with self.wheel() as (_, name):
+            self.assertEqual(name, f"pbaudit-{version()}-py3-none-manylinux_2_28_x86_64.whl")
+
+    def test_without_a_program_the_command_asks_the_library(self):
+        with tempfile.TemporaryDirectory() as room:
+            name = wheel_writer.write_wheel(room, OLD, machine="aarch64")
+            self.assertEqual(name, f"pbaudit-{version()}-py3-none-manylinux_2_14_aarch64.manylinux2014_aarch64.whl")
+            with zipfile.ZipFile(pathlib.Path(room, name)) as wheel:
+                told = wheel.read(f"pbaudit-{version()}.dist-info/entry_points.txt").decode()
+                self.assertFalse([each for each in wheel.namelist() if "/scripts/" in each])
+        self.assertEqual(told, "[console_scripts]\npbaudit = pbaudit.__main__:main\n")
 
     def test_what_it_says_of_itself(self):
         with self.wheel() as (wheel, _):
@@ -192,11 +235,8 @@ class Wheels(unittest.TestCase):
 
 
 class Version(unittest.TestCase):
-    def test_it_is_that_of_the_changelog(self):
+    def test_it_is_that_of_the_program(self):
         self.assertEqual(pbaudit.__version__, version())
 
 
 RUN = subprocess.run
-
-if __name__ == "__main__":
-    unittest.main()

@@ -1,6 +1,8 @@
 """Files and verdicts from Python values."""
+import importlib
 import io
 import pickle
+import random
 import tempfile
 import unittest
 from collections import Counter
@@ -9,7 +11,7 @@ from fractions import Fraction
 from unittest import mock
 
 import pbaudit
-from pbaudit import Instance, Project, validate_price_system, values, writing
+from pbaudit import Instance, Project, certificates, matrices, validate_price_system, values, writing
 
 A, B, C = Project("a", 6), Project("b", 4), Project("c", 9)
 SAMPLE = Instance([A, B, C], 10)
@@ -25,6 +27,108 @@ def floats_of_others():
     except ImportError:
         return []
     return [(kind(2), "the float") for kind in (numpy.float32, numpy.float64, gmpy2.mpfr)]
+
+
+class Thing:
+    """A project that is equal to itself alone."""
+
+    def __init__(self, name, cost):
+        self.name, self.cost = name, cost
+
+
+class Together(unittest.TestCase):
+    """Voters are looked at some thousand at a time. Here it is few of them."""
+
+    def each_number(self):
+        for number in (1, 2, 3, 5, 4096):
+            with self.subTest(at_once=number), mock.patch.object(values, "AT_ONCE", number), \
+                    mock.patch.object(matrices, "AT_ONCE", number), mock.patch.object(certificates, "AT_ONCE", number):
+                yield
+
+    @staticmethod
+    def town():
+        """Seven voters who name projects by their ids, as themselves and as other ones of the same name; and amounts."""
+        names = [random.Random(seed).sample("abcde", 1 + seed % 5) for seed in range(7)]
+        things = [{name: Thing(name, 9) for name in "abcde"} for _ in range(2)]
+        forms = [str, things[0].get, things[1].get]
+        ballots = [[forms[(voter + at) % 3](name) for at, name in enumerate(mine)] for voter, mine in enumerate(names)]
+        amounts = [[(voter * at) % 4 for at in range(len(mine))] for voter, mine in enumerate(names)]
+        return Instance(list(things[0].values()), 45), names, ballots, amounts
+
+    def test_files(self):
+        instance, names, ballots, amounts = self.town()
+        paid = [f"{voter},{name},{amount}" for voter, pair in enumerate(zip(names, amounts), 1)
+                for name, amount in zip(*pair) if amount]
+        votes = [f"{voter};{','.join(sorted(mine))}" for voter, mine in enumerate(names, 1)]
+        for _ in self.each_number():
+            for forms in (ballots, names):
+                payments = [dict(zip(*pair)) for pair in zip(forms, amounts)]
+                self.assertEqual(pbaudit.write_prices(5, payments).decode().split("\n")[4:], [*paid, ""])
+                election = pbaudit.write_election(instance, forms).decode()
+                self.assertEqual(election.partition("voter_id;vote\n")[2].split("\n"), [*votes, ""])
+
+    def test_ballots_that_are_sets(self):
+        """What is in one twice is met as two objects, or as one and by its id; and is approved once."""
+        instance, names, _, _ = self.town()
+        one, other = Thing("b", 9), Thing("b", 9)
+        votes = [f"{voter};{','.join(sorted(mine))}" for voter, mine in enumerate([*names, *["b"] * 5], 1)]
+        for _ in self.each_number():
+            for kind in (set, frozenset, list):
+                profile = [*map(kind, names), {one}, {one, "b"}, {other}, {one, other}, {other, "b"}]
+                election = pbaudit.write_election(instance, profile).decode()
+                self.assertEqual(election.partition("voter_id;vote\n")[2].split("\n"), [*votes, ""])
+
+    def test_matrices(self):
+        try:
+            numpy = importlib.import_module("numpy")
+        except ImportError:
+            self.skipTest("numpy isn't installed")
+        instance, names, _, amounts = self.town()
+        approvals = numpy.array([[int(name in mine) for name in "abcde"] for mine in names])
+        paid = numpy.array([[dict(zip(*pair)).get(name, 0) for name in "abcde"] for pair in zip(names, amounts)])
+        payments = [dict(zip(*pair)) for pair in zip(names, amounts)]
+        for _ in self.each_number():
+            self.assertEqual(pbaudit.write_election(instance, approvals), pbaudit.write_election(instance, names))
+            self.assertEqual(validate_price_system(instance, approvals, list("abcde"), 9, paid).explain().text,
+                             validate_price_system(instance, names, list("abcde"), 9, payments).explain().text)
+
+    def test_certificates(self):
+        profile, payments = [*PROFILE, set(), {A}], [*PAYMENTS, {}, {}]
+        for _ in self.each_number():
+            made = pbaudit.price_certificate(SAMPLE, profile, [A, B], 4, payments)
+            self.assertEqual(made.rows, [(1, "a", 2), (1, "b", 2), (2, "a", 4), (3, "b", 2)])
+
+    def test_which_voter_is_at_fault(self):
+        instance, names, _, _ = self.town()
+        one, other = Thing("a", 9), Thing("a", 9)
+        for _ in self.each_number():
+            for last, told in (({"a": -1}, "^voter 8 pays -1 for a, and"), ({one: 1, other: 1}, "^voter 8 pays for a twice$"),
+                               ({"a": 1, one: 1}, "^voter 8 pays for a twice$"), ({"x": 1}, "^voter 8 pays for x, which isn't"),
+                               ({"a": Fraction(-1, 2)}, "^voter 8 pays -1/2 for a, and"),
+                               ({"a": Decimal("nan")}, "^what voter 8 pays for a is Decimal")):
+                payments = [{one: 1}, {other: 1}, *[{"a": 1}] * 3, {one: 1}, {}, last]
+                with self.assertRaisesRegex(ValueError, told):
+                    validate_price_system(instance, [*names, ["a"]], ["a"], 9, payments)
+            with self.assertRaisesRegex(ValueError, "^voter 8 approves x, which isn't a project of the instance$"):
+                pbaudit.write_election(instance, [*names, ["a", "x"]])
+
+    def test_lengths_that_are_wrong(self):
+        """What they say is where the next voter's projects begin."""
+        class Ballot(list):
+            def __len__(self):
+                return 1
+
+        class Paid(dict):
+            def values(self):
+                return [2]
+
+        wrong = "^of the voters [1-3] to 3 one has more or fewer projects, or amounts, than its length says$"
+        for _ in self.each_number():
+            with self.assertRaisesRegex(ValueError, wrong):
+                pbaudit.write_election(SAMPLE, [["a"], ["b"], Ballot("ab")])
+            for amount in (2, Fraction(5, 2)):
+                with self.assertRaisesRegex(ValueError, wrong):
+                    pbaudit.write_prices(9, [{"a": amount}, {}, Paid(a=2, b=2)])
 
 
 class PriceSystems(unittest.TestCase):
@@ -413,7 +517,3 @@ class Files(unittest.TestCase):
 
     def test_ids_are_not_kept_for_ever(self):
         self.assertIsNotNone(values._checked_id.cache_info().maxsize)
-
-
-if __name__ == "__main__":
-    unittest.main()

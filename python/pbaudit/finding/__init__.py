@@ -1,24 +1,29 @@
-"""Finds certificates for an outcome: prices that support it, and groups that it treats worse than they deserve.
+"""Finds certificates for an outcome: prices that support it, or a refutation of all prices, and groups that it treats
+worse than they deserve.
 
 Nothing here is proved, and nothing of it is trusted: what is found is written as a certificate, and audited by what is
 proved. That nothing is found proves nothing.
 """
+import errno
+import os
+from concurrent.futures import Executor
 from typing import Callable, Optional
 
-from ..files import File
-from .results import SECONDS, Found, Wanted
+from ..files import File, Path
+from .results import SECONDS, Found, FoundFolder, Wanted
 
 
 def find(election: File, outcome: Optional[File] = None, *, stable: bool = False, cover: bool = False,
-         prices: bool = True, violation: bool = True, seconds: float = SECONDS,
+         prices: bool = True, refutation: bool = True, violation: bool = True, seconds: float = SECONDS,
          on_progress: Optional[Callable[[str, float], None]] = None) -> Found:
-    """Looks for certificates of an outcome: for prices that support it, with Cover first and then without, and for a
-    violation by counting and one by cost. The files are given as for `audit_prices`.
+    """Looks for certificates of an outcome: for prices that support it, with Cover first and then without; where none
+    are found, for a refutation of all prices; and for a violation by counting and one by cost. The files are given as
+    for `audit_prices`.
 
-    `stable` asks for the stable form of prices, and `cover` for prices with Cover alone; without `prices` or without
-    `violation` these aren't looked for. `seconds` is how long all may take, of which prices have two thirds and each
-    violation a sixth; what is found depends on it only where time runs out. `on_progress` is called with what is tried
-    and how many seconds are left for it.
+    `stable` asks for the stable form of prices, and `cover` for prices with Cover alone, and else for a refutation of
+    those; without `prices`, `refutation` or `violation` these aren't looked for. `seconds` is how long all may take, of
+    which each part has its share; what is found depends on it only where time runs out. `on_progress` is called with what
+    is tried and how many seconds are left for it.
 
     What is found was audited. That nothing is found proves nothing. Raises Refusal, OSError, MemoryError, ValueError
     where nothing is asked for, and ImportError where scipy isn't installed.
@@ -26,9 +31,50 @@ def find(election: File, outcome: Optional[File] = None, *, stable: bool = False
     >>> print(find("town.pb").sentences[0])
     There are prices that support this outcome. The voter budgets together are more than the limit.
     """
-    if not prices and not violation:
-        raise ValueError("neither prices nor violations are looked for")
+    wanted = _wanted(stable, cover, prices, refutation, violation, seconds)
     from .search import Seeker
     found = Found()
-    Seeker(found, election, outcome, Wanted(stable, cover, prices, violation, seconds), on_progress).run()
+    Seeker(found, election, outcome, wanted, on_progress).run()
     return found
+
+
+def find_folder(path: Path, executor: Optional[Executor] = None, *, output: Optional[Path] = None, stable: bool = False,
+                cover: bool = False, prices: bool = True, refutation: bool = True, violation: bool = True,
+                seconds: float = SECONDS, replace: bool = False,
+                on_progress: Optional[Callable[[str], None]] = None) -> FoundFolder:
+    """Looks for certificates of all elections of a folder, as `find --folder`: writes them and the table `found.csv`
+    beside the elections, or to the folder `output`, and nothing over a file that is there unless `replace`. A certificate
+    that is there isn't looked for again.
+
+    Without an executor it works in processes of its own, one for each processor. With one each election is a task of it:
+    a `ProcessPoolExecutor`, or a Dask cluster by `client.get_executor()`, whose workers have to see the folder under the
+    same path and need this package and scipy. Where a worker is lost its election is looked at here. The switches and
+    `seconds`, which are for each election, are as for `find`.
+
+    Raises OSError where the folder can't be listed or the table can't be written, FileExistsError where that is there,
+    TypeError for what is no executor, and ValueError and ImportError as `find`.
+
+    >>> print(find_folder("elections", output="mine", violation=False).rows[0].prices)
+    with Cover
+    """
+    wanted = _wanted(stable, cover, prices, refutation, violation, seconds)
+    from ..folders import check_executor
+    from .folders import TABLE, Folder, entries_in, table_file
+    from .writing import write_new
+    check_executor(executor)
+    folder = os.fspath(path)
+    target = folder if output is None else os.fspath(output)
+    table = os.path.join(target, TABLE)
+    if os.path.lexists(table) and not replace:
+        raise FileExistsError(errno.EEXIST, os.strerror(errno.EEXIST), table)
+    search = Folder(entries_in(folder), target, wanted, replace, executor)
+    search.run(on_progress or (lambda _: None))
+    write_new(table, table_file(search.rows()), replace)
+    return FoundFolder(tuple(search.rows()), search.status())
+
+
+def _wanted(stable: bool, cover: bool, prices: bool, refutation: bool, violation: bool, seconds: float) -> Wanted:
+    """What is looked for. Raises ValueError where that is nothing."""
+    if not (prices or refutation or violation):
+        raise ValueError("neither prices nor a refutation nor violations are looked for")
+    return Wanted(stable, cover, prices, refutation, violation, seconds)

@@ -3,21 +3,23 @@ import argparse
 import os
 from typing import Any, List, NamedTuple, Optional, Tuple
 
+from .._places import command
 from ..pages import replaced
 from .results import SECONDS, Found, Wanted
 from .telling import Teller, quoted, shown
-from .writing import endings, files_of, stem_of, write_new
+from .writing import COMMANDS, endings, files_of, stem_of, write_new
 
 USAGE = (
     "python -m pbaudit find ELECTION [--outcome FILE] [OPTIONS]\n"
     "       python -m pbaudit find --folder FOLDER [OPTIONS]"
 )
 WHAT_IT_DOES = (
-    "Looks for certificates of an outcome: for prices that support it, with Cover first and then without, and for a "
-    "group of voters that it treats worse than it deserves. What is found is audited, and written to NAME.prices.csv "
-    "and NAME.violation.csv beside the election NAME.pb; where there is a violation by counting and one by cost, the "
-    "latter is NAME.cost.violation.csv. The search isn't proved, and needn't be: its results are audited by code that "
-    "is. That it finds nothing proves nothing. It needs scipy."
+    "Looks for certificates of an outcome: for prices that support it, with Cover first and then without; where none are "
+    "found, for a refutation, which proves that there are none; and for a group of voters that it treats worse than it "
+    "deserves. What is found is audited, and written to NAME.prices.csv, NAME.refutation.csv and NAME.violation.csv "
+    "beside the election NAME.pb; where there is a violation by counting and one by cost, the latter is "
+    "NAME.cost.violation.csv. The search isn't proved, and needn't be: its results are audited by code that is. That it "
+    "finds nothing proves nothing. It needs scipy."
 )
 HOW_IT_ENDS = (
     "Exit statuses: 0 if a certificate was found; 1 if none was, which proves nothing; 2 if a file is refused; 3 if "
@@ -38,7 +40,7 @@ class Answer(NamedTuple):
 
 def add_to(commands: Any, by_folder: bool) -> Any:
     """Adds the command to the subparsers of argparse, and answers its parser."""
-    find = commands.add_parser("find", help="looks for prices and violations of an outcome", usage=USAGE,
+    find = commands.add_parser("find", help="looks for prices, refutations and violations of an outcome", usage=USAGE,
                                description=WHAT_IT_DOES, epilog=HOW_IT_ENDS, allow_abbrev=False)
     if not by_folder:
         find.add_argument("election", metavar="ELECTION", help="an election file")
@@ -51,9 +53,12 @@ def add_to(commands: Any, by_folder: bool) -> Any:
 
 def _add_options(find: Any) -> None:
     find.add_argument("--stable", action="store_true", help="look for the stable form of prices")
-    find.add_argument("--cover", action="store_true", help="look for prices with Cover alone")
+    find.add_argument("--cover", action="store_true", help="look for prices with Cover alone, or for a refutation of "
+                      "these")
     only = find.add_mutually_exclusive_group()
     only.add_argument("--prices", action="store_true", help="look for prices alone")
+    only.add_argument("--refutation", action="store_true", help="look for a refutation alone, and with --cover for one "
+                      "of prices with Cover")
     only.add_argument("--violation", action="store_true", help="look for violations alone")
     find.add_argument("--time", metavar="SECONDS", type=_seconds, default=SECONDS, help="how long to look, for each "
                       "election: 60 unless it is given")
@@ -84,7 +89,7 @@ def answer(given: argparse.Namespace) -> Answer:
 
 def _check_paths(given: argparse.Namespace, stem: str) -> None:
     """Ends by usage where a file is in the way."""
-    for path in [stem + ending for ending in endings(not given.violation, not given.prices)]:
+    for path in [stem + ending for ending in endings(wanted_by(given))]:
         over = replaced(path, {"ELECTION": given.election, "--outcome": given.outcome})
         if over:
             given.end_by_usage(f"{shown(path)} would be written, which is {over}")
@@ -108,7 +113,9 @@ def _search(found: Found, given: argparse.Namespace) -> bool:
 
 def wanted_by(given: argparse.Namespace) -> Wanted:
     """What the options ask for."""
-    return Wanted(given.stable, given.cover, not given.violation, not given.prices, given.time)
+    is_any = not (given.prices or given.refutation or given.violation)
+    return Wanted(given.stable, given.cover, is_any or given.prices, is_any or given.refutation,
+                  is_any or given.violation, given.time)
 
 
 def _write(found: Found, given: argparse.Namespace, stem: str) -> Tuple[List[str], Optional[str]]:
@@ -122,23 +129,21 @@ def _write(found: Found, given: argparse.Namespace, stem: str) -> Tuple[List[str
             return lines, f"fault write: {shown(path)}: {unwritten.strerror or unwritten}"
         outcome = [] if given.outcome is None else ["--outcome", given.outcome]
         options = found.prices.options if found.prices and verdict is found.prices.verdict else []
-        command = "prices" if ending == ".prices.csv" else "violation"
-        words = ["pbaudit", command, given.election, path, *outcome, *options]
+        words = [*command(), COMMANDS[ending], given.election, path, *outcome, *options]
         lines += [f"{shown(path)}: {shown(verdict.line)}", f"  check it by: {quoted(words)}"]
     return lines, None
 
 
 def folder_answer(given: argparse.Namespace) -> Answer:
     """Looks for certificates of all elections of a folder. Raises OSError where it can't be listed, and ImportError."""
-    from .._auditor import Mode, auditor
-    from ..folders import entries_of
-    from .folders import TABLE, Folder, table_file, table_lines
+    from .._auditor import auditor
+    from .folders import TABLE, Folder, entries_in, table_file, table_lines
     auditor()
     output = given.output or given.folder
     table = os.path.join(output, TABLE)
     if os.path.lexists(table) and not given.replace:
         given.end_by_usage(f"{shown(table)} is there already: --replace writes over it, --output elsewhere")
-    folder, teller = Folder(entries_of(given.folder, Mode()), output, wanted_by(given), given.replace), Teller()
+    folder, teller = Folder(entries_in(given.folder), output, wanted_by(given), given.replace), Teller()
     is_stopped = False
     try:
         folder.run(teller)

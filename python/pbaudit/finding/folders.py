@@ -1,40 +1,33 @@
-"""Searches for all elections of a folder, on all processors, with a table of what was found."""
+"""Searches for all elections of a folder, on all processors or by an executor, with a table of what was found."""
 import csv
 import io
 import os
 import queue
 import threading
 import time
+import uuid
 from collections import deque
+from concurrent.futures import CancelledError, Executor, Future
 from dataclasses import astuple, dataclass, fields, replace
+from functools import partial
 from typing import Callable, Deque, Dict, List, Optional, Tuple
 
+from .._auditor import Mode
 from ..auditing import Refusal, audit_prices
 from ..files import bytes_of
-from ..folders import UNREAD, Entry
+from ..folders import LOG, LOST, UNREAD, Entry, entries_of
 from ..records import records
+from ..shown import visible
 from .helpers import TICK, Helper, Lost
-from .results import Found, Wanted
+from .results import Found, FoundRow as Row, Wanted
 from .search import NAMES, Seeker
 from .telling import shown
-from .writing import BY_COST, PRICES, VIOLATION, files_of, write_new
+from .writing import BY_COST, PRICES, REFUTATION, VIOLATION, files_of, write_new
 
 TABLE = "found.csv"
 THERE, NOT_FOUND, NOT_ASKED = "there already", "none found", ""
-
-
-@dataclass(frozen=True)
-class Row:
-    """What the table says of an election: its rule, by its file; whether prices were found, and whether these are
-    stable; by which measures violations were found; how long that took; and what went wrong."""
-
-    election: str
-    rule: str = ""
-    prices: str = NOT_ASKED
-    stable: str = NOT_ASKED
-    violation: str = NOT_ASKED
-    seconds: str = ""
-    note: str = ""
+# Tells what is tried.
+Tell = Callable[[str], None]
 
 
 @dataclass(frozen=True)
@@ -61,18 +54,41 @@ class Asked:
         return PRICES in self.there
 
     @property
+    def has_refutation(self) -> bool:
+        """Whether a refutation is there already."""
+        return REFUTATION in self.there
+
+    @property
     def has_violation(self) -> bool:
         """Whether a violation by any measure is there already."""
         return VIOLATION in self.there or BY_COST in self.there
 
+    @property
+    def left(self) -> Wanted:
+        """What is still to be looked for. Beside prices there is no refutation, and beside that there are no prices."""
+        wanted = self.wanted
+        return replace(wanted, prices=wanted.prices and not (self.has_prices or self.has_refutation),
+                       refutation=wanted.refutation and not (self.has_refutation or wanted.prices and self.has_prices),
+                       violation=wanted.violation and not self.has_violation)
+
+
+def entries_in(path: str) -> List[Entry]:
+    """The elections of a folder. Raises OSError."""
+    return entries_of(path, Mode())
+
+
+def searched_by_worker(asked: Asked, call: str) -> Result:
+    """What is found for an election. This is what a worker of an executor does. The call, which no other search of a
+    folder has, has no part in it: Dask takes a task with the same arguments for the same task."""
+    return searched(asked)
+
 
 def searched(asked: Asked) -> Result:
     """What is found for an election. This is what a helper does."""
-    began, path, wanted = time.monotonic(), os.path.join(asked.folder, asked.name + ".pb"), asked.wanted
+    began, path, wanted = time.monotonic(), os.path.join(asked.folder, asked.name + ".pb"), asked.left
     row = Row(f"{asked.name}.pb", prices=THERE if asked.has_prices else NOT_ASKED,
+              refuted=THERE if asked.has_refutation else NOT_ASKED,
               violation=THERE if asked.has_violation else NOT_ASKED)
-    wanted = replace(wanted, prices=wanted.prices and not asked.has_prices,
-                     violation=wanted.violation and not asked.has_violation)
     try:
         data = bytes_of(path)
         row = replace(row, rule=rule_of(data))
@@ -85,7 +101,7 @@ def searched(asked: Asked) -> Result:
     except Exception as error:  # Whatever is wrong with one election, the others are looked at.
         return Result(replace(row, note=f"fault: {error!r}"), status=4)
     row = _told(row, data, found, wanted, time.monotonic() - began)
-    is_there = found or asked.there and not (wanted.prices or wanted.violation)
+    is_there = found or asked.there and not (wanted.prices or wanted.refutation or wanted.violation)
     return Result(row, tuple((ending, file) for ending, _, file in files_of(found)), 0 if is_there else 1)
 
 
@@ -100,7 +116,7 @@ def rule_of(data: bytes) -> str:
 
 
 def _told(row: Row, data: bytes, found: Found, wanted: Wanted, seconds: float) -> Row:
-    prices, stable, violation = row.prices, row.stable, row.violation
+    prices, stable, refuted, violation = row.prices, row.stable, row.refuted, row.violation
     if wanted.prices:
         prices = NOT_FOUND
     if found.prices:
@@ -108,43 +124,87 @@ def _told(row: Row, data: bytes, found: Found, wanted: Wanted, seconds: float) -
         is_stable = found.prices.stable or audit_prices(data, found.prices.file, stable=True, cover=found.prices.cover,
                                                         exhaustive=found.prices.exhaustive)
         stable = "yes" if is_stable else "not these"
+    if wanted.refutation and not found.prices:
+        refuted = NOT_FOUND
+    if found.refutation:
+        refuted = "with Cover" if found.refutation.cover else "yes"
     if wanted.violation:
         violation = " and ".join(f"by {NAMES[each.by]}" for each in found.violations) or NOT_FOUND
-    return replace(row, prices=prices, stable=stable, violation=violation, seconds=f"{seconds:.1f}")
+    return replace(row, prices=prices, stable=stable, refuted=refuted, violation=violation, seconds=f"{seconds:.1f}")
 
 
 class Folder:
-    """Searches for elections by helpers, one for each processor, and writes what they find as it comes. `results` has
-    what came, by the number of the election."""
+    """Searches for elections by an executor, or by helpers, one for each processor, and writes what they find as it
+    comes. `results` has what came, by the number of the election."""
 
-    def __init__(self, entries: List[Entry], output: str, wanted: Wanted, is_replaced: bool):
+    def __init__(self, entries: List[Entry], output: str, wanted: Wanted, is_replaced: bool,
+                 executor: Optional[Executor] = None):
         self._waiting: Deque[Tuple[int, Asked]] = deque()
-        self.entries, self._output, self._is_replaced = entries, output, is_replaced
+        self.entries, self._output, self._is_replaced, self._executor = entries, output, is_replaced, executor
         for number, entry in enumerate(entries):
-            there = [] if is_replaced else [ending for ending in (PRICES, VIOLATION, BY_COST)
+            there = [] if is_replaced else [ending for ending in (PRICES, REFUTATION, VIOLATION, BY_COST)
                                             if os.path.lexists(self._path(entry.name, ending))]
             self._waiting.append((number, Asked(entry.folder, entry.name, wanted, tuple(there))))
         self.results: Dict[int, Result] = {}
         self.fault: Optional[str] = None
         self._done: "queue.Queue[Tuple[int, Result]]" = queue.Queue()
-        self._helpers = [Helper() for _ in range(min(len(entries), len(os.sched_getaffinity(0))))]
         self._is_stopped = False
 
     def _path(self, name: str, ending: str) -> str:
         return os.path.join(self._output, name + ending)
 
-    def run(self, tell: Callable[[str], None]) -> None:
-        """Searches, and writes what is found. What raises, as the keyboard does, stops the helpers."""
-        threads = [threading.Thread(target=self._work, args=(helper,), daemon=True) for helper in self._helpers]
+    def run(self, tell: Tell) -> None:
+        """Searches, and writes what is found. What raises, as the keyboard does, ends the search."""
+        if self._executor is not None:
+            self._run_by_executor(self._executor, tell)
+        self._run_by_helpers(tell)
+
+    def _run_by_executor(self, executor: Executor, tell: Tell) -> None:
+        """Searches by an executor. What its workers don't answer waits again, for helpers."""
+        tasks = self._submitted(executor)
+        try:
+            while not all(future.done() for future, _, _ in tasks):
+                self._take(tell)
+        finally:
+            for future, _, _ in tasks:
+                future.cancel()
+        for future, number, asked in tasks:
+            error = CancelledError() if future.cancelled() else future.exception()
+            if error is not None:
+                LOG.warning("the worker on %s.pb was lost: %r", visible(asked.name), error)
+                self._waiting.append((number, asked))
+
+    def _submitted(self, executor: Executor) -> "List[Tuple[Future[Result], int, Asked]]":
+        """The tasks of what waits. An executor that is broken or shut down takes no more."""
+        call = uuid.uuid4().hex
+        tasks: "List[Tuple[Future[Result], int, Asked]]" = []
+        while self._waiting:
+            number, asked = self._waiting[0]
+            try:
+                future = executor.submit(searched_by_worker, asked, call)
+            except RuntimeError as why:
+                LOG.warning("the executor takes no more: %r", why)
+                break
+            self._waiting.popleft()
+            future.add_done_callback(partial(self._put, number))
+            tasks.append((future, number, asked))
+        return tasks
+
+    def _put(self, number: int, future: "Future[Result]") -> None:
+        if not future.cancelled() and future.exception() is None:
+            self._done.put((number, future.result()))
+
+    def _run_by_helpers(self, tell: Tell) -> None:
+        helpers = [Helper() for _ in range(min(len(self._waiting), len(os.sched_getaffinity(0))))]
+        threads = [threading.Thread(target=self._work, args=(helper,), daemon=True) for helper in helpers]
         try:
             for thread in threads:
                 thread.start()
             while len(self.results) < len(self.entries):
-                self._take()
-                tell(f"{len(self.results)} of {len(self.entries)} elections")
+                self._take(tell)
         finally:
             self._is_stopped = True
-            for helper in self._helpers:
+            for helper in helpers:
                 helper.stop()
             for thread in threads:
                 if thread.ident is not None:
@@ -165,12 +225,13 @@ class Folder:
             result: Result = helper.call(searched, asked)
             return result
         except Lost:
-            return Result(Row(f"{asked.name}.pb", note="fault worker"), status=4)
+            return Result(Row(f"{asked.name}.pb", note=LOST), status=4)
         except Exception as error:
             return Result(Row(f"{asked.name}.pb", note=f"fault: {error!r}"), status=4)
 
-    def _take(self) -> None:
-        """Waits for a result, and writes its files."""
+    def _take(self, tell: Tell) -> None:
+        """Waits for a result, writes its files, and tells how many there are."""
+        tell(f"{len(self.results)} of {len(self.entries)} elections")
         try:
             number, result = self._done.get(timeout=TICK)
         except queue.Empty:

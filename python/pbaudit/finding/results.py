@@ -1,6 +1,6 @@
 """What a search for certificates answers."""
 from dataclasses import dataclass, field
-from typing import List, Optional
+from typing import Dict, List, Optional, Tuple
 
 from ..auditing import Verdict
 from ..certificates import PriceCertificate
@@ -57,11 +57,33 @@ class FoundViolation:
     file: bytes = field(repr=False)
 
 
+@dataclass(frozen=True)
+class FoundRefutation:
+    """A refutation that was found, with the auditor's verdict on it, which is a yes: the weights of projects by their
+    ids and roles, and that of Cover, which is 0 where no prices whatever support the outcome.
+
+    >>> park, school = Project("park", 2), Project("school", 8)
+    >>> town = write_election(Instance([park, school], 8), [{park}] * 2 + [{school}] * 2, [school])
+    >>> refutation = find(town, violation=False).refutation
+    >>> print(refutation.verdict)
+    unpriceable
+    >>> refutation.least, refutation.most, refutation.left, refutation.cover
+    ({'school': 1}, {}, {'park': 1}, 0)
+    """
+
+    least: Dict[str, int]
+    most: Dict[str, int]
+    left: Dict[str, int]
+    cover: int
+    verdict: Verdict
+    file: bytes = field(repr=False)
+
+
 @dataclass
 class Found:
-    """What a search found: prices, or None; violations, at most one by each measure; and sentences on what was found
-    and on what wasn't, which `str` shows. It is true where anything was found. `unfinished` is what was looked for when
-    the search was stopped, or None.
+    """What a search found: prices, or None; a refutation, or None; violations, at most one by each measure; and
+    sentences on what was found and on what wasn't, which `str` shows. It is true where anything was found. `unfinished`
+    is what was looked for when the search was stopped, or None.
 
     >>> found = find("town.pb", violation=False)
     >>> bool(found), found.violations, found.unfinished
@@ -69,15 +91,58 @@ class Found:
     """
 
     prices: Optional[FoundPrices] = None
+    refutation: Optional[FoundRefutation] = None
     violations: List[FoundViolation] = field(default_factory=list)
     sentences: List[str] = field(default_factory=list)
     unfinished: Optional[str] = None
 
     def __bool__(self) -> bool:
-        return self.prices is not None or bool(self.violations)
+        return self.prices is not None or self.refutation is not None or bool(self.violations)
 
     def __str__(self) -> str:
         return "\n".join(self.sentences)
+
+
+@dataclass(frozen=True)
+class FoundRow:
+    """What the table of a folder says of an election: its rule, by its file; whether prices were found, and whether
+    these are stable; whether all prices are refuted; by which measures violations were found; how long that took; and
+    what went wrong. What wasn't looked for is empty.
+
+    >>> row, = find_folder("elections", output="mine", violation=False).rows
+    >>> row.election, row.prices, row.refuted
+    ('town.pb', 'with Cover', '')
+    """
+
+    election: str
+    rule: str = ""
+    prices: str = ""
+    stable: str = ""
+    refuted: str = ""
+    violation: str = ""
+    seconds: str = ""
+    note: str = ""
+
+
+@dataclass(frozen=True)
+class FoundFolder:
+    """What was found for the elections of a folder: a row for each, as `pandas.DataFrame(found.rows)` takes them, and
+    a status as that of `find --folder`. It is true where the status is 0, and `str` is the table as it is printed.
+
+    >>> found = find_folder("elections", output="mine", violation=False)
+    >>> found.status, str(found).split()[:3]
+    (0, ['election', 'rule', 'prices'])
+    """
+
+    rows: Tuple[FoundRow, ...]
+    status: int
+
+    def __bool__(self) -> bool:
+        return self.status == 0
+
+    def __str__(self) -> str:
+        from .folders import table_lines
+        return "\n".join(table_lines(list(self.rows)))
 
 
 @dataclass(frozen=True)
@@ -87,5 +152,6 @@ class Wanted:
     stable: bool = False
     cover: bool = False
     prices: bool = True
+    refutation: bool = True
     violation: bool = True
     seconds: float = SECONDS

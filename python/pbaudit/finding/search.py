@@ -2,7 +2,7 @@
 from typing import Dict, List, Optional
 
 from .. import auditing
-from .._auditor import Question
+from .._auditor import Question, auditor
 from ..election_files import election_of
 from ..files import File, bytes_of
 from ..records import records
@@ -12,7 +12,8 @@ from .clock import Clock, Tell
 from .groups import groups_of
 from .helpers import Helper
 from .prices import NONE, ROUNDING, TIME, UNSOLVED, Given, find_prices
-from .results import Found, FoundPrices, FoundViolation, Wanted
+from .refutations import by_sample, find_refutation
+from .results import Found, FoundPrices, FoundRefutation, FoundViolation, Wanted
 from .shares import problem_of, unpaid
 from .violations import MEASURES, Search, Searched
 
@@ -26,6 +27,16 @@ REASONS = {
     UNSOLVED: f"the linear programme wasn't solved, since memory ran out, or its numbers are too far apart. {NO_PROOF}",
     ROUNDING: f"the linear programme has some in rounded numbers, and no exact ones were found near them. {NO_PROOF}",
 }
+NOT_REFUTED = {
+    NONE: ("by the linear programme there are prices of the plain form. It computes in rounded numbers, so that this is "
+           "no proof."),
+    ROUNDING: ("the linear programme has one in rounded numbers, and no exact one was found near it. That proves nothing: "
+               "there may be one."),
+    **{why: REASONS[why].replace("there may be some", "there may be one") for why in (TIME, UNSOLVED)},
+}
+NO_AUDITOR = "No refutation was looked for, since the auditor is older than this package and can't check one."
+# How the time is shared among what is looked for.
+PRICES, SAMPLE, REFUTATION, VIOLATION = 4, 1, 2, 1
 NOT_FEASIBLE = ("No prices can support this outcome: the funded projects cost more than the limit, so that every "
                 "certificate is answered 'failed Feasible'.")
 NO_CONTRADICTION = (
@@ -60,10 +71,9 @@ class Seeker:
     def run(self) -> None:
         """Looks for all that is wanted."""
         found, wanted = self.found, self.wanted
-        if wanted.prices:
-            found.unfinished = "prices"
+        if wanted.prices or wanted.refutation:
             with Helper() as solver:
-                self._look_for_prices(solver)
+                self._look_for_prices_or_a_refutation(solver)
         for by in MEASURES if wanted.violation else ():
             found.unfinished = f"a violation by {NAMES[by]}"
             self._look_for_violation(by)
@@ -71,27 +81,72 @@ class Seeker:
         if found.prices and found.violations:
             found.sentences.append(NO_CONTRADICTION)
 
-    def _look_for_prices(self, solver: Helper) -> None:
-        wanted, say = self.wanted, self.found.sentences.append
-        if self.bare.condition == "Feasible":
-            say(NOT_FEASIBLE)
+    def _clock(self, part: int) -> Clock:
+        """The time of a part of the search."""
+        wanted = self.wanted
+        parts = [PRICES] * wanted.prices + [SAMPLE, REFUTATION] * wanted.refutation + [VIOLATION] * 2 * wanted.violation
+        return Clock(wanted.seconds * part / sum(parts), self._tell)
+
+    def _look_for_prices_or_a_refutation(self, solver: Helper) -> None:
+        """Looks for prices; and where none were found, or none are wanted, for a refutation."""
+        found, wanted = self.found, self.wanted
+        if self.bare.condition == "Feasible" and wanted.prices:
+            found.sentences.append(NOT_FEASIBLE)
             return
-        if not self.given.exhaustive:
-            say(f"{self.bare.project} could be added within the limit, so that Exhaustive is left out.")
-        clock = Clock(wanted.seconds * (2 / 3 if wanted.violation else 1), self._tell)
-        self.found.prices, why = find_prices(self.given, wanted.stable, wanted.cover, solver, clock)
-        say(_told(self.found.prices) if self.found.prices else self._no_prices(why))
+        told: List[str] = []
+        if wanted.prices and not self._is_refuted_by_sample(solver):
+            told += self._look_for_prices(solver)
+        if wanted.refutation and not (found.prices or found.refutation):
+            told += self._look_for_a_refutation(solver)
+        if found.refutation:
+            told = [" ".join(filter(None, [_refuted(found.refutation), self._unpaid()]))]
+        found.sentences += told
+
+    def _is_refuted_by_sample(self, solver: Helper) -> bool:
+        """Whether a sample of many voters refutes all prices, which is found sooner than that there are none."""
+        self.found.unfinished = "a refutation"
+        if self.wanted.refutation and auditor().has("refutation"):
+            self.found.refutation = by_sample(self.given, False, solver, self._clock(SAMPLE))
+        return self.found.refutation is not None
+
+    def _look_for_prices(self, solver: Helper) -> List[str]:
+        """Looks for prices, and answers what there is to say of them."""
+        found, wanted = self.found, self.wanted
+        found.unfinished = "prices"
+        found.prices, why = find_prices(self.given, wanted.stable, wanted.cover, solver, self._clock(PRICES))
+        told = _told(found.prices) if found.prices else self._no_prices(why)
+        if self.given.exhaustive:
+            return [told]
+        return [f"{self.bare.project} could be added within the limit, so that Exhaustive is left out.", told]
 
     def _no_prices(self, why: str) -> str:
         """What is said where no prices were found."""
-        project = unpaid(self.given.problem)
-        if project is not None:
-            name = self.given.projects.ids[project]
-            return f"No prices can support this outcome: {name} is funded, it costs something, and nobody approves it."
+        if self._unpaid():
+            return f"No prices can support this outcome: {self._unpaid()}"
         return f"No {_form(self.wanted.stable)}{' with Cover' if self.wanted.cover else ''} were found: {REASONS[why]}"
 
+    def _unpaid(self) -> str:
+        """A sentence on a funded project that nobody can pay for, or nothing."""
+        project = unpaid(self.given.problem)
+        if project is None:
+            return ""
+        return f"{self.given.projects.ids[project]} is funded, it costs something, and nobody approves it."
+
+    def _look_for_a_refutation(self, solver: Helper) -> List[str]:
+        """Looks for a refutation of all prices, and where those with Cover alone are asked for, of these. What there is
+        to say where none was found."""
+        found, clock = self.found, self._clock(REFUTATION)
+        if not auditor().has("refutation"):
+            return [NO_AUDITOR]
+        found.unfinished = "a refutation"
+        for cover in (False, True) if self.wanted.cover else (False,):
+            found.refutation, why = find_refutation(self.given, cover, solver, clock)
+            if found.refutation:
+                return []
+        return [f"No refutation was found: {NOT_REFUTED[why]}"]
+
     def _look_for_violation(self, by: Satisfaction) -> None:
-        clock = Clock(self.wanted.seconds / (6 if self.wanted.prices else 2), self._tell)
+        clock = self._clock(VIOLATION)
 
         def go_on(size: int) -> bool:
             clock.tell(f"violation by {NAMES[by]}: demands of {_projects(size)}")
@@ -119,6 +174,12 @@ def _told(prices: FoundPrices) -> str:
     cover = ("The voter budgets together are more than the limit." if prices.cover else
              "None were found by which the voter budgets together are more than the limit (Cover).")
     return f"There are {_form(prices.stable)} that support this outcome. {cover}"
+
+
+def _refuted(refutation: FoundRefutation) -> str:
+    """What is said of a refutation that was found."""
+    kind = "No prices with Cover can" if refutation.cover else "No prices can"
+    return f"{kind} support this outcome, whatever the payments and the voter budget: that is what the refutation proves."
 
 
 def _told_violation(by: str, voters: int, names: List[str]) -> str:

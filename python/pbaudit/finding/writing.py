@@ -1,12 +1,14 @@
-"""The files that a search writes: `NAME.prices.csv`, and `NAME.violation.csv`; where there is a violation by each
-measure, the one by cost is `NAME.cost.violation.csv`."""
+"""The files that a search writes: `NAME.prices.csv`, or `NAME.refutation.csv`, and `NAME.violation.csv`; where there is a
+violation by each measure, the one by cost is `NAME.cost.violation.csv`."""
 import os
 from typing import List, Optional, Tuple
 
 from ..auditing import Verdict
-from .results import Found
+from .results import Found, Wanted
 
-PRICES, VIOLATION, BY_COST = ".prices.csv", ".violation.csv", ".cost.violation.csv"
+PRICES, REFUTATION, VIOLATION, BY_COST = ".prices.csv", ".refutation.csv", ".violation.csv", ".cost.violation.csv"
+# The command by which each is audited.
+COMMANDS = {PRICES: "prices", REFUTATION: "refutation", VIOLATION: "violation", BY_COST: "violation"}
 
 
 def stem_of(election: str, folder: Optional[str]) -> str:
@@ -18,14 +20,15 @@ def stem_of(election: str, folder: Optional[str]) -> str:
     return os.path.join(folder, name[:-3] if name.endswith(".pb") and name != ".pb" else name)
 
 
-def endings(prices: bool, violation: bool) -> List[str]:
+def endings(wanted: Wanted) -> List[str]:
     """How the names of the files end that may be written."""
-    return [PRICES] * prices + [VIOLATION, BY_COST] * violation
+    return [PRICES] * wanted.prices + [REFUTATION] * wanted.refutation + [VIOLATION, BY_COST] * wanted.violation
 
 
 def files_of(found: Found) -> List[Tuple[str, Verdict, bytes]]:
     """The files of what was found: how each name ends, the auditor's verdict, and the bytes; prices first."""
-    files = [] if found.prices is None else [(PRICES, found.prices.verdict, found.prices.file)]
+    whole = [(PRICES, found.prices), (REFUTATION, found.refutation)]
+    files = [(ending, each.verdict, each.file) for ending, each in whole if each is not None]
     return files + [(ending, violation.verdict, violation.file)
                     for ending, violation in zip((VIOLATION, BY_COST), found.violations)]
 

@@ -1,0 +1,175 @@
+"""The search for refutations: each is checked as it is defined, voter by voter."""
+import importlib.util
+import math
+import pickle
+import unittest
+from fractions import Fraction
+from unittest import mock
+
+import pbaudit
+from finding_cases import Case, cases, is_refutation
+
+HAS_SCIPY = unittest.skipUnless(importlib.util.find_spec("scipy"), "scipy isn't installed")
+
+
+def refuted(case, **switches):
+    """The refutation that is found alone, or None. It holds as it is defined."""
+    found = pbaudit.find(case.file(), prices=False, violation=False, **switches)
+    assert found.refutation is None or is_refutation(case, found.refutation), case.name
+    return found.refutation
+
+
+def weights_of(refutation):
+    return [*refutation.least.values(), *refutation.most.values(), *refutation.left.values()]
+
+
+@HAS_SCIPY
+class Refutations(unittest.TestCase):
+    def test_weights_are_in_lowest_terms(self):
+        found = [refuted(case) for seed in range(6) for case in cases(seed, ((10, 5), (20, 10), (30, 12)))]
+        weights = [weights_of(refutation) for refutation in found if refutation]
+        self.assertGreater(len(weights), 3)
+        for each in weights:
+            self.assertEqual((math.gcd(*each), 0 in each), (1, False))
+
+    def test_of_cover(self):
+        """Where there are prices by budgets that come to the limit and no more, those with Cover alone are refuted."""
+        for case in (Case("tie", [5, 5], 10, [[0]] * 5 + [[1]] * 5, [1]),
+                     Case("tie", [2, 3, 3], 8, [[0]] * 2 + [[1]] * 3 + [[2]] * 3, [1, 0]),
+                     Case("free", [4, 0], 6, [[0, 1], [0, 1]], [0])):
+            with self.subTest(case=case.name):
+                self.assertTrue(pbaudit.find(case.file(), violation=False).prices)
+                self.assertIsNone(refuted(case))
+                found = refuted(case, cover=True)
+                self.assertGreater(found.cover, 0)
+                self.assertEqual((found.verdict.line, found.verdict.refutes), ("unpriceable cover", "with Cover"))
+
+    def test_prices_with_cover_are_never_refuted(self):
+        for case in (case for seed in range(4) for case in cases(seed, ((10, 5), (20, 10)))):
+            found = pbaudit.find(case.file(), violation=False, cover=True)
+            self.assertNotEqual(found.prices is None, found.refutation is None, case.name)
+
+    def test_nobody_approves(self):
+        case = Case("nobody", [3, 4], 10, [[1]], [0])
+        found = refuted(case)
+        self.assertEqual((found.least, found.most, found.left, found.cover), ({"p0": 1}, {}, {}, 0))
+        told = pbaudit.find(case.file(), violation=False).sentences
+        self.assertEqual(told, ["No prices can support this outcome, whatever the payments and the voter budget: that is "
+                                "what the refutation proves. p0 is funded, it costs something, and nobody approves it."])
+
+    def test_a_sample(self):
+        """Of many voters some are asked first, whose weights hold for all; then no prices are looked for."""
+        from pbaudit.finding import refutations
+        for seed in range(30):
+            small = next(case for case in cases(seed, ((300, 20),)) if case.name.endswith("by votes"))
+            case = Case(small.name, [cost * 10 for cost in small.costs], small.limit * 10, small.ballots * 10,
+                        small.funded)
+            self.assertGreater(len(case.ballots), 4 * refutations.SAMPLE)
+            with mock.patch("pbaudit.finding.search.find_prices", return_value=(None, "none")) as prices:
+                found = pbaudit.find(case.file(), violation=False).refutation
+            self.assertTrue(found is None or is_refutation(case, found))
+            if not prices.called:
+                self.assertIsNotNone(found)
+                return
+        self.fail("no outcome is refuted by a sample")
+
+    def test_too_much_is_funded(self):
+        """There are none to refute that way; what is funded may be payable, though not within the limit."""
+        found = pbaudit.find(Case("much", [4, 4], 5, [[0, 1]], [0, 1]).file(), violation=False)
+        self.assertIsNone(found.refutation)
+        self.assertEqual(len(found.sentences), 1)
+
+    def test_where_there_is_none(self):
+        case = Case("fair", [5, 6], 10, [[0]] * 5 + [[1]] * 5, [0])
+        found = pbaudit.find(case.file(), prices=False, violation=False)
+        self.assertFalse(found)
+        self.assertEqual(found.sentences, ["No refutation was found: by the linear programme there are prices of the plain "
+                                           "form. It computes in rounded numbers, so that this is no proof."])
+
+    def test_stable_prices_alone_arent_refuted(self):
+        """Plain prices support the outcome, and no stable ones do: nothing says that for certain."""
+        case = Case("stable", [2, 2], 2, [[1], [0, 1], [0, 1]], [0])
+        plain, stable = (pbaudit.find(case.file(), violation=False, stable=each) for each in (False, True))
+        self.assertTrue(plain.prices)
+        self.assertEqual((stable.prices, stable.refutation), (None, None))
+        self.assertEqual([sentence[:sentence.index(":")] for sentence in stable.sentences],
+                         ["No stable prices were found", "No refutation was found"])
+
+    def test_too_little_time(self):
+        case = next(case for case in cases(1, ((300, 20),)) if case.name.endswith("by votes"))
+        found = pbaudit.find(case.file(), prices=False, violation=False, seconds=1e-9)
+        self.assertIsNone(found.refutation)
+        self.assertEqual(found.sentences, ["No refutation was found: there was too little time. That proves nothing: there "
+                                           "may be one."])
+
+    def test_what_isnt_exact_is_dropped(self):
+        """Weights that hold in floats alone are never shown: the auditor has the last word."""
+        from pbaudit.finding import refutations
+        case = Case("over", [4, 5], 10, [[0]] * 5 + [[1]] * 5, [1])
+        self.assertIsNotNone(refuted(case))
+        with mock.patch.object(refutations, "audit_refutation", lambda *_: pbaudit.Verdict(False, "failed U3", "U3")):
+            found = pbaudit.find(case.file(), prices=False, violation=False)
+        self.assertIsNone(found.refutation)
+        self.assertIn("no exact one was found near it", str(found))
+
+    def test_an_older_auditor(self):
+        from pbaudit import _auditor
+        older = mock.Mock(wraps=_auditor.auditor(), has=lambda command: command != "refutation")
+        with mock.patch.object(_auditor, "_found", older):
+            found = pbaudit.find(Case("over", [4, 5], 10, [[0]] * 5 + [[1]] * 5, [1]).file(), violation=False)
+        self.assertFalse(found)
+        self.assertIn("the auditor is older than this package", str(found))
+
+
+class Audits(unittest.TestCase):
+    """Refutations by hand."""
+
+    GROUP = Case("a group", [2, 3], 10, [[0, 1]] * 3 + [[0], []], [0])
+
+    def test_a_group_that_was_passed_over(self):
+        for limit, line in ((10, "unpriceable cover"), (Fraction("8.333334"), "unpriceable cover"),
+                            (Fraction("8.333333"), "failed U3")):
+            case = Case("a group", self.GROUP.costs, limit, self.GROUP.ballots, self.GROUP.funded)
+            claim = pbaudit.write_refutation(left={"p1": 5}, most={"p0": 5}, cover=3)
+            verdict = pbaudit.audit_refutation(case.file(), claim)
+            self.assertEqual((verdict.line, bool(verdict)), (line, line != "failed U3"))
+            self.assertEqual(verdict.refutes, "with Cover" if verdict else None)
+            self.assertEqual(verdict.condition, None if verdict else "U3")
+            self.assertEqual((verdict.says_little, verdict.no_group_passed_over), (False, False))
+
+    def test_a_verdict_is_pickled(self):
+        """Whether or not there is a page about it."""
+        verdict = pbaudit.audit_refutation(self.GROUP.file(), pbaudit.write_refutation(least={"p0": 1}))
+        again = pickle.loads(pickle.dumps(verdict))
+        self.assertEqual((again, again._repr_html_()), (verdict, verdict._repr_html_()))
+
+    def test_what_fails(self):
+        town = self.GROUP.file()
+        for given, condition, project in (({"least": {"p1": 0}}, "U1", "p1"), ({"cover": 1}, "U2", None), ({}, "U3", None)):
+            verdict = pbaudit.audit_refutation(town, pbaudit.write_refutation(**given))
+            self.assertEqual((bool(verdict), verdict.condition, verdict.project), (False, condition, project))
+
+    def test_an_outcome_file(self):
+        town, claim = self.GROUP.file(), pbaudit.write_refutation(least={"p1": 1})
+        self.assertEqual(pbaudit.audit_refutation(town, claim).project, "p1")
+        self.assertEqual(pbaudit.audit_refutation(town, claim, pbaudit.write_outcome(["p1", "p0"])).condition, "U2")
+
+    def test_what_is_refused(self):
+        with self.assertRaises(pbaudit.Refusal) as caught:
+            pbaudit.audit_refutation(self.GROUP.file(), b"pb-refutation,2\n")
+        self.assertEqual(caught.exception.printed, "refused certificate 21 BadHead record 1")
+
+    def test_what_cant_be_written(self):
+        for given, error, told in (
+            ({"least": {"a": -1}}, ValueError, "the weight of a is -1, and weights are from 0 to 10^12"),
+            ({"cover": 10**12 + 1}, ValueError, "the weight of Cover is 1000000000001, and"),
+            ({"left": {"a": 0.5}}, TypeError, "the weight of a is 0.5, which isn't a whole number"),
+            ({"left": ["a"]}, TypeError, "the weights of left are ['a'], not a mapping"),
+            ({"least": {"a": 1}, "left": {"a": 1}}, ValueError, "the refutation names a twice"),
+            ({"cover": True}, TypeError, "the weight of Cover is True, which isn't"),
+        ):
+            with self.assertRaises(error) as caught:
+                pbaudit.write_refutation(**given)
+            self.assertTrue(str(caught.exception).startswith(told), str(caught.exception))
+        odd = pbaudit.write_refutation(most={'x,"y"': 1})
+        self.assertTrue(odd.endswith(b'\nmost,"x,""y""",1\n'))
