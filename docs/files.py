@@ -11,13 +11,13 @@ from pathlib import Path
 
 TOP = Path(__file__).resolve().parent.parent
 FOLDERS = ["python/pbaudit", "python/pbaudit/finding", "web"]
-KINDS = ["src/**/*.rt", "specs/**/*.antt", "*.py", "*.js", "*.c"]
+KINDS = ["src/**/*.rt", "specs/**/*.antt", "*.py", "src/**/*.ts", "tests/**/*.ts", "*.ts", "*.c"]
 # What may stand before the comment, and the comment.
 HEADS = {
     ".rt": r"((?://!.*\n)+)",
     ".antt": r"((?:--.*\n)+)",
     ".py": r'(?:#!.*\n)?"""((?:.|\n)*?)(?:"""|\n\n)',
-    ".js": r"(?:// @ts-check\n)?(?:\"use strict\";\n)?/\*((?:.|\n)*?)\*/",
+    ".ts": r"/\*((?:.|\n)*?)\*/",
     ".c": r"/\*((?:.|\n)*?)\*/",
 }
 
@@ -39,7 +39,7 @@ def main():
     if sys.argv[1:] == ["--help"]:
         print(__doc__)
         return 0
-    crates = re.findall(r"^(\w+):", (TOP / "crates.txt").read_text(encoding="utf-8"), re.MULTILINE)
+    crates = re.findall(r"^(\w+)(?: \w+)?:", (TOP / "crates.txt").read_text(encoding="utf-8"), re.MULTILINE)
     for name in sys.argv[1:] or crates + FOLDERS:
         folder = TOP / name if name in FOLDERS else TOP / "crates" / name
         if not folder.is_dir():

@@ -67,7 +67,7 @@ elections=()
 mkdir "$work/empty"
 for name in "${names[@]}"; do
     ! is_file "$folder/$name" || case ${name,,} in
-        *.pb|*.prices.csv|*.violation.csv) : > "$work/empty/$name" ;;
+        *.pb|*.prices.csv|*.violation.csv|*.refutation.csv) : > "$work/empty/$name" ;;
     esac
     case $name in
         *[$'\001'-$'\037\177']*) ;;
