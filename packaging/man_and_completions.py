@@ -158,17 +158,40 @@ def roff_notes(notes):
     return lines
 
 
+# What no help says: the names by which the files of an election go together, and where more is written.
+FILES = [("NAME.pb", "an election, in the format of Pabulib"),
+         ("NAME.prices.csv", "a price certificate for it"),
+         ("NAME.violation.csv", "a violation certificate for it"),
+         ("NAME.refutation.csv", "a refutation of all prices for it"),
+         ("NAME.outcome.csv", "an outcome, in place of the one that the election states")]
+SEE_ALSO = ["The formats of these files are in docs/FORMATS.md of the repository of pbaudit, the conditions and tests in",
+            "docs/CONDITIONS.md, and what is proved of the answers in docs/STATEMENT.md. Elections in the format of Pabulib:",
+            "https://pabulib.org/"]
+
+
+def split_notes(notes):
+    """The paragraphs that go to sections of their own, by their heading in the help, and the others."""
+    headings = {"Exit statuses:": "EXIT STATUS", "Examples:": "EXAMPLES"}
+    own = {headings[paragraph[0]]: [paragraph[1:]] for paragraph in notes if paragraph[0] in headings}
+    return own, [paragraph for paragraph in notes if paragraph[0] not in headings]
+
+
 def man_page(version, top, commands):
+    own, description = split_notes(top.notes)
     lines = [f'.TH {NAME.upper()} 1 "" "{roff(version)}" "User Commands"', ".nh", ".ad l"]
     lines += [".SH NAME", f"{NAME} \\- {roff(top.about)}"]
     lines += [".SH SYNOPSIS", ".nf", roff(top.usage)]
     lines += [roff(command.usage) for command in commands.values()]
-    lines += [".fi", ".SH DESCRIPTION"] + roff_notes(top.notes)
+    lines += [".fi", ".SH DESCRIPTION"] + roff_notes(description)
     lines += [".SH OPTIONS"] + roff_entries(top.options)
     lines.append(".SH COMMANDS")
     for name, command in commands.items():
         lines += [f".SS {roff(name)}", f"{roff(command.about)}.", ".PP", f"\\fB{roff(command.usage)}\\fR"]
         lines += roff_entries(command.arguments) + roff_entries(command.options) + roff_notes(command.notes)
+    lines += [".SH EXIT STATUS"] + roff_notes(own["EXIT STATUS"]) + [".SH FILES"]
+    for name, about in FILES:
+        lines += [".TP", f"\\fI{roff(name)}\\fR", roff(about)]
+    lines += [".SH EXAMPLES"] + roff_notes(own["EXAMPLES"]) + [".SH SEE ALSO"] + [roff(line) for line in SEE_ALSO]
     return "\n".join(lines) + "\n"
 
 

@@ -5,6 +5,7 @@ _pbaudit_options() {
         read) printf '%s\n' -h --help ;;
         prices) printf '%s\n' --stable --no-exhaustive --cover --outcome -h --help ;;
         violation) printf '%s\n' --outcome -h --help ;;
+        refutation) printf '%s\n' --outcome -h --help ;;
         both) printf '%s\n' --stable --no-exhaustive --cover --outcome -h --help ;;
         explain) printf '%s\n' --stable --no-exhaustive --cover --outcome -h --help ;;
         page) printf '%s\n' --stable --no-exhaustive --cover --outcome --language -h --help ;;
@@ -40,7 +41,7 @@ _pbaudit() {
     fi
     COMPREPLY=()
     case $command:$before in
-        prices:--outcome | violation:--outcome | both:--outcome | explain:--outcome | page:--outcome | page:--language | margins:--outcome) kind=$(_pbaudit_kind "$command" "$before") ;;
+        prices:--outcome | violation:--outcome | refutation:--outcome | both:--outcome | explain:--outcome | page:--outcome | page:--language | margins:--outcome) kind=$(_pbaudit_kind "$command" "$before") ;;
     esac
     if [ -z "$kind" ]; then
         if [ -z "$closed" ] && [[ $word == -* ]]; then
@@ -51,7 +52,7 @@ _pbaudit() {
         [ -z "$command" ] || kind=$(_pbaudit_kind "$command" '')
     fi
     case $kind in
-        command) mapfile -t COMPREPLY < <(compgen -W 'read prices violation both explain page margins tidy folder help' -- "$word") ;;
+        command) mapfile -t COMPREPLY < <(compgen -W 'read prices violation refutation both explain page margins tidy folder help' -- "$word") ;;
         folder) compopt -o filenames 2> /dev/null || true; mapfile -t COMPREPLY < <(compgen -d -- "$word") ;;
         *) compopt -o filenames 2> /dev/null || true; mapfile -t COMPREPLY < <(compgen -f -- "$word") ;;
     esac

@@ -17,6 +17,7 @@ complete -c pbaudit -n '__pbaudit_command_is' -s V -l version -d 'Print version'
 complete -c pbaudit -n __pbaudit_command_is -a read -d 'Read an election and print how many voters and projects it has'
 complete -c pbaudit -n __pbaudit_command_is -a prices -d 'Check whether the payments of a price certificate support the outcome'
 complete -c pbaudit -n __pbaudit_command_is -a violation -d 'Check whether the outcome treats a group of voters worse than EJR allows'
+complete -c pbaudit -n __pbaudit_command_is -a refutation -d 'Check a proof that no prices whatever support the outcome'
 complete -c pbaudit -n __pbaudit_command_is -a both -d 'Check a price certificate and a violation certificate for one outcome'
 complete -c pbaudit -n __pbaudit_command_is -a explain -d 'Check a certificate and print the figures of each condition or test'
 complete -c pbaudit -n __pbaudit_command_is -a page -d 'Check a certificate and print a page in plain words, as HTML'
@@ -35,6 +36,9 @@ complete -c pbaudit -n '__pbaudit_command_is prices' -s h -l help -d 'Print help
 complete -c pbaudit -n '__pbaudit_command_is violation' -F
 complete -c pbaudit -n '__pbaudit_command_is violation' -l outcome -r -F -d 'Take the funded projects from this file, not from the column \'selected\''
 complete -c pbaudit -n '__pbaudit_command_is violation' -s h -l help -d 'Print help'
+complete -c pbaudit -n '__pbaudit_command_is refutation' -F
+complete -c pbaudit -n '__pbaudit_command_is refutation' -l outcome -r -F -d 'Take the funded projects from this file, not from the column \'selected\''
+complete -c pbaudit -n '__pbaudit_command_is refutation' -s h -l help -d 'Print help'
 complete -c pbaudit -n '__pbaudit_command_is both' -F
 complete -c pbaudit -n '__pbaudit_command_is both' -l stable -d 'Ask for the stable form: condition S5 in place of C5'
 complete -c pbaudit -n '__pbaudit_command_is both' -l no-exhaustive -d 'Leave out the condition Exhaustive'
@@ -64,4 +68,4 @@ complete -c pbaudit -n '__pbaudit_command_is folder' -l stable -d 'Ask for the s
 complete -c pbaudit -n '__pbaudit_command_is folder' -l no-exhaustive -d 'Leave out the condition Exhaustive'
 complete -c pbaudit -n '__pbaudit_command_is folder' -l cover -d 'Add the condition Cover'
 complete -c pbaudit -n '__pbaudit_command_is folder' -s h -l help -d 'Print help'
-complete -c pbaudit -n '__pbaudit_command_is help' -f -a 'read prices violation both explain page margins tidy folder help'
+complete -c pbaudit -n '__pbaudit_command_is help' -f -a 'read prices violation refutation both explain page margins tidy folder help'

@@ -56,6 +56,13 @@ uint8_t pbaudit_violation(const uint8_t *election, size_t election_length,
                           const uint8_t *certificate, size_t certificate_length,
                           uint8_t *out, size_t room, size_t *needed);
 
+/* Whether weights prove that no prices whatever support the outcome, or, where Cover has a weight, that none support it
+ * under Cover. The outcome is as for prices. 0, 1, 2 or 4. */
+uint8_t pbaudit_refutation(const uint8_t *election, size_t election_length,
+                           const uint8_t *outcome, size_t outcome_length, bool has_outcome,
+                           const uint8_t *certificate, size_t certificate_length,
+                           uint8_t *out, size_t room, size_t *needed);
+
 /* Prices, and a group with its demand, for one outcome: a line for each, that of the prices first. 0 where both are a yes,
  * else 1; or 2 or 4. */
 uint8_t pbaudit_both(const uint8_t *election, size_t election_length,
@@ -65,10 +72,10 @@ uint8_t pbaudit_both(const uint8_t *election, size_t election_length,
                      bool stable, bool exhaustive, bool cover,
                      uint8_t *out, size_t room, size_t *needed);
 
-/* The verdict on a certificate of either kind, an empty line, and what each condition on prices, or each test of a
- * violation, comes to: the table of `pbaudit explain`. A certificate that begins as a violation certificate is taken as
- * one, and then the switches don't matter; any other is taken as prices. The outcome and the switches are as for
- * prices. 0, 1, 2 or 4. */
+/* The verdict on a certificate of any kind, an empty line, and what each condition on prices, or each test of a
+ * violation or of a refutation, comes to: the table of `pbaudit explain`. A certificate that begins as a violation
+ * certificate or as a refutation is taken as one, and then the switches don't matter; any other is taken as prices. The
+ * outcome and the switches are as for prices. 0, 1, 2 or 4. */
 uint8_t pbaudit_explain(const uint8_t *election, size_t election_length,
                         const uint8_t *outcome, size_t outcome_length, bool has_outcome,
                         const uint8_t *certificate, size_t certificate_length,
@@ -87,9 +94,10 @@ uint8_t pbaudit_tidy(const uint8_t *election, size_t election_length,
                      const uint8_t *certificate, size_t certificate_length,
                      uint8_t *out, size_t room, size_t *needed);
 
-/* A page in plain words about a certificate of either kind, as one HTML file in UTF-8. The page shows the files by these
- * names. language is a code: en, pl, de or fr. The rest is as for explain, and where a file is refused, the text is the
- * line of the refusal. 0, 1, 2 or 4; 3 where there is no such language, and then *needed is 0 and nothing is written. */
+/* A page in plain words about a certificate of any kind, as one HTML file in UTF-8, which ends in </html> and no LF.
+ * The page shows the files by these names. language is a code: en, pl, de or fr. The rest is as for explain, and where a
+ * file is refused, the text is the line of the refusal. 0, 1, 2 or 4; 3 where there is no such language, and then *needed
+ * is 0 and nothing is written. */
 uint8_t pbaudit_page(const uint8_t *election, size_t election_length,
                      const uint8_t *election_name, size_t election_name_length,
                      const uint8_t *outcome, size_t outcome_length,
@@ -111,12 +119,12 @@ uint8_t pbaudit_note(const uint8_t *election, size_t election_length,
  *   there is no voter '7010'; the election has 3 voters
  *   voters are numbered by their rows in VOTES, from 1, and not by voter_id; ..
  * with 5 in *line. input is what the file has to be: 0 an election, 1 an outcome file, 2 a price certificate, 3 a
- * violation certificate, 4 a certificate of either kind. number and record are those of the refusal's line. election is
- * the one beside which the file was read, or an empty file with has_election false. *line is the line of the file on
- * which the refused record begins, from 1, or 0 where there is none, as at the end of the file. The text has a sentence
- * a line; one on another line of the file begins with `line N: `. It is empty where no refusal has this number, or
- * input is none of these. The words are for people and may change. What is said above of files, out and *needed
- * holds here too, and for *line what is said of *needed; after out of memory, *line may be anything. 0 or 4. */
+ * violation certificate, 4 a certificate of any kind, 5 a refutation. number and record are those of the refusal's
+ * line. election is the one beside which the file was read, or an empty file with has_election false. *line is the line
+ * of the file on which the refused record begins, from 1, or 0 where there is none, as at the end of the file. The text
+ * has a sentence a line; one on another line of the file begins with `line N: `. It is empty where no refusal has this
+ * number, or input is none of these. The words are for people and may change. What is said above of files, out and
+ * *needed holds here too, and for *line what is said of *needed; after out of memory, *line may be anything. 0 or 4. */
 uint8_t pbaudit_hint(uint8_t input, uint32_t number, uint64_t record,
                      const uint8_t *file, size_t file_length,
                      const uint8_t *election, size_t election_length, bool has_election,
