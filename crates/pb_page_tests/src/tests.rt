@@ -5,8 +5,8 @@ mod ranking;
 mod sums;
 
 use pb_page::{Language, PageFile, PageFiles, page_answer};
+use pb_price::Mode;
 use pb_reply::{File, Status};
-use pb_samples::modes::PLAIN;
 use std::alloc::Global;
 use std::test::Fail;
 
@@ -29,6 +29,6 @@ fn page<'a>(
             file: File::in_memory(certificate.as_bytes()),
         },
     };
-    let answer = page_answer(alloc, files, PLAIN, language)?;
+    let answer = page_answer(alloc, files, Mode::PLAIN, language)?;
     Ok((String::from_utf8_lossy(alloc, &answer.text)?, answer.status))
 }

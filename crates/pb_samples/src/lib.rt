@@ -3,4 +3,3 @@
 
 pub mod fakes;
 pub mod files;
-pub mod modes;

@@ -6,11 +6,11 @@ use pb_audit::{
 };
 use pb_certificate::{Prices, WriteFault};
 use pb_election::{Election, Input, Output};
+use pb_price::Mode;
 use pb_samples::files::{
     ELECTION, EXPLAINED, FAIR_VIOLATION, MARGINS, OUTCOME, PRICES, REFUTATION, UNFAIR_ELECTION,
     UNTIDY_PRICES, VIOLATION,
 };
-use pb_samples::modes::{PLAIN, STABLE_AND_COVERED};
 use std::alloc::{AllocError, Global};
 use std::io::{Read, Write};
 
@@ -43,6 +43,12 @@ pub const COMMANDS: [Command; 11] = [
     Command::Folder,
     Command::Canonical,
 ];
+
+/// The stable form with Cover.
+const STABLE_AND_COVERED: Mode = Mode {
+    cover: true,
+    ..Mode::STABLE
+};
 
 /// What the unfair election funds.
 const UNFAIR_OUTCOME: &str = "pb-outcome,1\nproject,y\n";
@@ -115,12 +121,12 @@ impl Command {
         let (c, v) = (&mut first, &mut second);
         match self {
             Command::Read => run_read(alloc, e, out),
-            Command::Prices => run_prices(alloc, e, o, c, PLAIN, notes, out),
+            Command::Prices => run_prices(alloc, e, o, c, Mode::PLAIN, notes, out),
             Command::Violation => run_violation(alloc, e, o, c, notes, out),
             Command::Refutation => run_refutation(alloc, e, o, c, notes, out),
             Command::Both => run_both(alloc, e, o, c, v, STABLE_AND_COVERED, out),
             Command::ExplainPrices | Command::ExplainViolation => {
-                run_explain(alloc, e, o, c, PLAIN, notes, out)
+                run_explain(alloc, e, o, c, Mode::PLAIN, notes, out)
             }
             Command::Margins => run_margins(alloc, e, o, c, out),
             Command::Tidy => run_tidy(alloc, e, c, out),
@@ -136,12 +142,12 @@ impl Command {
         let (c, v) = (first.as_bytes(), second.as_bytes());
         let reply = match self {
             Command::Read | Command::Folder | Command::Canonical => read_reply(alloc, e)?,
-            Command::Prices => prices_reply(alloc, e, o, c, PLAIN)?,
+            Command::Prices => prices_reply(alloc, e, o, c, Mode::PLAIN)?,
             Command::Violation => violation_reply(alloc, e, o, c)?,
             Command::Refutation => refutation_reply(alloc, e, o, c)?,
             Command::Both => both_reply(alloc, e, o, c, v, STABLE_AND_COVERED)?,
             Command::ExplainPrices | Command::ExplainViolation => {
-                explained_reply(alloc, e, o, c, PLAIN)?
+                explained_reply(alloc, e, o, c, Mode::PLAIN)?
             }
             Command::Margins => return margins_answer(alloc, e, o, c),
             Command::Tidy => return tidy_answer(alloc, e, c),
@@ -152,7 +158,7 @@ impl Command {
 
 /// How it ends to write the report on an empty folder.
 fn write_report<W: Write>(alloc: Global, out: &mut Output<W>) -> Result<Status, Fault> {
-    let Ok(report) = folder_text(alloc, &[], PLAIN) else {
+    let Ok(report) = folder_text(alloc, &[], Mode::PLAIN) else {
         return Err(Fault::Memory);
     };
     match report.write(out)? {

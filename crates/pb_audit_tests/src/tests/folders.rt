@@ -1,8 +1,8 @@
 //! The report on entries of a folder.
 use pb_audit::{Entry, FolderReport, FolderStatus, Loaded, folder_text};
 use pb_election::Output;
+use pb_price::Mode;
 use pb_samples::files::{ELECTION, FAIR_VIOLATION, PRICES};
-use pb_samples::modes::PLAIN;
 use std::alloc::{AllocError, Global};
 use std::test::Fail;
 
@@ -40,10 +40,10 @@ total 2 elections 1 yes 1 no 1 refused
 fn entries_are_reported_at_once_or_one_by_one(rt: HostRuntime) -> Result<(), Fail> {
     let alloc = rt.alloc();
     let entries = entries(alloc)?;
-    let report = folder_text(alloc, &entries, PLAIN)?;
+    let report = folder_text(alloc, &entries, Mode::PLAIN)?;
     assert!(rt; report.text.as_slice() == REPORT.as_bytes());
     assert!(rt; report.status == FolderStatus::SomeRefused);
-    let mut one_by_one = FolderReport::new(alloc, PLAIN);
+    let mut one_by_one = FolderReport::new(alloc, Mode::PLAIN);
     for entry in &entries {
         one_by_one = one_by_one.add(alloc, entry)?;
     }

@@ -8,7 +8,6 @@ use pb_price::{
     findings_and_margins_of, findings_of, margins_of,
 };
 use pb_samples::files::{ELECTION, certificate};
-use pb_samples::modes::{NOT_EXHAUSTIVE, PLAIN, STABLE};
 use std::alloc::Global;
 use std::process::Abort;
 use std::test::Fail;
@@ -79,6 +78,12 @@ fn project(
     }
 }
 
+/// The plain form without Exhaustive.
+const NOT_EXHAUSTIVE: Mode = Mode {
+    exhaustive: false,
+    ..Mode::PLAIN
+};
+
 fn expect_findings(rt: &impl Abort, found: &Findings) {
     let want = Findings {
         exhaustive: holds(0),
@@ -139,7 +144,7 @@ fn expect_failure(rt: &impl Abort, findings: &Findings, mode: Mode, failure: Fai
 fn first_condition_that_is_false_is_told(rt: HostRuntime) {
     let mode = Mode {
         cover: true,
-        ..PLAIN
+        ..Mode::PLAIN
     };
     let mut findings = ALL_HOLD;
     assert_eq!(rt; findings.verdict(mode), Verdict::Supported);
@@ -186,8 +191,8 @@ fn what_the_mode_asks_for_is_told(rt: HostRuntime) {
         (NOT_EXHAUSTIVE, Failure::C5(3)),
         (stable_alone, Failure::S5(4)),
         (with_cover, Failure::Cover),
-        (PLAIN, Failure::Exhaustive(2)),
-        (STABLE, Failure::Exhaustive(2)),
+        (Mode::PLAIN, Failure::Exhaustive(2)),
+        (Mode::STABLE, Failure::Exhaustive(2)),
     ] {
         expect_failure(&rt, &findings, mode, failure);
     }

@@ -5,7 +5,6 @@ use pb_certificate::Prices;
 use pb_election::{Election, Outcome};
 use pb_price::{Failure, Mode, Verdict, check, check_rows};
 use pb_samples::files::{ELECTION, NO_MONEY, PRICES, certificate};
-use pb_samples::modes::{PLAIN, STABLE};
 use std::alloc::{AllocError, Global};
 use std::process::Abort;
 use std::test::Fail;
@@ -21,8 +20,8 @@ fn both(
 {
     let text = certificate(alloc, "1", "4", rows)?;
     let prices = Prices::read(alloc, text.as_bytes(), election)?;
-    let verdict = check(alloc, election, outcome, &prices, PLAIN)?;
-    let checked = check_rows(alloc, election, outcome, text.as_bytes(), PLAIN)?;
+    let verdict = check(alloc, election, outcome, &prices, Mode::PLAIN)?;
+    let checked = check_rows(alloc, election, outcome, text.as_bytes(), Mode::PLAIN)?;
     Ok([verdict, checked.verdict])
 }
 
@@ -91,7 +90,7 @@ fn expect_steps(
 /// don't grow with voters times projects.
 #[test]
 fn steps_are_counted(rt: HostRuntime) -> Result<(), Fail> {
-    for mode in [PLAIN, STABLE] {
+    for mode in [Mode::PLAIN, Mode::STABLE] {
         expect_steps(&rt, rt.alloc(), (ELECTION, PRICES), mode, 7, 29)?;
     }
     for (projects, voters, least, most) in [
@@ -99,7 +98,14 @@ fn steps_are_counted(rt: HostRuntime) -> Result<(), Fail> {
         (20_000, 1_000_000, 1_000_000, 1_080_000),
     ] {
         let election = empty_ballots(rt.alloc(), projects, voters)?;
-        expect_steps(&rt, rt.alloc(), (&election, NO_MONEY), PLAIN, least, most)?;
+        expect_steps(
+            &rt,
+            rt.alloc(),
+            (&election, NO_MONEY),
+            Mode::PLAIN,
+            least,
+            most,
+        )?;
     }
     Ok(())
 }

@@ -1,5 +1,4 @@
 //! Amounts as texts.
-use super::NOTHING_SHOWN;
 use pb_election::Election;
 use pb_explain::push_price_table;
 use pb_price::{Comparison, Finding, Findings, Mode, PaymentFinding};
@@ -21,6 +20,13 @@ const FINEST: u64 = 1_000_000_000_000_000;
 const MOST: i128 = 1_000_000_000_000_000_000_000_000_000_000_000;
 
 const LEAST: i128 = -10_000_000_000_000_000_000_000_000_000_000_000;
+
+/// A condition that holds, of which no sums are shown.
+const NOTHING_SHOWN: Finding = Finding {
+    first: None,
+    count: 0,
+    shown: None,
+};
 
 /// Findings without any amount.
 const NO_AMOUNTS: Findings = Findings {

@@ -57,7 +57,6 @@ fn election_is_taken_or_refused(rt: HostRuntime) -> Result<(), Fail> {
         (File::in_memory(ELECTION.as_bytes()), None),
         (File::in_memory(b""), Some(("election", 2, "NoMeta", 1))),
         (File::Unread, Some(("election", 18, "Read", 0))),
-        (File::TooLong, Some(("election", 19, "TooLong", 0))),
     ] {
         assert_eq!(rt; why(&election_of(rt.alloc(), file))?, want);
     }
@@ -82,11 +81,6 @@ fn violation_is_taken_or_refused_by_the_name_it_has(rt: HostRuntime) -> Result<(
             InputName::Violation,
             File::in_memory(b""),
             Some(("violation", 21, "BadHead", 1)),
-        ),
-        (
-            InputName::Violation,
-            File::Unread,
-            Some(("violation", 18, "Read", 0)),
         ),
     ] {
         let taken = violation_of(rt.alloc(), input, file, &election);
@@ -130,11 +124,6 @@ fn outcome_is_that_of_the_file_and_else_the_elections_own(rt: HostRuntime) -> Re
             ELECTION,
             Some(File::in_memory(b"pb-outcome,1\nproject,d\n")),
             Err(("outcome", 25, "UnknownProject", 2)),
-        ),
-        (
-            ELECTION,
-            Some(File::Unread),
-            Err(("outcome", 18, "Read", 0)),
         ),
         (
             ELECTION,
