@@ -1,20 +1,22 @@
 #!/usr/bin/env python3
 """Tries the edits of must-fail/, as many in one check as it can tell apart.
 
-    tests/edits.py COPY [--anew] [--jobs N] [CRATE..]
+    tests/edits.py COPY [--wait] [--anew] [--jobs N] [CRATE..]
 
-COPY is a copy of the repository in which nothing else works. Its crates are proved there, lowest first, which a line tells
-at the end, and the edits of a crate are tried beside the proofs of those above it. What is refused is noted in
+COPY is a copy of the repository in which nothing else works. Its crates are proved there, lowest first, and the edits of a
+crate are tried beside the proofs of those above it. With --wait they are proved elsewhere, and COPY is given the libraries
+that they become: the edits of a crate wait for its own and for those below it. What is refused is noted in
 ~/.cache/pbaudit/edits by the sum of all that it rests on, and isn't tried again on this machine until some of that changes,
 but with --anew. A crate is proved only where an edit of it or of one above is to be tried.
 
 Checks of edits go on side by side, of one crate or of several: N, or as many as there are processors, but no more than
-memory allows. First come those of the crates whose proof took longest. The proofs go before all of them.
+memory allows. First come those of the largest crates. The proofs go before all of them.
 
 A function is proved from its own body and from the contracts of what it calls, and a check says of each function
-whether it is proved. So edits in the bodies of different functions are made in one text. Each is refused where a goal
-of its own function is open or the answer to one is wrong. An edit of which that isn't seen is tried again alone, and
-one that stands in no body is tried alone at once; alone, the goal may be any.
+whether it is proved. So edits in the bodies of different functions are made in one text, of which those functions are
+checked. Each is refused where a goal of its own function is open or the answer to one is wrong. An edit of which that isn't
+seen is tried again alone, and one that stands in no body is tried alone at once; alone, all is checked, and the goal may be
+any. A check begins with what an earlier one has kept of the crate.
 
 An edit that doesn't compile has failed. So has one that spoils a proof only because that names what the edit took away,
 since right code would be refused too. `rt must-fail` lets that pass, and tries each edit by a check of its own.
@@ -22,7 +24,6 @@ since right code would be refused too. `rt must-fail` lets that pass, and tries 
 The last line is 'N passed, M failed'; an edit that is refused has passed.
 """
 import argparse
-import contextlib
 import functools
 import hashlib
 import heapq
@@ -50,6 +51,8 @@ NAMES = re.compile(r"has no field|is not in scope|has no `|was not admitted|was 
 MOST = 16
 # what a check reads in a crate's folder
 PARTS = ("src", "specs", "proofs")
+# where a check keeps its work, from which a later one goes on
+WORK = "out/incremental"
 # for how many seconds a note that isn't asked for is kept
 MONTH = 30 * 24 * 60 * 60
 # how much memory a check may come to take, and after how many seconds it has taken what it needs
@@ -81,6 +84,12 @@ class Functions:
                     if margin:
                         self.methods.setdefault(function[1], []).append(function)
         self.known = {it for *_, it in self.bodies}
+
+    def words(self, crate, functions):
+        """By which words a check looks at these functions: at a function by its path, and for a method, in whose path its type
+        stands, at its module."""
+        paths = {"::".join((crate, *filter(None, [module, "" if name in self.methods else name]))) for module, name in functions}
+        return [word for path in sorted(paths) for word in ("--only", path)]
 
     def around(self, path, start, end):
         """The function in whose body this part of a source stands, or None."""
@@ -171,6 +180,13 @@ def prove(copy, crate, lines):
     return rt("lib", copy / "crates" / crate, *([] if "staticlib" in lines[crate] else ["--statements"]))
 
 
+def await_libraries(copy, crate, lines):
+    """Waits until the library that a crate becomes is there, if it becomes one, and those below it."""
+    for name in below(crate, lines) | {crate}:
+        while "staticlib" not in lines[name] and not (copy / "crates" / name / "out/rlib/stamp").exists():
+            time.sleep(1)
+
+
 def below(crate, lines):
     """The crates of the repository on which a crate stands."""
     used = [it for it in lines[crate].partition(":")[2].split() if it in lines]
@@ -213,11 +229,10 @@ class Kept:
 
 
 class Room:
-    """A copy of a crate that is proved, with those below it, in which its edits are tried. The work is what `rt` kept of its
-    proof."""
+    """A copy of a crate that is proved, with those below it, in which its edits are tried."""
 
-    def __init__(self, copy, crate, lines, work, folder):
-        self.home, self.crate, self.work = copy / "crates" / crate, folder / "crates" / crate, work
+    def __init__(self, copy, crate, lines, folder):
+        self.home, self.crate = copy / "crates" / crate, folder / "crates" / crate
         self.functions, lower = Functions(self.home), below(crate, lines)
         (folder / "crates.txt").write_text("".join(lines[it] for it in lines if it == crate or it in lower))
         shutil.copy(copy / "HANDLES", folder)
@@ -225,15 +240,16 @@ class Room:
         for it in lower:
             shutil.copytree(copy / "crates" / it, folder / "crates" / it, copy_function=os.link, ignore=left_out)
 
-    def check(self, edits):
-        parts = {**{part: self.home / part for part in PARTS}, "out/incremental": self.work}
+    def check(self, edits, work, *words):
+        """Checks the crate with these edits, or the part of it that the words choose. The work is what an earlier check kept."""
+        parts = {**{part: self.home / part for part in PARTS}, WORK: work}
         for part, was in parts.items():
             shutil.rmtree(self.crate / part, ignore_errors=True)
-            if was.is_dir():
+            if was and was.is_dir():
                 shutil.copytree(was, self.crate / part)
         for edit in edits:
             edit.make(self.crate)
-        return Verdict(rt("check", self.crate, "--jobs", "1", behind=BEHIND)[1], self.functions)
+        return Verdict(rt("check", self.crate, "--jobs", "1", *words, behind=BEHIND)[1], self.functions)
 
 
 def edits_of(crate):
@@ -308,58 +324,76 @@ class Trial:
 
     def __init__(self, copy, crate, lines, kept, lanes, folder):
         self.copy, self.crate, self.lines, self.kept, self.lanes = copy, crate, lines, kept, lanes
-        self.seconds, self.not_refused, self.work = 0, [], pathlib.Path(folder) / crate
-        work = copy / "crates" / crate / "out/incremental"
-        if work.is_dir():
+        self.not_refused, self.folder, self.change, self.works = [], pathlib.Path(folder), threading.Lock(), {}
+        self.weight = sum(it.stat().st_size for part in PARTS for it in (copy / "crates" / crate / part).rglob("*") if it.is_file())
+        if (copy / "crates" / crate / WORK).is_dir():
             # Later others may build of the crate in its place.
-            shutil.copytree(work, self.work)
+            self.keep(copy / "crates" / crate, True, shutil.copytree)
 
-    def begin(self, edits, seconds):
-        """Tries these edits, of a crate whose proof took so long."""
-        self.seconds = seconds
-        for together in rounds_of(edits):
+    def keep(self, crate, is_whole, by=shutil.move):
+        """Keeps the work of a check of the whole crate or of a part of it, unless there is such already."""
+        with self.change:
+            if is_whole not in self.works and (crate / WORK).is_dir():
+                self.works[is_whole] = self.folder / f"{self.crate}.{'whole' if is_whole else 'part'}"
+                by(crate / WORK, self.works[is_whole])
+
+    def begin(self, edits):
+        """Tries these edits: the first round, and the first of those that stand in no body, before others of their kind, which
+        begin with what is kept of it."""
+        rounds = rounds_of(edits)
+        strays = [it for it in rounds if None in set().union(*(edit.functions for edit in it))]
+        for first, *others in filter(None, ([it for it in rounds if it not in strays], strays)):
+            self.lanes.add(2 * self.weight, self.try_first, first, others)
+
+    def try_first(self, first, others):
+        self.try_together(first)
+        for together in others:
             # A round is followed by some of its edits alone.
-            self.lanes.add(2 * seconds, self.try_together, together)
+            self.lanes.add(2 * self.weight, self.try_together, together)
 
     def try_together(self, edits):
-        began, alone = time.monotonic(), edits
-        if len(edits) > 1:
-            with self.room() as room:
-                refused = room.check(edits).refused
-            alone = [it for it in edits if not it.functions & refused]
-            self.say(f"{len(edits)} edits in one check, {len(alone)} of them to be tried alone", began)
+        began, functions = time.monotonic(), set().union(*(it.functions for it in edits))
+        if None in functions:
+            self.try_alone(*edits)
+            return
+        refused = self.check(edits, functions).refused
+        alone = [it for it in edits if not it.functions & refused]
+        self.say(f"{len(edits)} edits in one check, {len(alone)} of them to be tried alone", began)
         for edit in edits:
             if edit in alone:
-                self.lanes.add(self.seconds, self.try_alone, edit)
+                self.lanes.add(self.weight, self.try_alone, edit)
             else:
                 self.kept.add(self.crate, edit)
 
     def try_alone(self, edit):
-        began = time.monotonic()
-        with self.room() as room:
-            verdict = room.check([edit])
-            if not verdict.is_read:
-                # once more, since a check may have been killed for want of memory
-                verdict = room.check([edit])
+        began, verdict = time.monotonic(), self.check([edit])
+        if not verdict.is_read:
+            # once more, since a check may have been killed for want of memory
+            verdict = self.check([edit])
         if verdict.why_not():
             self.not_refused.append(f"{self.crate}/{edit.name}: {verdict.why_not()}\n{verdict.text}")
         else:
             self.kept.add(self.crate, edit)
         self.say(f"{edit.name} alone", began)
 
+    def check(self, edits, functions=None):
+        """Checks the crate with these edits, or these functions of it."""
+        with tempfile.TemporaryDirectory(dir=self.copy) as folder:
+            room = Room(self.copy, self.crate, self.lines, pathlib.Path(folder))
+            work = self.works.get(True) or self.works.get(False)
+            verdict = room.check(edits, work, *(room.functions.words(self.crate, functions) if functions else []))
+            self.keep(room.crate, functions is None)
+        return verdict
+
     def say(self, what, began):
         print(f"{self.crate}: {what}, {time.monotonic() - began:.0f} s", flush=True)
-
-    @contextlib.contextmanager
-    def room(self):
-        with tempfile.TemporaryDirectory(dir=self.copy) as folder:
-            yield Room(self.copy, self.crate, self.lines, self.work, pathlib.Path(folder))
 
 
 def arguments():
     words = argparse.ArgumentParser(description=__doc__, formatter_class=argparse.RawDescriptionHelpFormatter)
     words.add_argument("copy", type=lambda path: pathlib.Path(path).resolve())
     words.add_argument("crates", nargs="*")
+    words.add_argument("--wait", action="store_true")
     words.add_argument("--anew", action="store_true")
     words.add_argument("--jobs", type=int, default=os.cpu_count())
     given = words.parse_intermixed_args()
@@ -387,23 +421,24 @@ def new_edits(kept, crate, edits):
 
 
 def begin_trials(given, lines, lanes, folder):
-    """Proves the crates that have edits to be tried, and begins to try them: the trials, how many edits there are, and why a
-    crate isn't proved."""
+    """Proves the crates that have edits to be tried, or waits for that, and begins to try them: the trials, how many edits there
+    are, and why a crate isn't proved."""
     kept, trials, count = Kept(given.copy, lines, not given.anew), [], 0
     for crate in given.crates or lines:
         edits = edits_of(given.copy / "crates" / crate)
         new = new_edits(kept, crate, edits)
         if new:
             began = time.monotonic()
-            status, said = prove(given.copy, crate, lines)
-            if status:
-                return trials, count, [f"{crate}: it isn't proved\n{said}"]
-            seconds = time.monotonic() - began
-            print(f"{crate}: proved, {seconds:.0f} s", flush=True)
+            if given.wait:
+                await_libraries(given.copy, crate, lines)
+            else:
+                status, said = prove(given.copy, crate, lines)
+                if status:
+                    return trials, count, [f"{crate}: it isn't proved\n{said}"]
+            print(f"{crate}: proved, {time.monotonic() - began:.0f} s", flush=True)
             trials.append(Trial(given.copy, crate, lines, kept, lanes, folder))
-            trials[-1].begin(new, seconds)
+            trials[-1].begin(new)
         count += len(edits)
-    print("the crates are proved", flush=True)
     return trials, count, []
 
 

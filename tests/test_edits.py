@@ -12,10 +12,10 @@ import pytest
 import edits
 from common import HERE, script
 
-# What rt does here. It notes each call; a check, with the functions whose bodies aren't 'NAME as it was'. Those are
-# proved or not by their words: 'wrong' isn't proved, 'shy' isn't if no other was changed, 'right' is. With 'broken' nothing
-# compiles. Where no other was changed, 'meets N' isn't proved once N such checks have begun, and 'waits for FILE' once that
-# is there.
+# What rt does here. It notes each call; a check, which is 'whole' unless functions are chosen, with the functions whose
+# bodies aren't 'NAME as it was', and with what work it begins. Those that it looks at are proved or not by their words: 'wrong'
+# isn't proved, 'shy' isn't in a whole check, 'right' is. With 'broken' nothing compiles. 'meets N' isn't proved once N such
+# checks have begun, and 'waits for FILE' once that is there.
 RT = f"#!{sys.executable}" + r"""
 import os, pathlib, re, sys, time
 state, crate = pathlib.Path(os.environ["STATE"]), pathlib.Path.cwd().name
@@ -46,16 +46,22 @@ if sys.argv[1] == "lib":
     pathlib.Path("out/incremental/work").write_text("of the proof")
     print("it can't be proved" if "unprovable" in source else "")
     sys.exit("unprovable" in source)
-note(f"check {crate} {' '.join(sorted(changed))}")
-said = []
-if pathlib.Path("out/incremental/work").read_text() != "of the proof":
-    sys.exit("error: the kept work is of something else")
+chosen = {path.split("::")[-1] for word, path in zip(sys.argv, sys.argv[1:]) if word == "--only"}
+assert all(path == f"{crate}::{path.split('::')[-1]}" for word, path in zip(sys.argv, sys.argv[1:]) if word == "--only")
+note(f"{'check' if chosen else 'whole'} {crate} {' '.join(sorted(changed))}")
+said, work = [], pathlib.Path("out/incremental/work")
+with open(state / "begun", "a") as begun:
+    begun.write((work.read_text() if work.exists() else "nothing") + "\n")
+work.parent.mkdir(parents=True, exist_ok=True)
+work.write_text("of a check" if chosen else "of all")
 if any("broken" in body for body in changed.values()):
     sys.exit("error: it doesn't compile")
 for name, body in bodies.items():
-    is_wrong = "wrong" in body or "shy" in body and len(changed) == 1
+    if chosen and name not in chosen:
+        continue
+    is_wrong = "wrong" in body or "shy" in body and not chosen
     found = re.search(r"meets (\d+)", body)
-    if found and len(changed) == 1:
+    if found and not chosen:
         (state / f"met.{name}").touch()
         is_wrong = wait(lambda: len([*state.glob("met.*")]) >= int(found[1]))
     found = re.search(r"waits for (\S+)", body)
@@ -115,9 +121,9 @@ def repository(room):
 @pytest.mark.parametrize("low, high, status, calls, lines", [
     ({"a": "wrong", "b": "wrong"}, {"c": "wrong"}, 0, ["lib low", "check low a b", "lib high", "check high c"],
      ["3 passed, 0 failed"]),
-    ({"a": "wrong", "b": "shy", "c": "right"}, {}, 1, ["lib low", "check low a b c", "check low b", "check low c"],
+    ({"a": "wrong", "b": "shy", "c": "right"}, {}, 1, ["lib low", "check low a b c", "whole low b", "whole low c"],
      ["low/c: it is proved", "2 passed, 1 failed"]),
-    ({"a": "broken", "b": "wrong"}, {}, 1, ["lib low", "check low a b", "check low a", "check low a", "check low b"],
+    ({"a": "broken", "b": "wrong"}, {}, 1, ["lib low", "check low a b", "whole low a", "whole low a", "whole low b"],
      ["low/a: it doesn't compile", "1 passed, 1 failed"]),
     ({}, {}, 1, None, ["0 passed, 0 failed"]),
 ], ids=["refused", "proved", "broken", "none"])  # fmt: skip
@@ -143,14 +149,14 @@ def test_notes(repository):
     made = repository(low={"a": "wrong", "b": "right"}, high={"c": "wrong"})
     made.run("--jobs", "1")
     status, said, calls = made.run("--jobs", "1")
-    assert (status, calls) == (1, ["lib low", "check low b"])
+    assert (status, calls) == (1, ["lib low", "check low b", "whole low b"])
     assert "low: 1 of 2 edits were refused on this machine before\n" in said
     status, said, calls = made.run("--jobs", "1", "--anew", "low")
-    assert (status, calls) == (1, ["lib low", "check low a b", "check low b"])
+    assert (status, calls) == (1, ["lib low", "check low a b", "whole low b"])
     source = made.copy / "crates/low/src/lib.rt"
     source.write_text(source.read_text() + "// a comment\n")
     status, said, calls = made.run("--jobs", "1")
-    assert (status, sorted(calls)) == (1, sorted(["lib low", "check low a b", "check low b", "lib high", "check high c"]))
+    assert (status, sorted(calls)) == (1, sorted(["lib low", "check low a b", "whole low b", "lib high", "check high c"]))
 
 
 @pytest.mark.parametrize("low, high", [({name: "meets 3" for name in "abc"}, {}), ({"a": "meets 2"}, {"b": "meets 2"})],
@@ -159,28 +165,31 @@ def test_edits_that_are_tried_alone_meet_one_another(repository, low, high):
     assert repository(low=low, high=high).run("--jobs", "3")[0] == 0
 
 
-def test_longest_first(repository):
-    """While the first edit of low is tried, high is proved, for which more time is taken: so its edit goes before the rest. Edits
-    in no function's body are tried one by one."""
+def test_largest_first(repository):
+    """While the first edit of low is tried, high is proved, which is larger: so its edit goes before the rest. Edits in no
+    function's body are tried one by one, and of the whole crate."""
     made = repository(low={"a": "waits for high.proved", "b": "wrong"}, high={"c": "wrong"})
     for name in ("a", "b"):
         file = made.copy / f"crates/low/must-fail/{name}.edit"
         file.write_text(file.read_text() + "old: pub fn other\nnew: pub fn  other\n")
-    (made.state / "high.seconds").write_text("6")
+    (made.copy / "crates/high/src/long.rt").write_text("// long\n" * 100)
     status, _, calls = made.run("--jobs", "1")
-    assert (status, calls[3:]) == (0, ["check high c", "check low b"])
+    assert (status, calls[3:]) == (0, ["check high c", "whole low b"])
+    assert (made.state / "begun").read_text() == "of the proof\n" * 3
 
 
-def test_line_of_proofs(repository):
-    """That all is proved is told while edits are tried, and what is then built of a crate changes nothing for its edits."""
-    made, told = repository(low={"a": "waits for told", "b": "shy"}), []
-    with subprocess.Popen(made.words("--jobs", "1"), env=made.environment, stdout=subprocess.PIPE, text=True) as running:
-        for line in running.stdout:
-            told.append(line)
-            if line == "the crates are proved\n":
-                (made.copy / "crates/low/out/incremental/work").write_text("of the library")
-                (made.state / "told").touch()
-    assert running.returncode == 0 and "the crates are proved\n" in told
+def test_libraries_that_are_awaited(repository):
+    """What is proved elsewhere isn't proved here: edits wait for the libraries, and begin with what a check of them has kept."""
+    made = repository(low={"a": "shy"}, high={"b": "wrong"})
+    with subprocess.Popen(made.words("--jobs", "1", "--wait"), env=made.environment, stdout=subprocess.PIPE, text=True) as running:
+        for crate, calls in ("low", "check low a\nwhole low a\n"), ("high", "check low a\nwhole low a\ncheck high b\n"):
+            time.sleep(2)
+            assert not (made.state / "calls").exists() or crate not in (made.state / "calls").read_text()
+            (made.copy / "crates" / crate / "out/rlib").mkdir(parents=True)
+            (made.copy / "crates" / crate / "out/rlib/stamp").touch()
+            while not (made.state / "calls").exists() or (made.state / "calls").read_text() != calls:
+                time.sleep(0.1)
+    assert running.returncode == 0 and (made.state / "begun").read_text() == "nothing\nof a check\nnothing\n"
 
 
 def most_at_once(count, memory, wanted):

@@ -157,7 +157,9 @@ esac
 echo "$name" >> "$NOTES"
 [ "$FAILS ${0##*/}" != 'nothing run' ] || (cd "$TOP" && tests/run "$@" --collect-only) > "$NOTES.$name" || { cat "$NOTES.$name"; exit 1; }
 case $name in
-  pbaudit-library) [ "$FAILS" != cross ] || [ "$1" != --target ] || { echo 'pbaudit-library: no gcc for ARM' >&2; exit 69; } ;;
+  libraries) until grep -qx rt "$NOTES"; do sleep 0.1; done ;;
+  pbaudit-library) [ -f "${0%/*}/crates/pb_page/out/rlib/stamp" ] || { echo 'it is too early'; exit 1; }
+    [ "$FAILS" != cross ] || [ "$1" != --target ] || { echo 'pbaudit-library: no gcc for ARM' >&2; exit 69; } ;;
   pbaudit-web) [ "$FAILS" != binaryen ] || { echo 'pbaudit-web: wasm-opt is missing' >&2; exit 69; } ;;
   tests) echo 'SKIPPED [1] test_bare.py:9: lintian is not installed' ;;
   fuzz) echo 'stat::number_of_executed_units: 7' ;;
@@ -165,14 +167,15 @@ esac
 [ "$FAILS" != "$name" ] || { echo 'it fails'; exit 1; }
 case $name in
   rt) mkdir -p crates/pbaudit/out; touch crates/pbaudit/out/pbaudit; [ "$FAILS" = object ] || touch crates/pbaudit/out/pbaudit.o ;;
-  edits.py) [ "$FAILS" = kept ] || { echo 'the crates are proved'; until grep -qx tests "$NOTES"; do sleep 0.1; done; } ;;
+  edits.py) [ "$FAILS" = kept ] || until grep -qx tests "$NOTES"; do sleep 0.1; done ;;
+  libraries) mkdir -p "$3/crates/pb_page/out/rlib"; touch "$3/crates/pb_page/out/rlib/stamp" ;;
   pbaudit) mkdir -p "$(dirname "$0")/crates/pbaudit/out"; touch "$(dirname "$0")/crates/pbaudit/out/pbaudit.o" ;;
 esac
 echo 'it is well'
 """
 # The parts of the gate, by what they call.
-PLACES = {"packages": ".ci/packages", "rt": "../tools/rt", "edits.py": "tests/edits.py", "pbaudit-library": "pbaudit-library",
-          "pbaudit-web": "pbaudit-web", "release": "packaging/release", "sources": "tests/run", "tests": "tests/run",
+PLACES = {"packages": ".ci/packages", "libraries": ".ci/libraries", "rt": "../tools/rt", "edits.py": "tests/edits.py",
+          "pbaudit-library": "pbaudit-library", "pbaudit-web": "pbaudit-web", "release": "packaging/release", "sources": "tests/run", "tests": "tests/run",
           "fuzz": "tests/run", "released": "tests/run"}  # fmt: skip
 
 
@@ -184,6 +187,8 @@ def whole_gate(folder, fails):
         script(top / place, STAND_IN)
     for name in ("run", "parts"):
         shutil.copy(TOP / ".ci" / name, top / ".ci")
+    (top / "crates/pb_page").mkdir(parents=True)
+    (top / "crates.txt").write_text("pb_page:\npb_c staticlib: pb_page itoa\n")
     environment = {**os.environ, "PATH": f"{folder}/tools:{os.environ['PATH']}", "NOTES": str(notes), "FAILS": fails,
                    "TOP": str(TOP)}
     ran = subprocess.run([top / ".ci/run"], env={**environment, "TMPDIR": str(folder)}, capture_output=True, text=True, timeout=300,
@@ -217,6 +222,40 @@ def test_gate(room, fails):
         assert {"What was left out:", "  SKIPPED [1] test_bare.py:9: lintian is not installed",
                 "stat::number_of_executed_units: 7"} <= {*said.splitlines()}  # fmt: skip
         assert {"rt ci", "edits", "built", "fuzz"} <= {*re.findall(r"(?m)^ +[0-9]+:[0-9]{2}  (.*)$", said)}
+
+
+# What the kit says of a crate of whom it knows no more than the folder.
+RTLIB = """
+import pathlib
+class Crate:
+    def __init__(self, folder): self.folder, self.rlib = folder, f"{folder}/out/rlib/{folder.name}.rlib"
+    def stamp(self): return f"the stamp of {self.folder.name}"
+def crates_below(top): return [Crate(it) for it in pathlib.Path(top).iterdir()]
+"""
+
+
+@pytest.mark.parametrize("said, is_well", [
+    ("rt: low proved\nrt: high is kept: an earlier run\n", True), ("rt: low proved\nrt: high NOT PROVED\n1 passed, 1 failed\n", False),
+], ids=["all", "one is missing"])  # fmt: skip
+def test_libraries(room, said, is_well):
+    """The copy has the libraries that were proved, each with its stamp, and none of a program or for C."""
+    (room / "kit").mkdir()
+    script(room / "kit/rt", "#!/bin/sh\n")
+    (room / "kit/rtlib.py").write_text(RTLIB)
+    (room / "log").write_text(said)
+    for name, source in {"low": "lib", "high": "lib", "for_c": "lib", "program": "main"}.items():
+        for file in (f"src/{source}.rt", f"out/rlib/{name}.rlib/interface"):
+            (room / "tree/crates" / name / file).parent.mkdir(parents=True)
+            (room / "tree/crates" / name / file).write_text(name)
+        (room / "copy/crates" / name).mkdir(parents=True)
+    (room / "tree/crates.txt").write_text("# lowest first\nlow:\nhigh: low\nfor_c staticlib: high\nprogram: high\n")
+    ran = subprocess.run([TOP / ".ci/libraries", room / "log", room / "tree", room / "copy"], capture_output=True, text=True,
+                         env={**os.environ, "PATH": f"{room}/kit:{os.environ['PATH']}"}, timeout=60, check=False)  # fmt: skip
+    found = {str(it.relative_to(room / "copy/crates")): it.read_text() for it in (room / "copy").rglob("*") if it.is_file()}
+    names = ["low", "high"] if is_well else ["low"]
+    files = [(f"{it}/out/rlib/{it}.rlib/interface", it) for it in names] + [(f"{it}/out/rlib/stamp", f"the stamp of {it}") for it in names]
+    assert (ran.returncode == 0, found) == (is_well, dict(files)), ran.stderr
+    assert is_well or ran.stderr == "rt ci didn't prove high\n"
 
 
 SKIPS = """
