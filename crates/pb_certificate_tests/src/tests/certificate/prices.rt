@@ -1,5 +1,5 @@
 //! Price certificates of the sample election.
-use pb_certificate::{CertFault, CertRefusal, Prices};
+use pb_certificate::Prices;
 use pb_election::Election;
 use pb_samples::files::{ELECTION, PRICES, UNTIDY_PRICES, certificate};
 use std::process::Abort;
@@ -42,14 +42,4 @@ fn prices_are_sorted_by_project_in_any_spelling(rt: HostRuntime) -> Result<(), F
         expect_prices(&rt, &election, &prices, payments, second);
     }
     Ok(())
-}
-
-/// The other names are printed where files are refused.
-#[test]
-fn want_of_memory_has_a_name(rt: HostRuntime) {
-    let refusal = CertRefusal {
-        fault: CertFault::Memory,
-        place: 0,
-    };
-    assert_eq!(rt; refusal.name(), "Memory");
 }

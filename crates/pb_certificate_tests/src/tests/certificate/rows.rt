@@ -1,8 +1,7 @@
-//! The rows of price certificates of a sample election.
-use pb_certificate::{CertFault, CertRefusal, PriceRow, Rows};
+//! The rows of a price certificate of the sample election. Those that are refused are tried from outside.
+use pb_certificate::{PriceRow, Rows};
 use pb_election::Election;
-use pb_samples::files::{ELECTION, certificate};
-use std::alloc::Global;
+use pb_samples::files::ELECTION;
 use std::process::Abort;
 use std::test::Fail;
 
@@ -41,49 +40,6 @@ fn rows_are_given_in_order_and_then_none(rt: HostRuntime) -> Result<(), Fail> {
         None,
     ] {
         rows = expect_next(&rt, rows, want)?;
-    }
-    Ok(())
-}
-
-/// How many rows are given, and then the refusal, if one comes.
-fn outcome_of(alloc: Global, text: &[u8], election: &Election) -> (u32, Option<CertRefusal>) {
-    let mut rows = match Rows::open(alloc, text, election) {
-        Ok(rows) => rows,
-        Err(refusal) => return (0, Some(refusal)),
-    };
-    for given in 0..20u32 {
-        rows = match rows.next() {
-            Ok((behind, Some(_))) => behind,
-            Ok((_, None)) => return (given, None),
-            Err(refusal) => return (given, Some(refusal)),
-        };
-    }
-    (20, None)
-}
-
-#[test]
-fn first_fault_is_told_after_the_rows_before_it(rt: HostRuntime) -> Result<(), Fail> {
-    let election = Election::read(rt.alloc(), ELECTION.as_bytes())?;
-    for (rows, given, fault, place) in [
-        ("1,a\n", 0, CertFault::BadRow, 5),
-        ("1,a,2\n1,b,2,2\n", 1, CertFault::BadRow, 6),
-        ("1,a,x\n", 0, CertFault::BadNumber, 5),
-        ("1,a,2\n4,b,2\n", 1, CertFault::UnknownVoter, 6),
-        ("1,a,2\n ,\n1,d,2\n", 1, CertFault::UnknownProject, 7),
-        ("1,a,2\n0,d,2\n", 1, CertFault::UnknownVoter, 6),
-        ("2,a,4\n1,a,2\n", 1, CertFault::OutOfOrder, 6),
-        ("1,a,2\n1,b,2\n1,a,2\n", 2, CertFault::Repeated, 7),
-        ("1,a,0\n2,a,4\n2,a,0\n", 2, CertFault::Repeated, 7),
-        (
-            "1,a,2\n1,b,2\n2,a,4\n3,b,2\n3,b,2\n",
-            4,
-            CertFault::Repeated,
-            9,
-        ),
-    ] {
-        let text = certificate(rt.alloc(), "1", "4", rows)?;
-        let found = outcome_of(rt.alloc(), text.as_bytes(), &election);
-        assert_eq!(rt; found, (given, Some(CertRefusal { fault, place })));
     }
     Ok(())
 }
