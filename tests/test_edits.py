@@ -189,7 +189,8 @@ def test_libraries_that_are_awaited(repository):
             (made.copy / "crates" / crate / "out/rlib/stamp").touch()
             while not (made.state / "calls").exists() or (made.state / "calls").read_text() != calls:
                 time.sleep(0.1)
-    assert running.returncode == 0 and (made.state / "begun").read_text() == "nothing\nof a check\nnothing\n"
+        assert running.stdout.read().endswith("\n2 passed, 0 failed\n")
+    assert (made.state / "begun").read_text() == "nothing\nof a check\nnothing\n"
 
 
 def most_at_once(count, memory, wanted):
