@@ -52,7 +52,7 @@ TESTS = {
         "tests::cohesion::", "tests::command::", "tests::price::figures::", "tests::price::verdicts::both_calls_",
     ),
     "pb_reply_tests": ("tests::explain::", "tests::reply::"),
-    "pb_audit_tests": ("tests::folders::", "tests::in_turn::each_reply_", "tests::in_turn::each_command_"),
+    "pb_audit_tests": ("tests::folders::", "tests::in_turn::each_answer_", "tests::in_turn::each_command_"),
     "pb_page_tests": ("tests::answers::", "tests::names::"),
 }  # fmt: skip
 # How such a test ends out of memory: by the call, or by the writer into memory that the test gives it.

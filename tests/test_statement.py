@@ -167,6 +167,6 @@ def test_each_name_is_told():
     told = set(re.findall(r"\w+", " ".join(re.findall(r"`([^`]+)`", words))))
     defined, bound, named = names_of(code)
     notation = {"pub", "record", "where", "Type", "ensures", "if", "then", "else"}
-    handed = {"result", "mode", "election", "outcome", "certificate"}
+    handed = {"result", "question", "election", "outcome", "certificate", "violation"}
     assert len(defined) > 80 and {"Feasible", "PricesPromise"} <= defined
     assert named - defined - bound - told - notation - handed - {"all", "covered"} == set()

@@ -6,14 +6,14 @@ use Rattle.pb_records.specs.Loading.{Delivery}
 use Rattle.pb_records.specs.Loading as delivery
 use Rattle.pb_certificate.specs.Prices.{Prices}
 use Rattle.pb_reply.specs.Replies.{Answer, Reply, answer_of, refused, with_input}
-use Rattle.pb_audit.specs.Answers.{AnswersAudit, AnswersTidy, AuditRules, tidy_answer}
+use Rattle.pb_audit.specs.Answers.{AnswersAudit, AuditRules, tidy_answer}
 use Rattle.pb_reply.specs.Inputs.{InTurn, Stated, StatesElection, StatesPrices}
 use Rattle.pb_reply.specs.declared.input.InputName.TheVariants as name
 use Rattle.pb_reply.specs.declared.input.InputRefusal.{InputRefusal}
-use Rattle.pb_audit.specs.Readers.{AuditReadings, ReadsAudit, ReadsTidy}
-use Rattle.pb_reply.specs.Readings.{Delivers, NothingRead, Reading}
+use Rattle.pb_audit.specs.InTurn.{ReadsAudit, ReadsTidy}
+use Rattle.pb_reply.specs.Turns.{FileTurn, Turn}
 use Rattle.pb_audit.specs.Inside.Certificates.{AnswersCertificate, IfTold, Promised, Tells, TidiesPrices}
-use Rattle.pb_reply.specs.Inside.Taking.{AuditsOutcome, Gives, IfTaken, ReadsOutcome, settled, stopped}
+use Rattle.pb_reply.specs.Inside.Taking.{AuditsOutcome, Gives, GivesOutcome, IfTaken, settled, stopped}
 use Rattle.pb_reply.specs.declared.input.Stop.{Stop}
 use Rattle.pb_reply.specs.declared.input.Stop.TheVariants as stop
 use Rattle.pb_reply.specs.declared.status.Status.{Status}
@@ -101,14 +101,6 @@ certificate_answered {A} rules each election outcome certificate e w r given tak
 }
 
 -- The same where the work stopped.
-pub stopped_at_election : {A : Type 0} (rules : AuditRules A)
-    (election : Delivery) (outcome : Option Delivery) (certificate : Delivery) (why : Stop)
-    → IfTaken {A = Instance} (Err why) (StatesElection election)
-    → IfSome (stopped why) (AnswersAudit rules election outcome certificate)
-stopped_at_election rules election outcome certificate (stop.Refused r) given =
-    election_refused rules election outcome certificate r given
-stopped_at_election rules election outcome certificate stop.Memory given = tt
-
 pub stopped_at_outcome : {A : Type 0} (rules : AuditRules A)
     (election : Delivery) (outcome : Option Delivery) (certificate : Delivery) (e : Instance) (why : Stop)
     → StatesElection election (Ok e) → IfTaken {A = List Bool} (Err why) (AuditsOutcome e outcome)
@@ -127,90 +119,75 @@ pub certificate_settled : {A T : Type 0} (rules : AuditRules A) (told : Reply �
 certificate_settled rules told each election outcome certificate e w work given taken answered =
     grind (arith, told_weaker)
 
--- The same over readers.
-unfoldable pub readers_stopped_at_election : {A : Type 0} (rules : AuditRules A)
-    (inputs : AuditReadings) (why : Stop)
-    → IfTaken {A = Instance} (Err why) (Gives StatesElection inputs.election)
-    → inputs.outcome.after ≡ inputs.outcome.before → NothingRead inputs.certificate
-    → IfSome (stopped why) (ReadsAudit rules inputs)
-readers_stopped_at_election rules inputs (stop.Refused r) given same untouched = record {
+-- The same on inputs in their turn.
+unfoldable pub ended_at_election : {A : Type 0} (rules : AuditRules A)
+    (election : Turn) (outcome : FileTurn) (certificate : Turn) (why : Stop)
+    → IfTaken {A = Instance} (Err why) (Gives StatesElection election) → outcome None → certificate None
+    → IfSome (stopped why) (ReadsAudit rules election outcome certificate)
+ended_at_election rules election outcome certificate (stop.Refused r) given outcome_left certificate_left = record {
   of_election = given.delivery;
   of_outcome = None;
   of_certificate = delivery.Read;
-  answers = election_refused rules given.delivery None delivery.Read r
-      given.stating;
+  answers = election_refused rules given.delivery None delivery.Read r given.stating;
   election_delivered = given.delivered;
-  outcome_delivered = same;
-  certificate_delivered = untouched;
+  outcome_delivered = outcome_left;
+  certificate_delivered = certificate_left;
 }
-readers_stopped_at_election rules inputs stop.Memory given same untouched = tt
+ended_at_election rules election outcome certificate stop.Memory given outcome_left certificate_left = tt
 
-unfoldable pub readers_stopped_at_outcome : {A : Type 0} (rules : AuditRules A)
-    (inputs : AuditReadings) (e : Instance) (why : Stop)
-    → Gives StatesElection inputs.election (Ok e) → IfTaken {A = List Bool} (Err why) (ReadsOutcome e inputs.outcome)
-    → NothingRead inputs.certificate → IfSome (stopped why) (ReadsAudit rules inputs)
-readers_stopped_at_outcome rules inputs e (stop.Refused r) given taken untouched = record {
+unfoldable pub ended_at_outcome : {A : Type 0} (rules : AuditRules A)
+    (election : Turn) (outcome : FileTurn) (certificate : Turn) (e : Instance) (why : Stop)
+    → Gives StatesElection election (Ok e) → IfTaken {A = List Bool} (Err why) (GivesOutcome e outcome)
+    → certificate None → IfSome (stopped why) (ReadsAudit rules election outcome certificate)
+ended_at_outcome rules election outcome certificate e (stop.Refused r) given taken certificate_left = record {
   of_election = given.delivery;
   of_outcome = taken.delivery;
   of_certificate = delivery.Read;
-  answers = outcome_refused rules given.delivery taken.delivery delivery.Read e r
-      given.stating taken.audits;
+  answers = outcome_refused rules given.delivery taken.delivery delivery.Read e r given.stating taken.audits;
   election_delivered = given.delivered;
   outcome_delivered = taken.delivered;
   certificate_delivered =
-      subst
-      (λ (o : Stated (List Bool)). InTurn o (λ w. Delivers inputs.certificate delivery.Read)
-      (NothingRead inputs.certificate)) taken.audits.is untouched;
+      subst (λ (o : Stated (List Bool)). InTurn o (λ w. certificate (Some delivery.Read)) (certificate None))
+      taken.audits.is certificate_left;
 }
-readers_stopped_at_outcome rules inputs e stop.Memory given taken untouched = tt
+ended_at_outcome rules election outcome certificate e stop.Memory given taken certificate_left = tt
 
-unfoldable pub readers_answered : {A : Type 0} (rules : AuditRules A)
+unfoldable pub answered : {A : Type 0} (rules : AuditRules A)
     → Promised rules
-    → (inputs : AuditReadings) (e : Instance) (w : List Bool) (d : Delivery) (r : Reply)
-    → Gives StatesElection inputs.election (Ok e) → ReadsOutcome e inputs.outcome (Ok w) → Delivers inputs.certificate d
-    → AnswersCertificate rules.states rules.reply e w d r → ReadsAudit rules inputs r
-readers_answered rules each inputs e w d r given taken delivered answered = record {
+    → (election : Turn) (outcome : FileTurn) (certificate : Turn) (e : Instance) (w : List Bool) (d : Delivery)
+    (r : Reply)
+    → Gives StatesElection election (Ok e) → GivesOutcome e outcome (Ok w) → certificate (Some d)
+    → AnswersCertificate rules.states rules.reply e w d r → ReadsAudit rules election outcome certificate r
+answered rules each election outcome certificate e w d r given taken delivered found = record {
   of_election = given.delivery;
   of_outcome = taken.delivery;
   of_certificate = d;
-  answers = certificate_answered rules each given.delivery taken.delivery d e w r given.stating
-      taken.audits answered;
+  answers = certificate_answered rules each given.delivery taken.delivery d e w r given.stating taken.audits found;
   election_delivered = given.delivered;
   outcome_delivered = taken.delivered;
   certificate_delivered =
-      subst (λ (o : Stated (List Bool)). InTurn o (λ w. Delivers inputs.certificate d) (NothingRead inputs.certificate))
-      taken.audits.is delivered;
+      subst (λ (o : Stated (List Bool)). InTurn o (λ w. certificate (Some d)) (certificate None)) taken.audits.is
+      delivered;
 }
 
-pub readers_settled : {A T : Type 0} (rules : AuditRules A) (told : Reply → T)
+pub answer_settled : {A T : Type 0} (rules : AuditRules A) (told : Reply → T)
     → Promised rules
-    → (inputs : AuditReadings) (e : Instance) (w : List Bool) (d : Delivery) (work : Result T Stop)
-    → Gives StatesElection inputs.election (Ok e) → ReadsOutcome e inputs.outcome (Ok w) → Delivers inputs.certificate d
-    → IfTold told (AnswersCertificate rules.states rules.reply e w d) work → IfTold told (ReadsAudit rules inputs) work
-readers_settled rules told each inputs e w d work given taken delivered answered =
-    told_weaker told _ _ (λ r. readers_answered rules each inputs e w d r given taken delivered) work answered
+    → (election : Turn) (outcome : FileTurn) (certificate : Turn) (e : Instance) (w : List Bool) (d : Delivery)
+    (work : Result T Stop)
+    → Gives StatesElection election (Ok e) → GivesOutcome e outcome (Ok w) → certificate (Some d)
+    → IfTold told (AnswersCertificate rules.states rules.reply e w d) work
+    → IfTold told (ReadsAudit rules election outcome certificate) work
+answer_settled rules told each election outcome certificate e w d work given taken delivered found =
+    told_weaker told _ _ (λ r. answered rules each election outcome certificate e w d r given taken delivered) work
+    found
 
 -- Tidying. Where the election is refused, the certificate may state anything.
-pub tidy_stopped : (election certificate : Delivery) (why : Stop)
-    → IfTaken {A = Instance} (Err why) (StatesElection election)
-    → IfSome (settled answer_of (Err why)) (AnswersTidy election certificate)
-tidy_stopped election certificate (stop.Refused r) given =
-    record {
-      e = Err r;
-      p = Err r;
-      election_states = given;
-      certificate_states = tt;
-      out = refl;
-    }
-tidy_stopped election certificate stop.Memory given = tt
-
--- what was taken of the election, and then of the certificate
-abbrev readers_tidied : (election certificate : Reading) (e : Stated Instance) (p : Stated Prices) (d : Delivery)
+abbrev in_turn_tidied : (election certificate : Turn) (e : Stated Instance) (p : Stated Prices) (d : Delivery)
     (answer : Answer Status)
     → Gives StatesElection election e → IfOk e (λ i. StatesPrices name.Certificate i d p)
-    → InTurn e (λ i. Delivers certificate d) (NothingRead certificate) → answer ≡ tidy_answer e p
+    → InTurn e (λ i. certificate (Some d)) (certificate None) → answer ≡ tidy_answer e p
     → ReadsTidy election certificate answer
-readers_tidied election certificate e p d answer given states delivered out = record {
+in_turn_tidied election certificate e p d answer given states delivered out = record {
   of_election = given.delivery;
   of_certificate = d;
   answers =
@@ -219,19 +196,18 @@ readers_tidied election certificate e p d answer given states delivered out = re
   certificate_delivered = delivered;
 }
 
-pub readers_tidy_stopped : (election certificate : Reading) (why : Stop)
-    → IfTaken {A = Instance} (Err why) (Gives StatesElection election) → NothingRead certificate
+pub tidy_ended : (election certificate : Turn) (why : Stop)
+    → IfTaken {A = Instance} (Err why) (Gives StatesElection election) → certificate None
     → IfSome (settled answer_of (Err why)) (ReadsTidy election certificate)
-readers_tidy_stopped election certificate (stop.Refused r) given untouched =
-    readers_tidied election certificate (Err r) (Err r) delivery.Read _ given tt untouched refl
-readers_tidy_stopped election certificate stop.Memory given untouched = tt
+tidy_ended election certificate (stop.Refused r) given certificate_left =
+    in_turn_tidied election certificate (Err r) (Err r) delivery.Read _ given tt certificate_left refl
+tidy_ended election certificate stop.Memory given certificate_left = tt
 
-pub readers_tidy_answered : (election certificate : Reading) (e : Instance) (d : Delivery)
-    (work : Result (Answer Status) Stop)
-    → Gives StatesElection election (Ok e) → Delivers certificate d → IfTaken work (TidiesPrices e d)
+pub tidy_answered : (election certificate : Turn) (e : Instance) (d : Delivery) (work : Result (Answer Status) Stop)
+    → Gives StatesElection election (Ok e) → certificate (Some d) → IfTaken work (TidiesPrices e d)
     → IfSome (settled answer_of work) (ReadsTidy election certificate)
-readers_tidy_answered election certificate e d (Ok answer) given delivered tidied =
-    readers_tidied election certificate (Ok e) (Ok tidied.0) d answer given tidied.1.0 delivered tidied.1.1
-readers_tidy_answered election certificate e d (Err (stop.Refused r)) given delivered tidied =
-    readers_tidied election certificate (Ok e) (Err r) d _ given tidied delivered refl
-readers_tidy_answered election certificate e d (Err stop.Memory) given delivered tidied = tt
+tidy_answered election certificate e d (Ok answer) given delivered tidied =
+    in_turn_tidied election certificate (Ok e) (Ok tidied.0) d answer given tidied.1.0 delivered tidied.1.1
+tidy_answered election certificate e d (Err (stop.Refused r)) given delivered tidied =
+    in_turn_tidied election certificate (Ok e) (Err r) d _ given tidied delivered refl
+tidy_answered election certificate e d (Err stop.Memory) given delivered tidied = tt

@@ -1,6 +1,6 @@
 -- The answers on both certificates.
 use Rattle.std.proofs.Common.{◌≡◌, ◌∙◌, ap, refl, subst, Bool, Option, List, arith}
-use Rattle.std.specs.Prelude.{◌↔◌, IfSome, Result, Ok, Err, Some, None}
+use Rattle.std.specs.Prelude.{◌↔◌, IfSome, Ok, Err, Some, None}
 use Rattle.pb_election.specs.Instance.{Instance}
 use Rattle.pb_records.specs.Loading.{Delivery}
 use Rattle.pb_records.specs.Loading as delivery
@@ -16,16 +16,15 @@ use Rattle.pb_audit.specs.Answers.{price_reply, violation_reply}
 use Rattle.pb_audit.specs.Both.{BothPromise, GroupAndDemand, ReadsBoth, StatesBoth, beside, both_on, both_reply, both_rules, yes_where_both}
 use Rattle.pb_reply.specs.Inputs.{InTurn, Stated, StatesElection, StatesPrices, StatesViolation}
 use Rattle.pb_reply.specs.declared.input.InputRefusal.{InputRefusal}
-use Rattle.pb_audit.specs.Readers.{AuditReadings}
-use Rattle.pb_reply.specs.Readings.{Delivers, NothingRead, Reading}
-use Rattle.pb_audit.specs.Inside.Certificates.{AnswersCertificate, IfTold, JudgesPrices, Promised}
-use Rattle.pb_reply.specs.Inside.Taking.{Gives, IfTaken, ReadsOutcome, settled, stopped}
+use Rattle.pb_reply.specs.Turns.{FileTurn, Turn}
+use Rattle.pb_audit.specs.Inside.Certificates.{AnswersCertificate, JudgesPrices, Promised}
+use Rattle.pb_reply.specs.Inside.Taking.{Gives, GivesOutcome, IfTaken, settled}
 use Rattle.pb_reply.specs.declared.input.InputName.TheVariants as name
 use Rattle.pb_reply.specs.declared.input.Stop.{Stop}
 use Rattle.pb_reply.specs.declared.input.Stop.TheVariants as stop
 use Rattle.pb_reply.specs.declared.status.Status.{Status}
 use Rattle.pb_reply.specs.declared.status.Status.TheVariants.{Yes}
-use Rattle.pb_audit.proofs.Audits.{lines_told, readers_answered, readers_stopped_at_election, readers_stopped_at_outcome}
+use Rattle.pb_audit.proofs.Audits.{answered, ended_at_election, ended_at_outcome}
 use Rattle.pb_reply.proofs.Promises.{prices_promise, violation_promises}
 
 both_yes : (first second : Status) → (yes_where_both first second ≡ Yes) ↔ ((first ≡ Yes) × (second ≡ Yes))
@@ -82,89 +81,76 @@ both_answered m e w prices violation verdict r judged answered = record {
       ∙ ap (λ (found : Verdict). with_input answered.c (λ claim. beside m found e w claim)) judged.1.1;
 }
 
--- The same where the work stopped or ended.
-pub stopped_at_prices : (m : Mode) (e : Instance) (w : List Bool) (prices violation : Delivery) (why : Stop)
-    → IfTaken {A = Verdict} (Err why) (JudgesPrices name.Prices m e w prices)
-    → IfSome (stopped why) (AnswersCertificate (StatesBoth violation) (both_reply m) e w prices)
-stopped_at_prices m e w prices violation (stop.Refused r) judged =
-    prices_refused m e w prices violation r judged
-stopped_at_prices m e w prices violation stop.Memory judged = tt
+-- The same on inputs in their turn.
+pub both_ended_at_election : (m : Mode) (election : Turn) (outcome : FileTurn) (prices violation : Turn) (why : Stop)
+    → IfTaken {A = Instance} (Err why) (Gives StatesElection election)
+    → outcome None → prices None → violation None
+    → IfSome (settled (λ r. r) (Err why)) (ReadsBoth m election outcome prices violation)
+unfolding ended_at_election
+both_ended_at_election m election outcome prices violation (stop.Refused r) given outcome_left prices_left violation_left =
+    record {
+      of_violation = delivery.Read;
+      reads = ended_at_election (both_rules m delivery.Read) election outcome prices (stop.Refused r) given outcome_left
+          prices_left;
+      violation_delivered = violation_left;
+    }
+both_ended_at_election m election outcome prices violation stop.Memory given outcome_left prices_left violation_left =
+    tt
 
-pub both_settled : (m : Mode) (e : Instance) (w : List Bool) (prices violation : Delivery) (verdict : Verdict)
-    (work : Result Reply Stop)
-    → JudgesPrices name.Prices m e w prices (Ok verdict)
-    → IfSome (settled (λ r. r) work) (AnswersCertificate (StatesViolation name.Violation) (beside m verdict) e w violation)
-    → IfTold (λ r. r) (AnswersCertificate (StatesBoth violation) (both_reply m) e w prices) work
-both_settled m e w prices violation verdict work judged answered =
-    lines_told _ _ (λ r. both_answered m e w prices violation verdict r judged) work answered
-
--- The same over readers.
-pub both_stopped_at_election : (m : Mode) (inputs : AuditReadings) (violation : Reading) (why : Stop)
-    → IfTaken {A = Instance} (Err why) (Gives StatesElection inputs.election)
-    → inputs.outcome.after ≡ inputs.outcome.before → NothingRead inputs.certificate → NothingRead violation
-    → IfSome (settled (λ r. r) (Err why)) (ReadsBoth m inputs violation)
-unfolding readers_stopped_at_election
-both_stopped_at_election m inputs violation (stop.Refused r) given same untouched violation_same = record {
-  of_violation = delivery.Read;
-  reads = readers_stopped_at_election (both_rules m delivery.Read) inputs
-      (stop.Refused r) given same untouched;
-  violation_delivered = violation_same;
-}
-both_stopped_at_election m inputs violation stop.Memory given same untouched violation_same = tt
-
-pub both_stopped_at_outcome : (m : Mode) (inputs : AuditReadings) (violation : Reading) (e : Instance) (why : Stop)
-    → Gives StatesElection inputs.election (Ok e) → IfTaken {A = List Bool} (Err why) (ReadsOutcome e inputs.outcome)
-    → NothingRead inputs.certificate → NothingRead violation
-    → IfSome (settled (λ r. r) (Err why)) (ReadsBoth m inputs violation)
-unfolding readers_stopped_at_outcome
-both_stopped_at_outcome m inputs violation e (stop.Refused r) given taken untouched violation_same = record {
-  of_violation = delivery.Read;
-  reads = readers_stopped_at_outcome (both_rules m delivery.Read) inputs e
-      (stop.Refused r) given taken untouched;
-  violation_delivered =
-      subst (λ (o : Stated (List Bool)). InTurn o (λ w. NothingRead violation) (NothingRead violation)) taken.audits.is
-      violation_same;
-}
-both_stopped_at_outcome m inputs violation e stop.Memory given taken untouched violation_same = tt
+pub both_ended_at_outcome : (m : Mode) (election : Turn) (outcome : FileTurn) (prices violation : Turn) (e : Instance)
+    (why : Stop)
+    → Gives StatesElection election (Ok e) → IfTaken {A = List Bool} (Err why) (GivesOutcome e outcome)
+    → prices None → violation None
+    → IfSome (settled (λ r. r) (Err why)) (ReadsBoth m election outcome prices violation)
+unfolding ended_at_outcome
+both_ended_at_outcome m election outcome prices violation e (stop.Refused r) given taken prices_left violation_left =
+    record {
+      of_violation = delivery.Read;
+      reads = ended_at_outcome (both_rules m delivery.Read) election outcome prices e (stop.Refused r) given taken
+          prices_left;
+      violation_delivered =
+          subst (λ (o : Stated (List Bool)). InTurn o (λ w. violation None) (violation None)) taken.audits.is
+          violation_left;
+    }
+both_ended_at_outcome m election outcome prices violation e stop.Memory given taken prices_left violation_left = tt
 
 -- the election and the outcome are accepted
-abbrev both_read : (m : Mode) (inputs : AuditReadings) (violation : Reading) (e : Instance) (w : List Bool)
-    (of_prices of_violation : Delivery) (r : Reply)
-    → Gives StatesElection inputs.election (Ok e) → ReadsOutcome e inputs.outcome (Ok w)
-    → Delivers inputs.certificate of_prices
-    → (answered : AnswersCertificate (StatesBoth of_violation) (both_reply m) e w of_prices r)
-    → InTurn answered.c (λ both. Delivers violation of_violation) (NothingRead violation)
-    → ReadsBoth m inputs violation r
-unfolding readers_answered
-both_read m inputs violation e w of_prices of_violation r given taken delivered answered next = record {
+abbrev both_in_turn : (m : Mode) (election : Turn) (outcome : FileTurn) (prices violation : Turn) (e : Instance)
+    (w : List Bool) (of_prices of_violation : Delivery) (r : Reply)
+    → Gives StatesElection election (Ok e) → GivesOutcome e outcome (Ok w) → prices (Some of_prices)
+    → (found : AnswersCertificate (StatesBoth of_violation) (both_reply m) e w of_prices r)
+    → InTurn found.c (λ both. violation (Some of_violation)) (violation None)
+    → ReadsBoth m election outcome prices violation r
+unfolding answered
+both_in_turn m election outcome prices violation e w of_prices of_violation r given taken delivered found next = record {
   of_violation = of_violation;
-  reads = readers_answered (both_rules m of_violation) (both_promises m of_violation)
-      inputs e w of_prices r given taken delivered answered;
+  reads = answered (both_rules m of_violation) (both_promises m of_violation) election outcome prices e w of_prices r
+      given taken delivered found;
   violation_delivered =
       subst
       (λ (o : Stated (List Bool)). InTurn o
-      (λ w. InTurn answered.c (λ both. Delivers violation of_violation) (NothingRead violation))
-      (NothingRead violation)) taken.audits.is next;
+      (λ w. InTurn found.c (λ both. violation (Some of_violation)) (violation None)) (violation None))
+      taken.audits.is next;
 }
 
-pub both_stopped_at_prices : (m : Mode) (inputs : AuditReadings) (violation : Reading) (e : Instance) (w : List Bool)
-    (why : Stop)
-    → Gives StatesElection inputs.election (Ok e) → ReadsOutcome e inputs.outcome (Ok w)
-    → IfTaken {A = Verdict} (Err why) (Gives (JudgesPrices name.Prices m e w) inputs.certificate)
-    → NothingRead violation
-    → IfSome (settled (λ r. r) (Err why)) (ReadsBoth m inputs violation)
-both_stopped_at_prices m inputs violation e w (stop.Refused r) given taken judged same =
-    both_read m inputs violation e w judged.delivery delivery.Read _ given taken judged.delivered
-    (prices_refused m e w judged.delivery delivery.Read r judged.stating) same
-both_stopped_at_prices m inputs violation e w stop.Memory given taken judged same = tt
+pub both_ended_at_prices : (m : Mode) (election : Turn) (outcome : FileTurn) (prices violation : Turn) (e : Instance)
+    (w : List Bool) (why : Stop)
+    → Gives StatesElection election (Ok e) → GivesOutcome e outcome (Ok w)
+    → IfTaken {A = Verdict} (Err why) (Gives (JudgesPrices name.Prices m e w) prices)
+    → violation None
+    → IfSome (settled (λ r. r) (Err why)) (ReadsBoth m election outcome prices violation)
+both_ended_at_prices m election outcome prices violation e w (stop.Refused r) given taken judged violation_left =
+    both_in_turn m election outcome prices violation e w judged.delivery delivery.Read _ given taken judged.delivered
+    (prices_refused m e w judged.delivery delivery.Read r judged.stating) violation_left
+both_ended_at_prices m election outcome prices violation e w stop.Memory given taken judged violation_left = tt
 
-pub both_read_settled : (m : Mode) (inputs : AuditReadings) (violation : Reading) (e : Instance) (w : List Bool)
-    (verdict : Verdict) (d : Delivery) (work : Option Reply)
-    → Gives StatesElection inputs.election (Ok e) → ReadsOutcome e inputs.outcome (Ok w)
-    → Gives (JudgesPrices name.Prices m e w) inputs.certificate (Ok verdict) → Delivers violation d
+pub both_settled : (m : Mode) (election : Turn) (outcome : FileTurn) (prices violation : Turn) (e : Instance)
+    (w : List Bool) (verdict : Verdict) (d : Delivery) (work : Option Reply)
+    → Gives StatesElection election (Ok e) → GivesOutcome e outcome (Ok w)
+    → Gives (JudgesPrices name.Prices m e w) prices (Ok verdict) → violation (Some d)
     → IfSome work (AnswersCertificate (StatesViolation name.Violation) (beside m verdict) e w d)
-    → IfSome work (ReadsBoth m inputs violation)
-both_read_settled m inputs violation e w verdict d None given taken judged delivered answered = tt
-both_read_settled m inputs violation e w verdict d (Some r) given taken judged delivered answered =
-    both_read m inputs violation e w judged.delivery d r given taken judged.delivered
-    (both_answered m e w judged.delivery d verdict r judged.stating answered) delivered
+    → IfSome work (ReadsBoth m election outcome prices violation)
+both_settled m election outcome prices violation e w verdict d None given taken judged delivered found = tt
+both_settled m election outcome prices violation e w verdict d (Some r) given taken judged delivered found =
+    both_in_turn m election outcome prices violation e w judged.delivery d r given taken judged.delivered
+    (both_answered m e w judged.delivery d verdict r judged.stating found) delivered

@@ -9,7 +9,7 @@ use Rattle.pb_reply.specs.Replies.{Answer, Reply, answer_of, refused, with_input
 use Rattle.pb_audit.specs.Answers.{AnswersAudit, AnswersElection, AnswersPrices, AnswersRefutation, AnswersTidy, AnswersViolation, AuditRules, audit_reply, price_rules, read_reply, refutation_rules, tidy_answer, violation_rules}
 use Rattle.pb_audit.specs.Both.{AnswersBoth, Both, GroupAndDemand, StatesBoth, both_rules}
 use Rattle.pb_reply.specs.Inputs.{FilesState, Stated, StatesElection, StatesOutcome, StatesPrices, audited}
-use Rattle.pb_audit.specs.Margins.{AnswersMargins, margin_rules}
+use Rattle.pb_audit.specs.Margins.{margin_rules}
 use Rattle.pb_audit.specs.OneAnswer.{JustOne}
 use Rattle.pb_reply.specs.Inside.Taking.{AuditsOutcome}
 use Rattle.pb_audit.specs.Inside.Certificates.{Promised}
@@ -159,19 +159,15 @@ pub refutation-reply-one : (election : Delivery) (outcome : Option Delivery) (ce
     → JustOne (AnswersRefutation election outcome certificate)
 refutation-reply-one = audit-one refutation_rules refutation-one (λ e w d r given. refutation_promises e w r)
 
--- The table of margins.
+pub margins-reply-one : (election : Delivery) (outcome : Option Delivery) (certificate : Delivery)
+    → JustOne (AnswersAudit margin_rules election outcome certificate)
+margins-reply-one = audit-one margin_rules (prices-one name.Certificate) (λ e w d p given. refl)
 
-tells-one : (is_reply : Reply → Type 0) → JustOne is_reply → JustOne (TellsReply is_reply)
+pub tells-one : (is_reply : Reply → Type 0) → JustOne is_reply → JustOne (TellsReply is_reply)
 tells-one is_reply h = record {
   one = (answer_of h.one.0, record { reply = h.one.0; of_inputs = h.one.1; out = refl });
   no_other = λ r s a b. a.out ∙ ap answer_of (h.no_other a.reply b.reply a.of_inputs b.of_inputs) ∙ sym b.out;
 }
-
-pub margins-one : (election : Delivery) (outcome : Option Delivery) (certificate : Delivery)
-    → JustOne (AnswersMargins election outcome certificate)
-margins-one election outcome certificate =
-    tells-one (AnswersAudit margin_rules election outcome certificate)
-    (audit-one margin_rules (prices-one name.Certificate) (λ e w d p given. refl) election outcome certificate)
 
 -- Both certificates.
 

@@ -1,26 +1,15 @@
 -- Texts that are made line by line.
 use Rattle.std.proofs.Common.{◌≡◌, List, [], ◌∷◌, ◌++◌, append_assoc, arith}
 use Rattle.std.proofs.lemmas.List.Concat.{flat_map-append}
-use Rattle.std.specs.Prelude.{Option, Result, codes}
-use Rattle.pb_records.specs.declared.loading.Sink.{Ghosts as Sink}
+use Rattle.std.specs.Prelude.{Option, codes}
 use Rattle.pb_records.specs.Records.{Text}
-use Rattle.pb_reply.specs.Replies.{Reply, answer_of, text_of, TellsReply}
-use Rattle.pb_reply.specs.Writing.{Writes}
-use Rattle.pb_reply.specs.declared.status.Fault.{Fault}
-use Rattle.pb_reply.specs.declared.status.Status.{Status}
+use Rattle.pb_reply.specs.Replies.{Reply, text_of}
 use Rattle.pb_audit.specs.Reports.{certificate_lines, file_lines, lines_of}
 
 -- lines after lines
 pub text_after : (a b : List Text) (old middle new : Text) → middle ≡ old ++ text_of a → new ≡ middle ++ text_of b
     → new ≡ old ++ text_of (a ++ b)
 text_after a b old middle new first then = grind (arith, append_assoc, flat_map-append)
-
--- a written reply of a kind is an answer of that kind
-pub reply_told : {W : Type 0} (sink : Sink W) (is_reply : Reply → Type 0) (reply : Reply) (result : Result Status Fault)
-    (old new : W)
-    → is_reply reply → Writes sink (λ answer. answer ≡ answer_of reply) result old new
-    → Writes sink (TellsReply is_reply) result old new
-reply_told sink is_reply reply result old new of written = grind arith
 
 -- the lines on the files of an entry, one after the other
 pub found_text : (spelled name : Text) (read : Reply) (prices violation : Option Reply) (old first second new : Text)

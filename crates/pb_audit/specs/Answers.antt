@@ -1,6 +1,5 @@
 -- What each command answers: lines or a text, and how it ends, from what its inputs state.
 use Rattle.std.specs.Prelude.{◌≡◌, Bool, ℕ, List, [], ◌∷◌, IfOk, Option, Ok, Err}
-use Rattle.std.specs.Option.{option_map}
 use Rattle.pb_election.specs.Instance.{Instance}
 use Rattle.pb_records.specs.Loading.{Delivery}
 use Rattle.pb_certificate.specs.Prices.Canon.{Canon}
@@ -16,7 +15,7 @@ use Rattle.pb_price.specs.First.{First, verdict_of}
 use Rattle.pb_price.specs.declared.Mode.{Mode}
 use Rattle.pb_price.specs.declared.Verdict.{Verdict}
 use Rattle.pb_reply.specs.Replies.{Answer, Reply, answer_of, price_status, refused, refutation_status, violation_status, with_input}
-use Rattle.pb_reply.specs.Inputs.{FilesState, Stated, StatesElection, StatesPrices, StatesRefutation, StatesViolation, audited, in_memory}
+use Rattle.pb_reply.specs.Inputs.{FilesState, Stated, StatesElection, StatesPrices, StatesRefutation, StatesViolation, audited}
 use Rattle.pb_reply.specs.Lines.{notes, price_line, read_line, refutation_line, violation_line}
 use Rattle.pb_reply.specs.Promises.{PricesPromise, RefutationPromises, ViolationPromises}
 use Rattle.pb_reply.specs.declared.input.InputName.TheVariants as name
@@ -117,22 +116,3 @@ AnswersViolation election outcome certificate r = AnswersAudit violation_rules e
 
 abbrev pub AnswersRefutation : Delivery → Option Delivery → Delivery → Reply → Type 0
 AnswersRefutation election outcome certificate r = AnswersAudit refutation_rules election outcome certificate r
-
--- The same over files in memory, by their bytes alone.
-abbrev pub AnswersElectionFile : List ℕ → Reply → Type 0
-AnswersElectionFile election r = AnswersElection (in_memory election) r
-
-abbrev pub AnswersPriceFiles : Mode → List ℕ → Option (List ℕ) → List ℕ → Reply → Type 0
-AnswersPriceFiles m election outcome certificate r =
-    AnswersPrices m (in_memory election) (option_map in_memory outcome) (in_memory certificate) r
-
-abbrev pub AnswersViolationFiles : List ℕ → Option (List ℕ) → List ℕ → Reply → Type 0
-AnswersViolationFiles election outcome certificate r =
-    AnswersViolation (in_memory election) (option_map in_memory outcome) (in_memory certificate) r
-
-abbrev pub AnswersRefutationFiles : List ℕ → Option (List ℕ) → List ℕ → Reply → Type 0
-AnswersRefutationFiles election outcome certificate r =
-    AnswersRefutation (in_memory election) (option_map in_memory outcome) (in_memory certificate) r
-
-abbrev pub AnswersTidyFiles : List ℕ → List ℕ → Answer Status → Type 0
-AnswersTidyFiles election certificate answer = AnswersTidy (in_memory election) (in_memory certificate) answer

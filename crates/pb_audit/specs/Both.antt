@@ -1,6 +1,5 @@
 -- What is answered on a price certificate and a violation certificate for one outcome.
-use Rattle.std.specs.Prelude.{◌≡◌, ◌↔◌, ◌++◌, ℕ, IsTrue, Bool, List, Option, IfOk, Ok, Err}
-use Rattle.std.specs.Option.{option_map}
+use Rattle.std.specs.Prelude.{◌≡◌, ◌↔◌, ◌++◌, ℕ, IsTrue, Bool, List, Option, IfOk, Ok, Err, Some, None}
 use Rattle.pb_election.specs.Instance.{Instance}
 use Rattle.pb_records.specs.Loading.{Delivery}
 use Rattle.pb_certificate.specs.Prices.{Prices}
@@ -13,23 +12,24 @@ use Rattle.pb_price.specs.declared.Mode.{Mode}
 use Rattle.pb_price.specs.declared.Verdict.{Verdict}
 use Rattle.pb_audit.specs.Answers.{AnswersAudit, AuditRules, price_reply, verdict_reply, violation_reply}
 use Rattle.pb_reply.specs.Replies.{Reply, with_input}
-use Rattle.pb_reply.specs.Inputs.{InTurn, Stated, StatesPrices, StatesViolation, in_memory}
+use Rattle.pb_reply.specs.Inputs.{InTurn, Stated, StatesPrices, StatesViolation}
 use Rattle.pb_reply.specs.Promises.{PricesPromise, ViolationPromises}
-use Rattle.pb_audit.specs.Readers.{AfterOutcome, AuditReadings, ReadsAudit}
-use Rattle.pb_reply.specs.Readings.{Delivers, NothingRead, Reading}
+use Rattle.pb_reply.specs.Turns.{FileTurn, Turn}
+use Rattle.pb_audit.specs.InTurn.{AfterOutcome, ReadsAudit}
 use Rattle.pb_reply.specs.declared.input.InputName.TheVariants as name
 use Rattle.pb_reply.specs.declared.status.Status.{Status}
-use Rattle.pb_reply.specs.declared.status.Status.TheVariants.{Yes, No, Refused}
+use Rattle.pb_reply.specs.declared.status.Status.TheVariants.{Yes, No}
+use Rattle.pb_reply.specs.declared.status.Unmet.TheVariants as unmet
 
 -- what a violation certificate states: its measure, a group and what it demands
 abbrev pub GroupAndDemand : Type 0
 GroupAndDemand = Measure × List ℕ × List ℕ
 
--- the lines of both, and yes where both are a yes
+-- the lines of both, and yes where both are a yes; where neither is, what fails first of each
 abbrev pub yes_where_both : Status → Status → Status
 yes_where_both Yes second = second
-yes_where_both No second = No
-yes_where_both (Refused r) second = Refused r
+yes_where_both (No (unmet.Prices f)) (No (unmet.Violation g)) = No (unmet.Both f g)
+yes_where_both first second = first
 
 abbrev pub joined : Reply → Reply → Reply
 joined first second = record { lines = first.lines ++ second.lines; status = yes_where_both first.status second.status }
@@ -78,15 +78,10 @@ both_rules m violation = record { states = StatesBoth violation; reply = both_re
 abbrev pub AnswersBoth : Mode → Delivery → Option Delivery → Delivery → Delivery → Reply → Type 0
 AnswersBoth m election outcome prices violation r = AnswersAudit (both_rules m violation) election outcome prices r
 
--- the same over files in memory, by their bytes alone
-abbrev pub AnswersBothFiles : Mode → List ℕ → Option (List ℕ) → List ℕ → List ℕ → Reply → Type 0
-AnswersBothFiles m election outcome prices violation r =
-    AnswersBoth m (in_memory election) (option_map in_memory outcome) (in_memory prices) (in_memory violation) r
-
--- The reply on what readers delivered, the prices as the certificate of an audit, with one more reader for the
--- violation certificate, which is taken where the prices are accepted.
-pub record ReadsBoth (m : Mode) (inputs : AuditReadings) (violation : Reading) (r : Reply) : Type 0 where
+-- The reply on inputs in their turn, the prices as the certificate of an audit, with one more for the violation
+-- certificate, which is taken where the prices are accepted.
+pub record ReadsBoth (m : Mode) (election : Turn) (outcome : FileTurn) (prices violation : Turn) (r : Reply) : Type 0 where
   pub of_violation : Delivery
-  pub reads : ReadsAudit (both_rules m of_violation) inputs r
+  pub reads : ReadsAudit (both_rules m of_violation) election outcome prices r
   pub violation_delivered : AfterOutcome reads.answers.e reads.answers.o
-      (InTurn reads.answers.c (λ both. Delivers violation of_violation) (NothingRead violation)) (NothingRead violation)
+      (InTurn reads.answers.c (λ both. violation (Some of_violation)) (violation None)) (violation None)

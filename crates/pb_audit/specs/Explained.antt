@@ -1,6 +1,5 @@
 -- What `explain` answers: the line of the verdict, an empty line, and a table of what each condition or test comes to.
 use Rattle.std.specs.Prelude.{◌≡◌, Bool, ℕ, List, [], ◌∷◌, ◌++◌, Option}
-use Rattle.std.specs.Option.{option_map}
 use Rattle.pb_records.specs.Loading.{Delivery}
 use Rattle.pb_election.specs.Instance.{Instance}
 use Rattle.pb_certificate.specs.Prices.{Prices}
@@ -24,9 +23,9 @@ use Rattle.pb_records.specs.Records.{Text}
 use Rattle.pb_audit.specs.Answers.{AnswersAudit, AuditRules, price_reply, refutation_reply, violation_reply}
 use Rattle.pb_reply.specs.Replies.{Reply}
 use Rattle.pb_reply.specs.Certificates.{Certificate, OfPrices, OfRefutation, OfViolation, StatesCertificate}
-use Rattle.pb_reply.specs.Inputs.{in_memory}
 use Rattle.pb_reply.specs.Promises.{PricesPromise, RefutationPromises, ViolationPromises}
-use Rattle.pb_audit.specs.Readers.{AuditReadings, ReadsAudit}
+use Rattle.pb_reply.specs.Turns.{FileTurn, Turn}
+use Rattle.pb_audit.specs.InTurn.{ReadsAudit}
 use Rattle.pb_reply.specs.declared.status.Status.{Status}
 use Rattle.pb_reply.specs.declared.status.Status.TheVariants.{Yes}
 
@@ -79,11 +78,7 @@ explained_rules m = record { states = StatesCertificate; reply = explained_reply
 abbrev pub AnswersExplained : Mode → Delivery → Option Delivery → Delivery → Reply → Type 0
 AnswersExplained m election outcome certificate r = AnswersAudit (explained_rules m) election outcome certificate r
 
--- the same over files in memory, by their bytes alone
-abbrev pub AnswersExplainedFiles : Mode → List ℕ → Option (List ℕ) → List ℕ → Reply → Type 0
-AnswersExplainedFiles m election outcome certificate r =
-    AnswersExplained m (in_memory election) (option_map in_memory outcome) (in_memory certificate) r
-
--- the same on what readers delivered
-abbrev pub ReadsExplained : Mode → AuditReadings → Reply → Type 0
-ReadsExplained m inputs r = ReadsAudit (explained_rules m) inputs r
+-- the same on inputs in their turn
+abbrev pub ReadsExplained : Mode → Turn → FileTurn → Turn → Reply → Type 0
+ReadsExplained m election outcome certificate r =
+    ReadsAudit (explained_rules m) election outcome certificate r

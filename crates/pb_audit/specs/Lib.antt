@@ -1,8 +1,9 @@
 pub mod Answers
 pub mod OneAnswer
-pub mod Readers
+pub mod InTurn
 pub mod Both
 pub mod Margins
 pub mod Explained
+pub mod Questions
 pub mod Reports
 pub mod Inside

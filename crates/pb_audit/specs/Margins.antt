@@ -1,9 +1,7 @@
 -- The table of margins, and what is answered with it.
-use Rattle.std.specs.Prelude.{◌≡◌, ◌*◌, ◌^◌, if◌then◌else◌, ℕ, Bool, List, [], ◌∷◌, ◌++◌, map, Option, codes, decimal}
+use Rattle.std.specs.Prelude.{◌≡◌, ◌*◌, ◌^◌, if◌then◌else◌, ℕ, Bool, List, [], ◌∷◌, ◌++◌, map, codes, decimal}
 use Rattle.std.specs.Fmt.{signed_decimal}
 use Rattle.std.specs.List.{join_with_byte}
-use Rattle.std.specs.Option.{option_map}
-use Rattle.pb_records.specs.Loading.{Delivery}
 use Rattle.pb_records.specs.Records.{Field, Rec, Text}
 use Rattle.pb_election.specs.Instance.{Instance, all_projects, id_of}
 use Rattle.pb_certificate.specs.Prices.Canon.{comma, written}
@@ -11,9 +9,10 @@ use Rattle.pb_certificate.specs.Prices.{Prices}
 use Rattle.pb_price.specs.Margins.{margins_of_project}
 use Rattle.pb_price.specs.declared.ProjectMargins.{ProjectMargins}
 use Rattle.pb_reply.specs.Replies.{Answer, Reply, TellsReply}
-use Rattle.pb_audit.specs.Answers.{AnswersAudit, AuditRules}
-use Rattle.pb_reply.specs.Inputs.{StatesPrices, in_memory}
-use Rattle.pb_audit.specs.Readers.{AuditReadings, ReadsAudit}
+use Rattle.pb_audit.specs.Answers.{AuditRules}
+use Rattle.pb_reply.specs.Inputs.{StatesPrices}
+use Rattle.pb_reply.specs.Turns.{FileTurn, Turn}
+use Rattle.pb_audit.specs.InTurn.{ReadsAudit}
 use Rattle.pb_reply.specs.declared.input.InputName.TheVariants as name
 use Rattle.pb_reply.specs.declared.status.Status.{Status}
 use Rattle.pb_reply.specs.declared.status.Status.TheVariants.{Yes}
@@ -59,17 +58,8 @@ AlwaysYes status e w p = status ≡ Yes
 abbrev pub margin_rules : AuditRules Prices
 margin_rules = record { states = StatesPrices name.Certificate; reply = margins_reply; promises = AlwaysYes }
 
--- The answer on an election, an outcome file where one is given, and a price certificate: the text of the table, or of
--- the line of the input that is refused.
-abbrev pub AnswersMargins : Delivery → Option Delivery → Delivery → Answer Status → Type 0
-AnswersMargins election outcome certificate answer =
-    TellsReply (AnswersAudit margin_rules election outcome certificate) answer
-
--- the same over files in memory, by their bytes alone
-abbrev pub AnswersMarginFiles : List ℕ → Option (List ℕ) → List ℕ → Answer Status → Type 0
-AnswersMarginFiles election outcome certificate answer =
-    AnswersMargins (in_memory election) (option_map in_memory outcome) (in_memory certificate) answer
-
--- the same on what readers delivered
-abbrev pub ReadsMargins : AuditReadings → Answer Status → Type 0
-ReadsMargins inputs answer = TellsReply (ReadsAudit margin_rules inputs) answer
+-- The answer on an election, an outcome file where one is given, and a price certificate, in their turn: the text of the
+-- table, or of the line of the input that is refused.
+abbrev pub ReadsMargins : Turn → FileTurn → Turn → Answer Status → Type 0
+ReadsMargins election outcome certificate answer =
+    TellsReply (ReadsAudit margin_rules election outcome certificate) answer

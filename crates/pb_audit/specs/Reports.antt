@@ -30,7 +30,7 @@ pub record Found : Type 0 where
 abbrev pub where_accepted : Status → Option Delivery → Option Delivery
 where_accepted (Refused r) certificate = None
 where_accepted Yes certificate = certificate
-where_accepted No certificate = certificate
+where_accepted (No u) certificate = certificate
 
 -- what is found of a certificate, where one is audited: a reply that answers it
 abbrev pub FindsCertificate : (Delivery → Reply → Type 0) → Option Delivery → Option Reply → Type 0
@@ -87,7 +87,7 @@ says_yes Yes = true
 says_yes _ = false
 
 abbrev pub says_no : Status → Bool
-says_no No = true
+says_no (No u) = true
 says_no _ = false
 
 abbrev pub says_refused : Status → Bool

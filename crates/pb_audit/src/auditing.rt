@@ -1,18 +1,19 @@
 //! Auditing an election, an outcome and a certificate, whatever kind of certificate it is.
-ghost use Rattle.std.specs.Prelude.{IfOk, Ok, option_copied, option_map};
+ghost use Rattle.std.specs.Prelude.{IfOk, Ok, option_map};
 ghost use Rattle.pb_audit.specs.Answers.{AnswersAudit, AuditRules};
-ghost use Rattle.pb_reply.specs.Inputs.{StatesElection, in_memory};
+ghost use Rattle.pb_reply.specs.Inputs.{StatesElection};
 ghost use Rattle.pb_reply.specs.Inside.Loaded.{lent};
-ghost use Rattle.pb_audit.specs.Inside.Certificates.{AnswersCertificate, IfTold, Promised, Tells};
-ghost use Rattle.pb_audit.specs.Readers.{ReadsAudit, audit_readings};
-ghost use Rattle.pb_reply.specs.Writing.{WritesReply};
+ghost use Rattle.pb_audit.specs.Inside.Certificates.{AnswersCertificate, IfTold, Promised};
+ghost use Rattle.pb_audit.specs.InTurn.{ReadsAudit};
+ghost use Rattle.pb_reply.specs.Replies.{TellsReply};
+ghost use Rattle.pb_reply.specs.Turns.{file_turn, turn};
 ghost use Rattle.pb_election.specs.Outcome.{OutcomeFits};
 ghost use Rattle.pb_records.specs.Loading.{Delivery};
 
-use pb_election::{Election, Outcome, Sink, Source};
+use pb_election::{Election, Outcome};
 use pb_reply::{
-    Fault, File, Loaded, Status, Stop, Telling, election_of, optional_file, outcome_of, push_notes,
-    settled, take_election, take_outcome,
+    Answer, File, Given, Lend, Status, Stop, Telling, outcome_of, push_notes, settled,
+    take_election, take_outcome,
 };
 use std::alloc::{AllocError, Global};
 
@@ -40,67 +41,54 @@ pub(crate) trait Audit {
         ensures reply { IfTold Self.Told.told (AnswersCertificate (rules self.now).states (rules self.now).reply election.now (outcome.now).marks (lent certificate.entry)) result }
         ensures promised { Promised (rules self.now) };
 
-    /// Adds the notes on what is told of a certificate for an election that was accepted.
+    /// Adds the notes on what is told of a certificate for an election that was accepted. Most kinds have none.
     fn push_notes_on(
         &self,
-        alloc: Global,
-        notes: &mut Vec<String>,
-        election: &Election,
-        certificate: File<'_>,
-        told: &Result<Self::Told, Stop>,
-    ) -> Result<(), AllocError>;
+        _alloc: Global,
+        _notes: &mut Vec<String>,
+        _election: &Election,
+        _certificate: File<'_>,
+        _told: &Result<Self::Told, Stop>,
+    ) -> Result<(), AllocError> {
+        Ok(())
+    }
 }
 
-/// What is told of the reply on an election, an outcome file where one is given, and a certificate, all in memory.
-pub(crate) fn audit_in_memory<A: Audit>(
-    alloc: Global,
-    audit: &A,
-    election: &[u8],
-    outcome: Option<&[u8]>,
-    certificate: &[u8],
-) -> Result<A::Told, AllocError>
-    ensures { IfOk result (Tells A.Told.told (AnswersAudit (A.rules audit.now) (in_memory election.now) (option_map in_memory (option_copied outcome.entry)) (in_memory certificate.now))) }
-{
-    let work = audit_files(
-        alloc,
-        audit,
-        File::in_memory(election),
-        optional_file(outcome),
-        File::in_memory(certificate),
-    );
-    settled(alloc, work)
-}
-
-/// Reads an election, an outcome file where one is given, and a certificate, and writes the text of the reply. The notes
-/// on the election, each as `read` prints it, are added to `notes`, and behind them those on what is told.
-pub(crate) fn run_audit<A: Audit, E: Source, O: Source, C: Source, W: Sink>(
+/// The answer on an election, an outcome file where one is given, and a certificate, taken in this order. The notes on
+/// the election, each as `read` prints it, are added to `notes`, and behind them those on what is told.
+pub(crate) fn answer_by<A: Audit, E: Given, O: Given, C: Given>(
     alloc: Global,
     audit: &A,
     election: &mut E,
     outcome: &mut Option<O>,
     certificate: &mut C,
     notes: &mut Vec<String>,
-    out: &mut W,
-) -> Result<Status, Fault>
-    ensures { WritesReply W.Sink (ReadsAudit (A.rules audit.now) (audit_readings E.Source election.old election.new O.Source outcome.old outcome.new C.Source certificate.old certificate.new)) result out.old out.new }
+) -> Result<Answer<Status>, AllocError>
+    ensures { IfOk result (TellsReply (ReadsAudit (A.rules audit.now) (turn E.delivers election.old election.new) (file_turn O.delivers outcome.old outcome.new) (turn C.delivers certificate.old certificate.new))) }
 {
-    let work = audit_readers(alloc, audit, election, outcome, certificate, notes);
+    let work = audit_in_turn(alloc, audit, election, outcome, certificate, notes);
     let told = settled(alloc, work)?;
-    told.write_out(alloc, out)
+    told.into_answer(alloc)
 }
 
-/// The reply on what files state.
-fn audit_files<A: Audit>(
+/// What is told of the reply on the inputs.
+fn audit_in_turn<A: Audit, E: Given, O: Given, C: Given>(
     alloc: Global,
     audit: &A,
-    election: File<'_>,
-    outcome: Option<File<'_>>,
-    certificate: File<'_>,
+    election: &mut E,
+    outcome: &mut Option<O>,
+    certificate: &mut C,
+    notes: &mut Vec<String>,
 ) -> Result<A::Told, Stop>
-    ensures { IfTold A.Told.told (AnswersAudit (A.rules audit.now) (lent election.entry) (option_map lent outcome.entry) (lent certificate.entry)) result }
+    ensures { IfTold A.Told.told (ReadsAudit (A.rules audit.now) (turn E.delivers election.old election.new) (file_turn O.delivers outcome.old outcome.new) (turn C.delivers certificate.old certificate.new)) result }
 {
-    let election = election_of(alloc, election)?;
-    audit_for(alloc, audit, &election, outcome, certificate)
+    let election = take_election(alloc, election)?;
+    push_notes(alloc, notes, &election)?;
+    let outcome = take_outcome(alloc, outcome, &election)?;
+    let certificate = certificate.take(alloc)?;
+    let told = audit.reply_on(alloc, &election, &outcome, certificate.lend());
+    audit.push_notes_on(alloc, notes, &election, certificate.lend(), &told)?;
+    told
 }
 
 /// The reply for an election that was accepted.
@@ -115,24 +103,4 @@ pub(crate) fn audit_for<A: Audit>(
 {
     let outcome = outcome_of(alloc, outcome, election)?;
     audit.reply_on(alloc, election, &outcome, certificate)
-}
-
-/// The reply on what readers deliver.
-fn audit_readers<A: Audit, E: Source, O: Source, C: Source>(
-    alloc: Global,
-    audit: &A,
-    election: &mut E,
-    outcome: &mut Option<O>,
-    certificate: &mut C,
-    notes: &mut Vec<String>,
-) -> Result<A::Told, Stop>
-    ensures { IfTold A.Told.told (ReadsAudit (A.rules audit.now) (audit_readings E.Source election.old election.new O.Source outcome.old outcome.new C.Source certificate.old certificate.new)) result }
-{
-    let election = take_election(alloc, election)?;
-    push_notes(alloc, notes, &election)?;
-    let outcome = take_outcome(alloc, outcome, &election)?;
-    let certificate = Loaded::load(alloc, certificate)?;
-    let told = audit.reply_on(alloc, &election, &outcome, certificate.lend());
-    audit.push_notes_on(alloc, notes, &election, certificate.lend(), &told)?;
-    told
 }

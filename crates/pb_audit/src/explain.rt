@@ -1,15 +1,13 @@
 //! Explaining verdicts: what each condition on prices, or each test of a violation or of a refutation, comes to.
-ghost use Rattle.std.specs.Prelude.{◌≡◌, ◌≤◌, ◌^◌, IfOk, IfSome, option_copied, ◌++◌, OnOk, map, string_bytes};
+ghost use Rattle.std.specs.Prelude.{◌≡◌, ◌≤◌, ◌^◌, IfOk, IfSome, ◌++◌, OnOk, map, string_bytes};
 ghost use Rattle.pb_audit.specs.Answers.{verdict_reply};
-ghost use Rattle.pb_audit.specs.Explained.{AnswersExplainedFiles, ReadsExplained, explained_prices, explained_refutation, explained_rules, explained_violation, groups_told, with_table};
+ghost use Rattle.pb_audit.specs.Explained.{explained_prices, explained_refutation, explained_rules, explained_violation, groups_told, with_table};
 ghost use Rattle.pb_reply.specs.Certificates.{Certificate};
 ghost use Rattle.pb_reply.specs.Inputs.{StatesPrices, StatesRefutation, StatesViolation};
 ghost use Rattle.pb_reply.specs.Inside.Loaded.{lent};
 ghost use Rattle.pb_reply.specs.Named.{PricesNameProject};
-ghost use Rattle.pb_audit.specs.Readers.{audit_readings};
 ghost use Rattle.pb_audit.specs.Inside.Certificates.{AnswersCertificate, FindsPrices};
 ghost use Rattle.pb_reply.specs.Inside.Taking.{IfTaken, settled};
-ghost use Rattle.pb_reply.specs.Writing.{WritesReply};
 ghost use Rattle.pb_certificate.specs.Refutations.{WeightsFit};
 ghost use Rattle.pb_certificate.specs.Violations.{ClaimFits};
 ghost use Rattle.pb_election.specs.Instance.{IsSet, projects};
@@ -19,69 +17,26 @@ ghost use Rattle.pb_explain.specs.PriceTable.{NameProjects, price_table};
 ghost use Rattle.pb_price.specs.First.{verdict_of};
 ghost use Rattle.pb_price.specs.Told.{first_told};
 
-use crate::auditing::{Audit, audit_in_memory, run_audit};
+use crate::auditing::Audit;
 use crate::prices::verdict_reply;
 use crate::refutation::weights_verdict_reply;
 use crate::says_little::push_note_on_yes;
 use crate::violation::group_verdict_reply;
 use pb_certificate::{Kind, Refutation, Violation};
 use pb_cohesion::{refutation_findings, violation_findings};
-use pb_election::{Election, Outcome, Sink, Source};
+use pb_election::{Election, Outcome};
 use pb_explain::{push_group_lines, push_price_table, push_refutation_table, push_violation_table};
 use pb_price::{Findings, Mode, Verdict, findings_of};
 use pb_reply::{
-    Fault, File, InputFault, InputName, Reply, Status, Stop, bytes_of, kind_in, refutation_of,
-    stop_at, violation_of,
+    File, InputFault, InputName, Reply, Stop, bytes_of, kind_in, refutation_of, stop_at,
+    violation_of,
 };
 use std::alloc::{AllocError, Global};
 
-/// The reply on an election, an outcome file where one is given, and a certificate of any kind, all in memory: the line
-/// of the verdict, as `prices_reply`, `violation_reply` or `refutation_reply` gives it, an empty line, and a line for
-/// each condition or test with the figures that it compares; or why a file is refused. Where the first record of the
-/// certificate that is not blank is the head of a violation certificate or of a refutation, it is taken as one, and then
-/// the mode counts for nothing; any other is taken as prices. Without an outcome file the outcome is the election's own.
-/// The first file that is refused decides, in this order; more than 2^28 bytes are refused as too long. An error means
-/// out of memory.
-pub fn explained_reply(
-    alloc: Global,
-    election: &[u8],
-    outcome: Option<&[u8]>,
-    certificate: &[u8],
-    mode: Mode,
-) -> Result<Reply, AllocError>
-    // The reply is the one on these bytes, and its status promises what it does for the verdict alone.
-    ensures { IfOk result (AnswersExplainedFiles mode election.now (option_copied outcome.entry) certificate.now) }
-{
-    let audit = ExplainAudit { mode };
-    audit_in_memory(alloc, &audit, election, outcome, certificate)
-}
-
-/// Reads an election, an outcome file where one is given, and a certificate of any kind, of at most 2^28 bytes each,
-/// and writes the verdict and what each condition or test comes to, as `explained_reply` gives them, or why an input is
-/// refused. Without an outcome file the outcome is the election's own. An input after one that is refused is not
-/// touched. The whole text is made first and then written. The notes on the election, each as `read` prints it, are added
-/// to `notes` once it is read.
-pub fn run_explain<E: Source, O: Source, C: Source, W: Sink>(
-    alloc: Global,
-    election: &mut E,
-    outcome: &mut Option<O>,
-    certificate: &mut C,
-    mode: Mode,
-    notes: &mut Vec<String>,
-    out: &mut W,
-) -> Result<Status, Fault>
-    // The text of the reply on what the readers delivered is written, or a front of it where the writer failed. The
-    // reply is that of `explained_reply`, with what its status promises.
-    ensures { WritesReply W.Sink (ReadsExplained mode (audit_readings E.Source election.old election.new O.Source outcome.old outcome.new C.Source certificate.old certificate.new)) result out.old out.new }
-{
-    let audit = ExplainAudit { mode };
-    run_audit(alloc, &audit, election, outcome, certificate, notes, out)
-}
-
 /// The explanation of a verdict, on prices in a mode.
 #[derive(Drop)]
-struct ExplainAudit {
-    mode: Mode,
+pub(crate) struct ExplainAudit {
+    pub(crate) mode: Mode,
 }
 
 impl Audit for ExplainAudit {

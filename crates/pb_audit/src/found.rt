@@ -14,7 +14,7 @@ use crate::read::election_reply;
 use crate::violation::ViolationAudit;
 use pb_election::Election;
 use pb_price::Mode;
-use pb_reply::{Loaded, Reply, election_of, settled, stopped};
+use pb_reply::{Lend, Loaded, Reply, election_of, settled, stopped};
 use std::alloc::{AllocError, Global};
 
 /// The reply on an election, and on each of its certificates that is audited.

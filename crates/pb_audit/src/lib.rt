@@ -1,6 +1,7 @@
-//! The auditor: what each command answers, over files in memory and over readers, and the report on a folder.
+//! The auditor: one answer to each question, over files in memory and over readers, and the report on a folder.
 #![tactic(auto)]
 
+mod answers;
 mod auditing;
 mod both;
 pub mod endings;
@@ -12,23 +13,20 @@ pub mod laws;
 mod margin_table;
 mod margins;
 mod prices;
+mod question;
 mod read;
 mod refutation;
+mod runs;
 mod says_little;
 mod tidy;
 mod total;
 mod violation;
 
-pub use both::{both_reply, run_both, run_both_with_notes};
-pub use explain::{explained_reply, run_explain};
+pub use answers::answer;
 pub use folder::{Entry, folder_text};
 pub use folder_report::FolderReport;
-pub use margins::{margins_answer, run_margins};
-pub use pb_reply::{Answer, Fault, InputFault, InputName, InputRefusal, Loaded, Reply, Status};
-pub use prices::{prices_reply, run_prices};
-pub use read::{read_reply, run_read};
-pub use refutation::{refutation_reply, run_refutation};
+pub use pb_reply::{Answer, Fault, InputFault, InputName, InputRefusal, Loaded, Status, Unmet};
+pub use question::Question;
+pub use runs::{run_both, run_prices, run_read, run_tidy, run_violation};
 pub use says_little::notes_on_yes;
-pub use tidy::{run_tidy, tidy_answer};
 pub use total::FolderStatus;
-pub use violation::{run_violation, violation_reply};

@@ -49,7 +49,7 @@ impl Ending {
     fn is_no(&self) -> bool
         ensures { result ≡ spec.is_no self.now }
     {
-        self.of_certificate && matches!(self.status, Status::No)
+        self.of_certificate && matches!(self.status, Status::No(_))
     }
 
     fn is_refused(&self) -> bool

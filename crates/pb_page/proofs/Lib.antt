@@ -1,4 +1,4 @@
 pub mod Boxes
+pub mod InTurn
 pub mod Pages
-pub mod Readers
 pub mod Tells

@@ -6,10 +6,8 @@ use Rattle.pb_records.specs.Loading.{Delivery}
 use Rattle.pb_price.specs.declared.Mode.{Mode}
 use Rattle.pb_reply.specs.Inputs.{Stated, StatesElection}
 use Rattle.pb_reply.specs.Replies.{Answer, answer_of, price_status, refused, refutation_status, violation_status}
-use Rattle.pb_reply.specs.Inside.Taking.{AuditsOutcome, IfTaken, settled}
+use Rattle.pb_reply.specs.Inside.Taking.{AuditsOutcome}
 use Rattle.pb_reply.specs.declared.input.InputRefusal.{InputRefusal}
-use Rattle.pb_reply.specs.declared.input.Stop.{Stop}
-use Rattle.pb_reply.specs.declared.input.Stop.TheVariants as stop
 use Rattle.pb_reply.specs.declared.status.Status.{Status}
 use Rattle.pb_reply.specs.Certificates.{Certificate, OfPrices, OfRefutation, OfViolation, StatesCertificate, certificate_status}
 use Rattle.pb_reply.specs.Promises.{CertificatePromises}
@@ -73,30 +71,6 @@ certificate-refused m l election outcome certificate e w r given taken states = 
   out =
       subst (λ (o : Stated (List Bool)). PageOnOutcome m l (files_of election outcome certificate) e o (Err r) (answer_of (refused r))) taken.is refl;
 }
-
--- The same where the work stopped.
-pub stopped-at-election : (m : Mode) (l : Language) (election : Delivery) (outcome : Option Delivery)
-    (certificate : Delivery) (why : Stop) → IfTaken {A = Instance} (Err why) (StatesElection election)
-    → IfSome (settled answer_of (Err why)) (AnswersPage m l election outcome certificate)
-stopped-at-election m l election outcome certificate (stop.Refused r) given =
-    election-refused m l election outcome certificate r given
-stopped-at-election m l election outcome certificate stop.Memory given = tt
-
-pub stopped-at-outcome : (m : Mode) (l : Language) (election : Delivery) (outcome : Option Delivery)
-    (certificate : Delivery) (e : Instance) (why : Stop) → StatesElection election (Ok e)
-    → IfTaken {A = List Bool} (Err why) (AuditsOutcome e outcome)
-    → IfSome (settled answer_of (Err why)) (AnswersPage m l election outcome certificate)
-stopped-at-outcome m l election outcome certificate e (stop.Refused r) given taken =
-    outcome-refused m l election outcome certificate e r given taken
-stopped-at-outcome m l election outcome certificate e stop.Memory given taken = tt
-
-pub stopped-at-certificate : (m : Mode) (l : Language) (election : Delivery) (outcome : Option Delivery)
-    (certificate : Delivery) (e : Instance) (w : List Bool) (why : Stop) → StatesElection election (Ok e)
-    → AuditsOutcome e outcome (Ok w) → IfTaken {A = Told} (Err why) (TellsCertificate m e w certificate)
-    → IfSome (settled answer_of (Err why)) (AnswersPage m l election outcome certificate)
-stopped-at-certificate m l election outcome certificate e w (stop.Refused r) given taken states =
-    certificate-refused m l election outcome certificate e w r given taken states
-stopped-at-certificate m l election outcome certificate e w stop.Memory given taken states = tt
 
 -- the status of what is told is that of `explain`
 pub told-status : (m : Mode) (e : Instance) (w : List Bool) (c : Certificate) (t : Told) → Tells m e w c t

@@ -1,4 +1,4 @@
 pub mod Answers
-pub mod Readers
+pub mod InTurn
 pub mod Sums
 pub mod Taken

@@ -1,6 +1,6 @@
 -- What the values stand for that the code makes of a certificate on the way to a page. What a page answers is said
 -- without them, in `Answers`.
-use Rattle.std.specs.Prelude.{◌≡◌, ℕ, Bool, List, [], ◌∷◌, ◌++◌, Ok, Err, map, option_to_list, string_bytes}
+use Rattle.std.specs.Prelude.{◌≡◌, ℕ, Bool, List, [], ◌∷◌, ◌++◌, Ok, Err, Some, map, option_to_list, string_bytes}
 use Rattle.pb_records.specs.Loading.{Delivery}
 use Rattle.pb_election.specs.Instance.{Instance}
 use Rattle.pb_certificate.specs.Prices.{Prices}
@@ -8,8 +8,7 @@ use Rattle.pb_price.specs.Findings.{findings}
 use Rattle.pb_price.specs.Margins.{AreMargins}
 use Rattle.pb_price.specs.declared.Mode.{Mode}
 use Rattle.pb_reply.specs.Inputs.{Stated, StatesElection, StatesPrices}
-use Rattle.pb_reply.specs.Inside.Loaded.{lent}
-use Rattle.pb_reply.specs.Readings.{Delivers, Reading}
+use Rattle.pb_reply.specs.Turns.{Turn}
 use Rattle.pb_reply.specs.Replies.{Answer}
 use Rattle.pb_reply.specs.declared.status.Status.{Status}
 use Rattle.pb_reply.specs.declared.input.InputName.TheVariants as name
@@ -21,7 +20,6 @@ use Rattle.pb_page.specs.Sums.{HasInOrder, bytes_of, sum_text}
 use Rattle.pb_markup.specs.Shown.{shows_of}
 use Rattle.pb_case.specs.declared.case.Files.{Files}
 use Rattle.pb_case.specs.declared.case.InputFile.{InputFile}
-use Rattle.pb_page.specs.declared.entry.PageFile.{PageFile}
 use Rattle.pb_price.specs.First.{verdict_of}
 use Rattle.pb_price.specs.Told.{first_told}
 use Rattle.pb_reply.specs.Replies.{price_status, refutation_status, violation_status}
@@ -42,10 +40,6 @@ abbrev pub TellsCertificate : Mode → Instance → List Bool → Delivery → S
 TellsCertificate m e w d (Ok t) = (c : Certificate) × StatesCertificate e d (Ok c) × Tells m e w c t
 TellsCertificate m e w d (Err r) = StatesCertificate e d (Err r)
 
--- what is delivered of a file that is given with its name
-abbrev pub file_of : PageFile → Delivery
-file_of given = lent given.file
-
 -- the sums that are shown of files, in the order of the page
 abbrev pub sum_of : InputFile → List ℕ
 sum_of file = string_bytes file.sum
@@ -54,10 +48,10 @@ abbrev pub sums_shown : Files → List (List ℕ)
 sums_shown files =
     sum_of files.election ∷ (map sum_of (option_to_list files.outcome) ++ sum_of files.certificate ∷ [])
 
--- a reader delivered an election, and this is the sum of its file
-pub record GivesElection (r : Reading) (e : Instance) (sum : List ℕ) : Type 0 where
+-- the turn of an election came, and this is the sum of its file
+pub record GivesElection (t : Turn) (e : Instance) (sum : List ℕ) : Type 0 where
   pub delivery : Delivery
-  pub delivered : Delivers r delivery
+  pub delivered : t (Some delivery)
   pub states : StatesElection delivery (Ok e)
   pub is_sum : sum ≡ sum_text (bytes_of delivery)
 

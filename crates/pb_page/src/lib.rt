@@ -3,15 +3,14 @@
 
 mod digest;
 mod entry;
+mod input_files;
 mod parts;
-mod reading;
 mod style;
 mod telling;
 
 pub use digest::sum_of;
-pub use entry::{PageFile, PageFiles, page_answer};
+pub use entry::{PageNames, page_answer};
 pub use pb_figures::{Compared, Figure, closest_first, wrongly_paid_first};
 pub use pb_markup::{Attributes, Name, Page, Tag, push_escaped};
 pub use pb_visible::visible;
 pub use pb_words::{Headline, Language};
-pub use reading::{PageNames, run_page};

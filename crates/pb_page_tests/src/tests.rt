@@ -4,7 +4,7 @@ mod names;
 mod ranking;
 mod sums;
 
-use pb_page::{Language, PageFile, PageFiles, page_answer};
+use pb_page::{Language, PageNames, page_answer};
 use pb_price::Mode;
 use pb_reply::{File, Status};
 use std::alloc::Global;
@@ -18,17 +18,20 @@ fn page<'a>(
     certificate: &'a str,
     language: Language,
 ) -> Result<(String, Status), Fail> {
-    let files = PageFiles {
-        election: PageFile {
-            name: b"elections/t.pb",
-            file: File::in_memory(election.as_bytes()),
-        },
-        outcome: None,
-        certificate: PageFile {
-            name,
-            file: File::in_memory(certificate.as_bytes()),
-        },
+    let names = PageNames {
+        election: b"elections/t.pb",
+        outcome: b"",
+        certificate: name,
     };
-    let answer = page_answer(alloc, files, Mode::PLAIN, language)?;
+    let mut no_outcome: Option<File<'_>> = None;
+    let answer = page_answer(
+        alloc,
+        names,
+        &mut File::in_memory(election.as_bytes()),
+        &mut no_outcome,
+        &mut File::in_memory(certificate.as_bytes()),
+        Mode::PLAIN,
+        language,
+    )?;
     Ok((String::from_utf8_lossy(alloc, &answer.text)?, answer.status))
 }

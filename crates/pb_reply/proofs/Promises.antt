@@ -31,8 +31,9 @@ use Rattle.pb_reply.specs.declared.input.InputName.TheVariants as name
 use Rattle.pb_reply.proofs.Culprits.{denominator-low}
 use Rattle.pb_reply.specs.Promises.{CertificatePromises, PricesPromise, RefutationPromises, ViolationPromises}
 use Rattle.pb_reply.specs.declared.status.Status.TheVariants.{Yes, No}
+use Rattle.pb_reply.specs.declared.status.Unmet.{Unmet}
 
-pub no-yes : {A : Type 0} → No ≡ Yes → A
+pub no-yes : {A : Type 0} {u : Unmet} → No u ≡ Yes → A
 no-yes h = cc
 
 -- what a verdict on prices that are stated promises

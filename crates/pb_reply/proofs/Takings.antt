@@ -3,14 +3,13 @@ use Rattle.std.proofs.Common.{◌≡◌, refl, subst, sym, Bool, Option, List, �
 use Rattle.std.specs.Prelude.{Result, Ok, Err, Some}
 use Rattle.pb_election.specs.Instance.{Instance, IsSet, projects}
 use Rattle.pb_records.specs.Loading.{Delivery}
-use Rattle.pb_records.specs.declared.loading.Source.{Ghosts as Source}
 use Rattle.pb_certificate.specs.Faults.{certificate_records}
 use Rattle.pb_certificate.specs.Violations.Text.{IsViolationText}
 use Rattle.pb_certificate.specs.declared.violations.measure.Measure.{Measure}
 use Rattle.pb_certificate.proofs.Unique.{group-text-sets}
 use Rattle.pb_reply.specs.Inputs.{StatesOutcome}
-use Rattle.pb_reply.specs.Readings.{file_reading, reading}
-use Rattle.pb_reply.specs.Inside.Taking.{AuditsOutcome, Gives, IfTaken, ReadsOutcome}
+use Rattle.pb_reply.specs.Turns.{file_turn, turn}
+use Rattle.pb_reply.specs.Inside.Taking.{AuditsOutcome, Gives, GivesOutcome, IfTaken}
 use Rattle.pb_reply.specs.declared.input.Stop.{Stop}
 use Rattle.pb_reply.specs.declared.input.Stop.TheVariants as stop
 
@@ -30,16 +29,16 @@ file_audited e outcome d taken is states =
     go (Err (stop.Refused r)) s = record { file = Some (Err r); given = s; is = refl }
     go (Err stop.Memory) s = tt
 
--- the same with a reader of the outcome file
-pub file_read : {R : Type 0} (source : Source R) (e : Instance) (old : Option R) (file new : R)
+-- the same where the turn of the outcome file came
+pub file_given : {I : Type 0} (delivers : I → I → Delivery → Type 0) (e : Instance) (old : Option I) (file new : I)
     (taken : Result (List Bool) Stop) → old ≡ Some file
-    → IfTaken taken (Gives (StatesOutcome e) (reading source file new))
-    → IfTaken taken (ReadsOutcome e (file_reading source old (Some new)))
-file_read {R} source e old file new taken is from =
-    subst (λ (o : Option R). IfTaken taken (ReadsOutcome e (file_reading source o (Some new)))) (sym is) (go taken from)
+    → IfTaken taken (Gives (StatesOutcome e) (turn delivers file new))
+    → IfTaken taken (GivesOutcome e (file_turn delivers old (Some new)))
+file_given {I} delivers e old file new taken is from =
+    subst (λ (o : Option I). IfTaken taken (GivesOutcome e (file_turn delivers o (Some new)))) (sym is) (go taken from)
   where
-    go : (r : Result (List Bool) Stop) → IfTaken r (Gives (StatesOutcome e) (reading source file new))
-        → IfTaken r (ReadsOutcome e (file_reading source (Some file) (Some new)))
+    go : (r : Result (List Bool) Stop) → IfTaken r (Gives (StatesOutcome e) (turn delivers file new))
+        → IfTaken r (GivesOutcome e (file_turn delivers (Some file) (Some new)))
     go (Ok marks) g =
         record {
           delivery = Some g.delivery;

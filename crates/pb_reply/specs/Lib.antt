@@ -4,6 +4,6 @@ pub mod Inputs
 pub mod Certificates
 pub mod Promises
 pub mod Replies
-pub mod Readings
+pub mod Turns
 pub mod Writing
 pub mod Inside

@@ -13,6 +13,7 @@ use Rattle.pb_reply.specs.Lines.{refusal_line}
 use Rattle.pb_reply.specs.declared.input.InputRefusal.{InputRefusal}
 use Rattle.pb_reply.specs.declared.status.Status.{Status}
 use Rattle.pb_reply.specs.declared.status.Status.TheVariants.{Yes, No, Refused}
+use Rattle.pb_reply.specs.declared.status.Unmet.TheVariants as unmet
 
 -- a reply: its lines, and how it ends
 pub record Reply : Type 0 where
@@ -40,19 +41,19 @@ abbrev pub with_input : {A : Type 0} → Stated A → (A → Reply) → Reply
 with_input (Ok a) reply = reply a
 with_input (Err r) reply = refused r
 
--- yes where nothing fails
+-- yes where nothing fails, and else no, with what fails first
 abbrev pub price_status : Verdict → Status
 price_status verdict.Supported = Yes
-price_status (verdict.Failed f) = No
+price_status (verdict.Failed f) = No (unmet.Prices f)
 
 abbrev pub violation_status : ViolationVerdict → Status
 violation_status violation_verdict.Violation = Yes
-violation_status (violation_verdict.Failed f) = No
+violation_status (violation_verdict.Failed f) = No (unmet.Violation f)
 
 abbrev pub refutation_status : RefutationVerdict → Status
 refutation_status refutation_verdict.Unpriceable = Yes
 refutation_status refutation_verdict.UnpriceableUnderCover = Yes
-refutation_status (refutation_verdict.Failed f) = No
+refutation_status (refutation_verdict.Failed f) = No (unmet.Refutation f)
 
 -- the answer is the text of one of these replies
 pub record TellsReply (is_reply : Reply → Type 0) (answer : Answer Status) : Type 0 where

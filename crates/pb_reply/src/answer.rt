@@ -96,9 +96,9 @@ pub trait Telling: Sized + Drop {
     fn tell(alloc: Global, reply: Reply) -> Result<Self, AllocError>
         ensures { IfOk result (λ own. own ≡ told reply) };
 
-    /// Writes the text of the replies of which this is told.
-    fn write_out<W: Sink>(&self, alloc: Global, out: &mut W) -> Result<Status, Fault>
-        ensures { (reply : replies.Reply) → self.now ≡ told reply → Writes W.Sink (λ answer. answer ≡ answer_of reply) result out.old out.new };
+    /// The answer on the replies of which this is told.
+    fn into_answer(self, alloc: Global) -> Result<Answer<Status>, AllocError>
+        ensures { (reply : replies.Reply) → self ≡ told reply → IfOk result (λ answer. answer ≡ answer_of reply) };
 }
 
 impl Telling for Reply {
@@ -108,8 +108,8 @@ impl Telling for Reply {
         Ok(reply)
     }
 
-    fn write_out<W: Sink>(&self, alloc: Global, out: &mut W) -> Result<Status, Fault> {
-        write_reply(alloc, self, out)
+    fn into_answer(self, alloc: Global) -> Result<Answer<Status>, AllocError> {
+        self.answer(alloc)
     }
 }
 
@@ -120,8 +120,8 @@ impl Telling for Answer<Status> {
         reply.answer(alloc)
     }
 
-    fn write_out<W: Sink>(&self, _alloc: Global, out: &mut W) -> Result<Status, Fault> {
-        self.write(out)
+    fn into_answer(self, _alloc: Global) -> Result<Answer<Status>, AllocError> {
+        Ok(self)
     }
 }
 

@@ -2,6 +2,7 @@
 #![tactic(auto)]
 
 mod answer;
+mod given;
 mod input;
 mod lines;
 mod loaded;
@@ -10,10 +11,11 @@ mod taking;
 mod verdict_lines;
 
 pub use answer::{Answer, Reply, Telling, one_line, refused, settled, stopped, write_reply};
+pub use given::{Given, Lend};
 pub use input::{InputFault, InputName, InputRefusal, Stop, stop_at};
 pub use lines::{push_line, push_notes, push_number, read_line};
-pub use loaded::{File, Loaded, bytes_of, optional_file};
-pub use status::{Fault, Status};
+pub use loaded::{File, Loaded, bytes_of};
+pub use status::{Fault, Status, Unmet};
 pub use taking::{
     election_of, kind_in, outcome_of, refutation_of, take_election, take_outcome, violation_of,
 };

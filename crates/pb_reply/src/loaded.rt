@@ -1,5 +1,5 @@
 //! Files in memory: their bytes, or why they are not there.
-ghost use Rattle.std.specs.Prelude.{◌≡◌, IfOk, IfErr, option_copied, option_map};
+ghost use Rattle.std.specs.Prelude.{◌≡◌, IfOk, IfErr};
 ghost use Rattle.pb_records.specs.Loading.{Delivered};
 ghost use Rattle.pb_records.specs.Loading as delivery;
 ghost use Rattle.pb_reply.specs.Inputs.{in_memory, most_bytes};
@@ -45,17 +45,6 @@ impl Loaded {
             Err(LoadFault::Memory) => Err(AllocError {}),
         }
     }
-
-    /// The file, its bytes lent.
-    pub fn lend(&self) -> File<'_>
-        ensures { lent result ≡ delivery_of self.now }
-    {
-        match self {
-            Loaded::Bytes(bytes) => File::in_memory(bytes),
-            Loaded::Unread => File::Unread,
-            Loaded::TooLong => File::TooLong,
-        }
-    }
 }
 
 impl<'a> File<'a> {
@@ -67,16 +56,6 @@ impl<'a> File<'a> {
             return File::TooLong;
         }
         File::Bytes(bytes)
-    }
-}
-
-/// A file that is given or not.
-pub fn optional_file<'a>(bytes: Option<&'a [u8]>) -> Option<File<'a>>
-    ensures { option_map lent result ≡ option_map in_memory (option_copied bytes.entry) }
-{
-    match bytes {
-        Some(bytes) => Some(File::in_memory(bytes)),
-        None => None,
     }
 }
 

@@ -3,7 +3,9 @@ ghost use Rattle.std.specs.Prelude.{◌≡◌};
 ghost use Rattle.pb_reply.specs.declared.status.Fault.TheVariants.{Memory, Write};
 
 use crate::input::InputRefusal;
+use pb_cohesion::{RefutationFailure, ViolationFailure};
 use pb_election::PutFault;
+use pb_price::Failure;
 use std::alloc::AllocError;
 use thiserror::Error;
 
@@ -12,10 +14,23 @@ use thiserror::Error;
 pub enum Status {
     /// The inputs are what they should be, and all that was asked holds.
     Yes,
-    /// The inputs are what they should be, and something that was asked does not hold.
-    No,
+    /// The inputs are what they should be, and this does not hold.
+    No(Unmet),
     /// This input is not what it should be.
     Refused(InputRefusal),
+}
+
+/// The first condition or test that does not hold, of a certificate or of each of two.
+#[derive(Clone, Copy, Debug, PartialEq, Eq)]
+pub enum Unmet {
+    /// A condition on prices.
+    Prices(Failure),
+    /// A test of a violation.
+    Violation(ViolationFailure),
+    /// A test of a refutation.
+    Refutation(RefutationFailure),
+    /// A condition on prices, and a test of the violation beside them.
+    Both(Failure, ViolationFailure),
 }
 
 /// Why an answer was not written whole.

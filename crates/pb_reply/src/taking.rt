@@ -7,13 +7,14 @@ ghost use Rattle.pb_certificate.specs.Violations.{ClaimFits};
 ghost use Rattle.pb_reply.specs.Inputs.{StatesElection, StatesOutcome, StatesRefutation, StatesViolation, its_outcome};
 ghost use Rattle.pb_reply.specs.Certificates.{kind_in};
 ghost use Rattle.pb_reply.specs.Inside.Loaded.{lent};
-ghost use Rattle.pb_reply.specs.Readings.{file_reading, reading};
-ghost use Rattle.pb_reply.specs.Inside.Taking.{AuditsOutcome, Gives, IfTaken, ReadsOutcome, as_marks, claimed};
+ghost use Rattle.pb_reply.specs.Turns.{file_turn, turn};
+ghost use Rattle.pb_reply.specs.Inside.Taking.{AuditsOutcome, Gives, GivesOutcome, IfTaken, as_marks, claimed};
 
+use crate::given::{Given, Lend};
 use crate::input::{InputFault, InputName, Stop, stop_at};
-use crate::loaded::{File, Loaded, bytes_of};
+use crate::loaded::{File, bytes_of};
 use pb_certificate::{Kind, Refutation, Violation, kind_of, read_outcome};
-use pb_election::{Election, Outcome, Source};
+use pb_election::{Election, Outcome};
 use std::alloc::{AllocError, Global};
 
 /// The election that a file states.
@@ -106,38 +107,39 @@ fn own_outcome(alloc: Global, election: &Election) -> Result<Outcome, Stop>
     }
 }
 
-/// The election that a reader delivers. Its bytes are let go.
-pub fn take_election<R: Source>(alloc: Global, source: &mut R) -> Result<Election, Stop>
-    ensures { IfTaken result (Gives StatesElection (reading R.Source source.old source.new)) }
+/// The election of an input, whose turn has come. What was taken of it is let go.
+pub fn take_election<G: Given>(alloc: Global, input: &mut G) -> Result<Election, Stop>
+    ensures { IfTaken result (Gives StatesElection (turn G.delivers input.old input.new)) }
 {
-    let loaded = Loaded::load(alloc, source)?;
-    election_of(alloc, loaded.lend())
+    let taken = input.take(alloc)?;
+    election_of(alloc, taken.lend())
 }
 
-/// The outcome that is audited, with an outcome file that a reader delivers, where one is given. Its bytes are let go.
-pub fn take_outcome<R: Source>(
+/// The outcome that is audited, with an outcome file whose turn has come, where one is given. What was taken of it is
+/// let go.
+pub fn take_outcome<G: Given>(
     alloc: Global,
-    source: &mut Option<R>,
+    input: &mut Option<G>,
     election: &Election,
 ) -> Result<Outcome, Stop>
-    ensures taken { IfTaken (as_marks result) (ReadsOutcome election.now (file_reading R.Source source.old source.new)) }
+    ensures taken { IfTaken (as_marks result) (GivesOutcome election.now (file_turn G.delivers input.old input.new)) }
     ensures fits { IfOk result (λ outcome. OutcomeFits outcome election.now) }
 {
-    match source {
-        Some(source) => take_outcome_file(alloc, source, election),
+    match input {
+        Some(input) => take_outcome_file(alloc, input, election),
         None => own_outcome(alloc, election),
     }
 }
 
-/// The outcome of an outcome file that a reader delivers.
-fn take_outcome_file<R: Source>(
+/// The outcome of an outcome file, whose turn has come.
+fn take_outcome_file<G: Given>(
     alloc: Global,
-    source: &mut R,
+    input: &mut G,
     election: &Election,
 ) -> Result<Outcome, Stop>
-    ensures taken { IfTaken (as_marks result) (Gives (StatesOutcome election.now) (reading R.Source source.old source.new)) }
+    ensures taken { IfTaken (as_marks result) (Gives (StatesOutcome election.now) (turn G.delivers input.old input.new)) }
     ensures fits { IfOk result (λ outcome. OutcomeFits outcome election.now) }
 {
-    let loaded = Loaded::load(alloc, source)?;
-    outcome_in(alloc, loaded.lend(), election)
+    let taken = input.take(alloc)?;
+    outcome_in(alloc, taken.lend(), election)
 }

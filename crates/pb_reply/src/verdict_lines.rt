@@ -5,8 +5,8 @@ ghost use Rattle.pb_reply.specs.Lines as spec;
 ghost use Rattle.pb_reply.specs.Named.{NamesProject, PricesNameProject, RefutationNamesProject, ViolationNamesProject};
 ghost use Rattle.pb_election.specs.Instance.{IsProject};
 
-use crate::Status;
 use crate::lines::push_number;
+use crate::{Status, Unmet};
 use pb_cohesion::{RefutationFailure, RefutationVerdict, ViolationFailure, ViolationVerdict};
 use pb_election::Election;
 use pb_price::{Failure, Verdict};
@@ -98,7 +98,7 @@ pub fn price_status(verdict: Verdict) -> Status
 {
     match verdict {
         Verdict::Supported => Status::Yes,
-        Verdict::Failed(_) => Status::No,
+        Verdict::Failed(failure) => Status::No(Unmet::Prices(failure)),
     }
 }
 
@@ -126,7 +126,7 @@ pub fn violation_status(verdict: ViolationVerdict) -> Status
 {
     match verdict {
         ViolationVerdict::Violation => Status::Yes,
-        ViolationVerdict::Failed(_) => Status::No,
+        ViolationVerdict::Failed(failure) => Status::No(Unmet::Violation(failure)),
     }
 }
 
@@ -155,7 +155,7 @@ pub fn refutation_status(verdict: RefutationVerdict) -> Status
 {
     match verdict {
         RefutationVerdict::Unpriceable | RefutationVerdict::UnpriceableUnderCover => Status::Yes,
-        RefutationVerdict::Failed(_) => Status::No,
+        RefutationVerdict::Failed(failure) => Status::No(Unmet::Refutation(failure)),
     }
 }
 

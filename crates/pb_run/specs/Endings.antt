@@ -10,7 +10,7 @@ use Rattle.pb_run.specs.declared.end.End.TheVariants.{Answered, Reported, Help, 
 -- since an ending doesn't tell whether the help was written.
 abbrev pub HasStatus : End → ℕ → Type 0
 HasStatus (Answered Yes) status = status ≡ 0
-HasStatus (Answered No) status = status ≡ 1
+HasStatus (Answered (No u)) status = status ≡ 1
 HasStatus (Answered (Refused r)) status = status ≡ 2
 HasStatus (Reported AllYes) status = status ≡ 0
 HasStatus (Reported SomeNo) status = status ≡ 1

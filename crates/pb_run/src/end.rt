@@ -43,7 +43,7 @@ impl End {
     {
         match self {
             End::Answered(Status::Yes) => 0,
-            End::Answered(Status::No) => 1,
+            End::Answered(Status::No(_)) => 1,
             End::Answered(Status::Refused(_)) => 2,
             End::Reported(FolderStatus::AllYes) => 0,
             End::Reported(FolderStatus::SomeNo) => 1,

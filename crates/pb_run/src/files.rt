@@ -1,26 +1,13 @@
-//! The commands, on files at paths.
+//! The answers on files at paths.
 use crate::file::FileReader;
 use crate::watched::WatchedReader;
-use pb_audit::{
-    Fault, Status, run_both_with_notes, run_explain, run_margins, run_prices, run_read,
-    run_refutation, run_tidy, run_violation,
-};
+use pb_audit::{Answer, Question, Status, answer};
 use pb_command::Inputs;
-use pb_election::{Input, Sink};
-use pb_page::{Language, PageNames, run_page};
+use pb_election::Input;
+use pb_page::{Language, PageNames, page_answer};
 use pb_price::Mode;
-use std::alloc::Global;
+use std::alloc::AllocError;
 use std::cell::Cell;
-use std::io::Read;
-
-/// The files that commands on a certificate share, as readers.
-#[derive(Drop)]
-struct Opened<'a> {
-    alloc: Global,
-    election: NamedFile<'a>,
-    outcome: Option<NamedFile<'a>>,
-    certificate: NamedFile<'a>,
-}
 
 /// A file at a path, whose failure is noted.
 type NamedFile<'a> = Input<WatchedReader<'a, FileReader<'a>>>;
@@ -32,18 +19,44 @@ pub struct Files<'a> {
     pub failure: &'a Cell<Option<i32>>,
 }
 
-/// What is asked of a certificate.
+/// What is asked of files.
 #[derive(Clone, Copy)]
-pub enum Question<'a> {
-    Prices(Mode),
-    Violation,
-    Refutation,
-    /// The violation certificate is at this path.
-    Both(&'a str, Mode),
-    Explain(Mode),
+pub enum Asked {
+    Question(Question),
+    /// The page about a certificate.
     Page(Mode, Language),
-    Margins,
-    Tidy,
+}
+
+/// The paths of the files of which something is asked.
+#[derive(Clone, Copy)]
+pub struct Paths<'a> {
+    pub election: &'a str,
+    pub outcome: Option<&'a str>,
+    pub certificate: &'a str,
+    /// The violation certificate beside prices.
+    pub violation: &'a str,
+}
+
+impl<'a> Paths<'a> {
+    /// An election alone.
+    pub fn of_election(election: &'a str) -> Paths<'a> {
+        Paths {
+            election,
+            outcome: None,
+            certificate: "",
+            violation: "",
+        }
+    }
+
+    /// The paths of a task, but for a violation certificate beside prices.
+    pub fn of(inputs: &'a Inputs) -> Paths<'a> {
+        Paths {
+            election: &inputs.election,
+            outcome: inputs.outcome.as_deref(),
+            certificate: &inputs.certificate,
+            violation: "",
+        }
+    }
 }
 
 impl<'a> Files<'a> {
@@ -52,182 +65,56 @@ impl<'a> Files<'a> {
         Input::new(WatchedReader::new(FileReader::new(self.rt, path), self.failure))
     }
 
-    /// Answers `read` on an election that is no file.
-    pub fn read_from<I: Read, O: Sink>(self, input: &mut I, out: &mut O) -> Result<Status, Fault> {
-        let mut election = Input::new(WatchedReader::new(input, self.failure));
-        run_read(self.rt.alloc(), &mut election, out)
-    }
-
-    /// Answers `read`.
-    pub fn read<O: Sink>(self, election: &'a str, out: &mut O) -> Result<Status, Fault> {
-        run_read(self.rt.alloc(), &mut self.open(election), out)
-    }
-
-    /// Answers the question, and adds the notes on the election, and on a yes that says little, to `notes`, where the
-    /// command has them.
-    pub fn answer<O: Sink>(
+    /// Answers what is asked of the files at these paths, and adds the notes on the election, and on a yes that says
+    /// little, to `notes`, where the question has them. A file whose turn doesn't come isn't opened.
+    pub fn answer(
         self,
-        inputs: &'a Inputs,
-        question: Question<'a>,
+        paths: Paths<'a>,
+        asked: Asked,
         notes: &mut Vec<String>,
-        out: &mut O,
-    ) -> Result<Status, Fault> {
-        let mut opened = Opened {
-            alloc: self.rt.alloc(),
-            election: self.open(&inputs.election),
-            outcome: match &inputs.outcome {
-                Some(path) => Some(self.open(path)),
-                None => None,
-            },
-            certificate: self.open(&inputs.certificate),
+    ) -> Result<Answer<Status>, AllocError> {
+        let mut election = self.open(paths.election);
+        let mut outcome = match paths.outcome {
+            Some(path) => Some(self.open(path)),
+            None => None,
         };
-        match question {
-            Question::Prices(mode) => opened.prices(mode, notes, out),
-            Question::Violation => opened.violation(notes, out),
-            Question::Refutation => opened.refutation(notes, out),
-            Question::Both(path, mode) => opened.both(&mut self.open(path), mode, notes, out),
-            Question::Explain(mode) => opened.explain(mode, notes, out),
-            Question::Page(mode, language) => opened.page(names_of(inputs), mode, language, out),
-            Question::Margins => opened.margins(out),
-            Question::Tidy => opened.tidy(out),
+        let mut certificate = self.open(paths.certificate);
+        match asked {
+            Asked::Question(question) => answer(
+                self.rt.alloc(),
+                question,
+                &mut election,
+                &mut outcome,
+                &mut certificate,
+                &mut self.open(paths.violation),
+                notes,
+            ),
+            Asked::Page(mode, language) => page_answer(
+                self.rt.alloc(),
+                names_of(paths),
+                &mut election,
+                &mut outcome,
+                &mut certificate,
+                mode,
+                language,
+            ),
         }
     }
 }
 
-impl Opened<'_> {
-    fn prices<O: Sink>(
-        &mut self,
-        mode: Mode,
-        notes: &mut Vec<String>,
-        out: &mut O,
-    ) -> Result<Status, Fault> {
-        run_prices(
-            self.alloc,
-            &mut self.election,
-            &mut self.outcome,
-            &mut self.certificate,
-            mode,
-            notes,
-            out,
-        )
-    }
-
-    fn violation<O: Sink>(
-        &mut self,
-        notes: &mut Vec<String>,
-        out: &mut O,
-    ) -> Result<Status, Fault> {
-        run_violation(
-            self.alloc,
-            &mut self.election,
-            &mut self.outcome,
-            &mut self.certificate,
-            notes,
-            out,
-        )
-    }
-
-    fn refutation<O: Sink>(
-        &mut self,
-        notes: &mut Vec<String>,
-        out: &mut O,
-    ) -> Result<Status, Fault> {
-        run_refutation(
-            self.alloc,
-            &mut self.election,
-            &mut self.outcome,
-            &mut self.certificate,
-            notes,
-            out,
-        )
-    }
-
-    fn both<O: Sink>(
-        &mut self,
-        violation: &mut NamedFile<'_>,
-        mode: Mode,
-        notes: &mut Vec<String>,
-        out: &mut O,
-    ) -> Result<Status, Fault> {
-        run_both_with_notes(
-            self.alloc,
-            &mut self.election,
-            &mut self.outcome,
-            &mut self.certificate,
-            violation,
-            mode,
-            notes,
-            out,
-        )
-    }
-
-    fn explain<O: Sink>(
-        &mut self,
-        mode: Mode,
-        notes: &mut Vec<String>,
-        out: &mut O,
-    ) -> Result<Status, Fault> {
-        run_explain(
-            self.alloc,
-            &mut self.election,
-            &mut self.outcome,
-            &mut self.certificate,
-            mode,
-            notes,
-            out,
-        )
-    }
-
-    fn page<O: Sink>(
-        &mut self,
-        names: PageNames<'_>,
-        mode: Mode,
-        language: Language,
-        out: &mut O,
-    ) -> Result<Status, Fault> {
-        run_page(
-            self.alloc,
-            names,
-            &mut self.election,
-            &mut self.outcome,
-            &mut self.certificate,
-            mode,
-            language,
-            out,
-        )
-    }
-
-    fn margins<O: Sink>(&mut self, out: &mut O) -> Result<Status, Fault> {
-        run_margins(
-            self.alloc,
-            &mut self.election,
-            &mut self.outcome,
-            &mut self.certificate,
-            out,
-        )
-    }
-
-    fn tidy<O: Sink>(&mut self, out: &mut O) -> Result<Status, Fault> {
-        run_tidy(self.alloc, &mut self.election, &mut self.certificate, out)
-    }
-}
-
 /// The names of the files, as a page shows them.
-fn names_of(inputs: &Inputs) -> PageNames<'_> {
+fn names_of(paths: Paths<'_>) -> PageNames<'_> {
     PageNames {
-        election: name_of(&inputs.election),
-        outcome: match &inputs.outcome {
-            Some(path) => Some(name_of(path)),
-            None => None,
-        },
-        certificate: name_of(&inputs.certificate),
+        election: name_of(paths.election),
+        outcome: name_of(paths.outcome.unwrap_or("")),
+        certificate: name_of(paths.certificate),
     }
 }
 
 /// The name of the file at a path, without its folders.
-fn name_of(path: &str) -> &str {
+fn name_of(path: &str) -> &[u8] {
     match path.rsplit_once('/') {
-        Some((_, name)) => name,
-        None => path,
+        Some((_, name)) => name.as_bytes(),
+        None => path.as_bytes(),
     }
 }

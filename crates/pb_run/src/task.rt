@@ -1,11 +1,12 @@
 //! Tasks, done on the files that they name.
 use crate::end::End;
-use crate::files::{Files, Question};
+use crate::files::{Asked, Files, Paths};
 use crate::folder::run_folder;
 use crate::refusals::{tell_hint, tell_notes};
-use pb_audit::{Fault, Status};
-use pb_command::{Inputs, Task};
-use pb_election::Output;
+use crate::watched::WatchedReader;
+use pb_audit::{Fault, Question, Status, run_read};
+use pb_command::Task;
+use pb_election::{Input, Output};
 use std::cell::Cell;
 use std::io::{IsTerminal, Read, Write};
 
@@ -28,12 +29,13 @@ pub fn run_task<I: Read, O: Write, E: Write + IsTerminal>(
         rt,
         failure: &failure,
     };
-    let answer = match (question_of(task), task) {
-        (Some((inputs, question)), _) => files.answer(inputs, question, &mut notes, &mut out),
-        (None, Task::Read(Some(election))) => files.read(election, &mut out),
-        (None, _) => files.read_from(input, &mut out),
+    let status = match asked_by(task) {
+        Some((paths, asked)) => files.answer(paths, asked, &mut notes)?.write(&mut out)?,
+        None => {
+            let mut election = Input::new(WatchedReader::new(input, &failure));
+            run_read(rt.alloc(), &mut election, &mut out)?
+        }
     };
-    let status = answer?;
     tell_notes(rt, task, &notes, err);
     if let Status::Refused(refusal) = status {
         tell_hint(rt, task, refusal, failure.get(), err);
@@ -41,25 +43,36 @@ pub fn run_task<I: Read, O: Write, E: Write + IsTerminal>(
     Ok(End::Answered(status))
 }
 
-/// What a task asks of a certificate; nothing where it has none, or is on a folder.
-fn question_of(task: &Task) -> Option<(&Inputs, Question<'_>)> {
-    Some(match task {
-        Task::Read(_) | Task::Folder { .. } => return None,
-        Task::Prices { inputs, mode } => (inputs, Question::Prices(*mode)),
-        Task::Violation(inputs) => (inputs, Question::Violation),
-        Task::Refutation(inputs) => (inputs, Question::Refutation),
+/// What a task asks of the files at which paths; nothing where it is on standard input or on a folder.
+fn asked_by(task: &Task) -> Option<(Paths<'_>, Asked)> {
+    let (inputs, asked) = match task {
+        Task::Read(None) | Task::Folder { .. } => return None,
+        Task::Read(Some(election)) => return Some((
+            Paths::of_election(election),
+            Asked::Question(Question::Read),
+        )),
         Task::Both {
             inputs,
             violation,
             mode,
-        } => (inputs, Question::Both(violation, *mode)),
-        Task::Explain { inputs, mode } => (inputs, Question::Explain(*mode)),
+        } => {
+            let paths = Paths {
+                violation,
+                ..Paths::of(inputs)
+            };
+            return Some((paths, Asked::Question(Question::Both(*mode))));
+        }
+        Task::Prices { inputs, mode } => (inputs, Asked::Question(Question::Prices(*mode))),
+        Task::Violation(inputs) => (inputs, Asked::Question(Question::Violation)),
+        Task::Refutation(inputs) => (inputs, Asked::Question(Question::Refutation)),
+        Task::Explain { inputs, mode } => (inputs, Asked::Question(Question::Explain(*mode))),
         Task::Page {
             inputs,
             mode,
             language,
-        } => (inputs, Question::Page(*mode, *language)),
-        Task::Margins(inputs) => (inputs, Question::Margins),
-        Task::Tidy(inputs) => (inputs, Question::Tidy),
-    })
+        } => (inputs, Asked::Page(*mode, *language)),
+        Task::Margins(inputs) => (inputs, Asked::Question(Question::Margins)),
+        Task::Tidy(inputs) => (inputs, Asked::Question(Question::Tidy)),
+    };
+    Some((Paths::of(inputs), asked))
 }

@@ -1,12 +1,13 @@
 //! The commands, over readers and in memory, each with sample files and the answer on them.
 use pb_audit::{
-    Answer, Fault, FolderStatus, Status, both_reply, explained_reply, folder_text, margins_answer,
-    prices_reply, read_reply, refutation_reply, run_both, run_explain, run_margins, run_prices,
-    run_read, run_refutation, run_tidy, run_violation, tidy_answer, violation_reply,
+    Answer, Fault, FolderStatus, Question, Status, Unmet, answer, folder_text, run_both,
+    run_prices, run_read, run_tidy, run_violation,
 };
 use pb_certificate::{Prices, WriteFault};
+use pb_cohesion::{RefutationFailure, ViolationFailure};
 use pb_election::{Election, Input, Output};
 use pb_price::Mode;
+use pb_reply::File;
 use pb_samples::files::{
     ELECTION, EXPLAINED, FAIR_VIOLATION, MARGINS, OUTCOME, PRICES, REFUTATION, UNFAIR_ELECTION,
     UNTIDY_PRICES, VIOLATION,
@@ -99,9 +100,25 @@ impl Command {
     /// How that ends.
     pub fn status(self) -> Status {
         match self {
-            Command::Both | Command::Refutation => Status::No,
+            Command::Both => Status::No(Unmet::Violation(ViolationFailure::V4(1))),
+            Command::Refutation => Status::No(Unmet::Refutation(RefutationFailure::U2)),
             _ => Status::Yes,
         }
+    }
+
+    /// What it asks, where it asks something.
+    fn question(self) -> Option<Question> {
+        Some(match self {
+            Command::Read => Question::Read,
+            Command::Prices => Question::Prices(Mode::PLAIN),
+            Command::Violation => Question::Violation,
+            Command::Refutation => Question::Refutation,
+            Command::Both => Question::Both(STABLE_AND_COVERED),
+            Command::ExplainPrices | Command::ExplainViolation => Question::Explain(Mode::PLAIN),
+            Command::Margins => Question::Margins,
+            Command::Tidy => Question::Tidy,
+            Command::Folder | Command::Canonical => return None,
+        })
     }
 
     /// How it ends on these inputs, of which it takes those that it needs, and on this writer.
@@ -116,43 +133,41 @@ impl Command {
         let mut outcome = Some(Input::new(outcome));
         let mut first = Input::new(first);
         let mut second = Input::new(second);
-        let mut notes = Vec::new(alloc);
-        let (e, o, notes) = (&mut election, &mut outcome, &mut notes);
+        let (e, o) = (&mut election, &mut outcome);
         let (c, v) = (&mut first, &mut second);
-        match self {
-            Command::Read => run_read(alloc, e, out),
-            Command::Prices => run_prices(alloc, e, o, c, Mode::PLAIN, notes, out),
-            Command::Violation => run_violation(alloc, e, o, c, notes, out),
-            Command::Refutation => run_refutation(alloc, e, o, c, notes, out),
-            Command::Both => run_both(alloc, e, o, c, v, STABLE_AND_COVERED, out),
-            Command::ExplainPrices | Command::ExplainViolation => {
-                run_explain(alloc, e, o, c, Mode::PLAIN, notes, out)
+        match (self, self.question()) {
+            (Command::Read, _) => run_read(alloc, e, out),
+            (Command::Prices, _) => run_prices(alloc, e, o, c, Mode::PLAIN, out),
+            (Command::Violation, _) => run_violation(alloc, e, o, c, out),
+            (Command::Both, _) => run_both(alloc, e, o, c, v, STABLE_AND_COVERED, out),
+            (Command::Tidy, _) => run_tidy(alloc, e, c, out),
+            (Command::Folder, _) => write_report(alloc, out),
+            (_, Some(question)) => {
+                let mut notes = Vec::new(alloc);
+                answer(alloc, question, e, o, c, v, &mut notes)?.write(out)
             }
-            Command::Margins => run_margins(alloc, e, o, c, out),
-            Command::Tidy => run_tidy(alloc, e, c, out),
-            Command::Folder => write_report(alloc, out),
-            Command::Canonical => write_canonical(alloc, out),
+            (_, None) => write_canonical(alloc, out),
         }
     }
 
-    /// What it replies on its texts as files in memory.
-    pub fn reply(self, alloc: Global) -> Result<Answer<Status>, AllocError> {
-        let [election, outcome, first, second] = self.texts();
-        let (e, o) = (election.as_bytes(), Some(outcome.as_bytes()));
-        let (c, v) = (first.as_bytes(), second.as_bytes());
-        let reply = match self {
-            Command::Read | Command::Folder | Command::Canonical => read_reply(alloc, e)?,
-            Command::Prices => prices_reply(alloc, e, o, c, Mode::PLAIN)?,
-            Command::Violation => violation_reply(alloc, e, o, c)?,
-            Command::Refutation => refutation_reply(alloc, e, o, c)?,
-            Command::Both => both_reply(alloc, e, o, c, v, STABLE_AND_COVERED)?,
-            Command::ExplainPrices | Command::ExplainViolation => {
-                explained_reply(alloc, e, o, c, Mode::PLAIN)?
-            }
-            Command::Margins => return margins_answer(alloc, e, o, c),
-            Command::Tidy => return tidy_answer(alloc, e, c),
+    /// What it answers on its texts as files in memory, where it asks something.
+    pub fn answer_in_memory(self, alloc: Global) -> Result<Option<Answer<Status>>, AllocError> {
+        let Some(question) = self.question() else {
+            return Ok(None);
         };
-        reply.answer(alloc)
+        let [election, outcome, first, second] = self.texts();
+        let mut outcome = Some(File::in_memory(outcome.as_bytes()));
+        let mut notes = Vec::new(alloc);
+        let answer = answer(
+            alloc,
+            question,
+            &mut File::in_memory(election.as_bytes()),
+            &mut outcome,
+            &mut File::in_memory(first.as_bytes()),
+            &mut File::in_memory(second.as_bytes()),
+            &mut notes,
+        )?;
+        Ok(Some(answer))
     }
 }
 
@@ -163,7 +178,7 @@ fn write_report<W: Write>(alloc: Global, out: &mut Output<W>) -> Result<Status, 
     };
     match report.write(out)? {
         FolderStatus::AllYes => Ok(Status::Yes),
-        _ => Ok(Status::No),
+        _ => Err(Fault::Memory),
     }
 }
 

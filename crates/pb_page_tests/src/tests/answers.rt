@@ -1,7 +1,8 @@
 //! The answer on a page.
 use super::page;
+use pb_cohesion::ViolationFailure;
 use pb_page::Language;
-use pb_reply::Status;
+use pb_reply::{Status, Unmet};
 use pb_samples::files::{ELECTION, FAIR_VIOLATION, PRICES};
 use std::test::Fail;
 
@@ -20,7 +21,7 @@ fn answer_has_its_line_and_its_language(rt: HostRuntime) -> Result<(), Fail> {
             Language::Polish,
             "<!DOCTYPE html>\n<html lang=\"pl\">",
             "<code>failed V4 voter 1</code>",
-            Status::No,
+            Status::No(Unmet::Violation(ViolationFailure::V4(1))),
         ),
     ] {
         let (text, ends) = page(rt.alloc(), ELECTION, b"c.csv", certificate, language)?;

@@ -1,5 +1,5 @@
 -- What the values stand for that the code takes and hands on between an input and its reply. What an input states is
--- said without them, in `Inputs` and `Readings`.
+-- said without them, in `Inputs` and `Turns`.
 use Rattle.std.specs.Prelude.{◌≡◌, if◌then◌else◌, Bool, true, false, ℕ, List, Option, Some, None, Result, Ok, Err}
 use Rattle.std.specs.Option.{option_map}
 use Rattle.pb_election.specs.Instance.{Instance}
@@ -14,7 +14,7 @@ use Rattle.pb_certificate.specs.declared.refusal.CertFault.{CertFault}
 use Rattle.pb_certificate.specs.declared.refusal.CertFault.TheVariants as cert_fault
 use Rattle.pb_reply.specs.Replies.{Reply, refused}
 use Rattle.pb_reply.specs.Inputs.{Stated, StatesFile, StatesOutcome, audited, refusal_of}
-use Rattle.pb_reply.specs.Readings.{Delivers, DeliversFile, FileReading, Reading}
+use Rattle.pb_reply.specs.Turns.{FileTurn, Turn}
 use Rattle.pb_reply.specs.declared.input.InputFault.{InputFault}
 use Rattle.pb_reply.specs.declared.input.InputFault.TheVariants as fault
 use Rattle.pb_reply.specs.declared.input.InputName.{InputName}
@@ -67,16 +67,16 @@ pub record AuditsOutcome (e : Instance) (outcome : Option Delivery) (stated : St
   pub given : StatesFile (StatesOutcome e) outcome file
   pub is : stated ≡ audited e file
 
--- a reader delivered an input of a kind that states this
-pub record Gives {A : Type 0} (states : Delivery → Stated A → Type 0) (r : Reading) (stated : Stated A) : Type 0 where
+-- the turn of an input came, and it states this
+pub record Gives {A : Type 0} (states : Delivery → Stated A → Type 0) (t : Turn) (stated : Stated A) : Type 0 where
   pub delivery : Delivery
-  pub delivered : Delivers r delivery
+  pub delivered : t (Some delivery)
   pub stating : states delivery stated
 
--- the outcome that is audited, with an outcome file that a reader delivered, where one is given
-pub record ReadsOutcome (e : Instance) (outcome : FileReading) (stated : Stated (List Bool)) : Type 0 where
+-- the turn of the outcome file came, where one is given, and this is the outcome that is audited
+pub record GivesOutcome (e : Instance) (t : FileTurn) (stated : Stated (List Bool)) : Type 0 where
   pub delivery : Option Delivery
-  pub delivered : DeliversFile outcome.before outcome.after delivery
+  pub delivered : t (Some delivery)
   pub audits : AuditsOutcome e delivery stated
 
 -- the reply on what the work stopped for; there is none where memory was wanted

@@ -1,6 +1,7 @@
 //! Exit statuses, and what is said on standard output and standard error at the end, where no words are at fault.
 use super::fakes::FakeWriter;
-use pb_audit::{Fault, FolderStatus, InputFault, InputName, InputRefusal, Status};
+use pb_audit::{Fault, FolderStatus, InputFault, InputName, InputRefusal, Status, Unmet};
+use pb_price::Failure;
 use pb_run::End;
 use std::test::Fail;
 
@@ -10,9 +11,10 @@ fn answers_leave_nothing_to_say(rt: HostRuntime) -> Result<(), Fail> {
         input: InputName::Certificate,
         fault: InputFault::TooLong,
     });
+    let unmet = Status::No(Unmet::Prices(Failure::Cover));
     for (end, want) in [
         (End::Answered(Status::Yes), 0),
-        (End::Answered(Status::No), 1),
+        (End::Answered(unmet), 1),
         (End::Answered(refused), 2),
         (End::Reported(FolderStatus::AllYes), 0),
         (End::Reported(FolderStatus::SomeNo), 1),

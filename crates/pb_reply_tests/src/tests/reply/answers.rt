@@ -2,18 +2,21 @@
 use crate::tests::lines::expect_lines;
 use crate::tests::refusals::{in_certificate, in_election, refused};
 use pb_certificate::CertFault;
+use pb_cohesion::ViolationFailure;
 use pb_election::ElectionFault;
 use pb_reply::{
-    Answer, Fault, InputFault, InputName, Reply, Status, one_line, settled, stop_at, stopped,
+    Answer, Fault, InputFault, InputName, Reply, Status, Unmet, one_line, settled, stop_at, stopped,
 };
 use std::alloc::{AllocError, Global};
 use std::process::Abort;
 use std::test::Fail;
 
+const NO: Status = Status::No(Unmet::Violation(ViolationFailure::V1));
+
 /// A reply that work came to.
 fn reply(alloc: Global) -> Result<Reply, AllocError> {
     let line = String::from_str(alloc, "supported stable")?;
-    let mut reply = one_line(alloc, line, Status::No)?;
+    let mut reply = one_line(alloc, line, NO)?;
     reply.lines.push(String::from_str(alloc, "failed V1")?)?;
     Ok(reply)
 }
@@ -29,9 +32,9 @@ fn work_that_came_to_its_end_is_settled_as_it_is(rt: HostRuntime) -> Result<(), 
     let alloc = rt.alloc();
     let own = settled(alloc, Ok(reply(alloc)?))?;
     expect_lines(&rt, &own.lines, &["supported stable", "failed V1"]);
-    assert_eq!(rt; own.status, Status::No);
+    assert_eq!(rt; own.status, NO);
     let answer = settled(alloc, Ok(own.answer(alloc)?))?;
-    expect_answer(&rt, &answer, "supported stable\nfailed V1\n", Status::No);
+    expect_answer(&rt, &answer, "supported stable\nfailed V1\n", NO);
     Ok(())
 }
 

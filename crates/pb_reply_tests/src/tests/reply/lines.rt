@@ -4,7 +4,7 @@ use pb_cohesion::{ViolationFailure, ViolationVerdict};
 use pb_election::Election;
 use pb_price::{Failure, Verdict};
 use pb_reply::{
-    Status, price_line, price_status, push_line, push_notes, push_number, read_line,
+    Status, Unmet, price_line, price_status, push_line, push_notes, push_number, read_line,
     violation_line, violation_status,
 };
 use pb_samples::files::{ELECTION, without_outcome};
@@ -42,7 +42,10 @@ fn lines_on(
     lines.push(violation_line(alloc, election, group)?)?;
     assert_eq!(rt;
         [price_status(prices), violation_status(group)],
-        [Status::No, Status::No]
+        [
+            Status::No(Unmet::Prices(Failure::C1(3, 1))),
+            Status::No(Unmet::Violation(ViolationFailure::V2(2, 3))),
+        ]
     );
     Ok(lines)
 }

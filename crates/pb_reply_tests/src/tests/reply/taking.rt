@@ -1,7 +1,7 @@
 //! What is taken of files and of readers.
 use pb_election::{Election, Input, Outcome};
 use pb_reply::{
-    File, InputName, InputRefusal, Loaded, Stop, bytes_of, election_of, optional_file, outcome_of,
+    File, Given, InputName, InputRefusal, Lend, Loaded, Stop, bytes_of, election_of, outcome_of,
     take_election, take_outcome, violation_of,
 };
 use pb_samples::fakes::InterruptedReader;
@@ -46,9 +46,13 @@ fn each_input_is_refused_by_its_name(rt: HostRuntime) -> Result<(), Fail> {
 }
 
 #[test]
-fn file_that_is_not_given_is_none(rt: HostRuntime) {
-    assert!(rt; matches!(optional_file(None), None));
-    assert!(rt; matches!(optional_file(Some(b"")), Some(File::Bytes(b""))));
+fn file_in_memory_is_taken_whenever_its_turn_comes(rt: HostRuntime) -> Result<(), Fail> {
+    let mut file = File::in_memory(b"abc");
+    for _ in 0..2 {
+        let taken = file.take(rt.alloc())?;
+        assert!(rt; matches!(taken.lend(), File::Bytes(b"abc")));
+    }
+    Ok(())
 }
 
 #[test]

@@ -1,0 +1,94 @@
+-- The answer on the inputs of a page in their turn.
+use Rattle.std.proofs.Common.{◌≡◌, Bool, List, Option, subst}
+use Rattle.std.specs.Prelude.{IfSome, Ok, Err, Some, None}
+use Rattle.pb_election.specs.Instance.{Instance}
+use Rattle.pb_records.specs.Loading.{Delivery}
+use Rattle.pb_records.specs.Loading as delivery
+use Rattle.pb_price.specs.declared.Mode.{Mode}
+use Rattle.pb_reply.specs.Inputs.{InTurn, Stated, StatesElection}
+use Rattle.pb_reply.specs.Turns.{FileTurn, Turn}
+use Rattle.pb_reply.specs.Replies.{Answer, answer_of}
+use Rattle.pb_reply.specs.Inside.Taking.{AuditsOutcome, Gives, IfTaken, settled}
+use Rattle.pb_reply.specs.declared.input.Stop.{Stop}
+use Rattle.pb_reply.specs.declared.input.Stop.TheVariants as stop
+use Rattle.pb_reply.specs.declared.status.Status.{Status}
+use Rattle.pb_page.specs.InTurn.{ReadsPage}
+use Rattle.pb_page.specs.Sums.{files_of, sums_of}
+use Rattle.pb_page.specs.Taken.{RendersTold, TellsCertificate}
+use Rattle.pb_words.specs.declared.language.Language.{Language}
+use Rattle.pb_figures.specs.declared.told.Told.{Told}
+use Rattle.pb_page.proofs.Pages.{certificate-refused, election-refused, outcome-refused, page-answered}
+
+pub ended-at-election : (m : Mode) (l : Language) (election : Turn) (outcome : FileTurn)
+    (certificate : Turn) (why : Stop) → IfTaken {A = Instance} (Err why) (Gives StatesElection election)
+    → outcome None → certificate None
+    → IfSome (settled answer_of (Err why)) (ReadsPage m l election outcome certificate)
+ended-at-election m l election outcome certificate (stop.Refused r) given same untouched = record {
+  of_election = given.delivery;
+  of_outcome = None;
+  of_certificate = delivery.Read;
+  answers = election-refused m l given.delivery None delivery.Read r given.stating;
+  election_delivered = given.delivered;
+  outcome_delivered = same;
+  certificate_delivered = untouched;
+}
+ended-at-election m l election outcome certificate stop.Memory given same untouched = tt
+
+pub ended-at-outcome : (m : Mode) (l : Language) (election : Turn) (outcome : FileTurn)
+    (certificate : Turn) (d : Delivery) (o : Option Delivery) (e : Instance) (why : Stop) → election (Some d)
+    → StatesElection d (Ok e) → outcome (Some o)
+    → IfTaken {A = List Bool} (Err why) (AuditsOutcome e o) → certificate None
+    → IfSome (settled answer_of (Err why)) (ReadsPage m l election outcome certificate)
+ended-at-outcome m l election outcome certificate d o e (stop.Refused r) delivered given loaded taken untouched =
+    record {
+      of_election = d;
+      of_outcome = o;
+      of_certificate = delivery.Read;
+      answers = outcome-refused m l d o delivery.Read e r given taken;
+      election_delivered = delivered;
+      outcome_delivered = loaded;
+      certificate_delivered =
+          subst
+          (λ (w : Stated (List Bool)). InTurn w (λ marks. certificate (Some delivery.Read)) (certificate None))
+          taken.is untouched;
+    }
+ended-at-outcome m l election outcome certificate d o e stop.Memory delivered given loaded taken untouched = tt
+
+pub ended-at-certificate : (m : Mode) (l : Language) (election : Turn) (outcome : FileTurn)
+    (certificate : Turn) (d : Delivery) (o : Option Delivery) (f : Delivery) (e : Instance) (w : List Bool)
+    (why : Stop) → election (Some d) → StatesElection d (Ok e) → outcome (Some o)
+    → AuditsOutcome e o (Ok w) → certificate (Some f) → IfTaken {A = Told} (Err why) (TellsCertificate m e w f)
+    → IfSome (settled answer_of (Err why)) (ReadsPage m l election outcome certificate)
+ended-at-certificate m l election outcome certificate d o f e w (stop.Refused r) delivered given loaded taken read states =
+    record {
+      of_election = d;
+      of_outcome = o;
+      of_certificate = f;
+      answers = certificate-refused m l d o f e w r given taken states;
+      election_delivered = delivered;
+      outcome_delivered = loaded;
+      certificate_delivered =
+          subst (λ (s : Stated (List Bool)). InTurn s (λ marks. certificate (Some f)) (certificate None))
+          taken.is read;
+    }
+ended-at-certificate m l election outcome certificate d o f e w stop.Memory delivered given loaded taken read states =
+    tt
+
+-- all are accepted
+pub answered : (m : Mode) (l : Language) (election : Turn) (outcome : FileTurn) (certificate : Turn)
+    (d : Delivery) (o : Option Delivery) (f : Delivery) (e : Instance) (w : List Bool) (t : Told) (a : Answer Status)
+    → election (Some d) → StatesElection d (Ok e) → outcome (Some o)
+    → AuditsOutcome e o (Ok w) → certificate (Some f) → TellsCertificate m e w f (Ok t) → t.style.language ≡ l
+    → RendersTold t (sums_of (files_of d o f)) a → ReadsPage m l election outcome certificate a
+answered m l election outcome certificate d o f e w t a delivered given loaded taken read tells language renders =
+    record {
+      of_election = d;
+      of_outcome = o;
+      of_certificate = f;
+      answers = page-answered m l d o f e w t a given taken tells language renders;
+      election_delivered = delivered;
+      outcome_delivered = loaded;
+      certificate_delivered =
+          subst (λ (s : Stated (List Bool)). InTurn s (λ marks. certificate (Some f)) (certificate None))
+          taken.is read;
+    }
