@@ -1,4 +1,4 @@
-"""The module of the page, run by Node: its answers to the calls that commands of the program make, and its hints."""
+"""The module of the page, run by Node: its answers to the calls that commands of the program make."""
 import base64
 import json
 import os
@@ -16,8 +16,7 @@ class Node:
         self.process = subprocess.Popen(words, stdin=subprocess.PIPE, stdout=subprocess.PIPE, text=True)
 
     def ask(self, call):
-        self.process.stdin.write(json.dumps(call) + "\n")
-        self.process.stdin.flush()
+        print(json.dumps(call), file=self.process.stdin, flush=True)
         told = json.loads(self.process.stdout.readline() or '{"error": "node ended"}')
         if "text" in told:
             told["text"] = base64.b64decode(told["text"])
@@ -35,18 +34,6 @@ def call_of(words, room):
     names |= {"outcome": named["outcome"]} if "outcome" in named else {}
     return {"command": command, "files": {role: os.path.join(room, name) for role, name in names.items()}, "names": names,
             "mode": vars(calls.mode_of(switches)), "language": named.get("language", "en")}
-
-
-def hint_of(node, words, room, text):
-    """The hint of the module on a refusal: the line, and the sentences."""
-    _, role, number, _, _, record = text.split(" ")
-    call = call_of(words, room)
-    kind = {"tidy": "prices", "margins": "prices", "prices": "prices", "violation": "violation",
-            "refutation": "refutation"}.get(words[0], role)
-    files = {"prices": "certificate"}.get(role, role)
-    name = kind if role == "certificate" else role
-    call["hint"] = {"input": name, "number": int(number), "record": int(record), "role": files}
-    return node.ask(call)
 
 
 def told_hints(stderr):

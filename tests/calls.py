@@ -2,6 +2,7 @@
 import re
 
 from pbaudit import _auditor
+from reference.election import read_election
 
 SWITCHES = {"--stable": "s", "--cover": "c", "--no-exhaustive": "e"}
 INPUTS = {"election": 0, "outcome": 1, "prices": 2, "violation": 3}
@@ -37,17 +38,24 @@ def caller_words(words):
     return [command, letters or "-", *names, *named.values()]
 
 
-def place_of(text):
-    """The place of a refusal, by its line; None where a text is none, or on a file that isn't there."""
+def facts_of(text, election=b""):
+    """How an answer ends, by its lines and by the rows of the projects in the election."""
     refused = re.fullmatch(rb"refused (\w+) (\d+) \w+ record (\d+)\n", text)
-    if not refused or refused[2] == b"18":
-        return None
-    return _auditor.Place(refused[1].decode(), int(refused[2]), int(refused[3]))
+    if refused:
+        return _auditor.Facts(refused[1].decode(), int(refused[2]), int(refused[3]))
+    culprits = {}
+    for line in text.split(b"\n")[:2]:
+        failed = re.fullmatch(rb"failed (\w+)(?: voter (\d+))?(?: project (.*))?", line)
+        if failed:
+            project = read_election(election).number_of[failed[3]] if failed[3] else None
+            culprit = _auditor.Culprit(failed[1].decode(), int(failed[2]) if failed[2] else None, project)
+            culprits["test" if culprit.name[0] in "VU" else "condition"] = culprit
+    return _auditor.Facts(**culprits)
 
 
-def kind_of(command, name):
-    """The number that the library has for the input of this name."""
-    return INPUTS[name] if name in INPUTS else _auditor._KINDS[command]
+def answer(words, files, text, status):
+    """What the package has to tell of a command that prints this text."""
+    return _auditor.Answer(status, text, facts_of(text, files[words[1]]))
 
 
 def hint_in(errors):

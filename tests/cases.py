@@ -1,7 +1,7 @@
 """The cases: files, and the words that the program is called with on them."""
 import os
 import random
-from dataclasses import dataclass, field
+from dataclasses import dataclass, field, replace
 
 import making
 import tables
@@ -172,8 +172,9 @@ def numbered(seed, number, kinds=None, damaged=DAMAGED):
 
 
 def without_folders(seed, number, damaged=DAMAGED):
-    """A case of what the library answers too."""
-    return numbered(seed, number, {kind: often for kind, often in KINDS.items() if kind is not folder}, damaged)
+    """A case of what the library answers too, in which standard input is a file of that name."""
+    case = numbered(seed, number, {kind: often for kind, often in KINDS.items() if kind is not folder}, damaged)
+    return case if case.stdin is None else replace(case, words=["read", "stdin"], stdin=None)
 
 
 META = b"META\nkey;value\nbudget;10\nvote_type;approval\n"

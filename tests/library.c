@@ -4,7 +4,9 @@
    library once both SWITCHES ELECTION PRICES VIOLATION [OUTCOME]
    library once note SWITCHES ELECTION CERTIFICATE
    library once hint INPUT:NUMBER:RECORD FILE [ELECTION]
-                     prints the text, and ends with the status; each buffer is as large as it has to be, and no larger
+                     prints the text, and ends with the status; each buffer is as large as it has to be, and no larger.
+                     It calls the functions of the header that have names of commands
+   library facts ..  calls pbaudit_answer, as those below do, and prints the bytes of its facts ahead of the text
    library memory ..  makes the Nth allocation fail, and then it and all later ones, for each N; prints how many failed.
                      What comes then has to be status 4 with nothing written, or the ordinary answer, and nothing stays
                      allocated
@@ -48,11 +50,16 @@ void __wrap_free(void *old) {
 }
 
 static struct { uint8_t *at; size_t length; } files[4];
-static int given;
+static int given, by_number;
 static const char *command, *switches;
+static const char *const questions[] = {"read", "prices", "violation", "refutation", "both", "explain", "margins", "tidy"};
+static pbaudit_facts facts;
 static uint8_t *out;
 static size_t room, needed;
 static uint8_t status;
+#define IN(file) files[file].at, files[file].length
+#define MODE strchr(switches, 's') != 0, strchr(switches, 'e') != 0, strchr(switches, 'c') != 0
+#define OUT out, room, &needed
 
 static void call_hint(void) {
     unsigned input, number;
@@ -60,41 +67,30 @@ static void call_hint(void) {
     uint64_t line;
     if (sscanf(switches, "%u:%u:%llu", &input, &number, &record) != 3)
         exit(3);
-    status = pbaudit_hint((uint8_t)input, number, record, files[0].at, files[0].length, files[1].at, files[1].length,
-                          given == 2, &line, out, room, &needed);
+    status = pbaudit_hint((uint8_t)input, number, record, IN(0), IN(1), given == 2, &line, OUT);
 }
 
 static void call(void) {
-    int is_both = !strcmp(command, "both"), outcome = is_both ? 3 : 2, has_outcome = given == outcome + 1;
-    if (!strcmp(command, "read"))
-        status = pbaudit_read(files[0].at, files[0].length, out, room, &needed);
-    else if (!strcmp(command, "margins"))
-        status = pbaudit_margins(files[0].at, files[0].length, files[2].at, files[2].length, has_outcome, files[1].at,
-                                 files[1].length, out, room, &needed);
-    else if (!strcmp(command, "hint"))
+    int outcome = strcmp(command, "both") ? 2 : 3, has_outcome = given == outcome + 1;
+    uint8_t question = PBAUDIT_READ;
+    while (question <= PBAUDIT_TIDY && strcmp(command, questions[question]))
+        question++;
+    if (!strcmp(command, "hint"))
         call_hint();
     else if (!strcmp(command, "note"))
-        status = pbaudit_note(files[0].at, files[0].length, files[1].at, files[1].length, out, room, &needed);
-    else if (!strcmp(command, "tidy"))
-        status = pbaudit_tidy(files[0].at, files[0].length, files[1].at, files[1].length, out, room, &needed);
-    else if (!strcmp(command, "violation"))
-        status = pbaudit_violation(files[0].at, files[0].length, files[2].at, files[2].length, has_outcome, files[1].at,
-                                   files[1].length, out, room, &needed);
-    else if (!strcmp(command, "refutation"))
-        status = pbaudit_refutation(files[0].at, files[0].length, files[2].at, files[2].length, has_outcome, files[1].at,
-                                    files[1].length, out, room, &needed);
-    else if (is_both)
-        status = pbaudit_both(files[0].at, files[0].length, files[3].at, files[3].length, has_outcome, files[1].at,
-                              files[1].length, files[2].at, files[2].length, strchr(switches, 's') != 0,
-                              strchr(switches, 'e') != 0, strchr(switches, 'c') != 0, out, room, &needed);
-    else if (!strcmp(command, "explain"))
-        status = pbaudit_explain(files[0].at, files[0].length, files[2].at, files[2].length, has_outcome, files[1].at,
-                                 files[1].length, strchr(switches, 's') != 0, strchr(switches, 'e') != 0,
-                                 strchr(switches, 'c') != 0, out, room, &needed);
-    else
-        status = pbaudit_prices(files[0].at, files[0].length, files[2].at, files[2].length, has_outcome, files[1].at,
-                                files[1].length, strchr(switches, 's') != 0, strchr(switches, 'e') != 0,
-                                strchr(switches, 'c') != 0, out, room, &needed);
+        status = pbaudit_note(IN(0), IN(1), OUT);
+    else if (by_number)
+        status = pbaudit_answer(question, IN(0), IN(outcome), has_outcome, IN(1), IN(2), MODE, &facts, OUT);
+    else switch (question) {
+        case PBAUDIT_READ: status = pbaudit_read(IN(0), OUT); break;
+        case PBAUDIT_PRICES: status = pbaudit_prices(IN(0), IN(2), has_outcome, IN(1), MODE, OUT); break;
+        case PBAUDIT_VIOLATION: status = pbaudit_violation(IN(0), IN(2), has_outcome, IN(1), OUT); break;
+        case PBAUDIT_REFUTATION: status = pbaudit_refutation(IN(0), IN(2), has_outcome, IN(1), OUT); break;
+        case PBAUDIT_BOTH: status = pbaudit_both(IN(0), IN(3), has_outcome, IN(1), IN(2), MODE, OUT); break;
+        case PBAUDIT_EXPLAIN: status = pbaudit_explain(IN(0), IN(2), has_outcome, IN(1), MODE, OUT); break;
+        case PBAUDIT_MARGINS: status = pbaudit_margins(IN(0), IN(2), has_outcome, IN(1), OUT); break;
+        default: status = pbaudit_tidy(IN(0), IN(1), OUT);
+    }
 }
 
 static void *call_in_thread(void *unused) {
@@ -119,18 +115,22 @@ static void load(int at, const char *path) {
     fclose(file);
 }
 
+static int has_told(pbaudit_facts wanted) { return !memcmp(&facts, &wanted, sizeof facts); }
+
 static void fail_each(void) {
+    pbaudit_facts told = facts, untold = strcmp(command, "note") && strcmp(command, "hint") ? (pbaudit_facts){0} : told;
     uint8_t wanted_status = status, *wanted = out, *spare = __real_malloc(room + 1);
     out = spare;
     for (long all = 0; all < 2; all++) {
         for (long at = 0;; at++) {
-            memset(out, 0xaa, room), needed = 99, failed = 0, before_failure = at, failures_left = all ? 1L << 40 : 1;
+            memset(out, 0xaa, room), memset(&facts, 0xaa, sizeof facts), needed = 99;
+            failed = 0, before_failure = at, failures_left = all ? 1L << 40 : 1;
             call();
             before_failure = -1;
             if (alive)
                 fail("something stays allocated", at);
-            int is_ordinary = status == wanted_status && needed == room && !memcmp(out, wanted, room);
-            int is_wanting = status == 4 && !needed && (!room || out[0] == 0xaa);
+            int is_ordinary = status == wanted_status && needed == room && !memcmp(out, wanted, room) && has_told(told);
+            int is_wanting = status == 4 && !needed && (!room || out[0] == 0xaa) && has_told(untold);
             if (!is_ordinary && !(failed && is_wanting))
                 fail(failed ? "no status 4, or something was written" : "another answer", at);
             if (!failed) {
@@ -162,7 +162,8 @@ int main(int count, char **words) {
     static uint8_t none;
     if (count < 5)
         return 3;
-    command = words[2], switches = words[3];
+    command = words[2], switches = words[3], by_number = strcmp(words[1], "once") != 0;
+    memset(&facts, 0xaa, sizeof facts);
     files[1].at = files[2].at = files[3].at = &none;
     for (given = 0; given < count - 4 && given < 4; given++)
         load(given, words[4 + given]);
@@ -172,8 +173,9 @@ int main(int count, char **words) {
     call();
     if (alive)
         fail("something stays allocated", 0);
-    if (!strcmp(words[1], "once"))
-        fwrite(out, 1, needed, stdout);
+    int is_told = !by_number || !strcmp(words[1], "facts");
+    if (is_told)
+        fwrite(&facts, by_number ? sizeof facts : 0, 1, stdout), fwrite(out, 1, needed, stdout);
     else if (!strcmp(words[1], "memory"))
         fail_each();
     else
@@ -181,5 +183,5 @@ int main(int count, char **words) {
     __real_free(out);
     for (int i = 0; i < given; i++)
         __real_free(files[i].at);
-    return strcmp(words[1], "once") ? 0 : status;
+    return is_told ? status : 0;
 }

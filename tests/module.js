@@ -2,29 +2,27 @@
 /* Answers calls of the page's module under Node: a call on each line of standard input as JSON, its answer on each line
    of standard output. The module is that of the page, and the calls are made by what the page's worker calls it by.
 
-   node tests/web_module.js PAGE
+   node tests/module.js PAGE
 
-   A call has `command`, `files` (paths by what each is), `names`, `mode` and `language`; `hint` instead of a command
-   asks for the hint on a refusal; `starve` has the call made again and again with too little memory, where the module's
-   memory never grows. */
+   A call has `command`, `files` (paths by what each is), `names`, `mode` and `language`, and a refusal a hint. `starve`
+   has the call made again and again with too little memory, where the module's memory never grows. */
 const { execFileSync } = require("child_process"), fs = require("fs"), path = require("path");
 const readline = require("readline"), vm = require("vm");
 
-/** What a module of web/src exports, with all that it imports. */
+/** What a module of web/src/auditor exports, with all that it imports. */
 function exportsOf(name) {
-  const folder = path.join(__dirname, "..", "web"), how = ["--bundle", "--format=cjs", "--log-level=warning"];
+  const cwd = path.join(__dirname, "../web/src/auditor"), how = ["--bundle", "--format=cjs", "--log-level=warning"];
   const exported = { exports: {} };
-  vm.runInThisContext(`module => {${execFileSync("esbuild", [name, ...how], { cwd: folder })}}`)(exported);
+  vm.runInThisContext(`module => {${execFileSync("esbuild", [`${name}.ts`, ...how], { cwd })}}`)(exported);
   return exported.exports;
 }
 
-const { Auditor } = exportsOf("src/auditor/auditor.ts"), { callOf } = exportsOf("src/auditor/commands.ts");
+const [{ Auditor }, { callOf }, { hintOn }] = ["auditor", "commands", "refusals"].map(exportsOf);
 const page = fs.readFileSync(process.argv[2], "utf8");
 const [, written] = /<script type="text\/plain" id="module">(.*?)<\/script>/s.exec(page);
-const OUT_OF_MEMORY = 4;
+const OUT_OF_MEMORY = 4, UNTOUCHED = 0xaa;
 // By how many bytes the memory that is left is raised.
 const STEP = 144;
-const UNTOUCHED = 0xaa;
 
 const module_ = new WebAssembly.Module(Buffer.from(written, "base64"));
 
@@ -36,24 +34,20 @@ function questionOf(auditor, { files, names = {}, mode, language = "en" }) {
 }
 
 function answer(call) {
-  const auditor = new Auditor(module_);
-  const asked = questionOf(auditor, call);
-  if (call.hint) {
-    const { role, ...refusal } = call.hint;
-    return auditor.hint(refusal, asked.files[role], role === "election" ? undefined : asked.files.election);
-  }
-  const { status, bytes } = auditor.ask(call.command, asked, call.guess);
-  return { status, text: Buffer.from(bytes).toString("base64") };
+  const auditor = new Auditor(module_), asked = questionOf(auditor, call);
+  const { status, bytes, facts } = auditor.ask(call.command, asked, call.guess);
+  const hint = facts.fault && hintOn(auditor, call.command, asked, facts.fault);
+  return { status, text: Buffer.from(bytes).toString("base64"), facts, ...hint };
 }
 
 /** How a call ends with so many bytes of memory left: out of memory with nothing written, as usual, or wrongly. */
 function endOf(call, left, usual) {
   const auditor = new Auditor(module_), asked = questionOf(auditor, call);
-  const out = auditor.room(usual.length), needed = auditor.room(8);
+  const out = auditor.room(usual.length), needed = auditor.room(8), facts = auditor.room(40);
   auditor.bytes(out).fill(UNTOUCHED);
   auditor.room(auditor.calls.memory.buffer.byteLength - Number(auditor.room(0).at) - left);
-  const words = [...callOf(call.command, asked), out.at, out.length, needed.at];
-  const status = auditor.calls[`pbaudit_${call.command}`](...words);
+  const { name, words } = callOf(call.command, asked, facts);
+  const status = auditor.calls[name](...words, out.at, out.length, needed.at);
   const length = auditor.number(needed), written = Buffer.from(auditor.bytes(out));
   if (status === OUT_OF_MEMORY) return length === 0 && written.every(byte => byte === UNTOUCHED) ? "failed" : "wrong";
   return status === usual.status && length === usual.length && written.equals(usual.text) ? "answered" : "wrong";
@@ -67,8 +61,7 @@ function starve(call) {
   return counts;
 }
 
-const lines = readline.createInterface({ input: process.stdin });
-lines.on("line", line => {
+readline.createInterface({ input: process.stdin }).on("line", line => {
   const call = JSON.parse(line);
   let told;
   try {

@@ -58,12 +58,9 @@ def test_each_allocation_fails(arm_caller, words):
 
 def test_by_chance(run, arm_caller, seed, by_chance, room):
     case = cases.without_folders(seed, by_chance, damaged=0.5)
-    words, files = case.words, case.files
-    if case.stdin is not None:
-        words, files = ["read", "stdin"], {"stdin": case.stdin}
-    cases.write_files(room, files)
-    wanted = run(*words, cwd=room)
-    ran = told_by([*arm_caller, "once", *calls.caller_words(words)], room)
+    cases.write_files(room, case.files)
+    wanted = run(*case.words, cwd=room)
+    ran = told_by([*arm_caller, "once", *calls.caller_words(case.words)], room)
     assert (ran.returncode, ran.stdout) == (wanted.returncode, wanted.stdout)
 
 

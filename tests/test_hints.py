@@ -35,10 +35,10 @@ def test_program(run, changed, row, words):
 
 @on_each
 def test_c(caller, changed, row, words):
-    place = calls.place_of(row.text.encode())
-    kind = calls.kind_of(words[0], place.input)
-    election = [] if place.input == "election" else [words[1]]
-    told = subprocess.run([caller, "once", "hint", f"{kind}:{place.number}:{place.record}", row.name, *election],
+    facts = calls.facts_of(row.text.encode())
+    kind = calls.INPUTS.get(facts.input, pbaudit._auditor._KINDS.get(words[0]))
+    election = [] if facts.input == "election" else [words[1]]
+    told = subprocess.run([caller, "once", "hint", f"{kind}:{facts.number}:{facts.record}", row.name, *election],
                           cwd=changed, capture_output=True, check=True)  # fmt: skip
     assert told.stdout.decode() == calls.hint_in("\n".join([*row.told, ""]).encode()).sentences + "\n"
 
@@ -58,8 +58,8 @@ def test_python(auditor, changed, row, words, monkeypatch):
 @on_each
 def test_javascript(node, changed, row, words):
     (changed / "missing").touch()
-    hint = by_node.hint_of(node, words, changed, row.text)
-    assert (hint["line"], hint["sentences"]) == by_node.told_hints("\n".join([*row.told, ""]).encode())
+    told = node.ask(by_node.call_of(words, changed))
+    assert (told["line"], told["sentences"]) == by_node.told_hints("\n".join([*row.told, ""]).encode())
 
 
 def test_number_of_projects(run, room):

@@ -2,6 +2,7 @@
 with just enough room and with a byte less, and with hints. On the examples each of its allocations fails, and it runs on a small
 stack, and under valgrind and sanitizers."""
 import ctypes
+import dataclasses
 import re
 import subprocess
 
@@ -16,6 +17,7 @@ from test_answers import ON_EXAMPLES
 
 BY_CHANCE = 2000
 SMALL_STACK = 128 * 1024
+FACTS = ctypes.sizeof(_auditor._FactsOfC)
 EXAMPLES = tables.EXAMPLES
 
 
@@ -23,7 +25,7 @@ def commands():
     """The commands of examples/answers.txt that the library has: words, the text and the status."""
     for command, text, status, _ in ON_EXAMPLES:
         words = command.split(" ")
-        if words[0] in _auditor._Library._TYPES and all((EXAMPLES / word).exists() for word in words[1:] if "." in word):
+        if words[0] in _auditor._QUESTIONS and all((EXAMPLES / word).exists() for word in words[1:] if "." in word):
             yield pytest.param(words, text.encode(), int(status), id=command)
 
 
@@ -58,15 +60,21 @@ def files_of(words):
     return {word: (EXAMPLES / word).read_bytes() for word in words if "." in word}
 
 
-def functions(library):
-    return sorted(re.findall(r"^uint8_t (pbaudit_\w+)\(", (library / "pbaudit.h").read_text(), re.MULTILINE))
-
-
 @pytest.mark.parametrize("words", [["nm", "-D", "--defined-only", "libpbaudit.so"], ["nm", "-g", "--defined-only", "libpbaudit.a"]])
 def test_symbols_are_the_functions_of_the_header(library, words):
-    symbols = sorted(re.findall(r"^[0-9a-f]+ \w (\S+)$", told_by(words, library).stdout.decode(), re.MULTILINE))
-    assert symbols == functions(library)
-    assert len(symbols) >= 6
+    symbols = re.findall(r"^[0-9a-f]+ \w (\S+)$", told_by(words, library).stdout.decode(), re.MULTILINE)
+    functions = re.findall(r"^uint8_t (pbaudit_\w+)\(", (library / "pbaudit.h").read_text(), re.MULTILINE)
+    assert {*symbols} == {*functions} and len(symbols) == len(functions) == 4
+
+
+def test_numbers_of_the_header(library):
+    """They are those by which the package asks, and reads what is told in numbers."""
+    numbers, at, listed = {}, 0, "".join(re.findall(r"enum \{[^}]*\}", (library / "pbaudit.h").read_text()))
+    for name, given in re.findall(r"PBAUDIT_(\w+)(?: = (\d+))?", listed):
+        numbers[name] = at = int(given or at + 1)
+    wanted = {f"{name.upper()}_FILE": at for at, name in enumerate(_auditor._REFUSED, 1)}
+    wanted |= {name.upper(): at for at, name in [*enumerate(_auditor._QUESTIONS), *_auditor._CULPRITS.items()]}
+    assert numbers == wanted
 
 
 @pytest.mark.parametrize("language, standard, compiler", [("c", "c99", "cc"), ("c++", "c++11", "c++")])
@@ -86,12 +94,15 @@ def test_it_needs_the_c_library_alone(library):
 @on_examples
 def test_example(run, auditor, words, text, status):
     files = files_of(words)
-    assert auditor.ask(calls.question(words, files)) == (status, text)
+    question, answer = calls.question(words, files), calls.answer(words, files, text, status)
+    assert auditor.ask(question) == answer
     errors = run(*words).stderr
-    if calls.place_of(text):
-        assert auditor.hint(calls.question(words, files), calls.place_of(text)) == calls.hint_in(errors)
+    if status == 2:
+        assert auditor.hint(question, answer.facts) == calls.hint_in(errors)
     if words[0] == "prices" and status == 0:
-        assert auditor.says_little(calls.question(words, files)) == (b"note: the voter budgets" in errors)
+        assert auditor.says_little(question) == (b"note: the voter budgets" in errors)
+    if words[0] == "explain":
+        assert auditor.ask(dataclasses.replace(question, command="page")).facts == answer.facts
 
 
 @pytest.fixture(scope="module", params=["shared", "static"])
@@ -111,40 +122,33 @@ def test_example_in_c(example, words, text, status):
     assert (ran.returncode, ran.stdout) == (status, text)
 
 
-class Rooms(_auditor._Library):
-    """The library, asked again with a room that is just enough and one that isn't."""
-
-    def ask(self, asked):
-        self.asked = asked
-        return super().ask(asked)
-
-    def expect_rooms(self, status, text):
-        """With a byte behind the room, which is to stay."""
-        assert self.call(self.asked, len(text), len(text) + 1) == (status, len(text), text + b"\xaa")
-        assert self.call(self.asked, len(text) - 1, len(text)) == (status, len(text), b"\xaa" * len(text))
-
-    def call(self, asked, room, size):
-        out, needed = ctypes.create_string_buffer(b"\xaa" * size, size), ctypes.c_size_t()
-        status = self._functions[asked.command](*self.words(asked), out, room, ctypes.byref(needed))
-        return status, needed.value, out.raw
+def called(auditor, words, room, size):
+    """What a call gives that is told of so much room, of so many bytes that are to stay where nothing is written."""
+    out, needed = ctypes.create_string_buffer(b"\xaa" * size, size), ctypes.c_size_t(99)
+    facts = _auditor._FactsOfC.from_buffer_copy(b"\xaa" * FACTS)
+    status = auditor._answer(*words, ctypes.byref(facts), out, room, ctypes.byref(needed))
+    return status, needed.value, out.raw, facts.value()
 
 
-@pytest.fixture(scope="module")
-def rooms(library):
-    return Rooms(str(library / "libpbaudit.so"))
-
-
-def test_by_chance(run, rooms, seed, by_chance, room):
-    """A case of which a file is damaged."""
+def test_by_chance(run, auditor, seed, by_chance, room):
+    """A case of which a file is damaged, also with a room that is just enough and with one that isn't."""
     case = cases.without_folders(seed, by_chance, damaged=1.0)
-    words = ["read", "stdin"] if case.stdin is not None else case.words
     cases.write_files(room, case.files)
-    ran = run(*words, cwd=room)
-    assert rooms.ask(calls.question(words, case.files)) == (ran.returncode, ran.stdout)
-    rooms.expect_rooms(ran.returncode, ran.stdout)
-    place = calls.place_of(ran.stdout)
-    if place and case.stdin is None:
-        assert rooms.hint(calls.question(words, case.files), place) == calls.hint_in(ran.stderr)
+    ran = run(*case.words, cwd=room)
+    question = calls.question(case.words, case.files)
+    answer = calls.answer(case.words, case.files, ran.stdout, ran.returncode)
+    assert auditor.ask(question) == answer
+    words, size = auditor.words(question), len(answer.text)
+    assert called(auditor, words, size, size + 1) == (answer.status, size, answer.text + b"\xaa", answer.facts)
+    assert called(auditor, words, size - 1, size) == (answer.status, size, b"\xaa" * size, answer.facts)
+    if ran.returncode == 2:
+        assert auditor.hint(question, answer.facts) == calls.hint_in(ran.stderr)
+
+
+@pytest.mark.parametrize("number", [8, 255])
+def test_no_such_question(auditor, number):
+    _, *words = auditor.words(_auditor.Question("read", b""))
+    assert called(auditor, [number, *words], 9, 9) == (3, 0, b"\xaa" * 9, _auditor.Facts())
 
 
 def numbers_of(words):
@@ -154,10 +158,28 @@ def numbers_of(words):
     return [int(number) for number in told.stdout.split()]
 
 
+@pytest.fixture(scope="session", params=["alone", "valgrind", "sanitizers"])
+def calling(request, built, caller, library):
+    """The words that run library.c: by itself, under valgrind, or with sanitizers."""
+    if request.param == "valgrind":
+        needs("valgrind")
+        return ["valgrind", "-q", "--error-exitcode=99", "--leak-check=full", caller]
+    flags = "-fsanitize=address,undefined", library / "libpbaudit.a", "-pthread", "-Wl,--wrap=malloc,--wrap=realloc,--wrap=free"
+    return [caller if request.param == "alone" else built("sanitized", HERE / "library.c", *flags)]
+
+
 @each_call
-def test_call(caller, words, text, status):
-    ran = told_by([caller, "once", *words])
-    assert (ran.returncode, ran.stdout) == (status, text)
+def test_call(calling, words, text, status):
+    told = told_by([*calling, "once", *words])
+    assert (told.returncode, told.stdout, told.stderr) == (status, text, b"")
+
+
+@on_examples
+def test_facts(calling, words, text, status):
+    told = told_by([*calling, "facts", *calls.caller_words(words)])
+    facts = _auditor._FactsOfC.from_buffer_copy(told.stdout).value()
+    assert _auditor.Answer(told.returncode, told.stdout[FACTS:], facts) == calls.answer(words, files_of(words), text, status)
+    assert told.stderr == b""
 
 
 @each_call
@@ -171,22 +193,3 @@ def test_stack(caller, words, text, status):
     """The thread's own part of it included."""
     (used,) = numbers_of([caller, "stack", *words])
     assert 0 < used < SMALL_STACK
-
-
-@each_call
-def test_valgrind(caller, words, text, status):
-    needs("valgrind")
-    told = told_by(["valgrind", "-q", "--error-exitcode=99", "--leak-check=full", caller, "once", *words])
-    assert (told.returncode, told.stdout, told.stderr) == (status, text, b"")
-
-
-@pytest.fixture(scope="session")
-def sanitized(built, library):
-    wraps = "-Wl,--wrap=malloc,--wrap=realloc,--wrap=free"
-    return built("sanitized", HERE / "library.c", "-fsanitize=address,undefined", library / "libpbaudit.a", "-pthread", wraps)
-
-
-@each_call
-def test_sanitizers(sanitized, words, text, status):
-    told = told_by([sanitized, "once", *words])
-    assert (told.returncode, told.stdout, told.stderr) == (status, text, b"")

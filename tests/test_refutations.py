@@ -6,14 +6,13 @@ over is made into a refutation. The reference answers, and on a part of it the p
 """
 import itertools
 import random
-import subprocess
 
 import pytest
 
+import saying
 import tables
-from cases import write_files
+from cases import Case, write_files
 from reference import conditions, refutations
-from reference.answers import answer
 from reference.certificates import Prices, Refutation
 from reference.election import Election
 
@@ -22,18 +21,15 @@ FORMS = [{"--no-exhaustive"}, {"--no-exhaustive", "--stable"}]
 
 
 @pytest.fixture(params=["reference", "program"])
-def ask(request, tmp_path):
+def ask(request, room):
     """Answers a command on files, by the reference and by the program: the text and the status."""
     program = request.getfixturevalue("program") if request.param == "program" else None
 
     def asked(words, files):
-        write_files(tmp_path, files)
-        words = [str(tmp_path / word) if word in files else word for word in words]
-        if program is None:
-            text, status, _ = answer(words)
-            return text.decode(), status
-        done = subprocess.run([program, *words], capture_output=True, text=True, check=False)
-        return done.stdout, done.returncode
+        case = Case(words, files)
+        write_files(room, files)
+        said = saying.run(program, case, room) if program else saying.reference_says(case, room)
+        return said.text.decode(), said.status
     return asked
 
 

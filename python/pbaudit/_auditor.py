@@ -9,9 +9,10 @@ import re
 import subprocess
 import tempfile
 from dataclasses import dataclass
-from typing import Any, Dict, List, Optional, Protocol, Tuple, Union
+from typing import Any, List, Optional, Protocol, Tuple, Union
 
 from . import _places
+from .election_files import ids_of
 
 _HOW_TO_BUILD = (
     "neither libpbaudit.so nor the program pbaudit was found; from the repository of pbaudit, install this package again "
@@ -71,13 +72,45 @@ class Question:
 
 
 @dataclass(frozen=True)
-class Place:
-    """What was refused: "election", "outcome", "certificate", "prices" or "violation"; the number of the fault; and the
-    record, numbered from 1, or 0."""
+class Culprit:
+    """A condition or a test that fails, by its name, as "C3", "V4" or "U2"; and the voter and the project at which it
+    does, numbered from 1, each None where it names none."""
 
-    input: str
-    number: int
-    record: int
+    name: str
+    voter: Optional[int] = None
+    project: Optional[int] = None
+
+    def project_in(self, line: str) -> Optional[str]:
+        """The project's id, which stands at the end of the line on this. Raises RuntimeError for another line."""
+        front = f"failed {self.name}" + ("" if self.voter is None else f" voter {self.voter}")
+        if self.project is None and line == front:
+            return None
+        front += " project "
+        if self.project is None or not line.startswith(front):
+            raise RuntimeError(f"pbaudit answers {line!r}")
+        return line[len(front):]
+
+
+@dataclass(frozen=True)
+class Facts:
+    """How an answer ends. Of a refusal: what is refused, "election", "outcome", "certificate", "prices" or "violation",
+    and else None; the number of the fault; and the record, numbered from 1, or 0. Of a no: the first condition on
+    prices that fails, and the first test of a violation or of a refutation, of "both" each of the two."""
+
+    input: Optional[str] = None
+    number: int = 0
+    record: int = 0
+    condition: Optional[Culprit] = None
+    test: Optional[Culprit] = None
+
+
+@dataclass(frozen=True)
+class Answer:
+    """The exit status of a command, the text that it prints, and how that ends."""
+
+    status: int
+    text: bytes
+    facts: Facts = Facts()
 
 
 @dataclass(frozen=True)
@@ -92,20 +125,25 @@ class Hint:
 class Auditor(Protocol):
     """What the library and the program have in common."""
 
-    def ask(self, question: Question) -> Tuple[int, bytes]:
-        """The status and the text that answer a question."""
+    def ask(self, question: Question) -> Answer:
+        """The answer to a question."""
 
     def has(self, command: str) -> bool:
-        """Whether it has this command, which an older one may lack."""
+        """Whether it has this command, which an older program may lack."""
 
     def says_little(self, question: Question) -> bool:
         """Whether the voter budgets of prices, to which the answer is yes, are together less than the limit."""
 
-    def hint(self, question: Question, place: Place) -> Optional[Hint]:
+    def hint(self, question: Question, facts: Facts) -> Optional[Hint]:
         """What is told of a refusal, or None where this auditor has no hints."""
 
 
-_WITH_OUTCOME = ("prices", "violation", "refutation", "both", "margins", "explain", "page")
+# What the library can be asked, by its numbers from 0, and what it can refuse, by its numbers from 1; and its
+# conditions and tests by their numbers.
+_QUESTIONS = ("read", "prices", "violation", "refutation", "both", "explain", "margins", "tidy")
+_REFUSED = ("election", "outcome", "certificate", "prices", "violation")
+_CULPRITS = {**dict(enumerate(("Feasible", "Exhaustive", "Cover", "C1", "C2", "C3", "C4", "C5", "S5"), 1)),
+             **dict(enumerate(("V1", "V2", "V3", "V4"), 11)), **dict(enumerate(("U1", "U2", "U3"), 21))}
 _WITH_MODE = ("prices", "both", "explain", "page")
 _ANY_CERTIFICATE = 4
 _INPUTS = {"election": 0, "outcome": 1, "prices": 2, "violation": 3}
@@ -117,6 +155,28 @@ _OUT_OF_MEMORY = "pbaudit: fault memory"
 _SAYS_LITTLE = b"so this yes says little"
 
 
+class _CulpritOfC(ctypes.Structure):
+    """The header's `pbaudit_culprit`."""
+
+    _fields_ = [(name, ctypes.c_uint32) for name in ("number", "voter", "project")]
+
+    def value(self) -> Optional[Culprit]:
+        """The same in Python, or None where nothing fails."""
+        return Culprit(_CULPRITS[self.number], self.voter or None, self.project or None) if self.number else None
+
+
+class _FactsOfC(ctypes.Structure):
+    """The header's `pbaudit_facts`."""
+
+    _fields_ = [("input", ctypes.c_uint32), ("fault", ctypes.c_uint32), ("record", ctypes.c_uint64),
+                ("condition", _CulpritOfC), ("test", _CulpritOfC)]
+
+    def value(self) -> Facts:
+        """The same in Python."""
+        refused = _REFUSED[self.input - 1] if self.input else None
+        return Facts(refused, self.fault, self.record, self.condition.value(), self.test.value())
+
+
 class _Library:
     """Calls the library. A call lets other threads run."""
 
@@ -124,46 +184,35 @@ class _Library:
     _FILE = [ctypes.c_char_p, _SIZE]
     _OUTCOME = _FILE + [ctypes.c_bool]
     _MODE = [ctypes.c_bool] * 3
-    _ANSWER = [ctypes.c_char_p, _SIZE, ctypes.POINTER(_SIZE)]
-    _TYPES: Dict[str, List[Any]] = {
-        "read": _FILE,
-        "prices": _FILE + _OUTCOME + _FILE + _MODE,
-        "violation": _FILE + _OUTCOME + _FILE,
-        "refutation": _FILE + _OUTCOME + _FILE,
-        "both": _FILE + _OUTCOME + _FILE + _FILE + _MODE,
-        "margins": _FILE + _OUTCOME + _FILE,
-        "explain": _FILE + _OUTCOME + _FILE + _MODE,
-        "tidy": _FILE + _FILE,
-        "page": _FILE + _FILE + _FILE + _FILE + [ctypes.c_bool] + _FILE + _FILE + _MODE + _FILE,
-    }
-    # An older library has none of these.
-    _LATER = ("refutation",)
+    _FACTS = ctypes.POINTER(_FactsOfC)
+    _OUT = [ctypes.c_char_p, _SIZE, ctypes.POINTER(_SIZE)]
+    _ANSWER: List[Any] = [ctypes.c_uint8, *_FILE, *_OUTCOME, *_FILE, *_FILE, *_MODE, _FACTS]
+    _PAGE: List[Any] = [*_FILE, *_FILE, *_FILE, *_OUTCOME, *_FILE, *_FILE, *_MODE, *_FILE, _FACTS]
+    _NOTE: List[Any] = [*_FILE, *_FILE]
     _HINT: List[Any] = [ctypes.c_uint8, ctypes.c_uint32, ctypes.c_uint64, *_FILE, *_OUTCOME,
                         ctypes.POINTER(ctypes.c_uint64)]
-    _NOTE: List[Any] = [*_FILE, *_FILE]
 
     def __init__(self, path: Union[str, pathlib.Path]):
         library = ctypes.CDLL(str(path))
-        self._path = path
-        self._functions = {command: self._function(library, command, types) for command, types in self._TYPES.items()
-                           if command not in self._LATER or hasattr(library, f"pbaudit_{command}")}
+        self._answer = self._function(library, "answer", self._ANSWER)
+        self._page = self._function(library, "answer_page", self._PAGE)
         self._note = self._function(library, "note", self._NOTE)
-        # An older library has none.
-        self._hint = self._function(library, "hint", self._HINT) if hasattr(library, "pbaudit_hint") else None
+        self._hint = self._function(library, "hint", self._HINT)
 
-    def _function(self, library: ctypes.CDLL, command: str, types: List[Any]) -> Any:
-        function = getattr(library, f"pbaudit_{command}")
+    def _function(self, library: ctypes.CDLL, name: str, types: List[Any]) -> Any:
+        function = getattr(library, f"pbaudit_{name}")
         function.restype = ctypes.c_uint8
-        function.argtypes = types + self._ANSWER
+        function.argtypes = types + self._OUT
         return function
 
-    def ask(self, question: Question) -> Tuple[int, bytes]:
-        if not self.has(question.command):
-            raise RuntimeError(f"{self._path} is older than this package, and has no {question.command}")
-        return self._call(self._functions[question.command], self.words(question), self.room(question))
+    def ask(self, question: Question) -> Answer:
+        function = self._page if question.command == "page" else self._answer
+        facts = _FactsOfC()
+        status, text = self._call(function, [*self.words(question), ctypes.byref(facts)], self.room(question))
+        return Answer(status, text, facts.value())
 
     def has(self, command: str) -> bool:
-        return command in self._functions
+        return command in _QUESTIONS
 
     def says_little(self, question: Question) -> bool:
         words: List[Any] = []
@@ -171,14 +220,12 @@ class _Library:
             words += [file, len(file)]
         return self._call(self._note, words, 4096)[1] != b""
 
-    def hint(self, question: Question, place: Place) -> Optional[Hint]:
-        if self._hint is None:
-            return None
+    def hint(self, question: Question, facts: Facts) -> Optional[Hint]:
         line = ctypes.c_uint64()
-        kind = _INPUTS[place.input] if place.input in _INPUTS else _KINDS[question.command]
-        file, has_election = _file_of(question, place.input), place.input != "election"
+        kind = _INPUTS[facts.input] if facts.input in _INPUTS else _KINDS[question.command]
+        file, has_election = _file_of(question, facts.input), facts.input != "election"
         election = question.election if has_election else b""
-        words = [kind, place.number, place.record, file, len(file), election, len(election), has_election,
+        words = [kind, facts.number, facts.record, file, len(file), election, len(election), has_election,
                  ctypes.byref(line)]
         _, text = self._call(self._hint, words, 4096)
         sentences = text.decode("utf-8", "replace").rstrip("\n")
@@ -206,19 +253,15 @@ class _Library:
 
     @staticmethod
     def words(question: Question) -> List[Any]:
-        """The files and switches of a call."""
+        """What a call is given ahead of its facts and its room."""
         if question.command == "page":
             return _page_words(question)
-        words: List[Any] = [question.election, len(question.election)]
-        if question.command in _WITH_OUTCOME:
-            # No pointer may be null.
-            outcome = question.outcome or b""
-            words += [outcome, len(outcome), question.outcome is not None]
-        for certificate in _certificates(question):
-            words += [certificate, len(certificate)]
-        if question.command in _WITH_MODE:
-            words += [question.mode.stable, question.mode.exhaustive, question.mode.cover]
-        return words
+        # No pointer may be null.
+        outcome, certificate, violation = (
+            file or b"" for file in (question.outcome, question.certificate, question.violation))
+        return [_QUESTIONS.index(question.command), question.election, len(question.election), outcome, len(outcome),
+                question.outcome is not None, certificate, len(certificate), violation, len(violation),
+                question.mode.stable, question.mode.exhaustive, question.mode.cover]
 
 
 class _Program:
@@ -227,9 +270,9 @@ class _Program:
     def __init__(self, path: str):
         self._path = path
 
-    def ask(self, question: Question) -> Tuple[int, bytes]:
+    def ask(self, question: Question) -> Answer:
         status, text, _, _ = self._answer(question)
-        return status, text
+        return Answer(status, text, facts_in(status, text, question.election))
 
     def has(self, command: str) -> bool:
         words = [self._path, command, "--help"]
@@ -239,7 +282,7 @@ class _Program:
         _, _, told, _ = self._answer(question)
         return any(line.endswith(_SAYS_LITTLE) for line in told.split(b"\n"))
 
-    def hint(self, question: Question, place: Place) -> Optional[Hint]:
+    def hint(self, question: Question, facts: Facts) -> Optional[Hint]:
         _, _, told, folder = self._answer(question)
         line: Optional[int] = None
         sentences: List[str] = []
@@ -303,6 +346,26 @@ class _Program:
         return path
 
 
+def facts_in(status: int, text: bytes, election: bytes = b"") -> Facts:
+    """How an answer ends, by the lines that the program prints; a page has none of them, and tells nothing here."""
+    lines = text.decode("utf-8").split("\n")[:2] if status else []
+    refused = re.fullmatch(r"refused (\w+) (\d+) \w+ record (\d+)", lines[0]) if status == 2 else None
+    if refused:
+        return Facts(refused[1], int(refused[2]), int(refused[3]))
+    failing = [_culprit_in(line, election) for line in lines]
+    found = {culprit.name[0] in "VU": culprit for culprit in failing if culprit}
+    return Facts(condition=found.get(False), test=found.get(True))
+
+
+def _culprit_in(line: str, election: bytes) -> Optional[Culprit]:
+    failed = re.fullmatch(r"failed (\w+)(?: voter (\d+))?(?: project (.*))?", line)
+    if failed is None:
+        return None
+    name, voter, project = failed.groups()
+    numbers = (number for number, each in enumerate(ids_of(election), 1) if each == project)
+    return Culprit(name, None if voter is None else int(voter), None if project is None else next(numbers, None))
+
+
 def _page_words(question: Question) -> List[Any]:
     """The files with their names, the switches and the language of a page."""
     # No pointer may be null.
@@ -322,10 +385,10 @@ def _certificates(question: Question) -> List[bytes]:
     return [file for file in (question.certificate, question.violation) if file is not None]
 
 
-def _file_of(question: Question, name: str) -> bytes:
+def _file_of(question: Question, name: Optional[str]) -> bytes:
     """The bytes of the input of that name."""
     files = {"election": question.election, "outcome": question.outcome, "violation": question.violation}
-    return files.get(name, question.certificate) or b""
+    return files.get(name or "", question.certificate) or b""
 
 
 def _loaded(path: pathlib.Path) -> _Library:
@@ -358,15 +421,15 @@ def auditor() -> Auditor:
     return _found
 
 
-def ask(question: Question) -> Tuple[int, bytes]:
-    """The status and the text that answer a question. Raises MemoryError where memory ran out, ImportError as
+def ask(question: Question) -> Answer:
+    """The answer to a question. Raises MemoryError where memory ran out, ImportError as
     `auditor`, and RuntimeError where the program can't be run or doesn't answer."""
     return auditor().ask(question)
 
 
-def hint(question: Question, place: Place) -> Optional[Hint]:
+def hint(question: Question, facts: Facts) -> Optional[Hint]:
     """What a person is told of a refusal, or None where there is nothing to tell. Raises as `ask`."""
-    return auditor().hint(question, place)
+    return auditor().hint(question, facts)
 
 
 def says_little(question: Question) -> bool:

@@ -14,7 +14,7 @@ from dataclasses import dataclass, replace
 from fractions import Fraction
 from typing import Any, ClassVar, Dict, List, Literal, Optional, Tuple
 
-from ._auditor import Mode, PageWords, Place, Question, ask, hint, says_little
+from ._auditor import Answer, Culprit, Facts, Mode, PageWords, Question, ask, facts_in, hint, says_little
 from .files import MOST_BYTES, File, bytes_of, path_of
 from .kept import Kept, keep, source_of, stamp_of
 from .records import records
@@ -24,10 +24,11 @@ __all__ = [
     "audit_both", "audit_prices", "audit_refutation", "audit_violation", "bytes_of", "explain", "margins", "read", "tidy",
     "verdict",
 ]
-# The lines of a yes.
-_YES = ("supported priceable", "supported stable", "violation", "unpriceable", "unpriceable cover")
 Refutes = Literal["all", "with Cover"]
+# The lines of a yes.
+_OF_PRICES = ("supported priceable", "supported stable")
 _REFUTES: Dict[str, Refutes] = {"unpriceable": "all", "unpriceable cover": "with Cover"}
+_YES = (*_OF_PRICES, "violation", *_REFUTES)
 # Longer bytes are no path.
 _LONGEST_PATH = 4096
 
@@ -49,10 +50,12 @@ class Refusal(ValueError):
     """
 
     def __init__(self, printed: str, file: Optional[str] = None, line: Optional[int] = None,
-                 reason: Optional[str] = None):
+                 reason: Optional[str] = None, *, _facts: Optional[Facts] = None):
         super().__init__(printed, file, line, reason)
-        _, self.input, number, self.name, _, record = printed.split(" ")
-        self.number, self.record = int(number), int(record)
+        facts = _facts or facts_in(2, printed.encode("utf-8"))
+        if facts.input is None:
+            raise ValueError(f"{printed!r} isn't the line of a refusal")
+        self.input, self.number, self.name, self.record = facts.input, facts.number, _fault_in(printed), facts.record
         self.printed, self.file, self.line, self.reason = printed, file or self.input, line, reason
 
     def __str__(self) -> str:
@@ -216,12 +219,16 @@ def read(election: File) -> Summary:
     read 3 voters 3 projects 2 funded
     """
     line, *notes = _Asked("read", election).lines()
+    return Summary(*_counts_in(line), tuple(note[len("note: "):] for note in notes), line)
+
+
+def _counts_in(line: str) -> Tuple[int, int, Optional[int]]:
+    """How many voters, projects and funded projects the line of `read` counts."""
     form = re.fullmatch(r"read (\d+) voters (\d+) projects (?:(\d+) funded|no outcome)", line)
     if form is None:
         raise RuntimeError(f"pbaudit answers {line!r}")
     voters, projects, funded = form.groups()
-    told = tuple(note[len("note: "):] for note in notes)
-    return Summary(int(voters), int(projects), None if funded is None else int(funded), told, line)
+    return int(voters), int(projects), None if funded is None else int(funded)
 
 
 def audit_prices(election: File, certificate: File, outcome: Optional[File] = None, *, stable: bool = False,
@@ -311,10 +318,9 @@ def explain(election: File, certificate: File, outcome: Optional[File] = None, *
 
 def _explained(question: Question, kept: Optional[Kept]) -> Explanation:
     """The explanation that answers a question, whose files were accepted before."""
-    status, text = answered(question)
-    found = _verdict(text.decode("utf-8").split("\n")[0], question, kept)
-    _check_status(status, [found])
-    return _explanation(found, text)
+    answer = answered(question)
+    line, *_ = answer.text.decode("utf-8").split("\n")
+    return _explanation(_single_verdict(line, answer, question, kept), answer.text)
 
 
 def _explanation(found: Verdict, text: bytes) -> Explanation:
@@ -344,8 +350,9 @@ def printed(command: str, election: File, outcome: Optional[File], mode: Mode, *
     """The status and the text of a command, and whether it is a yes to prices that says little. Raises Refusal, OSError
     and MemoryError; that a file is refused stands before that one behind it can't be read, as with the program."""
     asked = _judged(command, election, outcome, mode, PageWords(), **certificates)
-    status, text = asked.answer()
-    return status, text, text.startswith(b"supported ") and says_little(asked.question)
+    answer = asked.answer()
+    line = answer.text.split(b"\n", 1)[0].decode("utf-8")
+    return answer.status, answer.text, line in _OF_PRICES and says_little(asked.question)
 
 
 def _judged(command: str, election: File, outcome: Optional[File], mode: Mode, page: PageWords,
@@ -383,9 +390,14 @@ def _judge_ahead(question: Question, given: Dict[str, File]) -> None:
 
 def verdict(question: Question) -> Verdict:
     """The verdict that answers a question on a certificate, with files that were made of values."""
-    status, text = answered(question)
-    found = _verdict(text.decode("utf-8").rstrip("\n"), question, keep(question))
-    _check_status(status, [found])
+    answer = answered(question)
+    return _single_verdict(answer.text.decode("utf-8").rstrip("\n"), answer, question, keep(question))
+
+
+def _single_verdict(line: str, answer: Answer, question: Question, kept: Optional[Kept]) -> Verdict:
+    """The verdict by this line of an answer that has no other."""
+    found = _verdict(line, answer.facts.condition or answer.facts.test, question, kept)
+    _check_status(answer.status, [found])
     return found
 
 
@@ -402,13 +414,11 @@ def _lines_of(asked: "_Asked", number: int) -> List[str]:
     return lines
 
 
-def _verdict(line: str, question: Question, kept: Optional[Kept]) -> Verdict:
-    failed = re.fullmatch(r"failed (\w+)(?: voter (\d+))?(?: project (.*))?", line)
-    if failed:
-        condition, voter, project = failed.groups()
-        found = Verdict(False, line, condition, None if voter is None else int(voter), project)
+def _verdict(line: str, failing: Optional[Culprit], question: Question, kept: Optional[Kept]) -> Verdict:
+    if failing:
+        found = Verdict(False, line, failing.name, failing.voter, failing.project_in(line))
     elif line in _YES:
-        is_of_prices = line.startswith("supported ")
+        is_of_prices = line in _OF_PRICES
         is_little = is_of_prices and says_little(question)
         found = Verdict(True, line, says_little=is_little, no_group_passed_over=is_of_prices and not is_little,
                         refutes=_REFUTES.get(line))
@@ -444,53 +454,59 @@ class _Asked:
         self._sources = {name: source_of(file, stamps[name], data[name]) for name, file in self._given.items()}
         first, second = (*(data[name] for name in certificates), None, None)[:2]
         self.question = Question(command, data["election"], first, second, data.get("outcome"), mode, page)
-        self._answer: Optional[Tuple[int, bytes]] = None
+        self._answer: Optional[Answer] = None
 
-    def answer(self) -> Tuple[int, bytes]:
-        """The status and the text. Raises Refusal where a file is refused."""
+    def answer(self) -> Answer:
+        """The answer. Raises Refusal where a file is refused."""
         if self._answer is None:
             self._answer = answered(self.question, self._given)
         return self._answer
 
     def text(self) -> bytes:
-        return self.answer()[1]
+        return self.answer().text
 
     def lines(self) -> List[str]:
         return self.text().decode("utf-8").rstrip("\n").split("\n")
 
     def verdicts(self, *lines: str) -> List[Verdict]:
         """The verdicts by these lines of the answer, which go with its status."""
-        question, mode = self.question, self.question.mode
+        question, mode, answer = self.question, self.question.mode, self.answer()
         election, first, second, outcome = question.election, question.certificate, question.violation, question.outcome
         certificates = [name for name in self._given if name not in ("election", "outcome")]
-        questions = [question]
+        questions, failing = [question], [answer.facts.condition or answer.facts.test]
         if second is not None:
             questions = [Question("prices", election, first, None, outcome, mode),
                          Question("violation", election, second, None, outcome)]
+            failing = [answer.facts.condition, answer.facts.test]
         kept = [keep(each, {**self._sources, "certificate": self._sources[name]})
                 for name, each in zip(certificates, questions)]
-        verdicts = [_verdict(*each) for each in zip(lines, questions, kept)]
-        _check_status(self.answer()[0], verdicts)
+        verdicts = [_verdict(*each) for each in zip(lines, failing, questions, kept)]
+        _check_status(answer.status, verdicts)
         return verdicts
 
 
-def answered(question: Question, given: Optional[Dict[str, File]] = None) -> Tuple[int, bytes]:
-    """The status, 0 or 1, and the text that answer a question. Raises Refusal where a file is refused, with the name of
+def answered(question: Question, given: Optional[Dict[str, File]] = None) -> Answer:
+    """The answer to a question, of which the status is 0 or 1. Raises Refusal where a file is refused, with the name of
     the one that was given."""
-    status, text = ask(question)
-    if status == 2:
-        raise _refusal(question, text.decode("utf-8").rstrip("\n"), given or {})
-    return status, text
+    answer = ask(question)
+    if answer.status == 2:
+        raise _refusal(question, answer, given or {})
+    return answer
 
 
-def _refusal(question: Question, printed: str, given: Dict[str, File]) -> Refusal:
-    bare = Refusal(printed)
-    file = given.get(bare.input)
-    told = hint(question, Place(bare.input, bare.number, bare.record))
+def _refusal(question: Question, answer: Answer, given: Dict[str, File]) -> Refusal:
+    file = given.get(answer.facts.input or "")
+    told = hint(question, answer.facts)
     sentences = [told.sentences] if told else []
     if isinstance(file, (bytes, bytearray, memoryview)) and _looks_like_a_path(bytes(file)):
         sentences.append("bytes are taken for the contents of a file: give a path as a str")
-    return Refusal(printed, path_of(file), told.line if told else None, "\n".join(sentences) or None)
+    return Refusal(answer.text.decode("utf-8").rstrip("\n"), path_of(file), told.line if told else None,
+                   "\n".join(sentences) or None, _facts=answer.facts)
+
+
+def _fault_in(printed: str) -> str:
+    """The name of the fault, which stands behind its number in the line of a refusal."""
+    return printed.split(" ")[3]
 
 
 def _looks_like_a_path(data: bytes) -> bool:

@@ -44,6 +44,15 @@ def election_of(data: bytes) -> Election:
     return Election(Projects(costs), list(costs.values()), limit, ballots, funded)
 
 
+def ids_of(data: bytes) -> Iterator[str]:
+    """The ids of the projects of a file, in their order."""
+    for section, header, row in _rows(data):
+        if section == b"votes":
+            return
+        if section == b"projects":
+            yield _cell(header, row, b"project_id").decode("utf-8")
+
+
 def _projects_of(rows: Iterator[Row]) -> Tuple[Dict[str, Fraction], Optional[Set[int]]]:
     """What the projects cost, by id, and the places of those that are funded, where there is a column `selected`."""
     costs: Dict[str, Fraction] = {}

@@ -94,11 +94,12 @@ def _made(entry: Entry, language: str) -> _Pages:
     read = lru_cache(maxsize=None)(partial(bytes_of_entry, entry))
     lines = audit_read(entry, read)
     pages = {}
-    for ending, _, status in lines:
-        if ending != ".pb" and status < 2:
+    for each in lines:
+        ending = each.ending
+        if ending != ".pb" and each.status < 2:
             words = PageWords(entry.name + ".pb", entry.name + ending, language=language)
             question = Question("page", read(".pb") or b"", read(ending) or b"", mode=entry.mode, page=words)
-            pages[ending] = ask(question)[1]
+            pages[ending] = ask(question).text
     return _Pages(entry, lines, pages)
 
 
@@ -134,8 +135,9 @@ def _section(made: _Pages) -> str:
 
 
 def _item(made: _Pages, found: Line) -> str:
-    ending, line, _ = found
-    code = f'<code lang="en"><bdi>{html.escape(made.entry.name + ending)}</bdi>: <bdi>{html.escape(line)}</bdi></code>'
+    ending = found.ending
+    code = (f'<code lang="en"><bdi>{html.escape(made.entry.name + ending)}</bdi>: '
+            f"<bdi>{html.escape(found.line)}</bdi></code>")
     if ending not in made.pages:
         return code
     # A name with a colon would be taken for a scheme, so that is written by its number as well.

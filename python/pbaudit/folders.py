@@ -13,12 +13,10 @@ from dataclasses import asdict, dataclass, field
 from functools import partial
 from typing import Callable, Dict, Iterator, List, NamedTuple, Optional, Sequence, Tuple
 
-from ._auditor import Mode, Question, ask
+from ._auditor import Answer, Mode, Question, ask
 from .files import MOST_BYTES, Path
 from .shown import visible
 
-# The ending of a file that was audited, its line, and its status.
-Line = Tuple[str, str, int]
 # Gives the bytes of the file with an ending, or none where it can't be read.
 Read = Callable[[str], Optional[bytes]]
 LOG = logging.getLogger("pbaudit")
@@ -30,6 +28,18 @@ UNREAD = "refused {} 18 Read record 0"
 # so many bytes about 100 ms.
 MOST_OF_A_TASK, MOST_BYTES_OF_A_TASK = 50, 2**23
 CERTIFICATES = {".prices.csv": "prices", ".violation.csv": "violation"}
+
+
+class Line(NamedTuple):
+    """What was found of a file that was audited: its ending, the line that the program prints, and the status; and of a
+    no the condition that fails first with the voter and the project that it names."""
+
+    ending: str
+    line: str
+    status: int
+    condition: Optional[str] = None
+    voter: Optional[int] = None
+    project: Optional[str] = None
 
 
 class FileResult(NamedTuple):
@@ -165,26 +175,23 @@ def audit_read(entry: Entry, read: Read) -> List[Line]:
     """The same, where `read` gives the bytes of the file with an ending, or none where it can't be read."""
     election = read(".pb")
     if election is None:
-        return [(".pb", UNREAD.format("election"), 2)]
-    status, line = _line(Question("read", election))
-    found = [(".pb", line, status)]
-    for ending in entry.certificates if status == 0 else ():
-        status, line = _audit_certificate(CERTIFICATES[ending], election, read(ending), entry.mode)
-        found.append((ending, line, status))
+        return [Line(".pb", UNREAD.format("election"), 2)]
+    found = [_line(".pb", ask(Question("read", election)))]
+    for ending in entry.certificates if found[0].status == 0 else ():
+        certificate = read(ending)
+        answer = ask(Question(CERTIFICATES[ending], election, certificate or b"", mode=entry.mode))
+        # That the election states no outcome stands before that the certificate can't be read.
+        is_unread = certificate is None and answer.facts.input != "election"
+        found.append(Line(ending, UNREAD.format("certificate"), 2) if is_unread else _line(ending, answer))
     return found
 
 
-def _audit_certificate(command: str, election: bytes, certificate: Optional[bytes], mode: Mode) -> Tuple[int, str]:
-    status, line = _line(Question(command, election, certificate or b"", mode=mode))
-    # That the election states no outcome stands before that the certificate can't be read.
-    if certificate is None and not line.startswith("refused election"):
-        return 2, UNREAD.format("certificate")
-    return status, line
-
-
-def _line(question: Question) -> Tuple[int, str]:
-    status, text = ask(question)
-    return status, text.decode("utf-8").split("\n")[0]
+def _line(ending: str, answer: Answer) -> Line:
+    line, *_ = answer.text.decode("utf-8").split("\n")
+    failing = answer.facts.condition or answer.facts.test
+    if failing is None:
+        return Line(ending, line, answer.status)
+    return Line(ending, line, answer.status, failing.name, failing.voter, failing.project_in(line))
 
 
 def bytes_of_entry(entry: Entry, ending: str) -> Optional[bytes]:
@@ -303,7 +310,7 @@ def _in_a_process(entry: Entry) -> Optional[List[Line]]:
                           env={**os.environ, "PYTHONPATH": os.pathsep.join(filter(None, sys.path))})
     if done.returncode:
         return None
-    return [(ending, line, status) for ending, line, status in json.loads(done.stdout)]
+    return [Line(*fields) for fields in json.loads(done.stdout)]
 
 
 def report_on(entries: List[Entry], found: Found) -> FolderReport:
@@ -314,9 +321,9 @@ def report_on(entries: List[Entry], found: Found) -> FolderReport:
         if entry not in found:
             lost.append(entry.name)
             lines.append(f"{entry.name}.pb: {LOST}")
-        for ending, line, status in found.get(entry, ()):
-            lines.append(f"{entry.name}{ending}: {line}")
-            statuses.append((ending != ".pb", status))
+        for each in found.get(entry, ()):
+            lines.append(f"{entry.name}{each.ending}: {each.line}")
+            statuses.append((each.ending != ".pb", each.status))
     yes, no = statuses.count((True, 0)), statuses.count((True, 1))
     refused = sum(status == 2 for _, status in statuses)
     lines.append(f"total {len(entries)} elections {yes} yes {no} no {refused} refused")
@@ -330,13 +337,11 @@ def results_of(entry: Entry, lines: Optional[List[Line]]) -> List[FileResult]:
     if lines is None:
         return [FileResult(entry.name, entry.name + ".pb", "election", "lost", None, None, None, LOST)]
     results = []
-    for ending, line, status in lines:
-        failed = re.fullmatch(r"failed (\w+)(?: voter (\d+))?(?: project (.*))?", line) if status == 1 else None
-        condition, voter, project = failed.groups() if failed else (None, None, None)
-        kind = CERTIFICATES.get(ending, "election")
-        answer = ("read" if kind == "election" else "yes", "no", "refused")[status]
-        results.append(FileResult(entry.name, entry.name + ending, kind, answer, condition,
-                                  None if voter is None else int(voter), project, line))
+    for each in lines:
+        kind = CERTIFICATES.get(each.ending, "election")
+        found = ("read" if kind == "election" else "yes", "no", "refused")[each.status]
+        results.append(FileResult(entry.name, entry.name + each.ending, kind, found, each.condition, each.voter,
+                                  each.project, each.line))
     return results
 
 

@@ -17,7 +17,7 @@ from pbaudit import Refusal, _auditor, _places
 REPOSITORY = pathlib.Path(__file__).resolve().parents[2]
 EXAMPLES = REPOSITORY / "examples"
 PROGRAM = REPOSITORY / "crates" / "pbaudit" / "out" / "pbaudit"
-AUDITS = ("read", "prices", "violation", "both", "explain", "margins", "tidy")
+AUDITS = ("read", "prices", "violation", "refutation", "both", "explain", "margins", "tidy")
 
 
 def wanted_answers():
@@ -46,14 +46,19 @@ def question_of(words):
 
 
 class Answers(unittest.TestCase):
-    def test_library_answers_as_the_examples_say(self):
-        self.assertIsInstance(_auditor._find(), _auditor._Library)
-        count = 0
+    def test_both_answer_as_the_examples_say(self):
+        """The library, and the program, of whose lines is read what the library tells in numbers."""
+        library, program, told = _auditor._find(), _auditor._Program(str(PROGRAM)), set()
+        self.assertIsInstance(library, _auditor._Library)
         for words, text, status in wanted_answers():
             with self.subTest(words=words):
-                self.assertEqual(_auditor.ask(question_of(words)), (status, text.encode()))
-                count += 1
-        self.assertGreater(count, 15)
+                answer = library.ask(question_of(words))
+                self.assertEqual((answer.status, answer.text), (status, text.encode()))
+                self.assertEqual(program.ask(question_of(words)), answer)
+                self.assertEqual(answer.facts == _auditor.Facts(), status == 0)
+                told.add(answer.facts)
+        self.assertLess({_auditor.Facts("violation", 21, 1), _auditor.Facts(test=_auditor.Culprit("V4", 9)),
+                         _auditor.Facts(condition=_auditor.Culprit("S5", project=2))}, told)
 
     def test_a_yes_that_says_little(self):
         school = [EXAMPLES / f"school.{end}" for end in ("pb", "prices.csv", "violation.csv")]
@@ -86,27 +91,21 @@ class Answers(unittest.TestCase):
         asked, answer = [], b"x" * 90_000
 
         def answered(*words):
-            *_, out, room, needed = words
+            *_, facts, out, room, needed = words
             asked.append(room)
             needed._obj.value = len(answer)
             if room >= len(answer):
                 out.raw = answer.ljust(room, b"\0")
             return 0
         library = object.__new__(_auditor._Library)
-        library._functions = dict.fromkeys(AUDITS, answered)
+        library._answer = answered
         long, short = bytes(100_000), b""
         for times, *files in ((1, "tidy", short, long), (2, "tidy", long, short), (1, "margins", long, short),
                               (2, "read", long)):
             asked.clear()
             with self.subTest(command=files[0]):
-                self.assertEqual(library.ask(_auditor.Question(*files)), (0, answer))
+                self.assertEqual(library.ask(_auditor.Question(*files)), _auditor.Answer(0, answer))
                 self.assertEqual(len(asked), times)
-
-    def test_program_answers_as_the_examples_say(self):
-        program = _auditor._Program(str(PROGRAM))
-        for words, text, status in wanted_answers():
-            with self.subTest(words=words):
-                self.assertEqual(program.ask(question_of(words)), (status, text.encode()))
 
     def test_program_that_ends_otherwise_is_an_error(self):
         with self.assertRaises(RuntimeError):
@@ -127,7 +126,7 @@ class Answers(unittest.TestCase):
                 with self.assertRaisesRegex(ImportError, "libpbaudit.so can't be used: .*pbaudit-library"):
                     _auditor._find()
                 with mock.patch.object(ctypes, "CDLL", lambda path: object()):
-                    with self.assertRaisesRegex(ImportError, "no attribute 'pbaudit_read'.*pbaudit-library"):
+                    with self.assertRaisesRegex(ImportError, "no attribute 'pbaudit_answer'.*pbaudit-library"):
                         _auditor._find()
 
     def test_without_either_it_says_how_to_build(self):
@@ -242,7 +241,7 @@ class Audits(unittest.TestCase):
     def test_what_is_explained_of_groups(self):
         """Behind the table of a yes, and apart from it."""
         text = b"supported priceable\n\nC1          holds      x\n\nno group is passed over: y\nnearest to that comes z\n"
-        library = mock.Mock(ask=lambda question: (0, text), says_little=lambda question: False)
+        library = mock.Mock(ask=lambda question: _auditor.Answer(0, text), says_little=lambda question: False)
         with mock.patch.object(_auditor, "_found", library):
             told = pbaudit.explain(b"", b"")
         self.assertEqual([(found.name, found.state, found.sentence) for found in told.findings], [("C1", "holds", "x")])
@@ -291,8 +290,7 @@ class Audits(unittest.TestCase):
                     self.assertEqual((refusal.file, refusal.line), (name, line))
                     self.assertIn(word, refusal.reason)
                     self.assertIn(f"\n{name}:{line}: ", str(refusal))
-        with mock.patch.object(_auditor, "_found", _auditor._find()):
-            _auditor._found._hint = None
+        with mock.patch.object(_auditor, "_found", mock.Mock(wraps=_auditor._find(), hint=lambda *_: None)):
             with self.assertRaises(Refusal) as caught:
                 pbaudit.read(b"MET")
             self.assertEqual((caught.exception.line, caught.exception.reason), (None, None))
@@ -306,17 +304,17 @@ class Audits(unittest.TestCase):
         program, room = _auditor._Program("pbaudit"), "/tmp/pbaudit-room"
         told = f"{room}/election.pb:5: one {odd}\n{room}/election.pb:7: other {odd}\n".encode()
         with mock.patch.object(program, "_answer", lambda question: (2, b"", told, room)):
-            found = program.hint(_auditor.Question("read", b""), _auditor.Place("election", 9, 5))
+            found = program.hint(_auditor.Question("read", b""), _auditor.Facts("election", 9, 5))
         self.assertEqual((found.line, found.sentences), (5, f"one {odd}\nline 7: other {odd}"))
 
     def test_an_answer_that_is_none(self):
-        """A line that isn't one of a yes or a no, and one that doesn't go with its status."""
+        """A line that isn't one of a yes or a no, and one that doesn't go with its status or with its facts."""
         sample, prices, claim = b"", b"pb-prices,1\n", b"pb-violation,1\n"
         yes, no = "supported priceable", "failed C3 project b"
         for status, told, ask in (
             *((status, told, lambda: pbaudit.audit_prices(sample, prices))
               for status, told in ((1, yes), (0, no), (0, ""), (0, "supported"), (0, f"x {yes}"), (1, "fail"),
-                                   (0, "fault"))),
+                                   (0, "fault"), (1, "failed C3 voter 1 project b"))),
             *((status, told, lambda: pbaudit.audit_violation(sample, claim))
               for status, told in ((1, "violation"), (0, "failed V4"), (1, ""), (0, "violations"))),
             *((status, told, lambda: pbaudit.explain(sample, prices))
@@ -324,10 +322,11 @@ class Audits(unittest.TestCase):
             *((status, told, lambda: pbaudit.audit_both(sample, prices, claim)) for status, told in (
                 (1, f"{yes}\nviolation"), (0, f"{yes}\nfailed V4"), (0, f"{no}\nviolation"), (0, f"{yes}\n{no} x\ny"))),
         ):
-            answering = mock.Mock(ask=mock.Mock(return_value=(status, f"{told}\n".encode())))
-            with self.subTest(status=status, told=told), mock.patch.object(_auditor, "_found", answering):
-                with self.assertRaisesRegex(RuntimeError, "^pbaudit answers "):
-                    ask()
+            for culprits in ({}, {"condition": _auditor.Culprit("C3", project=2)}, {"test": _auditor.Culprit("V4")}):
+                answer = _auditor.Answer(status, f"{told}\n".encode(), _auditor.Facts(**culprits))
+                with self.subTest(answer=answer), mock.patch.object(_auditor, "_found", mock.Mock(ask=lambda _: answer)):
+                    with self.assertRaisesRegex(RuntimeError, "^pbaudit answers "):
+                        ask()
 
     def test_bytes_that_look_like_a_path(self):
         prices = EXAMPLES / "sample.prices.csv"

@@ -22,6 +22,7 @@ typedef struct { uint8_t *at; size_t length; uint8_t *pages; size_t size; } Byte
 typedef struct { uint8_t status; Bytes text; } Answer;
 static Bytes files[FILES];
 static bool has_outcome, stable, exhaustive, cover;
+static pbaudit_facts facts;
 static long allocations, failing;
 
 extern void *__real_malloc(size_t), *__real_realloc(void *, size_t);
@@ -48,21 +49,17 @@ static void demand(bool holds, const char *what) {
 }
 
 static uint8_t call(char command, uint8_t *out, size_t room, size_t *needed) {
+    static const char letters[] = "rpvubemt";
     const uint8_t *e = files[ELECTION].at, *c = files[CERTIFICATE].at, *v = files[VIOLATION].at, *o = files[OUTCOME].at;
     size_t el = files[ELECTION].length, cl = files[CERTIFICATE].length, vl = files[VIOLATION].length, ol = files[OUTCOME].length;
-    switch (command) {
-    case 'p': return pbaudit_prices(e, el, o, ol, has_outcome, c, cl, stable, exhaustive, cover, out, room, needed);
-    case 'v': return pbaudit_violation(e, el, o, ol, has_outcome, c, cl, out, room, needed);
-    case 'u': return pbaudit_refutation(e, el, o, ol, has_outcome, c, cl, out, room, needed);
-    case 'b': return pbaudit_both(e, el, o, ol, has_outcome, c, cl, v, vl, stable, exhaustive, cover, out, room, needed);
-    case 'e': return pbaudit_explain(e, el, o, ol, has_outcome, c, cl, stable, exhaustive, cover, out, room, needed);
-    case 'm': return pbaudit_margins(e, el, o, ol, has_outcome, c, cl, out, room, needed);
-    case 't': return pbaudit_tidy(e, el, c, cl, out, room, needed);
-    case 'n': return pbaudit_note(e, el, c, cl, out, room, needed);
-    case 'g': return pbaudit_page(e, el, v, 0, o, ol, v, 0, has_outcome, c, cl, v, 0, stable, exhaustive, cover,
-                                  (const uint8_t *)"de", 2, out, room, needed);
-    default: return pbaudit_read(e, el, out, room, needed);
-    }
+    if (command == 'n')
+        return pbaudit_note(e, el, c, cl, out, room, needed);
+    if (command == 'g')
+        return pbaudit_answer_page(e, el, v, 0, o, ol, v, 0, has_outcome, c, cl, v, 0, stable, exhaustive, cover,
+                                   (const uint8_t *)"de", 2, &facts, out, room, needed);
+    const char *letter = strchr(letters, command);
+    return pbaudit_answer(letter && *letter ? (uint8_t)(letter - letters) : 0, e, el, o, ol, has_outcome, c, cl, v, vl, stable,
+                          exhaustive, cover, &facts, out, room, needed);
 }
 
 static bool is_untouched(Bytes out) {
@@ -152,19 +149,15 @@ static void demand_tidied(Answer tidied) {
     let_go(again.text);
 }
 
-static void hint(char command, Answer refused) {
-    char line[64] = {0}, input[16];
-    unsigned number;
-    unsigned long long record;
+static void hint(char command, pbaudit_facts refused) {
+    static const uint8_t kinds[] = {9, 0, 1, 2, 2, 3}, inputs[] = {0, ELECTION, OUTCOME, CERTIFICATE, CERTIFICATE, VIOLATION};
+    size_t needed;
     uint64_t at;
-    size_t needed, length = refused.text.length < sizeof line ? refused.text.length : sizeof line - 1;
-    memcpy(line, refused.text.at, length);
-    demand(sscanf(line, "refused %15s %u %*s record %llu", input, &number, &record) == 3, "a refusal that isn't one");
-    bool is_election = !strcmp(input, "election"), is_outcome = !strcmp(input, "outcome"), is_second = !strcmp(input, "violation");
-    Bytes file = files[is_election ? ELECTION : is_outcome ? OUTCOME : is_second ? VIOLATION : CERTIFICATE], out = guarded(4096);
-    bool is_any = command == 'e' || command == 'g';
-    uint8_t kind = is_election ? 0 : is_outcome ? 1 : is_second || command == 'v' ? 3 : is_any ? 4 : command == 'u' ? 5 : 2;
-    demand(pbaudit_hint(kind, number, record, file.at, file.length, files[ELECTION].at, files[ELECTION].length, !is_election,
+    demand(refused.input && refused.input <= PBAUDIT_VIOLATION_FILE && refused.fault, "a refusal that isn't one");
+    Bytes file = files[inputs[refused.input]], out = guarded(4096);
+    uint8_t any = command == 'v' ? 3 : command == 'u' ? 5 : command == 'e' || command == 'g' ? 4 : 2;
+    demand(pbaudit_hint(refused.input == PBAUDIT_CERTIFICATE_FILE ? any : kinds[refused.input], refused.fault, refused.record,
+                        file.at, file.length, files[ELECTION].at, files[ELECTION].length, refused.input != PBAUDIT_ELECTION_FILE,
                         &at, out.at, out.length, &needed) == 0, "a hint that fails");
     let_go(out);
 }
@@ -197,11 +190,12 @@ int LLVMFuzzerTestOneInput(const uint8_t *data, size_t size) {
     }
     has_outcome = given == FILES;
     Answer said = answer(command);
+    pbaudit_facts told = facts;
     count(command, said);
     if (starved)
         starve(command, said, starved);
     if (said.status == 2)
-        hint(command, said);
+        hint(command, told);
     if (command == 'b')
         demand_both(said);
     if (command == 'e')

@@ -4,7 +4,6 @@
 """
 import concurrent.futures
 import json
-import pathlib
 import random
 import re
 import shutil
@@ -15,9 +14,9 @@ import pytest
 
 import variants
 from cases import numbered, write_files
+from common import TOP
+from tables import EXAMPLES
 
-TOP = pathlib.Path(__file__).resolve().parent.parent.parent
-EXAMPLES = TOP / "examples"
 ANSWERS = re.findall(r"^pbaudit (.*)$", (EXAMPLES / "answers.txt").read_text(encoding="utf-8"), re.MULTILINE)
 # So many files by chance, half of them damaged, and so many lines of words.
 CASES, LINES = 60, 1500

@@ -11,8 +11,10 @@ import pytest
 import by_node
 import cases
 import saying
+import tables
 import variants
 from common import TOP, needs
+from reference.election import read_election
 from tables import EXAMPLES
 
 BY_CHANCE = 2000
@@ -36,12 +38,12 @@ OLDER = ["--noEmit", "false", "--target", "es2019", "--module", "es2015"]
 
 def commands_of(case, number):
     """The commands that are asked of a case's files: its own, and of a certificate the page and the explanation."""
-    words = ["read", "stdin"] if case.stdin is not None else case.words
-    yield words
-    if words[0] in ("prices", "violation", "refutation", "explain"):
-        yield ["page", *words[1:], "--language", LANGUAGES[number % len(LANGUAGES)]]
-    if words[0] in ("prices", "violation", "refutation"):
-        yield ["explain", *words[1:]]
+    command, *words = case.words
+    yield case.words
+    if command in ("prices", "violation", "refutation", "explain"):
+        yield ["page", *words, "--language", LANGUAGES[number % len(LANGUAGES)]]
+    if command in ("prices", "violation", "refutation"):
+        yield ["explain", *words]
 
 
 def test_by_chance(run, node, seed, by_chance, room):
@@ -51,8 +53,27 @@ def test_by_chance(run, node, seed, by_chance, room):
         ran, told = run(*words, cwd=room), node.ask(by_node.call_of(words, room))
         assert (told.get("status"), told.get("text")) == (ran.returncode, ran.stdout)
         if ran.returncode == 2:
-            hint = by_node.hint_of(node, words, room, ran.stdout.decode())
-            assert (hint.get("line"), hint.get("sentences")) == by_node.told_hints(ran.stderr)
+            assert (told.get("line"), told.get("sentences")) == by_node.told_hints(ran.stderr)
+
+
+def facts_in(lines, election):
+    """What is told in numbers where these lines are printed."""
+    if lines[0].startswith("refused "):
+        _, role, number, _, _, record = lines[0].split(" ")
+        return {"fault": {"input": role, "number": int(number), "record": int(record)}}
+    facts, failed = {}, r"^failed (\w+)(?: voter (\d+))?(?: project (.*))?$"
+    for name, voter, project in re.findall(failed, "\n".join(lines[:2]), re.MULTILINE):
+        at = {"voter": voter and int(voter), "project": project and read_election(election).number_of[project.encode()]}
+        facts["test" if name[0] in "VU" else "condition"] = {"name": name} | {key: at[key] for key in at if at[key]}
+    return facts
+
+
+@pytest.mark.parametrize("name", ["answers.txt", "hints.txt", "refutations.txt"])
+def test_facts(node, room, name):
+    for row, words, files in tables.asked(name):
+        cases.write_files(room, {"missing": b"", **files})
+        told = node.ask(by_node.call_of(words, room))["facts"]
+        assert told == facts_in(row.printed, files[words[1]]), (row.group, words)
 
 
 def test_each_kind_of_answer_comes(seed, option):

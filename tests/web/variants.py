@@ -9,8 +9,8 @@ MODULE = re.compile(r'(<script type="text/plain" id="module">)([^<]*)(</script>)
 TRAPPING = """
 (module (memory (export "memory") 200)
   (func (export "pbaudit_room") (param i64) (result i64) (i64.const 1024))
-  (func (export "pbaudit_read") (result i32) (unreachable))
-  (func (export "pbaudit_page") (result i32) (unreachable)))
+  (func (export "pbaudit_answer") (result i32) (unreachable))
+  (func (export "pbaudit_answer_page") (result i32) (unreachable)))
 """
 
 

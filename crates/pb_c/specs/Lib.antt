@@ -1,2 +1,4 @@
+pub mod Commands
+pub mod Facts
 pub mod Files
 pub mod Reports

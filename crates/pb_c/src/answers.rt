@@ -1,115 +1,103 @@
-//! The answers on files in memory, as texts. An outcome file comes as its bytes and whether it is given, as C has it.
-ghost use Rattle.std.specs.Prelude.{◌≡◌, IfOk, option_copied};
-ghost use Rattle.pb_audit.specs.Answers.{AnswersElectionFile, AnswersPriceFiles, AnswersRefutationFiles, AnswersViolationFiles};
-ghost use Rattle.pb_audit.specs.Both.{AnswersBothFiles};
-ghost use Rattle.pb_audit.specs.Explained.{AnswersExplainedFiles};
-ghost use Rattle.pb_audit.specs.Margins.{AnswersMarginFiles};
-ghost use Rattle.pb_reply.specs.Replies.{TellsReply};
+//! The answers on files in memory. An outcome file comes as its bytes and whether it is given, as C has it.
+ghost use Rattle.std.specs.Prelude.{◌≡◌, IfOk, option_copied, option_map};
+ghost use Rattle.pb_audit.specs.Questions.{Answers};
+ghost use Rattle.pb_c.specs.Commands.{question_of};
 ghost use Rattle.pb_c.specs.Files.{given_file};
+ghost use Rattle.pb_page.specs.InTurn.{ReadsPage};
+ghost use Rattle.pb_reply.specs.Inputs.{in_memory};
+ghost use Rattle.pb_reply.specs.Inside.Loaded.{lent};
+ghost use Rattle.pb_reply.specs.Turns.{gives, gives_file};
 
-use pb_audit::{
-    Answer, Status, both_reply, explained_reply, margins_answer, prices_reply, read_reply,
-    refutation_reply, violation_reply,
-};
+use pb_audit::{Answer, Question, Status, answer};
+use pb_page::{Language, PageNames, page_answer};
 use pb_price::Mode;
+use pb_reply::File;
 use std::alloc::{AllocError, Global};
 
-/// The answer on an election.
-pub(crate) fn read_answer(alloc: Global, election: &[u8]) -> Result<Answer<Status>, AllocError>
-    ensures { IfOk result (TellsReply (AnswersElectionFile election.now)) }
+/// The question of a number: 0 read, 1 prices, 2 violation, 3 refutation, 4 both, 5 explain, 6 margins, 7 tidy.
+pub(crate) fn question_of(number: u8, mode: Mode) -> Option<Question>
+    ensures { result ≡ question_of number mode }
 {
-    read_reply(alloc, election)?.answer(alloc)
+    Some(match number {
+        0 => Question::Read,
+        1 => Question::Prices(mode),
+        2 => Question::Violation,
+        3 => Question::Refutation,
+        4 => Question::Both(mode),
+        5 => Question::Explain(mode),
+        6 => Question::Margins,
+        7 => Question::Tidy,
+        _ => return None,
+    })
 }
 
-/// The answer on prices.
-pub(crate) fn prices_answer(
+/// The answer to a question.
+pub(crate) fn answer_on(
     alloc: Global,
+    question: Question,
     election: &[u8],
     outcome: &[u8],
     has_outcome: bool,
     certificate: &[u8],
-    mode: Mode,
-) -> Result<Answer<Status>, AllocError>
-    ensures { IfOk result (TellsReply (AnswersPriceFiles mode election.now (given_file has_outcome outcome.now) certificate.now)) }
-{
-    let outcome = given_bytes(outcome, has_outcome);
-    prices_reply(alloc, election, outcome, certificate, mode)?.answer(alloc)
-}
-
-/// The answer on a group and its demand.
-pub(crate) fn violation_answer(
-    alloc: Global,
-    election: &[u8],
-    outcome: &[u8],
-    has_outcome: bool,
-    certificate: &[u8],
-) -> Result<Answer<Status>, AllocError>
-    ensures { IfOk result (TellsReply (AnswersViolationFiles election.now (given_file has_outcome outcome.now) certificate.now)) }
-{
-    let outcome = given_bytes(outcome, has_outcome);
-    violation_reply(alloc, election, outcome, certificate)?.answer(alloc)
-}
-
-/// The answer on weights.
-pub(crate) fn refutation_answer(
-    alloc: Global,
-    election: &[u8],
-    outcome: &[u8],
-    has_outcome: bool,
-    certificate: &[u8],
-) -> Result<Answer<Status>, AllocError>
-    ensures { IfOk result (TellsReply (AnswersRefutationFiles election.now (given_file has_outcome outcome.now) certificate.now)) }
-{
-    let outcome = given_bytes(outcome, has_outcome);
-    refutation_reply(alloc, election, outcome, certificate)?.answer(alloc)
-}
-
-/// The answer on prices, and on a group and its demand.
-pub(crate) fn both_answer(
-    alloc: Global,
-    election: &[u8],
-    outcome: &[u8],
-    has_outcome: bool,
-    prices: &[u8],
     violation: &[u8],
-    mode: Mode,
 ) -> Result<Answer<Status>, AllocError>
-    ensures { IfOk result (TellsReply (AnswersBothFiles mode election.now (given_file has_outcome outcome.now) prices.now violation.now)) }
+    ensures { IfOk result (Answers question (gives (in_memory election.now)) (gives_file (option_map in_memory (given_file has_outcome outcome.now))) (gives (in_memory certificate.now)) (gives (in_memory violation.now))) }
 {
-    let outcome = given_bytes(outcome, has_outcome);
-    both_reply(alloc, election, outcome, prices, violation, mode)?.answer(alloc)
+    let mut election = File::in_memory(election);
+    let mut outcome = file_given(outcome, has_outcome);
+    let mut certificate = File::in_memory(certificate);
+    let mut violation = File::in_memory(violation);
+    let mut notes = Vec::new(alloc);
+    answer(
+        alloc,
+        question,
+        &mut election,
+        &mut outcome,
+        &mut certificate,
+        &mut violation,
+        &mut notes,
+    )
 }
 
-/// The answer with what each condition or test comes to.
-pub(crate) fn explained_answer(
+/// The page about a certificate.
+pub(crate) fn page_on(
     alloc: Global,
+    names: PageNames<'_>,
     election: &[u8],
     outcome: &[u8],
     has_outcome: bool,
     certificate: &[u8],
     mode: Mode,
+    language: Language,
 ) -> Result<Answer<Status>, AllocError>
-    ensures { IfOk result (TellsReply (AnswersExplainedFiles mode election.now (given_file has_outcome outcome.now) certificate.now)) }
+    ensures { IfOk result (ReadsPage mode language (gives (in_memory election.now)) (gives_file (option_map in_memory (given_file has_outcome outcome.now))) (gives (in_memory certificate.now))) }
 {
-    let outcome = given_bytes(outcome, has_outcome);
-    explained_reply(alloc, election, outcome, certificate, mode)?.answer(alloc)
-}
-
-/// The answer with the figures of each project.
-pub(crate) fn figures_answer(
-    alloc: Global,
-    election: &[u8],
-    outcome: &[u8],
-    has_outcome: bool,
-    certificate: &[u8],
-) -> Result<Answer<Status>, AllocError>
-    ensures { IfOk result (AnswersMarginFiles election.now (given_file has_outcome outcome.now) certificate.now) }
-{
-    let outcome = given_bytes(outcome, has_outcome);
-    margins_answer(alloc, election, outcome, certificate)
+    let mut election = File::in_memory(election);
+    let mut outcome = file_given(outcome, has_outcome);
+    let mut certificate = File::in_memory(certificate);
+    page_answer(
+        alloc,
+        names,
+        &mut election,
+        &mut outcome,
+        &mut certificate,
+        mode,
+        language,
+    )
 }
 
 /// The file, where it is given.
+fn file_given(bytes: &[u8], is_given: bool) -> Option<File<'_>>
+    ensures { option_map lent result ≡ option_map in_memory (given_file is_given bytes.now) }
+{
+    if is_given {
+        Some(File::in_memory(bytes))
+    } else {
+        None
+    }
+}
+
+/// The bytes, where they are given.
 pub(crate) fn given_bytes(bytes: &[u8], is_given: bool) -> Option<&[u8]>
     ensures { option_copied result ≡ given_file is_given bytes.now }
 {

@@ -1,14 +1,22 @@
-/* Calls of the proved library as a WebAssembly module. A file is put into the module's memory, a call answers a status
-   and bytes. Room that was given isn't taken back before the next audit, for which all memory is as it was at first. */
+/* Calls of the proved library as a WebAssembly module. A file is put into the module's memory, a call answers a status,
+   bytes and facts. Room that was given isn't taken back before the next audit, for which all memory is as it was at
+   first. */
 
 import { callOf, COMMANDS, INPUTS } from "./commands.js";
+import { FACTS_LENGTH, factsIn } from "./facts.js";
 import { OutOfMemory, YES } from "./statuses.js";
-import type { Command, Input, Place, Question, Row, Word } from "./commands.js";
+import type { Call, Command, Input, Place, Question, Row, Word } from "./commands.js";
+import type { Facts } from "./facts.js";
 import type { Hint } from "./lines.js";
 
-export interface Reply {
+/** How a call ends, and its text. */
+interface Ended {
   readonly status: number;
   readonly bytes: Uint8Array;
+}
+
+export interface Reply extends Ended {
+  readonly facts: Facts;
 }
 
 /** What was refused, and why. */
@@ -40,15 +48,11 @@ export class Auditor {
   private readonly first: Uint8Array;
   private answer: Place | undefined;
   private needed: Place | undefined;
+  private facts: Place | undefined;
 
   constructor(module: WebAssembly.Module) {
     this.calls = new WebAssembly.Instance(module, {}).exports as unknown as Calls;
     this.first = this.bytes({ at: 0n, length: this.room(0).at }).slice();
-  }
-
-  /** Whether the module has a command, which an older one may lack. */
-  knows(command: Command): boolean {
-    return `pbaudit_${command}` in this.calls;
   }
 
   /** The bytes of memory that the module has taken. */
@@ -61,7 +65,7 @@ export class Auditor {
     const top = this.room(0).at;
     this.bytes({ at: 0n, length: top }).fill(0, this.first.length);
     this.bytes({ at: 0n, length: top }).set(this.first);
-    this.answer = this.needed = undefined;
+    this.answer = this.needed = this.facts = undefined;
   }
 
   private export(name: string): (...words: Word[]) => Word {
@@ -92,7 +96,11 @@ export class Auditor {
 
   /** Calls a command. Where the answer needs more than the room that was guessed, the command is called again. */
   ask(command: Command, asked: Question, guess = guessFor(command, asked)): Reply {
-    return this.call(`pbaudit_${command}`, callOf(command, asked), guess);
+    const facts = this.facts ??= this.room(FACTS_LENGTH);
+    // A call that tells no facts leaves none.
+    this.bytes(facts).fill(0);
+    const ended = this.call(callOf(command, asked, facts), guess);
+    return { ...ended, facts: factsIn(this.view(facts)) };
   }
 
   /** Why a file was refused, beside the election where it is another file. */
@@ -100,18 +108,22 @@ export class Auditor {
     const line = this.room(8);
     const beside: Word[] = election ? [election.at, election.length, 1] : [file.at, 0n, 0];
     const words = [INPUTS[input], number, BigInt(record), file.at, file.length, ...beside, line.at];
-    const { status, bytes } = this.call("pbaudit_hint", words, TEXT_ROOM);
+    const { status, bytes } = this.call({ name: "pbaudit_hint", words }, TEXT_ROOM);
     if (status !== YES) return { line: 0, sentences: [] };
     const sentences = new TextDecoder().decode(bytes).split("\n").filter(Boolean);
     return { line: this.number(line), sentences };
   }
 
+  private view({ at, length }: Place): DataView {
+    return new DataView(this.calls.memory.buffer, Number(at), Number(length));
+  }
+
   number(place: Place): number {
-    return Number(new DataView(this.calls.memory.buffer).getBigUint64(Number(place.at), true));
+    return Number(this.view(place).getBigUint64(0, true));
   }
 
   /** Calls a function of the module. The room of an answer is used again for the next. */
-  private call(name: string, words: Word[], guess: number): Reply {
+  private call({ name, words }: Call, guess: number): Ended {
     const needed = this.needed ??= this.room(8);
     let room = this.answer && this.answer.length >= guess ? this.answer : this.room(guess);
     for (;; room = this.room(this.number(needed))) {

@@ -1,5 +1,5 @@
-/* The calls of the library, most of which are commands of the program: what each takes, in the order of its parameters
-   in pbaudit.h. */
+/* The calls of the library, most of which are commands of the program: what each needs, and its words, in the order of
+   the parameters in pbaudit.h. */
 
 import type { Mode } from "./statuses.js";
 
@@ -23,31 +23,6 @@ export interface Question {
   readonly language?: Place | undefined;
 }
 
-const given = (place: Place | undefined): Word[] => {
-  if (!place) throw new TypeError("a file that the command takes isn't given");
-  return [place.at, place.length];
-};
-
-/** The outcome file, which may be missing. */
-const outcomePlace = ({ files }: Question): Word[] => given(files.outcome ?? { ...files.election!, length: 0n });
-const isOutcomeGiven = ({ files }: Question): Word[] => [Number(files.outcome !== undefined)];
-
-/** The words of a call for each thing that a command may take. */
-const PARTS = {
-  election: ({ files }: Question) => given(files.election),
-  outcome: (asked: Question) => [...outcomePlace(asked), ...isOutcomeGiven(asked)],
-  certificate: ({ files }: Question) => given(files.certificate),
-  violation: ({ files }: Question) => given(files.violation),
-  mode: ({ mode }: Question): Word[] => [mode.stable, mode.exhaustive, mode.cover].map(Number),
-  namedElection: ({ files, names }: Question) => [...given(files.election), ...given(names.election)],
-  namedOutcome: (asked: Question) =>
-    [...outcomePlace(asked), ...given(asked.names.outcome), ...isOutcomeGiven(asked)],
-  namedCertificate: ({ files, names }: Question) => [...given(files.certificate), ...given(names.certificate)],
-  language: ({ language }: Question) => given(language),
-};
-
-export type Part = keyof typeof PARTS;
-
 /** What the library calls each file when it is asked why it was refused. */
 export const INPUTS = { election: 0, outcome: 1, prices: 2, violation: 3, certificate: 4, refutation: 5 } as const;
 
@@ -57,11 +32,13 @@ export type Input = keyof typeof INPUTS;
 export type Beside = "election" | "yes";
 
 /**
- * A call: what it takes, what its certificate has to be, what is told beside its answer, and whether this is a line or a
- * few, and no text that grows with the files.
+ * A command: the number of its question (a page and a note have calls of their own), the files that it needs, what its
+ * certificate has to be, what is told beside its answer, and whether this is a line or a few, and no text that grows
+ * with the files.
  */
 export interface Row {
-  readonly takes: readonly Part[];
+  readonly question?: number;
+  readonly needs: readonly Role[];
   readonly certificate?: Input;
   readonly beside?: readonly Beside[];
   readonly isShort?: boolean;
@@ -70,34 +47,60 @@ export interface Row {
 const rows = <Table extends Record<string, Row>>(table: Table): Table => table;
 
 export const COMMANDS = rows({
-  read: { takes: ["election"], isShort: true },
+  read: { question: 0, needs: ["election"], isShort: true },
   prices: {
-    takes: ["election", "outcome", "certificate", "mode"], certificate: "prices", beside: ["election", "yes"],
-    isShort: true,
+    question: 1, needs: ["election", "certificate"], certificate: "prices", beside: ["election", "yes"], isShort: true,
   },
   violation: {
-    takes: ["election", "outcome", "certificate"], certificate: "violation", beside: ["election"], isShort: true,
+    question: 2, needs: ["election", "certificate"], certificate: "violation", beside: ["election"], isShort: true,
   },
   refutation: {
-    takes: ["election", "outcome", "certificate"], certificate: "refutation", beside: ["election"], isShort: true,
+    question: 3, needs: ["election", "certificate"], certificate: "refutation", beside: ["election"], isShort: true,
   },
   both: {
-    takes: ["election", "outcome", "certificate", "violation", "mode"], certificate: "prices", beside: ["yes"],
-    isShort: true,
+    question: 4, needs: ["election", "certificate", "violation"], certificate: "prices", beside: ["yes"], isShort: true,
   },
   explain: {
-    takes: ["election", "outcome", "certificate", "mode"], certificate: "certificate", beside: ["election", "yes"],
+    question: 5, needs: ["election", "certificate"], certificate: "certificate", beside: ["election", "yes"],
   },
-  page: {
-    takes: ["namedElection", "namedOutcome", "namedCertificate", "mode", "language"], certificate: "certificate",
-  },
-  margins: { takes: ["election", "outcome", "certificate"], certificate: "prices" },
-  tidy: { takes: ["election", "certificate"], certificate: "prices" },
-  note: { takes: ["election", "certificate"], certificate: "prices" },
+  margins: { question: 6, needs: ["election", "certificate"], certificate: "prices" },
+  tidy: { question: 7, needs: ["election", "certificate"], certificate: "prices" },
+  page: { needs: ["election", "certificate"], certificate: "certificate" },
+  note: { needs: ["election", "certificate"], certificate: "prices" },
 });
 
 export type Command = keyof typeof COMMANDS;
 
-/** The words of a command's call, but for the room of its answer. */
-export const callOf = (command: Command, asked: Question): Word[] =>
-  (COMMANDS[command].takes as readonly Part[]).flatMap(part => PARTS[part](asked));
+/** A call: the function, and its words but for the room of the answer. */
+export interface Call {
+  readonly name: string;
+  readonly words: Word[];
+}
+
+const given = (place: Place | undefined): Word[] => {
+  if (!place) throw new TypeError("a file that the command takes isn't given");
+  return [place.at, place.length];
+};
+
+/** The call of a command. The facts that are told of its answer go to this place. */
+export function callOf(command: Command, { files, names, mode, language }: Question, facts: Place): Call {
+  const { question, needs }: Row = COMMANDS[command];
+  // A file that isn't needed may be missing, but its pointer may not be null.
+  const file = (role: Role): Word[] =>
+    given(files[role] ?? (needs.includes(role) ? undefined : { ...files.election!, length: 0n }));
+  const switches = [mode.stable, mode.exhaustive, mode.cover].map(Number);
+  const hasOutcome = Number(files.outcome !== undefined);
+  if (command === "note") return { name: "pbaudit_note", words: [...file("election"), ...file("certificate")] };
+  if (question === undefined) {
+    const words = [
+      ...file("election"), ...given(names.election), ...file("outcome"), ...given(names.outcome), hasOutcome,
+      ...file("certificate"), ...given(names.certificate), ...switches, ...given(language), facts.at,
+    ];
+    return { name: "pbaudit_answer_page", words };
+  }
+  const words = [
+    question, ...file("election"), ...file("outcome"), hasOutcome, ...file("certificate"), ...file("violation"),
+    ...switches, facts.at,
+  ];
+  return { name: "pbaudit_answer", words };
+}

@@ -1,7 +1,6 @@
 /* What a file is, as the auditor tells it: the kind whose first record it takes. */
 
-import { refusalIn } from "./lines.js";
-import { REFUSED, USUAL_MODE } from "./statuses.js";
+import { USUAL_MODE } from "./statuses.js";
 import type { Auditor } from "./auditor.js";
 import type { Command, Place, Question } from "./commands.js";
 
@@ -29,16 +28,13 @@ export class Teller {
 
   /** The record at which a file is refused that is taken for a certificate of a kind. */
   private recordOf(command: "prices" | "violation" | "refutation", certificate: Place): number {
-    const { auditor, election } = this;
-    return auditor.knows(command) ? this.refusal(command, { election, certificate }).record : 0;
+    return this.refusal(command, { election: this.election, certificate }).record;
   }
 
   /** The number of the refusal, and of its record, where the file is taken for one of a kind. Other answers have none. */
   private refusal(command: Command, files: Question["files"]): { number: number; record: number } {
     const asked = { files, names: {}, mode: USUAL_MODE };
-    const { status, bytes } = this.auditor.ask(command, asked, KIND_ROOM);
-    const refused = status === REFUSED ? refusalIn(new TextDecoder().decode(bytes)) : undefined;
-    return refused ?? { number: 0, record: Infinity };
+    return this.auditor.ask(command, asked, KIND_ROOM).facts.fault ?? { number: 0, record: Infinity };
   }
 
   /**

@@ -1,4 +1,8 @@
-/* What the lines say that the library prints (docs/FORMATS.md, Printed lines). Nothing else takes them apart. */
+/* What the lines say that the library prints (docs/FORMATS.md, Printed lines): of a refusal and a no that is what the
+   library tells in numbers, and read off the line are a fault's name and a project's id alone. Nothing else takes lines
+   apart. */
+
+import type { Culprit, Facts, Fault } from "./facts.js";
 
 /** A yes to prices. */
 export interface Supported {
@@ -55,47 +59,44 @@ export interface Hint {
   readonly sentences: readonly string[];
 }
 
-/** The number of a refusal for want of an outcome. */
-export const NO_OUTCOME = 17;
-
 export const linesOf = (text: string): string[] => text.split("\n").filter(Boolean);
 
-const FAILED = /^failed (\w+)(?: voter (\d+))?(?: project (.*))?$/s;
-const REFUSED = /^refused (\w+) (\d+) (\w+) record (\d+)$/;
-const READ = /^read (\d+) voters (\d+) projects (?:(\d+) funded|no outcome)$/;
-
-function failedOf([, condition, voter, project]: RegExpExecArray): Failed {
+function failedOf({ name, voter, project }: Culprit, line: string): Failed {
+  const front = `failed ${name}${voter === undefined ? "" : ` voter ${voter}`} project `;
   return {
-    says: "failed", condition,
-    ...voter === undefined ? {} : { voter: Number(voter) },
-    ...project === undefined ? {} : { project },
+    says: "failed", condition: name,
+    ...voter === undefined ? {} : { voter },
+    ...project === undefined ? {} : { project: line.slice(front.length) },
   };
 }
 
-function readOf([, voters, projects, funded]: RegExpExecArray): ReadLine {
-  const counts = { voters: Number(voters), projects: Number(projects) };
+/** The line of a refusal. */
+export function refusedOf({ input, number, record }: Fault, line: string): RefusedLine {
+  const [, , , name] = line.split(" ");
+  return { says: "refused", input, number, name, record };
+}
+
+/** The line of an election that was read, or undefined where it is another. */
+export function readOf(line: string): ReadLine | undefined {
+  const found = /^read (\d+) voters (\d+) projects (?:(\d+) funded|no outcome)$/.exec(line);
+  if (!found) return undefined;
+  const [, voters, projects, funded] = found, counts = { voters: Number(voters), projects: Number(projects) };
   return { says: "read", ...counts, ...funded === undefined ? {} : { funded: Number(funded) } };
 }
 
-function refusedOf([, input, number, name, record]: RegExpExecArray): RefusedLine {
-  return { says: "refused", input, number: Number(number), name, record: Number(record) };
-}
-
-/** What a line says, or undefined where it is none of an answer. */
-export function lineOf(line: string): Line | undefined {
+/** The line of a yes, or undefined where it is another. */
+export function yesOf(line: string): Supported | Violated | Unpriceable | undefined {
   if (line === "violation") return { says: "violation" };
   if (line === "unpriceable") return { says: "unpriceable", cover: false };
   if (line === "unpriceable cover") return { says: "unpriceable", cover: true };
   if (line === "supported priceable") return { says: "supported", form: "priceable" };
-  if (line === "supported stable") return { says: "supported", form: "stable" };
-  const failed = FAILED.exec(line), read = READ.exec(line), refused = REFUSED.exec(line);
-  return failed ? failedOf(failed) : read ? readOf(read) : refused ? refusedOf(refused) : undefined;
+  return line === "supported stable" ? { says: "supported", form: "stable" } : undefined;
 }
 
-/** The refusal that a text begins with. */
-export function refusalIn(text: string): RefusedLine | undefined {
-  const line = lineOf(linesOf(text)[0] ?? "");
-  return line?.says === "refused" ? line : undefined;
+/** What a line says with which an answer of these facts begins, or undefined where it is none of an answer. */
+export function lineOf({ fault, condition, test }: Facts, line: string): Line | undefined {
+  const failed = condition ?? test;
+  return fault ? refusedOf(fault, line) : failed ? failedOf(failed, line) : yesOf(line) ?? readOf(line);
 }
 
 /** What a note on an election says, or undefined where it is another note. */

@@ -3,10 +3,11 @@
 import { COMMANDS } from "./commands.js";
 import type { Auditor } from "./auditor.js";
 import type { Command, Input, Question, Role, Row } from "./commands.js";
-import type { Hint, RefusedLine } from "./lines.js";
+import type { Fault, InputName } from "./facts.js";
+import type { Hint } from "./lines.js";
 
-/** The file that the line of a refusal speaks of. With `both` the certificates are called by their kinds. */
-export function refusedRole(input: string): Role {
+/** The file that is refused. With `both` the certificates are called by their kinds. */
+export function refusedRole(input: InputName): Role {
   if (input === "election" || input === "outcome" || input === "violation") return input;
   return "certificate";
 }
@@ -19,7 +20,7 @@ function wantedOf(command: Command, role: Role): Input {
 
 /** Why a file was refused. `file` is what is read for that; where it can't be read again, it is empty. */
 export function hintOn(
-  auditor: Auditor, command: Command, { files }: Question, { input, number, record }: RefusedLine,
+  auditor: Auditor, command: Command, { files }: Question, { input, number, record }: Fault,
   file = files[refusedRole(input)],
 ): Hint {
   const role = refusedRole(input);

@@ -1,6 +1,7 @@
 /* What the package answers: the program's text and status, and what it says as facts. */
 
-import { lineOf, linesOf, noteOf, sentenceIn } from "../auditor/lines.js";
+import { lineOf, linesOf, noteOf, readOf, sentenceIn } from "../auditor/lines.js";
+import type { Facts } from "../auditor/facts.js";
 import type { Hint, Line, Note, RefusedLine } from "../auditor/lines.js";
 
 /** What the program prints, and the status that it ends with. */
@@ -93,8 +94,8 @@ export interface Reported {
 const OPENING = "a text that isn't the library's";
 
 /** The verdict that a line gives. */
-export function verdictOf(line: string, text: string, notes: readonly string[]): Yes | No {
-  const said = lineOf(line);
+export function verdictOf(told: Facts, line: string, text: string, notes: readonly string[]): Yes | No {
+  const said = lineOf(told, line);
   if (said?.says === "supported") return { status: 0, answer: "yes", form: said.form, notes, text };
   if (said?.says === "violation") return { status: 0, answer: "yes", notes, text };
   if (said?.says === "unpriceable") return { status: 0, answer: "yes", cover: said.cover, notes, text };
@@ -104,15 +105,17 @@ export function verdictOf(line: string, text: string, notes: readonly string[]):
 }
 
 export function readingOf(text: string): Reading {
-  const [line, ...notes] = linesOf(text), said = lineOf(line);
-  if (said?.says !== "read") throw new Error(OPENING);
+  const [line, ...notes] = linesOf(text), said = readOf(line);
+  if (!said) throw new Error(OPENING);
   const { says: _, ...facts } = said;
   const remarks = notes.map(noteOf).filter((note): note is Note => note !== undefined);
   return { status: 0, answer: "read", ...facts, notes, remarks, text };
 }
 
-export function bothOf(status: number, text: string): Both {
-  const [prices, violation] = linesOf(text).map(line => verdictOf(line, `${line}\n`, []));
+export function bothOf(status: number, text: string, { condition, test }: Facts): Both {
+  const [first, second] = linesOf(text);
+  const prices = verdictOf({ condition }, first, `${first}\n`, []);
+  const violation = verdictOf({ test }, second, `${second}\n`, []);
   return { ...yesOrNo(status), prices, violation, text };
 }
 
@@ -122,7 +125,7 @@ export const pageOf = (status: number, text: string): Page =>
 const yesOrNo = (status: number): { status: 0 | 1; answer: "yes" | "no" } =>
   status === 0 ? { status, answer: "yes" } : { status: 1, answer: "no" };
 
-export function refusedOf({ says: _, input, ...facts }: RefusedLine, text: string, { line, sentences }: Hint): Refused {
+export function refusalOf({ says: _, input, ...facts }: RefusedLine, text: string, { line, sentences }: Hint): Refused {
   return {
     status: 2, answer: "refused", input: input as Refused["input"], ...facts, ...line > 0 ? { line } : {},
     hint: sentences, text,

@@ -8,7 +8,7 @@ import { seen, shownPath } from "../files/names.js";
 import { ENDINGS, entriesOf, isRefutation, overlookedIn } from "./entries.js";
 import { load, reasonOf, Unread } from "./reading.js";
 import { reportOf } from "./report.js";
-import { UNREAD } from "./run.js";
+import { unreadLine, unreadReply } from "./run.js";
 import type { Reply } from "../auditor/auditor.js";
 import type { Place } from "../auditor/commands.js";
 import type { Mode } from "../auditor/statuses.js";
@@ -44,7 +44,7 @@ function unlisted(folder: string, error: unknown): Run {
   const reason = folder === "" ? "the path is empty" : error instanceof NoText ? error.message : reasonOf(error);
   const more = folder === "-" ? "-: standard input is /dev/stdin\n" : "";
   const err = `${folder === "" ? "''" : shownPath(folder)}: ${reason}\n${more}`;
-  return { out: bytes(`refused folder ${UNREAD} Read record 0\n`), err, status: REFUSED };
+  return { out: unreadLine("folder"), err, status: REFUSED };
 }
 
 /** That there is no election, and which files may be meant to be audited and aren't. */
@@ -71,8 +71,7 @@ class EntryTask {
       return load(this.auditor, `${this.folder}/${name}${ENDINGS[role]}`);
     } catch (error) {
       if (!(error instanceof Unread)) throw error;
-      const input = role === "election" ? role : "certificate";
-      return { status: REFUSED, bytes: bytes(`refused ${input} ${UNREAD} Read record 0\n`) };
+      return unreadReply(role === "election" ? role : "certificate");
     }
   }
 
@@ -84,8 +83,7 @@ class EntryTask {
     const asked = { files: { election, certificate }, names: {}, mode: this.mode };
     const reply = this.auditor.ask(command, asked);
     if (reply.status === NO_MEMORY) throw new OutOfMemory();
-    const isElections = new TextDecoder().decode(reply.bytes).startsWith("refused election ");
-    return isUnread && !isElections ? file as Reply : reply;
+    return isUnread && reply.facts.fault?.input !== "election" ? file as Reply : reply;
   }
 }
 

@@ -1,15 +1,16 @@
 /* The auditor for JavaScript: the proved library's answers, with what they say as facts. */
 
 import { Auditor as Calls } from "../auditor/auditor.js";
-import { lineOf, linesOf, refusalIn } from "../auditor/lines.js";
+import { linesOf, refusedOf, yesOf } from "../auditor/lines.js";
 import { hintOn } from "../auditor/refusals.js";
-import { LONGEST_FILE, NO_MEMORY, OutOfMemory, REFUSED, USUAL_MODE, YES } from "../auditor/statuses.js";
+import { LONGEST_FILE, NO_MEMORY, OutOfMemory, USUAL_MODE } from "../auditor/statuses.js";
 import { ENDINGS, entriesOf } from "./entries.js";
-import { bothOf, pageOf, readingOf, refusedOf, verdictOf } from "./facts.js";
+import { bothOf, pageOf, readingOf, refusalOf, verdictOf } from "./facts.js";
 import { moduleBytes } from "./module.js";
 import { reportOf } from "./report.js";
 import type { Reply } from "../auditor/auditor.js";
 import type { Command, Place, Question, Role } from "../auditor/commands.js";
+import type { Facts } from "../auditor/facts.js";
 import type { Mode } from "../auditor/statuses.js";
 import type { Both, Page, Reading, Refused, Report, Verdict, Written } from "./facts.js";
 
@@ -82,11 +83,10 @@ class Call {
   }
 
   /** What a command answers, or the refusal of a file. */
-  answer<Answer>(command: Command, answered: (status: number, text: string) => Answer): Answer | Refused {
-    const { status, bytes } = this.ask(command), text = new TextDecoder().decode(bytes);
-    if (status !== REFUSED) return answered(status, text);
-    const refused = refusalIn(text)!;
-    return refusedOf(refused, text, hintOn(this.calls, command, this.asked, refused));
+  answer<Answer>(command: Command, answered: (status: number, text: string, facts: Facts) => Answer): Answer | Refused {
+    const { status, bytes, facts } = this.ask(command), text = new TextDecoder().decode(bytes), { fault } = facts;
+    if (!fault) return answered(status, text, facts);
+    return refusalOf(refusedOf(fault, text), text, hintOn(this.calls, command, this.asked, fault));
   }
 
   /** What the program remarks beside an answer: on the election, and on a yes to prices that says little. */
@@ -122,9 +122,9 @@ class Library implements Auditor {
 
   private verdict(command: Command, files: Sources, asked?: ForPrices): Verdict {
     const call = new Call(this.module, files, asked);
-    return call.answer(command, (status, text) => {
-      const [line] = linesOf(text), isYesToPrices = status === YES && lineOf(line)?.says === "supported";
-      return verdictOf(line, text, call.notes(isYesToPrices));
+    return call.answer(command, (_, text, facts) => {
+      const [line] = linesOf(text), isYesToPrices = yesOf(line)?.says === "supported";
+      return verdictOf(facts, line, text, call.notes(isYesToPrices));
     });
   }
 

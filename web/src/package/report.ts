@@ -4,6 +4,7 @@ import { lineOf, linesOf } from "../auditor/lines.js";
 import { NO, REFUSED, YES } from "../auditor/statuses.js";
 import { ENDINGS } from "./entries.js";
 import type { Reply } from "../auditor/auditor.js";
+import type { Facts } from "../auditor/facts.js";
 import type { Entry, EntryRole } from "./entries.js";
 import type { Report, Reported } from "./facts.js";
 
@@ -14,15 +15,16 @@ interface Row {
   readonly file: string;
   readonly role: EntryRole;
   readonly status: number;
+  readonly facts: Facts;
   readonly line: string;
 }
 
 /** What is said of the files of an entry. If its election is refused, nothing is said of the others. */
 function* rowsOf(entry: Entry, ask: AskEntry): Generator<Row> {
   for (const role of entry.roles) {
-    const { status, bytes } = ask(role === "election" ? "read" : role, entry, role);
+    const { status, bytes, facts } = ask(role === "election" ? "read" : role, entry, role);
     const [line] = linesOf(new TextDecoder().decode(bytes));
-    yield { file: `${entry.name}${ENDINGS[role]}`, role, status, line };
+    yield { file: `${entry.name}${ENDINGS[role]}`, role, status, facts, line };
     if (role === "election" && status === REFUSED) return;
   }
 }
@@ -34,6 +36,6 @@ export function reportOf(entries: readonly Entry[], ask: AskEntry): Report {
   const [yes, no, refused] = [YES, NO, REFUSED].map(count);
   const total = `total ${entries.length} elections ${yes} yes ${no} no ${refused} refused`;
   const text = [...rows.map(({ file, line }) => `${file}: ${line}`), total].map(line => `${line}\n`).join("");
-  const files = rows.map(({ file, line }): Reported => ({ file, says: lineOf(line)! }));
+  const files = rows.map(({ file, facts, line }): Reported => ({ file, says: lineOf(facts, line)! }));
   return { status: refused > 0 ? 2 : no > 0 ? 1 : 0, answer: "report", files, text };
 }

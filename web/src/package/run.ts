@@ -2,14 +2,15 @@
 
 import { Auditor } from "../auditor/auditor.js";
 import { COMMANDS } from "../auditor/commands.js";
-import { lineOf, linesOf, recordSentence, refusalIn, sentenceOf } from "../auditor/lines.js";
+import { UNREAD } from "../auditor/facts.js";
+import { linesOf, recordSentence, sentenceOf, yesOf } from "../auditor/lines.js";
 import { hintOn, refusedRole } from "../auditor/refusals.js";
 import { NO_MEMORY, OutOfMemory, REFUSED } from "../auditor/statuses.js";
 import { shownPath } from "../files/names.js";
 import { isRegular, load, Unread } from "./reading.js";
 import type { Reply } from "../auditor/auditor.js";
 import type { Command, Place, Question, Role, Row } from "../auditor/commands.js";
-import type { RefusedLine } from "../auditor/lines.js";
+import type { Fault, InputName } from "../auditor/facts.js";
 import type { Mode } from "../auditor/statuses.js";
 import type { Asked } from "./usage.js";
 
@@ -26,7 +27,6 @@ const ROLES: Readonly<Record<string, Role>> = {
 };
 /** The order in which files are read. A file behind one that is refused isn't opened. */
 const ORDER: readonly Role[] = ["election", "outcome", "certificate", "violation"];
-export const UNREAD = 18;
 
 type Paths = ReadonlyMap<Role, string | undefined>;
 
@@ -37,6 +37,12 @@ export const modeOf = (options: Asked["options"]): Mode =>
   ({ stable: options.has("stable"), exhaustive: !options.has("no-exhaustive"), cover: options.has("cover") });
 
 const nameOf = (path: string): string => path.split("/").pop()!;
+
+/** That a file, or a folder, can't be read. */
+export const unreadLine = (input: InputName | "folder"): Uint8Array =>
+  bytes(`refused ${input} ${UNREAD} Read record 0\n`);
+export const unreadReply = (input: InputName): Reply =>
+  ({ status: REFUSED, bytes: unreadLine(input), facts: { fault: { input, number: UNREAD, record: 0 } } });
 
 /** One command on files. They are read one after the other, and only those behind which none is refused. */
 export class Task {
@@ -70,11 +76,11 @@ export class Task {
   }
 
   /** The refusal of one of the files that are there, whatever the others are. */
-  private refusedBefore(): Reply | undefined {
+  private refusedBefore(): Run | undefined {
     const empty = this.auditor.room(0), missing = [...this.paths.keys()].filter(role => !this.files[role]);
     const reply = this.ask(this.command, { ...this.files, ...Object.fromEntries(missing.map(role => [role, empty])) });
-    const refused = reply.status === REFUSED ? refusalIn(text(reply.bytes)) : undefined;
-    return refused && !missing.includes(refusedRole(refused.input)) ? reply : undefined;
+    const { fault } = reply.facts;
+    return fault && !missing.includes(refusedRole(fault.input)) ? this.refusal(reply, fault) : undefined;
   }
 
   /** Reads the files, in their order. Answers the refusal by which it ends, where it ends before the last. */
@@ -82,20 +88,15 @@ export class Task {
     for (const role of ORDER.filter(each => this.paths.has(each))) {
       const path = this.paths.get(role), isFirst = role === "election";
       const before = isFirst || isRegular(path) ? undefined : this.refusedBefore();
-      if (before) return this.refusal(before);
+      if (before) return before;
       try {
         this.files[role] = load(this.auditor, path);
       } catch (error) {
         if (!(error instanceof Unread)) throw error;
-        return (isFirst ? undefined : this.otherRefusal()) ?? this.unread(role, error.message);
+        return (isFirst ? undefined : this.refusedBefore()) ?? this.unread(role, error.message);
       }
     }
     return undefined;
-  }
-
-  private otherRefusal(): Run | undefined {
-    const before = this.refusedBefore();
-    return before && this.refusal(before);
   }
 
   private shown(role: Role): string {
@@ -105,24 +106,22 @@ export class Task {
 
   /** That a file can't be read. */
   private unread(role: Role, why: string): Run {
-    const { certificate = "certificate" }: Row = COMMANDS[this.command];
     const isOfBoth = this.command === "both" && role === "certificate";
-    const line = `refused ${isOfBoth ? certificate : role} ${UNREAD} Read record 0\n`, name = this.shown(role);
+    const reply = unreadReply(isOfBoth ? "prices" : role), name = this.shown(role);
     const path = this.paths.get(role), reason = path === "" ? "the path is empty" : why;
     const more = path === "-" ? `${name}: standard input is /dev/stdin\n` : "";
-    return { out: bytes(line), err: `${this.notes(line)}${name}: ${reason}\n${more}`, status: REFUSED };
+    return { out: reply.bytes, err: `${this.notes(reply)}${name}: ${reason}\n${more}`, status: REFUSED };
   }
 
   /** What is told of a refused file. Of one that can't be read again only the record is told. */
-  private refusal({ bytes: out }: Reply): Run {
-    const refused = refusalIn(text(out))!, role = refusedRole(refused.input), name = this.shown(role);
-    const isThere = isRegular(this.paths.get(role));
-    const told = isThere || refused.record === 0 ? this.hint(refused, name) : this.bareHint(refused, name);
-    return { out, err: this.notes(text(out)) + told, status: REFUSED };
+  private refusal(reply: Reply, fault: Fault): Run {
+    const role = refusedRole(fault.input), name = this.shown(role), isThere = isRegular(this.paths.get(role));
+    const told = isThere || fault.record === 0 ? this.hint(fault, name) : this.bareHint(fault, name);
+    return { out: reply.bytes, err: this.notes(reply) + told, status: REFUSED };
   }
 
-  private hint(refused: RefusedLine, name: string): string {
-    const { line, sentences } = hintOn(this.auditor, this.command, this.question(this.files), refused);
+  private hint(fault: Fault, name: string): string {
+    const { line, sentences } = hintOn(this.auditor, this.command, this.question(this.files), fault);
     return sentences.map((sentence, at) => {
       const other = sentenceOf(sentence), its = other.line ?? (at === 0 && line > 0 ? line : undefined);
       return `${name}${its === undefined ? "" : `:${its}`}: ${other.text}\n`;
@@ -130,22 +129,21 @@ export class Task {
   }
 
   /** What is told where the file isn't there: what the library says of a record that an empty file doesn't have. */
-  private bareHint(refused: RefusedLine, name: string): string {
-    const empty = this.auditor.room(0), elsewhere = { ...refused, record: refused.record + 1 };
-    const question = this.question({ ...this.files, [refusedRole(refused.input)]: empty });
+  private bareHint(fault: Fault, name: string): string {
+    const empty = this.auditor.room(0), elsewhere = { ...fault, record: fault.record + 1 };
+    const question = this.question({ ...this.files, [refusedRole(fault.input)]: empty });
     const [sentence] = hintOn(this.auditor, this.command, question, elsewhere, empty).sentences;
-    return `${name}: record ${refused.record}: ${recordSentence(sentence)}\n`;
+    return `${name}: record ${fault.record}: ${recordSentence(sentence)}\n`;
   }
 
   /** The notes beside an answer, each after the path of the election. */
-  private notes(answer: string): string {
-    const { election, certificate } = this.files, said = lineOf(linesOf(answer)[0] ?? "");
-    const isRefused = said?.says === "refused" && said.input === "election";
-    if (!election || isRefused) return "";
+  private notes({ bytes: answer, facts }: Reply): string {
+    const { election, certificate } = this.files;
+    if (!election || facts.fault?.input === "election") return "";
     const { beside = [] }: Row = COMMANDS[this.command];
     const told = beside.includes("election") ? linesOf(text(this.ask("read", { election }).bytes)).slice(1) : [];
-    const isYes = beside.includes("yes") && said?.says === "supported";
-    const more = isYes && certificate ? linesOf(text(this.ask("note", { election, certificate }).bytes)) : [];
+    const hasMore = beside.includes("yes") && yesOf(linesOf(text(answer))[0] ?? "")?.says === "supported";
+    const more = hasMore && certificate ? linesOf(text(this.ask("note", { election, certificate }).bytes)) : [];
     return [...told, ...more].map(note => `${this.shown("election")}: ${note}\n`).join("");
   }
 
@@ -153,7 +151,7 @@ export class Task {
     const ended = this.load();
     if (ended) return ended;
     const reply = this.ask(this.command, this.files);
-    if (reply.status === REFUSED) return this.refusal(reply);
-    return { out: reply.bytes, err: this.notes(text(reply.bytes)), status: reply.status };
+    const { fault } = reply.facts;
+    return fault ? this.refusal(reply, fault) : { out: reply.bytes, err: this.notes(reply), status: reply.status };
   }
 }

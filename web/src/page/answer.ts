@@ -1,6 +1,6 @@
 /* The answer of an audit: the page that the library wrote, in a frame in which no script runs; or why there is none. */
 
-import { NO_OUTCOME, refusalIn } from "../auditor/lines.js";
+import { NO_OUTCOME } from "../auditor/facts.js";
 import { LONGEST_LINE, shortened, shownLine, toldName, visible } from "../files/names.js";
 import { fill } from "../words/words.js";
 import { element, elementOf, make } from "./elements.js";
@@ -75,9 +75,9 @@ export function fitFrame(place: HTMLIFrameElement): void {
 }
 
 /** What is wrong with a file, where, and what stands there. */
-function refusalOf(words: Words, { file, line, sentences, excerpt, text }: Refused): HTMLElement[] {
-  const name = toldName(file), stands = shortened(visible(excerpt, "\t"), LONGEST_LINE), refusal = refusalIn(text);
-  const wantsOutcome = refusal?.input === "election" && refusal.number === NO_OUTCOME;
+function refusalOf(words: Words, { fault, file, line, sentences, excerpt, text }: Refused): HTMLElement[] {
+  const name = toldName(file), stands = shortened(visible(excerpt, "\t"), LONGEST_LINE);
+  const wantsOutcome = fault.input === "election" && fault.number === NO_OUTCOME;
   return [
     make("p", {}, make("strong", {}, fill(words.refused, { file: name }))),
     ...line > 0 ? [make("p", {}, fill(words.atLine, { file: name, line })), make("pre", {}, stands)] : [],

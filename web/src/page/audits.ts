@@ -1,11 +1,12 @@
 /* The audits: what is to be done, and what became of it. */
 
-import { linesOf, sentenceIn } from "../auditor/lines.js";
+import { lineOf, linesOf, sentenceIn } from "../auditor/lines.js";
 import { isSameMode, LONGEST_FILE, NO, REFUSED, USUAL_MODE, YES } from "../auditor/statuses.js";
 import type { Command } from "../auditor/commands.js";
+import type { Line } from "../auditor/lines.js";
 import type { Mode } from "../auditor/statuses.js";
 import type { Piece, Task } from "../files/pieces.js";
-import type { Ending, Files, Nothing, Order, Refused, Sums } from "../worker/orders.js";
+import type { Answer, Ending, Files, Nothing, Order, Refused, Sums } from "../worker/orders.js";
 import type { NoAnswer, Runners } from "./engine.js";
 
 export type State = "waiting" | "running" | "done" | "stopped" | "incomplete";
@@ -17,9 +18,9 @@ export interface Problem {
 }
 
 /**
- * An audit and how far it is. `mode` is how prices were asked, `line` what the program prints first, `notes` what it
- * remarks on the election; `page` is the answer for people, once it was asked for, and `sentence` its head. All that is
- * told is of one look at the files, whose bytes have these sums.
+ * An audit and how far it is. `mode` is how prices were asked, `line` what the program prints first, `said` what that
+ * says of an answer, `notes` what it remarks on the election; `page` is the answer for people, once it was asked for,
+ * and `sentence` its head. All that is told is of one look at the files, whose bytes have these sums.
  */
 export interface Audit {
   readonly task: Task;
@@ -28,6 +29,7 @@ export interface Audit {
   readonly sums?: Sums;
   readonly status?: number;
   readonly line?: string;
+  readonly said?: Line;
   readonly notes?: readonly string[];
   readonly page?: string;
   readonly sentence?: string;
@@ -83,10 +85,11 @@ export const warm = (runners: Runners, task: Task): Promise<unknown> =>
   runners.run({ ...orderOf(task, "page", USUAL_MODE, "en"), rounds: WARMING_ROUNDS });
 
 /** What an answer says. */
-function foundBy(command: Command, text: string): Pick<Audit, "page" | "sentence" | "line" | "notes"> {
+function foundBy(command: Command, { bytes, facts }: Answer): Partial<Audit> {
+  const text = new TextDecoder().decode(bytes);
   if (command === "page") return { page: text, sentence: sentenceIn(text) };
-  const [line, ...notes] = linesOf(text);
-  return command === "read" ? { line, notes } : { line };
+  const [line, ...notes] = linesOf(text), said = lineOf(facts, line);
+  return command === "read" ? { line, said, notes } : { line, said };
 }
 
 /**
@@ -101,9 +104,9 @@ export function answered(
   }
   if (told.tells === "nothing") return { task, mode, state: "done", problem: told };
   if (told.tells !== "answer") throw new Error(`an audit is told ${told.tells}`);
-  const { status, sums } = told, text = new TextDecoder().decode(told.bytes);
+  const { status, sums } = told;
   const isSame = `${before.sums}` === `${sums}` && isSameMode(before.mode, mode);
-  const kept = isSame ? { line: before.line, notes: before.notes } : {};
+  const kept = isSame ? { line: before.line, said: before.said, notes: before.notes } : {};
   const notes = told.notes ? { notes: told.notes } : {};
-  return { task, mode, state: "done", status, sums, ...kept, ...foundBy(command, text), ...notes };
+  return { task, mode, state: "done", status, sums, ...kept, ...foundBy(command, told), ...notes };
 }

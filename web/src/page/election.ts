@@ -1,7 +1,7 @@
 /* What the page shows of one election, and of which certificates are made: what the file says, its projects, and the
    searches. Nothing is shown of a file that the auditor doesn't accept, or of which it reads other numbers. */
 
-import { lineOf } from "../auditor/lines.js";
+import { readOf } from "../auditor/lines.js";
 import { numberIn, shortened, toldName, visible } from "../files/names.js";
 import { isCertificate, pathOf } from "../files/pieces.js";
 import { fill } from "../words/words.js";
@@ -35,8 +35,8 @@ const textOf = (text: string, most: number): string => shortened(visible(text.tr
 
 /** Whether the script that shows an election counts in it what the auditor counts. */
 function isAlike(summary: Summary, line: string, hasOutcomeFile: boolean): boolean {
-  const read = lineOf(line), { voters, projects, hasOutcome } = summary;
-  if (read?.says !== "read" || read.voters !== voters || read.projects !== projects.length) return false;
+  const read = readOf(line), { voters, projects, hasOutcome } = summary;
+  if (read?.voters !== voters || read.projects !== projects.length) return false;
   const funded = hasOutcome ? projects.filter(({ isFunded }) => isFunded).length : undefined;
   return hasOutcomeFile || read.funded === funded;
 }

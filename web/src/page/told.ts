@@ -1,6 +1,6 @@
 /* What the page says of an audit, in its language: the word on it, the sentence, and what is remarked. */
 
-import { lineOf, noteOf } from "../auditor/lines.js";
+import { noteOf } from "../auditor/lines.js";
 import { REFUSED, YES } from "../auditor/statuses.js";
 import { numberIn, shownLine, toldName } from "../files/names.js";
 import { fill } from "../words/words.js";
@@ -33,11 +33,11 @@ export function badgeOf(words: Words, audit: Audit): HTMLElement {
 }
 
 /** What the program prints of an election, in the page's language. */
-function readLine({ words, language }: Page, line: string): string {
-  const told = (count: number): string => numberIn(count, language), read = lineOf(line);
-  if (read?.says !== "read") return shownLine(line);
-  const funded = read.funded === undefined ? words.noneSaid : told(read.funded);
-  return fill(words.readLine, { voters: told(read.voters), projects: told(read.projects), funded });
+function readLine({ words, language }: Page, { line, said }: Audit): string {
+  const told = (count: number): string => numberIn(count, language);
+  if (said?.says !== "read") return shownLine(line ?? "");
+  const funded = said.funded === undefined ? words.noneSaid : told(said.funded);
+  return fill(words.readLine, { voters: told(said.voters), projects: told(said.projects), funded });
 }
 
 /** What the program remarks on an election, in the page's language. */
@@ -63,13 +63,13 @@ function failureIn(words: Words, { condition, voter, project }: Failed): string 
 }
 
 /** What a line says of a certificate, in a sentence. */
-function answerIn({ words }: Page, audit: Audit): string {
-  const said = lineOf(audit.line ?? ""), kind = audit.task.certificate?.kind;
+function answerIn({ words }: Page, { task, said, refused, sentence }: Audit): string {
+  const kind = task.certificate?.kind;
   if (said?.says === "supported") return `${said.form === "stable" ? words.saysStable : words.saysSupported}. `;
   if (said?.says === "violation") return `${words.saysViolation}. `;
   if (said?.says === "unpriceable") return `${said.cover ? words.saysRefutedCover : words.saysRefuted}. `;
-  if (said?.says === "refused" && audit.refused) return `${fill(words.refused, { file: toldName(audit.refused.file) })} `;
-  if (said?.says !== "failed") return audit.sentence ? `${audit.sentence} ` : "";
+  if (refused) return `${fill(words.refused, { file: toldName(refused.file) })} `;
+  if (said?.says !== "failed") return sentence ? `${sentence} ` : "";
   const answer = kind === "prices" ? words.saysNotSupported
     : kind === "violation" ? words.saysNoViolation : words.saysNotRefuted;
   return `${fill(words.notMet, { answer, condition: failureIn(words, said) })} `;
@@ -85,7 +85,7 @@ export function sentenceOf(page: Page, audit: Audit): HTMLElement {
   if (task.asks === "outcome") return make("span", { class: "soft" }, words.asksOutcome);
   if (isRead(audit)) {
     const wants = page.audits.some(each => each.task.asks === "election") ? "" : ` ${words.noCertificate}`;
-    return make("span", {}, readLine(page, line ?? ""), make("span", { class: "soft" }, wants));
+    return make("span", {}, readLine(page, audit), make("span", { class: "soft" }, wants));
   }
   const printed = line ? [make("code", { lang: "en" }, shownLine(line))] : [];
   return make("span", {}, answerIn(page, audit), ...printed);

@@ -1,5 +1,6 @@
 /* What the page and its worker say to each other. */
 
+import type { Facts, Fault } from "../auditor/facts.js";
 import type { Kind } from "../auditor/kinds.js";
 import type { Mode } from "../auditor/statuses.js";
 import type { Command } from "../auditor/commands.js";
@@ -58,6 +59,7 @@ export interface Answer {
   readonly tells: "answer";
   readonly status: number;
   readonly bytes: Uint8Array;
+  readonly facts: Facts;
   readonly kind: Kind;
   readonly sums: Sums;
   readonly notes?: readonly string[];
@@ -71,11 +73,12 @@ export interface Nothing {
 }
 
 /**
- * A refused file: the line that the program prints, the file's name, the line of the file (0: it has none), why, and
- * what stands there.
+ * A refused file: its fault, the line that the program prints, the file's name, the line of the file (0: it has none),
+ * why, and what stands there.
  */
 export interface Refused {
   readonly tells: "refused";
+  readonly fault: Fault;
   readonly text: string;
   readonly file: string;
   readonly line: number;

@@ -4,13 +4,14 @@
 import { Auditor } from "../auditor/auditor.js";
 import { COMMANDS } from "../auditor/commands.js";
 import { FRONT, Teller } from "../auditor/kinds.js";
-import { linesOf, refusalIn } from "../auditor/lines.js";
+import { linesOf } from "../auditor/lines.js";
 import { hintOn, refusedRole } from "../auditor/refusals.js";
-import { NO, NO_MEMORY, OutOfMemory, REFUSED, YES } from "../auditor/statuses.js";
+import { NO, NO_MEMORY, OutOfMemory, YES } from "../auditor/statuses.js";
 import { Sha256 } from "../files/sha256.js";
 import { excerptOf, sumOf } from "./bytes.js";
 import { Ahead, load, PIECE, piecesOf, Unreadable } from "./reading.js";
 import type { Command, Place, Question, Row } from "../auditor/commands.js";
+import type { Fault } from "../auditor/facts.js";
 import type { Kind } from "../auditor/kinds.js";
 import type {
   Asked, Beginning, Ending, Files, KindsOrder, Order, Refused, Sent, SumsOrder, Told,
@@ -54,15 +55,13 @@ async function questionOf(auditor: Auditor, order: Order): Promise<Question> {
   };
 }
 
-/** What is told of a refusal: its line, the file that it speaks of, and the hint. */
-function refusalBy(auditor: Auditor, order: Order, asked: Question, text: string):
+/** What is told of a refusal: its fault and its line, the file that it speaks of, and the hint. */
+function refusalBy(auditor: Auditor, order: Order, asked: Question, fault: Fault, text: string):
     Omit<Refused, "tells" | "kind" | "sums"> {
-  const refused = refusalIn(text);
-  if (!refused) throw new Error("a refusal has another line");
-  const role = refusedRole(refused.input) as keyof Files, place = asked.files[role] ?? asked.files.election!;
-  const { line, sentences } = hintOn(auditor, order.command, asked, refused);
+  const role = refusedRole(fault.input) as keyof Files, place = asked.files[role] ?? asked.files.election!;
+  const { line, sentences } = hintOn(auditor, order.command, asked, fault);
   const excerpt = line > 0 ? excerptOf(auditor.bytes(place), line) : "";
-  return { text: text.trim(), file: order.files[role]?.name ?? "", line, sentences, excerpt };
+  return { fault, text: text.trim(), file: order.files[role]?.name ?? "", line, sentences, excerpt };
 }
 
 /** What a certificate is. A command that takes one kind alone, and answers, has told it. */
@@ -84,13 +83,14 @@ async function audit(auditor: Auditor, order: Order): Promise<Ending> {
   ahead.read(listOf(order.ahead));
   if (sizeOf(order.files) > PIECE) tell({ tells: "checking" });
   const sums = [election, outcome, certificate].map(place => place ? sumOf(auditor.bytes(place)) : "");
-  const { status, bytes } = auditor.ask(order.command, asked);
+  const { status, bytes, facts } = auditor.ask(order.command, asked);
   if (status === NO_MEMORY) return { tells: "nothing", why: "memory" };
   const kind = certificate ? kindBy(auditor, order.command, status, certificate) : "unknown";
-  if (status === REFUSED) {
-    return { tells: "refused", kind, sums, ...refusalBy(auditor, order, asked, new TextDecoder().decode(bytes)) };
+  if (facts.fault) {
+    const text = new TextDecoder().decode(bytes);
+    return { tells: "refused", kind, sums, ...refusalBy(auditor, order, asked, facts.fault, text) };
   }
-  const answer: Ending = { tells: "answer", status, bytes, kind, sums };
+  const answer: Ending = { tells: "answer", status, bytes, facts, kind, sums };
   if (!order.notes) return answer;
   tell(answer);
   return { tells: "notes", notes: notesBy(auditor, asked) };

@@ -1,0 +1,151 @@
+//! What is told in numbers of how an answer ends.
+ghost use Rattle.std.specs.Prelude.{◌≡◌};
+ghost use Rattle.pb_c.specs.Facts as spec;
+
+use pb_audit::{InputName, Status, Unmet};
+use pb_cohesion::{RefutationFailure, ViolationFailure};
+use pb_price::Failure;
+
+/// A condition or a test that fails.
+#[repr(C)]
+#[derive(Clone, Copy)]
+pub struct Culprit {
+    /// Its number: 1 Feasible, 2 Exhaustive, 3 Cover, 4 to 8 C1 to C5, 9 S5; 11 to 14 V1 to V4; 21 to 23 U1 to U3; 0
+    /// where none fails.
+    pub number: u32,
+    /// The voter at which it does, from 1, or 0.
+    pub voter: u32,
+    /// The project at which it does, from 1 in the order of the election, or 0.
+    pub project: u32,
+}
+
+/// What a caller in C is told beside the text. A number is 0 where there is nothing to tell.
+#[repr(C)]
+#[derive(Clone, Copy)]
+pub struct Facts {
+    /// The input that is refused: 1 the election, 2 the outcome file, 3 the certificate, and of two certificates 4 the
+    /// prices and 5 the violation.
+    pub input: u32,
+    /// The number of its fault.
+    pub fault: u32,
+    /// The record at which the fault stands, from 1, or 0 where it stands at none.
+    pub place: u64,
+    /// The first condition on prices that fails.
+    pub condition: Culprit,
+    /// The first test of a violation, or of a refutation, that fails.
+    pub test: Culprit,
+}
+
+/// Where nothing is told.
+pub(crate) const NO_FACTS: Facts = Facts {
+    input: 0,
+    fault: 0,
+    place: 0,
+    condition: NONE,
+    test: NONE,
+};
+
+const NONE: Culprit = Culprit {
+    number: 0,
+    voter: 0,
+    project: 0,
+};
+
+/// What is told of a status.
+pub(crate) fn facts_of(status: Status) -> Facts
+    ensures { result ≡ spec.facts_of status }
+{
+    match status {
+        Status::Yes => NO_FACTS,
+        Status::No(unmet) => Facts {
+            condition: condition_of(unmet),
+            test: test_of(unmet),
+            ..NO_FACTS
+        },
+        Status::Refused(refusal) => Facts {
+            input: input_number(refusal.input),
+            fault: refusal.fault.number(),
+            place: refusal.fault.place(),
+            ..NO_FACTS
+        },
+    }
+}
+
+fn input_number(input: InputName) -> u32
+    ensures { result ≡ spec.input_number input }
+{
+    match input {
+        InputName::Election => 1,
+        InputName::Outcome => 2,
+        InputName::Certificate => 3,
+        InputName::Prices => 4,
+        InputName::Violation => 5,
+        InputName::Folder => 6,
+    }
+}
+
+fn condition_of(unmet: Unmet) -> Culprit
+    ensures { result ≡ spec.condition_of unmet }
+{
+    match unmet {
+        Unmet::Prices(failure) | Unmet::Both(failure, _) => of_prices(failure),
+        Unmet::Violation(_) | Unmet::Refutation(_) => NONE,
+    }
+}
+
+fn test_of(unmet: Unmet) -> Culprit
+    ensures { result ≡ spec.test_of unmet }
+{
+    match unmet {
+        Unmet::Prices(_) => NONE,
+        Unmet::Violation(failure) | Unmet::Both(_, failure) => of_violation(failure),
+        Unmet::Refutation(failure) => of_refutation(failure),
+    }
+}
+
+fn of_prices(failure: Failure) -> Culprit
+    ensures { result ≡ spec.of_prices failure }
+{
+    match failure {
+        Failure::Feasible => failing(1, 0, 0),
+        Failure::Exhaustive(j) => failing(2, 0, j),
+        Failure::Cover => failing(3, 0, 0),
+        Failure::C1(i, j) => failing(4, i, j),
+        Failure::C2(i) => failing(5, i, 0),
+        Failure::C3(j) => failing(6, 0, j),
+        Failure::C4(j) => failing(7, 0, j),
+        Failure::C5(j) => failing(8, 0, j),
+        Failure::S5(j) => failing(9, 0, j),
+    }
+}
+
+fn of_violation(failure: ViolationFailure) -> Culprit
+    ensures { result ≡ spec.of_violation failure }
+{
+    match failure {
+        ViolationFailure::V1 => failing(11, 0, 0),
+        ViolationFailure::V2(i, j) => failing(12, i, j),
+        ViolationFailure::V3 => failing(13, 0, 0),
+        ViolationFailure::V4(i) => failing(14, i, 0),
+    }
+}
+
+fn of_refutation(failure: RefutationFailure) -> Culprit
+    ensures { result ≡ spec.of_refutation failure }
+{
+    match failure {
+        RefutationFailure::U1(j) => failing(21, 0, j),
+        RefutationFailure::U2 => failing(22, 0, 0),
+        RefutationFailure::U3 => failing(23, 0, 0),
+    }
+}
+
+fn failing(number: u32, voter: u32, project: u32) -> Culprit
+    ensures { result ≡ spec.culprit number voter project }
+{
+    Culprit {
+        number,
+        voter,
+        project,
+    }
+}
