@@ -5,11 +5,11 @@
  *   0  yes: the answer is yes, or what was asked for is given
  *   1  no: a condition or a test failed, which the text names
  *   2  refused: a file has an error; the text says which file, and the first thing wrong
- *   4  out of memory: *needed is 0 and out is as it was (that this comes only after a failed allocation is tested, and
- *      not proved)
+ *   3  there is no such question or language: *needed is 0 and out is as it was
+ *   4  out of memory: likewise (that this comes only after a failed allocation is tested, and not proved)
  * Otherwise *needed is the length of the text in bytes, which ends in LF and has no NUL after it. If it is at most room,
  * the text stands at the front of out, and the rest of out is as it was. If it is more, out is as it was: call again
- * with as much room.
+ * with as much room. *facts tells in numbers how the answer ends.
  *
  * A file of more than 2^28 bytes is refused. The files' formats, the texts and the numbers of refusals are those of the
  * program (docs/FORMATS.md).
@@ -17,8 +17,8 @@
  * What the caller has to make sure of, since nothing checks it:
  * - No pointer is null, even if its length or room is 0, nor is outcome if has_outcome is false.
  * - A file holds as many bytes as its length says, outcome even if has_outcome is false, and out as many as room.
- * - out and *needed overlap neither each other nor a file, and nothing else touches them during the call. The files
- *   do not change during the call.
+ * - out, *needed and *facts overlap neither each other nor a file, and nothing else touches them during the call. The
+ *   files do not change during the call.
  * - A bool is 0 or 1.
  * - malloc, realloc and free are one allocator's. No call from a signal handler, nor from the forked child of a
  *   process with threads.
@@ -36,77 +36,77 @@
 extern "C" {
 #endif
 
-/* What an election has: the line of `pbaudit read`, with its notes. 0, 2 or 4. */
-uint8_t pbaudit_read(const uint8_t *election, size_t election_length,
-                     uint8_t *out, size_t room, size_t *needed);
+/* A condition or a test that fails: its number, and the voter and the project at which it does, from 1 in the order of the
+ * ballots and of the election. Each is 0 where there is none. */
+typedef struct {
+    uint32_t number, voter, project;
+} pbaudit_culprit;
 
-/* Whether the payments of a price certificate support the outcome: that of an outcome file where has_outcome, and else
- * the election's own, the column `selected`. stable asks for S5 in place of C5, exhaustive for the condition Exhaustive
- * (which the program asks for unless it is left out), and cover for the condition Cover. 0, 1, 2 or 4. */
-uint8_t pbaudit_prices(const uint8_t *election, size_t election_length,
+/* The numbers of conditions and tests. */
+enum {
+    PBAUDIT_FEASIBLE = 1, PBAUDIT_EXHAUSTIVE, PBAUDIT_COVER, PBAUDIT_C1, PBAUDIT_C2, PBAUDIT_C3, PBAUDIT_C4, PBAUDIT_C5,
+    PBAUDIT_S5,
+    PBAUDIT_V1 = 11, PBAUDIT_V2, PBAUDIT_V3, PBAUDIT_V4,
+    PBAUDIT_U1 = 21, PBAUDIT_U2, PBAUDIT_U3
+};
+
+/* How an answer ends, in numbers, of which each is 0 where there is nothing to tell. After 2: which input is refused, the
+ * number of its fault, and the record at which that stands, from 1, or 0. After 1: the first condition on prices that
+ * fails; the first test of a violation, or of a refutation, that fails (of PBAUDIT_BOTH each of the two). */
+typedef struct {
+    uint32_t input, fault;
+    uint64_t record;
+    pbaudit_culprit condition, test;
+} pbaudit_facts;
+
+/* The inputs. The last two are those of PBAUDIT_BOTH, and take the place of the certificate there. */
+enum {
+    PBAUDIT_ELECTION_FILE = 1, PBAUDIT_OUTCOME_FILE, PBAUDIT_CERTIFICATE_FILE, PBAUDIT_PRICES_FILE,
+    PBAUDIT_VIOLATION_FILE
+};
+
+/* What can be asked. Each is the command of the program of the same name.
+ *
+ *                      takes                                           result
+ *   PBAUDIT_READ       the election                                    0, 2, 4
+ *   PBAUDIT_PRICES     and outcome, price certificate, switches        0, 1, 2, 4
+ *   PBAUDIT_VIOLATION  and outcome, violation certificate              0, 1, 2, 4
+ *   PBAUDIT_REFUTATION and outcome, refutation                         0, 1, 2, 4
+ *   PBAUDIT_BOTH       and outcome, price certificate, violation       0, 1, 2, 4
+ *                      certificate, switches
+ *   PBAUDIT_EXPLAIN    and outcome, any certificate, switches          0, 1, 2, 4
+ *   PBAUDIT_MARGINS    and outcome, price certificate                  0, 2, 4
+ *   PBAUDIT_TIDY       and price certificate                           0, 2, 4
+ */
+enum {
+    PBAUDIT_READ = 0, PBAUDIT_PRICES, PBAUDIT_VIOLATION, PBAUDIT_REFUTATION, PBAUDIT_BOTH, PBAUDIT_EXPLAIN,
+    PBAUDIT_MARGINS, PBAUDIT_TIDY
+};
+
+/* The answer to a question. What the question doesn't take isn't looked at, but no pointer may be null. The outcome is
+ * that of an outcome file where has_outcome, and else the election's own, the column `selected`. stable asks for S5 in
+ * place of C5, exhaustive for the condition Exhaustive (which the program asks for unless it is left out), and cover for
+ * the condition Cover. */
+uint8_t pbaudit_answer(uint8_t question,
+                       const uint8_t *election, size_t election_length,
                        const uint8_t *outcome, size_t outcome_length, bool has_outcome,
                        const uint8_t *certificate, size_t certificate_length,
+                       const uint8_t *violation, size_t violation_length,
                        bool stable, bool exhaustive, bool cover,
-                       uint8_t *out, size_t room, size_t *needed);
-
-/* Whether a group and its demand are a violation of EJR, by the measure that the certificate states. The outcome is as
- * for prices. 0, 1, 2 or 4. */
-uint8_t pbaudit_violation(const uint8_t *election, size_t election_length,
-                          const uint8_t *outcome, size_t outcome_length, bool has_outcome,
-                          const uint8_t *certificate, size_t certificate_length,
-                          uint8_t *out, size_t room, size_t *needed);
-
-/* Whether weights prove that no prices whatever support the outcome, or, where Cover has a weight, that none support it
- * under Cover. The outcome is as for prices. 0, 1, 2 or 4. */
-uint8_t pbaudit_refutation(const uint8_t *election, size_t election_length,
-                           const uint8_t *outcome, size_t outcome_length, bool has_outcome,
-                           const uint8_t *certificate, size_t certificate_length,
-                           uint8_t *out, size_t room, size_t *needed);
-
-/* Prices, and a group with its demand, for one outcome: a line for each, that of the prices first. 0 where both are a yes,
- * else 1; or 2 or 4. */
-uint8_t pbaudit_both(const uint8_t *election, size_t election_length,
-                     const uint8_t *outcome, size_t outcome_length, bool has_outcome,
-                     const uint8_t *prices, size_t prices_length,
-                     const uint8_t *violation, size_t violation_length,
-                     bool stable, bool exhaustive, bool cover,
-                     uint8_t *out, size_t room, size_t *needed);
-
-/* The verdict on a certificate of any kind, an empty line, and what each condition on prices, or each test of a
- * violation or of a refutation, comes to: the table of `pbaudit explain`. A certificate that begins as a violation
- * certificate or as a refutation is taken as one, and then the switches don't matter; any other is taken as prices. The
- * outcome and the switches are as for prices. 0, 1, 2 or 4. */
-uint8_t pbaudit_explain(const uint8_t *election, size_t election_length,
-                        const uint8_t *outcome, size_t outcome_length, bool has_outcome,
-                        const uint8_t *certificate, size_t certificate_length,
-                        bool stable, bool exhaustive, bool cover,
-                        uint8_t *out, size_t room, size_t *needed);
-
-/* What each project costs, is paid and could be offered by a price certificate: the table of `pbaudit margins`, as
- * comma-separated values. The outcome is as for prices. 0, 2 or 4. */
-uint8_t pbaudit_margins(const uint8_t *election, size_t election_length,
-                        const uint8_t *outcome, size_t outcome_length, bool has_outcome,
-                        const uint8_t *certificate, size_t certificate_length,
-                        uint8_t *out, size_t room, size_t *needed);
-
-/* A price certificate in its canonical form. 0, 2 or 4. */
-uint8_t pbaudit_tidy(const uint8_t *election, size_t election_length,
-                     const uint8_t *certificate, size_t certificate_length,
-                     uint8_t *out, size_t room, size_t *needed);
+                       pbaudit_facts *facts, uint8_t *out, size_t room, size_t *needed);
 
 /* A page in plain words about a certificate of any kind, as one HTML file in UTF-8, which ends in </html> and no LF.
- * The page shows the files by these names. language is a code: en, pl, de or fr. The rest is as for explain, and where a
- * file is refused, the text is the line of the refusal. 0, 1, 2 or 4; 3 where there is no such language, and then *needed
- * is 0 and nothing is written. */
-uint8_t pbaudit_page(const uint8_t *election, size_t election_length,
-                     const uint8_t *election_name, size_t election_name_length,
-                     const uint8_t *outcome, size_t outcome_length,
-                     const uint8_t *outcome_name, size_t outcome_name_length, bool has_outcome,
-                     const uint8_t *certificate, size_t certificate_length,
-                     const uint8_t *certificate_name, size_t certificate_name_length,
-                     bool stable, bool exhaustive, bool cover,
-                     const uint8_t *language, size_t language_length,
-                     uint8_t *out, size_t room, size_t *needed);
+ * The page shows the files by these names. language is a code: en, pl, de or fr; 3 where there is no such language. The
+ * rest is as for PBAUDIT_EXPLAIN, and where a file is refused, the text is the line of the refusal. 0, 1, 2, 3 or 4. */
+uint8_t pbaudit_answer_page(const uint8_t *election, size_t election_length,
+                            const uint8_t *election_name, size_t election_name_length,
+                            const uint8_t *outcome, size_t outcome_length,
+                            const uint8_t *outcome_name, size_t outcome_name_length, bool has_outcome,
+                            const uint8_t *certificate, size_t certificate_length,
+                            const uint8_t *certificate_name, size_t certificate_name_length,
+                            bool stable, bool exhaustive, bool cover,
+                            const uint8_t *language, size_t language_length,
+                            pbaudit_facts *facts, uint8_t *out, size_t room, size_t *needed);
 
 /* What a yes to a price certificate leaves open: the line `note: the voter budgets together are less than the limit, so
  * this yes says little`, or an empty text where they are not. The note holds of the files, whatever the answer is; where
@@ -120,7 +120,7 @@ uint8_t pbaudit_note(const uint8_t *election, size_t election_length,
  *   voters are numbered by their rows in VOTES, from 1, and not by voter_id; ..
  * with 5 in *line. input is what the file has to be: 0 an election, 1 an outcome file, 2 a price certificate, 3 a
  * violation certificate, 4 a certificate of any kind, 5 a refutation. number and record are those of the refusal's
- * line. election is the one beside which the file was read, or an empty file with has_election false. *line is the line
+ * line, and of its facts. election is the one beside which the file was read, or an empty file with has_election false. *line is the line
  * of the file on which the refused record begins, from 1, or 0 where there is none, as at the end of the file. The text
  * has a sentence a line; one on another line of the file begins with `line N: `. It is empty where no refusal has this
  * number, or input is none of these. The words are for people and may change. What is said above of files, out and
@@ -129,6 +129,112 @@ uint8_t pbaudit_hint(uint8_t input, uint32_t number, uint64_t record,
                      const uint8_t *file, size_t file_length,
                      const uint8_t *election, size_t election_length, bool has_election,
                      uint64_t *line, uint8_t *out, size_t room, size_t *needed);
+
+/* The same question by question, without facts. */
+
+/* What an election has: the line of `pbaudit read`, with its notes. 0, 2 or 4. */
+static inline uint8_t pbaudit_read(const uint8_t *election, size_t election_length,
+                                   uint8_t *out, size_t room, size_t *needed) {
+    pbaudit_facts facts;
+    return pbaudit_answer(PBAUDIT_READ, election, election_length, election, 0, false, election, 0, election, 0,
+                          false, false, false, &facts, out, room, needed);
+}
+
+/* Whether the payments of a price certificate support the outcome. 0, 1, 2 or 4. */
+static inline uint8_t pbaudit_prices(const uint8_t *election, size_t election_length,
+                                     const uint8_t *outcome, size_t outcome_length, bool has_outcome,
+                                     const uint8_t *certificate, size_t certificate_length,
+                                     bool stable, bool exhaustive, bool cover,
+                                     uint8_t *out, size_t room, size_t *needed) {
+    pbaudit_facts facts;
+    return pbaudit_answer(PBAUDIT_PRICES, election, election_length, outcome, outcome_length, has_outcome, certificate,
+                          certificate_length, election, 0, stable, exhaustive, cover, &facts, out, room, needed);
+}
+
+/* Whether a group and its demand are a violation of EJR, by the measure that the certificate states. 0, 1, 2 or 4. */
+static inline uint8_t pbaudit_violation(const uint8_t *election, size_t election_length,
+                                        const uint8_t *outcome, size_t outcome_length, bool has_outcome,
+                                        const uint8_t *certificate, size_t certificate_length,
+                                        uint8_t *out, size_t room, size_t *needed) {
+    pbaudit_facts facts;
+    return pbaudit_answer(PBAUDIT_VIOLATION, election, election_length, outcome, outcome_length, has_outcome, certificate,
+                          certificate_length, election, 0, false, false, false, &facts, out, room, needed);
+}
+
+/* Whether weights prove that no prices whatever support the outcome, or, where Cover has a weight, that none support it
+ * under Cover. 0, 1, 2 or 4. */
+static inline uint8_t pbaudit_refutation(const uint8_t *election, size_t election_length,
+                                         const uint8_t *outcome, size_t outcome_length, bool has_outcome,
+                                         const uint8_t *certificate, size_t certificate_length,
+                                         uint8_t *out, size_t room, size_t *needed) {
+    pbaudit_facts facts;
+    return pbaudit_answer(PBAUDIT_REFUTATION, election, election_length, outcome, outcome_length, has_outcome, certificate,
+                          certificate_length, election, 0, false, false, false, &facts, out, room, needed);
+}
+
+/* Prices, and a group with its demand, for one outcome: a line for each, that of the prices first. 0 where both are a yes,
+ * else 1; or 2 or 4. */
+static inline uint8_t pbaudit_both(const uint8_t *election, size_t election_length,
+                                   const uint8_t *outcome, size_t outcome_length, bool has_outcome,
+                                   const uint8_t *prices, size_t prices_length,
+                                   const uint8_t *violation, size_t violation_length,
+                                   bool stable, bool exhaustive, bool cover,
+                                   uint8_t *out, size_t room, size_t *needed) {
+    pbaudit_facts facts;
+    return pbaudit_answer(PBAUDIT_BOTH, election, election_length, outcome, outcome_length, has_outcome, prices,
+                          prices_length, violation, violation_length, stable, exhaustive, cover, &facts, out, room, needed);
+}
+
+/* The verdict on a certificate of any kind, an empty line, and what each condition on prices, or each test of a
+ * violation or of a refutation, comes to: the table of `pbaudit explain`. A certificate that begins as a violation
+ * certificate or as a refutation is taken as one, and then the switches don't matter; any other is taken as prices. 0, 1,
+ * 2 or 4. */
+static inline uint8_t pbaudit_explain(const uint8_t *election, size_t election_length,
+                                      const uint8_t *outcome, size_t outcome_length, bool has_outcome,
+                                      const uint8_t *certificate, size_t certificate_length,
+                                      bool stable, bool exhaustive, bool cover,
+                                      uint8_t *out, size_t room, size_t *needed) {
+    pbaudit_facts facts;
+    return pbaudit_answer(PBAUDIT_EXPLAIN, election, election_length, outcome, outcome_length, has_outcome, certificate,
+                          certificate_length, election, 0, stable, exhaustive, cover, &facts, out, room, needed);
+}
+
+/* What each project costs, is paid and could be offered by a price certificate: the table of `pbaudit margins`, as
+ * comma-separated values. 0, 2 or 4. */
+static inline uint8_t pbaudit_margins(const uint8_t *election, size_t election_length,
+                                      const uint8_t *outcome, size_t outcome_length, bool has_outcome,
+                                      const uint8_t *certificate, size_t certificate_length,
+                                      uint8_t *out, size_t room, size_t *needed) {
+    pbaudit_facts facts;
+    return pbaudit_answer(PBAUDIT_MARGINS, election, election_length, outcome, outcome_length, has_outcome, certificate,
+                          certificate_length, election, 0, false, false, false, &facts, out, room, needed);
+}
+
+/* A price certificate in its canonical form. 0, 2 or 4. */
+static inline uint8_t pbaudit_tidy(const uint8_t *election, size_t election_length,
+                                   const uint8_t *certificate, size_t certificate_length,
+                                   uint8_t *out, size_t room, size_t *needed) {
+    pbaudit_facts facts;
+    return pbaudit_answer(PBAUDIT_TIDY, election, election_length, election, 0, false, certificate, certificate_length,
+                          election, 0, false, false, false, &facts, out, room, needed);
+}
+
+/* The page. 0, 1, 2, 3 or 4. */
+static inline uint8_t pbaudit_page(const uint8_t *election, size_t election_length,
+                                   const uint8_t *election_name, size_t election_name_length,
+                                   const uint8_t *outcome, size_t outcome_length,
+                                   const uint8_t *outcome_name, size_t outcome_name_length, bool has_outcome,
+                                   const uint8_t *certificate, size_t certificate_length,
+                                   const uint8_t *certificate_name, size_t certificate_name_length,
+                                   bool stable, bool exhaustive, bool cover,
+                                   const uint8_t *language, size_t language_length,
+                                   uint8_t *out, size_t room, size_t *needed) {
+    pbaudit_facts facts;
+    return pbaudit_answer_page(election, election_length, election_name, election_name_length, outcome, outcome_length,
+                               outcome_name, outcome_name_length, has_outcome, certificate, certificate_length,
+                               certificate_name, certificate_name_length, stable, exhaustive, cover, language,
+                               language_length, &facts, out, room, needed);
+}
 
 #ifdef __cplusplus
 }
