@@ -119,12 +119,13 @@ uint8_t pbaudit_note(const uint8_t *election, size_t election_length,
  *   there is no voter '7010'; the election has 3 voters
  *   voters are numbered by their rows in VOTES, from 1, and not by voter_id; ..
  * with 5 in *line. input is what the file has to be: 0 an election, 1 an outcome file, 2 a price certificate, 3 a
- * violation certificate, 4 a certificate of any kind, 5 a refutation. number and record are those of the refusal's
- * line, and of its facts. election is the one beside which the file was read, or an empty file with has_election false. *line is the line
- * of the file on which the refused record begins, from 1, or 0 where there is none, as at the end of the file. The text
- * has a sentence a line; one on another line of the file begins with `line N: `. It is empty where no refusal has this
- * number, or input is none of these. The words are for people and may change. What is said above of files, out and
- * *needed holds here too, and for *line what is said of *needed; after out of memory, *line may be anything. 0 or 4. */
+ * violation certificate, 4 a certificate of any kind, 5 a refutation. number and record are the fault and the record of
+ * the refusal, by its facts or its line. election is the one beside which the file was read, or an empty file with
+ * has_election false. *line is the line of the file on which the refused record begins, from 1, or 0 where there is
+ * none, as at the end of the file. The text has a sentence a line; one on another line of the file begins with
+ * `line N: `. It is empty where no refusal has this number, or input is none of these. The words are for people and may
+ * change. What is said above of files, out and *needed holds here too, and for *line what is said of *needed; after out
+ * of memory, *line may be anything. 0 or 4. */
 uint8_t pbaudit_hint(uint8_t input, uint32_t number, uint64_t record,
                      const uint8_t *file, size_t file_length,
                      const uint8_t *election, size_t election_length, bool has_election,
