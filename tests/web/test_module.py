@@ -9,12 +9,12 @@ import tempfile
 import pytest
 
 import by_node
+import calls
 import cases
 import saying
 import tables
 import variants
 from common import TOP, needs
-from reference.election import read_election
 from tables import EXAMPLES
 
 BY_CHANCE = 2000
@@ -56,16 +56,12 @@ def test_by_chance(run, node, seed, by_chance, room):
             assert (told.get("line"), told.get("sentences")) == by_node.told_hints(ran.stderr)
 
 
-def facts_in(lines, election):
-    """What is told in numbers where these lines are printed."""
-    if lines[0].startswith("refused "):
-        _, role, number, _, _, record = lines[0].split(" ")
-        return {"fault": {"input": role, "number": int(number), "record": int(record)}}
-    facts, failed = {}, r"^failed (\w+)(?: voter (\d+))?(?: project (.*))?$"
-    for name, voter, project in re.findall(failed, "\n".join(lines[:2]), re.MULTILINE):
-        at = {"voter": voter and int(voter), "project": project and read_election(election).number_of[project.encode()]}
-        facts["test" if name[0] in "VU" else "condition"] = {"name": name} | {key: at[key] for key in at if at[key]}
-    return facts
+def as_told(facts):
+    """Facts as the module tells them."""
+    if facts.input:
+        return {"fault": {"input": facts.input, "number": facts.number, "record": facts.record}}
+    failing = {"condition": facts.condition, "test": facts.test}
+    return {at: {key: value for key, value in vars(it).items() if value} for at, it in failing.items() if it}
 
 
 @pytest.mark.parametrize("name", ["answers.txt", "hints.txt", "refutations.txt"])
@@ -73,7 +69,7 @@ def test_facts(node, room, name):
     for row, words, files in tables.asked(name):
         cases.write_files(room, {"missing": b"", **files})
         told = node.ask(by_node.call_of(words, room))["facts"]
-        assert told == facts_in(row.printed, files[words[1]]), (row.group, words)
+        assert told == as_told(calls.facts_of(row.text.encode(), files[words[1]])), (row.group, words)
 
 
 def test_each_kind_of_answer_comes(seed, option):
