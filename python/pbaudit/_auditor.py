@@ -212,7 +212,7 @@ class _Library:
         return Answer(status, text, facts.value())
 
     def has(self, command: str) -> bool:
-        return command in _QUESTIONS
+        return command in (*_QUESTIONS, "page")
 
     def says_little(self, question: Question) -> bool:
         words: List[Any] = []
