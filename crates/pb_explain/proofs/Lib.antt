@@ -1,4 +1,5 @@
 pub mod Divisors
+pub mod Flat
 mod Nearer
 mod Reached
 mod Roles

@@ -43,8 +43,9 @@ costs_told cost funded_for =
 
 abbrev pub nearest_line : Instance → NearestGroup → Text
 nearest_line e g =
-    project_told e g.project ++ share_told g.supporters (10 ^ 6 * voters e) (g.supporters * e.limit)
-    ++ costs_told (cost_of e g.project) g.funded_for
+    project_told e g.project
+    ++ (share_told g.supporters (10 ^ 6 * voters e) (g.supporters * e.limit)
+    ++ costs_told (cost_of e g.project) g.funded_for)
 
 -- without voters there are no shares
 abbrev pub nearest_lines : Instance → Option NearestGroup → List Text

@@ -67,10 +67,10 @@ cost_and_sum unit sums_of m =
     ++ balance unit m.amount
 
 unfoldable pub comes_closest : Instance → ℕ → Text → Comparison → Text
-comes_closest e unit sums_of m = codes "project " ++ id_of e m.at ++ codes ", the closest,"
-    ++ cost_and_sum unit sums_of m
+comes_closest e unit sums_of m =
+    codes "project " ++ id_of e m.at ++ (codes ", the closest," ++ cost_and_sum unit sums_of m)
 
 unfoldable pub richer : Instance → ℕ → Text → ℕ → Comparison → Text
 richer e unit sums_of count m =
-    codes "project " ++ id_of e m.at ++ cost_and_sum unit sums_of m
-    ++ how_many (codes "unfunded projects where that is more than the cost") count
+    codes "project " ++ id_of e m.at
+    ++ (cost_and_sum unit sums_of m ++ how_many (codes "unfunded projects where that is more than the cost") count)

@@ -1,100 +1,129 @@
 //! Amounts as texts. They are exact: what no decimal of six places states is told as a fraction.
-ghost use Rattle.std.specs.Prelude.{◌≡◌, ◌≤◌, ◌<◌, ◌^◌, ◌++◌, OnOk, string_bytes};
+ghost use Rattle.std.specs.Prelude.{◌≡◌, ◌<◌, Some};
+ghost use Rattle.std.specs.Fmt.{DisplaysOnOk};
 ghost use Rattle.pb_explain.specs.Amounts as spec;
 
-use crate::rows::push_number;
-use std::alloc::AllocError;
+use std::fmt;
+use std::marker::Model;
 
 /// How many millionths a unit of the currency has.
 pub(crate) const MILLION: u64 = 1_000_000;
 
-/// Adds an amount in grains, of which one unit of the currency has so many.
-#[tactic(auto, unfolding(crate::specs::Amounts::amount))]
-pub(crate) fn push_amount(
-    line: &mut String,
-    grains_per_unit: u64,
-    grains: u128,
-) -> Result<(), AllocError>
-    requires { 10 ^ 6 ≤ grains_per_unit }
-    ensures { OnOk result (string_bytes line.new ≡ string_bytes line.old ++ spec.amount grains_per_unit grains) }
-{
-    let denominator = u128::from(grains_per_unit / MILLION);
-    if grains % denominator == 0 {
-        push_decimal(line, grains / denominator)
-    } else {
-        push_mixed(line, u128::from(grains_per_unit), grains)
+/// An amount in grains, of which one unit of the currency has so many, a million at least. It is written in units.
+#[derive(Clone, Copy)]
+pub(crate) struct Amount(pub(crate) u64, pub(crate) u128);
+
+impl Model for Amount {
+    ghost use Rattle.std.specs.Prelude.{◌≤◌, ◌^◌, ℕ};
+
+    ghost Value = { ℕ × ℕ };
+
+    ghost view = { λ a. (a.0, a.1) };
+
+    ghost invariant = { λ a. 10 ^ 6 ≤ a.0 };
+
+    ghost inverse = { λ a. (a.0, a.1) };
+}
+
+impl fmt::Display for Amount {
+    ghost use Rattle.std.specs.Prelude.{Some};
+    ghost use Rattle.pb_explain.specs.Amounts.{amount};
+
+    ghost output = { λ a. Some (amount a.0 a.1) };
+
+    #[tactic(auto, unfolding(crate::specs::Amounts::amount))]
+    fn fmt<W: fmt::Write>(&self, f: &mut fmt::Formatter<W>) -> fmt::Result {
+        let (unit, grains) = (self.0, self.1);
+        let denominator = u128::from(unit / MILLION);
+        if grains % denominator == 0 {
+            write_decimal(f, grains / denominator)
+        } else {
+            write_mixed(f, u128::from(unit), grains)
+        }
     }
 }
 
-/// Adds an amount that may be negative.
-#[tactic(auto, unfolding(crate::specs::Amounts::balance))]
-pub(crate) fn push_balance(
-    line: &mut String,
-    grains_per_unit: u64,
-    grains: i128,
-) -> Result<(), AllocError>
-    requires { 10 ^ 6 ≤ grains_per_unit }
-    ensures { OnOk result (string_bytes line.new ≡ string_bytes line.old ++ spec.balance grains_per_unit grains) }
-{
-    if grains < 0 {
-        line.push_str("-")?;
+/// An amount that may be negative.
+#[derive(Clone, Copy)]
+pub(crate) struct Balance(pub(crate) u64, pub(crate) i128);
+
+impl Model for Balance {
+    ghost use Rattle.std.specs.Prelude.{◌≤◌, ◌^◌, ℕ, ℤ};
+
+    ghost Value = { ℕ × ℤ };
+
+    ghost view = { λ b. (b.0, b.1) };
+
+    ghost invariant = { λ b. 10 ^ 6 ≤ b.0 };
+
+    ghost inverse = { λ b. (b.0, b.1) };
+}
+
+impl fmt::Display for Balance {
+    ghost use Rattle.std.specs.Prelude.{Some};
+    ghost use Rattle.pb_explain.specs.Amounts.{balance};
+
+    ghost output = { λ b. Some (balance b.0 b.1) };
+
+    #[tactic(auto, unfolding(crate::specs::Amounts::balance))]
+    fn fmt<W: fmt::Write>(&self, f: &mut fmt::Formatter<W>) -> fmt::Result {
+        let (unit, grains) = (self.0, self.1);
+        let sign = if grains < 0 { "-" } else { "" };
+        let amount = Amount(unit, grains.unsigned_abs());
+        write!(f, "{sign}{amount}")
     }
-    push_amount(line, grains_per_unit, grains.unsigned_abs())
 }
 
-// Adds millionths of a unit as a decimal.
-fn push_decimal(line: &mut String, millionths: u128) -> Result<(), AllocError>
-    ensures { OnOk result (string_bytes line.new ≡ string_bytes line.old ++ spec.decimal_amount millionths) }
+// Writes millionths of a unit as a decimal.
+fn write_decimal<W: fmt::Write>(f: &mut fmt::Formatter<W>, millionths: u128) -> fmt::Result
+    ensures { DisplaysOnOk W.write_str_gives f.old result (Some (spec.decimal_amount millionths)) f.new }
 {
-    push_number(line, millionths / u128::from(MILLION))?;
-    line.push_str(".")?;
-    push_places(line, millionths % u128::from(MILLION))
+    let million = u128::from(MILLION);
+    write!(f, "{}.", millionths / million)?;
+    write_places(f, millionths % million)
 }
 
-// Adds the places behind the point.
-fn push_places(line: &mut String, millionths: u128) -> Result<(), AllocError>
-    ensures { OnOk result (string_bytes line.new ≡ string_bytes line.old ++ spec.places millionths) }
+// Writes the places behind the point.
+fn write_places<W: fmt::Write>(f: &mut fmt::Formatter<W>, millionths: u128) -> fmt::Result
+    ensures { DisplaysOnOk W.write_str_gives f.old result (Some (spec.places millionths)) f.new }
 {
     if millionths % 10_000 == 0 {
-        push_digits(line, 2, millionths / 10_000)
+        write_digits(f, 2, millionths / 10_000)
     } else if millionths % 1_000 == 0 {
-        push_digits(line, 3, millionths / 1_000)
+        write_digits(f, 3, millionths / 1_000)
     } else if millionths % 100 == 0 {
-        push_digits(line, 4, millionths / 100)
+        write_digits(f, 4, millionths / 100)
     } else if millionths % 10 == 0 {
-        push_digits(line, 5, millionths / 10)
+        write_digits(f, 5, millionths / 10)
     } else {
-        push_digits(line, 6, millionths)
+        write_digits(f, 6, millionths)
     }
 }
 
-// Adds the last digits of a number.
+// Writes the last digits of a number.
 #[tactic(auto, unfolding(crate::specs::Amounts::last_digits))]
-fn push_digits(line: &mut String, count: u32, number: u128) -> Result<(), AllocError>
-    ensures { OnOk result (string_bytes line.new ≡ string_bytes line.old ++ spec.last_digits count number) }
+fn write_digits<W: fmt::Write>(f: &mut fmt::Formatter<W>, count: u32, number: u128) -> fmt::Result
+    ensures { DisplaysOnOk W.write_str_gives f.old result (Some (spec.last_digits count number)) f.new }
 {
     if count == 0 {
         return Ok(());
     }
-    push_digits(line, count - 1, number / 10)?;
-    push_number(line, number % 10)
+    write_digits(f, count - 1, number / 10)?;
+    write!(f, "{}", number % 10)
 }
 
-// Adds a whole number of units, where there is one, and a fraction of a unit in lowest terms.
-fn push_mixed(line: &mut String, grains_per_unit: u128, grains: u128) -> Result<(), AllocError>
-    requires { 0 < grains_per_unit }
-    ensures { OnOk result (string_bytes line.new ≡ string_bytes line.old ++ spec.mixed_number grains_per_unit grains) }
+// Writes a whole number of units, where there is one, and a fraction of a unit in lowest terms.
+fn write_mixed<W: fmt::Write>(f: &mut fmt::Formatter<W>, unit: u128, grains: u128) -> fmt::Result
+    requires { 0 < unit }
+    ensures { DisplaysOnOk W.write_str_gives f.old result (Some (spec.mixed_number unit grains)) f.new }
 {
-    let whole = grains / grains_per_unit;
-    let rest = grains % grains_per_unit;
+    let whole = grains / unit;
+    let rest = grains % unit;
+    let divisor = greatest_common_divisor(rest, unit);
     if whole != 0 {
-        push_number(line, whole)?;
-        line.push_str(" ")?;
+        write!(f, "{whole} ")?;
     }
-    let divisor = greatest_common_divisor(rest, grains_per_unit);
-    push_number(line, rest / divisor)?;
-    line.push_str("/")?;
-    push_number(line, grains_per_unit / divisor)
+    write!(f, "{}/{}", rest / divisor, unit / divisor)
 }
 
 // The greatest number that divides both, by Euclid's algorithm.

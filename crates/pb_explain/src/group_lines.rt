@@ -1,12 +1,12 @@
 //! What is said of groups behind the table of a yes to prices.
-ghost use Rattle.std.specs.Prelude.{◌≡◌, ◌<◌, ◌≤◌, ◌^◌, ◌++◌, IfOk, OnOk, map, string_bytes};
+ghost use Rattle.std.specs.Prelude.{◌≡◌, ◌<◌, ◌++◌, IfOk, OnOk, map, string_bytes};
 ghost use Rattle.pb_election.specs.Instance.{IsProject, voters};
 ghost use Rattle.pb_election.specs.Outcome.{OutcomeFits};
 ghost use Rattle.pb_explain.specs.GroupLines as spec;
 
-use crate::amounts::{MILLION, push_amount};
+use crate::amounts::{Amount, MILLION};
 use crate::nearest::{NearestGroup, nearest_group};
-use crate::rows::{push_id, push_line, push_number};
+use crate::rows::push_line;
 use pb_election::{Election, Outcome};
 use pb_price::Findings;
 use std::alloc::{AllocError, Global};
@@ -67,42 +67,19 @@ fn nearest_line(
     requires voters { 0 < voters election.now }
     ensures { IfOk result (λ line. string_bytes line ≡ spec.nearest_line election.now group.now) }
 {
+    let project = election.id(group.project);
     let supporters = u128::from(group.supporters);
-    let share = supporters * u128::from(election.limit().millionths());
-    let parts_per_unit = MILLION * u64::from(election.voters());
-    let cost = u128::from(election.cost(group.project).millionths());
-    let mut line = String::from_str(alloc, "nearest to that comes project ")?;
-    push_id(&mut line, election, group.project)?;
-    push_share(&mut line, supporters, parts_per_unit, share)?;
-    push_costs(&mut line, cost, group.funded_for)?;
-    Ok(line)
-}
-
-// Adds the share of a project's supporters in the limit.
-#[tactic(auto, unfolding(crate::specs::GroupLines::share_told))]
-fn push_share(
-    line: &mut String,
-    supporters: u128,
-    parts_per_unit: u64,
-    parts: u128,
-) -> Result<(), AllocError>
-    requires { 10 ^ 6 ≤ parts_per_unit }
-    ensures { OnOk result (string_bytes line.new ≡ string_bytes line.old ++ spec.share_told supporters parts_per_unit parts) }
-{
-    line.push_str(": the share of its ")?;
-    push_number(line, supporters)?;
-    line.push_str(" supporters is ")?;
-    push_amount(line, parts_per_unit, parts)
-}
-
-// Adds what the project costs, and what was funded for its supporters.
-#[tactic(auto, unfolding(crate::specs::GroupLines::costs_told))]
-fn push_costs(line: &mut String, cost: u128, funded_for: u128) -> Result<(), AllocError>
-    ensures { OnOk result (string_bytes line.new ≡ string_bytes line.old ++ spec.costs_told cost funded_for) }
-{
-    line.push_str(", it costs ")?;
-    push_amount(line, MILLION, cost)?;
-    line.push_str(", and ")?;
-    push_amount(line, MILLION, funded_for)?;
-    line.push_str(" was funded for them")
+    // Each millionth is cut into as many parts as there are voters.
+    let share = Amount(
+        MILLION * u64::from(election.voters()),
+        supporters * u128::from(election.limit().millionths()),
+    );
+    let cost = Amount(
+        MILLION,
+        u128::from(election.cost(group.project).millionths()),
+    );
+    let funded_for = Amount(MILLION, group.funded_for);
+    format!(in alloc;
+        "nearest to that comes project {project}: the share of its {supporters} supporters is {share}, it costs {cost}, and {funded_for} was funded for them"
+    )
 }

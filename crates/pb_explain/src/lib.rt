@@ -5,7 +5,6 @@ mod amounts;
 mod group_lines;
 mod nearest;
 mod price_table;
-mod price_words;
 mod refutation_table;
 mod rows;
 mod violation_table;

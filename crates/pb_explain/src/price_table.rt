@@ -3,9 +3,10 @@ ghost use Rattle.std.specs.Prelude.{◌≡◌, ◌≤◌, ◌^◌, ◌++◌, IfO
 ghost use Rattle.pb_election.specs.Instance.{IsProject};
 ghost use Rattle.pb_explain.specs.PriceTable as spec;
 ghost use Rattle.pb_explain.specs.PriceTable.{NameProjects, ShowsProject};
+ghost use Rattle.pb_explain.specs.Rows.{opening_if};
 
-use crate::price_words as words;
-use crate::rows::{opened, opened_if, push_line};
+use crate::amounts::{Amount, Balance};
+use crate::rows::{HowMany, Opening, OpeningIf, push_line};
 use pb_election::Election;
 use pb_price::{Finding, Findings, Mode};
 use std::alloc::{AllocError, Global};
@@ -91,15 +92,11 @@ fn feasible_line(alloc: Global, findings: &Findings) -> Result<String, AllocErro
     requires unit { 10 ^ 6 ≤ (findings.now).grains_per_unit }
     ensures { IfOk result (λ line. string_bytes line ≡ spec.feasible_line findings.now) }
 {
-    let holds = findings.total <= findings.limit;
-    let mut line = opened(alloc, "Feasible    ", holds)?;
-    words::push_outcome(
-        &mut line,
-        findings.grains_per_unit,
-        findings.total,
-        findings.limit,
-    )?;
-    Ok(line)
+    let unit = findings.grains_per_unit;
+    let opening = Opening("Feasible    ", findings.total <= findings.limit);
+    let total = Amount(unit, findings.total);
+    let limit = Amount(unit, findings.limit);
+    format!(in alloc; "{opening}the funded projects cost {total}; the limit is {limit}")
 }
 
 fn exhaustive_line(
@@ -115,61 +112,54 @@ fn exhaustive_line(
     let unit = findings.grains_per_unit;
     let found = &findings.exhaustive;
     let holds = found.count == 0;
-    let mut line = opened_if(
-        alloc,
-        asked,
-        "Exhaustive  ",
-        "without --no-exhaustive",
-        holds,
-    )?;
-    push_room(&mut line, election, unit, found)?;
-    Ok(line)
-}
-
-// Adds what remains of the limit, against the cost of an unfunded project.
-fn push_room(
-    line: &mut String,
-    election: &Election,
-    unit: u64,
-    found: &Finding,
-) -> Result<(), AllocError>
-    requires unit { 10 ^ 6 ≤ unit }
-    requires project { ShowsProject election.now found.now }
-    ensures { OnOk result (string_bytes line.new ≡ string_bytes line.old ++ spec.room_told election.now unit found.now) }
-{
-    match found.shown {
-        None => line.push_str("every project is funded"),
-        Some(here) if found.count == 0 => words::push_cheapest(line, election, unit, &here),
-        Some(here) => words::push_fitting(line, election, unit, &here, u64::from(found.count)),
+    let opening = OpeningIf(asked, "Exhaustive  ", "without --no-exhaustive", holds);
+    let Some(here) = found.shown else {
+        return format!(in alloc; "{opening}every project is funded");
+    };
+    let rest = Balance(unit, here.amount);
+    let project = election.id(here.at);
+    let cost = Amount(unit, here.bound);
+    if holds {
+        return format!(in alloc;
+            "{opening}{rest} of the limit remains; the cheapest unfunded project, {project}, costs {cost}"
+        );
     }
+    let others = HowMany("unfunded projects that still fit", u64::from(found.count));
+    format!(in alloc;
+        "{opening}{rest} of the limit remains, and project {project} costs {cost}{others}"
+    )
 }
 
 fn cover_line(alloc: Global, findings: &Findings, asked: bool) -> Result<String, AllocError>
     requires unit { 10 ^ 6 ≤ (findings.now).grains_per_unit }
     ensures { IfOk result (λ line. string_bytes line ≡ spec.cover_line asked findings.now) }
 {
-    let holds = findings.limit < findings.budgets;
-    let mut line = opened_if(alloc, asked, "Cover       ", "with --cover", holds)?;
-    words::push_budgets(
-        &mut line,
-        findings.grains_per_unit,
-        findings.budgets,
-        findings.limit,
-    )?;
-    Ok(line)
+    let unit = findings.grains_per_unit;
+    let opening = OpeningIf(
+        asked,
+        "Cover       ",
+        "with --cover",
+        findings.limit < findings.budgets,
+    );
+    let budgets = Amount(unit, findings.budgets);
+    let limit = Amount(unit, findings.limit);
+    format!(in alloc; "{opening}all voter budgets come to {budgets} together; the limit is {limit}")
 }
 
 fn c1_line(alloc: Global, election: &Election, findings: &Findings) -> Result<String, AllocError>
     requires project { IfSome (findings.now).c1.first (λ q. IsProject election.now q.1) }
     ensures { IfOk result (λ line. string_bytes line ≡ spec.c1_line election.now findings.now) }
 {
-    let found = &findings.c1;
-    let mut line = opened(alloc, "C1          ", found.count == 0)?;
-    match found.first {
-        None => line.push_str("no voter pays for a project that isn't on its ballot")?,
-        Some((i, j)) => words::push_unapproved(&mut line, election, i, j, found.count)?,
-    }
-    Ok(line)
+    let count = findings.c1.count;
+    let opening = Opening("C1          ", count == 0);
+    let Some((i, j)) = findings.c1.first else {
+        return format!(in alloc; "{opening}no voter pays for a project that isn't on its ballot");
+    };
+    let project = election.id(j);
+    let others = HowMany("such payments", count);
+    format!(in alloc;
+        "{opening}voter {i} pays for project {project}, which isn't on its ballot{others}"
+    )
 }
 
 fn c2_line(alloc: Global, findings: &Findings) -> Result<String, AllocError>
@@ -179,13 +169,20 @@ fn c2_line(alloc: Global, findings: &Findings) -> Result<String, AllocError>
     let unit = findings.grains_per_unit;
     let found = &findings.c2;
     let holds = found.count == 0;
-    let mut line = opened(alloc, "C2          ", holds)?;
-    match found.shown {
-        None => line.push_str("there are no voters")?,
-        Some(here) if holds => words::push_most_spent(&mut line, unit, &here)?,
-        Some(here) => words::push_overspent(&mut line, unit, &here, u64::from(found.count))?,
+    let opening = Opening("C2          ", holds);
+    let Some(here) = found.shown else {
+        return format!(in alloc; "{opening}there are no voters");
+    };
+    let voter = here.at;
+    let spent = Balance(unit, here.amount);
+    let budget = Amount(unit, here.bound);
+    if holds {
+        return format!(in alloc;
+            "{opening}voter {voter} spends most, {spent} of its budget of {budget}"
+        );
     }
-    Ok(line)
+    let others = HowMany("voters who spend more than that", u64::from(found.count));
+    format!(in alloc; "{opening}voter {voter} spends {spent} and has a budget of {budget}{others}")
 }
 
 fn c3_line(alloc: Global, election: &Election, findings: &Findings) -> Result<String, AllocError>
@@ -195,18 +192,15 @@ fn c3_line(alloc: Global, election: &Election, findings: &Findings) -> Result<St
 {
     let unit = findings.grains_per_unit;
     let found = &findings.c3;
-    let mut line = opened(alloc, "C3          ", found.count == 0)?;
-    match found.shown {
-        None => line.push_str("each funded project is paid for exactly")?,
-        Some(here) => words::push_inexact(
-            &mut line,
-            election,
-            unit,
-            &here,
-            u64::from(found.count),
-        )?,
-    }
-    Ok(line)
+    let opening = Opening("C3          ", found.count == 0);
+    let Some(here) = found.shown else {
+        return format!(in alloc; "{opening}each funded project is paid for exactly");
+    };
+    let project = election.id(here.at);
+    let cost = Amount(unit, here.bound);
+    let paid = Balance(unit, here.amount);
+    let others = HowMany("funded projects not paid exactly", u64::from(found.count));
+    format!(in alloc; "{opening}project {project} costs {cost}, and {paid} is paid for it{others}")
 }
 
 fn c4_line(alloc: Global, election: &Election, findings: &Findings) -> Result<String, AllocError>
@@ -216,18 +210,17 @@ fn c4_line(alloc: Global, election: &Election, findings: &Findings) -> Result<St
 {
     let unit = findings.grains_per_unit;
     let found = &findings.c4;
-    let mut line = opened(alloc, "C4          ", found.count == 0)?;
-    match found.shown {
-        None => line.push_str("nothing is paid for an unfunded project")?,
-        Some(here) => words::push_in_vain(
-            &mut line,
-            election,
-            unit,
-            &here,
-            u64::from(found.count),
-        )?,
-    }
-    Ok(line)
+    let opening = Opening("C4          ", found.count == 0);
+    let Some(here) = found.shown else {
+        return format!(in alloc; "{opening}nothing is paid for an unfunded project");
+    };
+    let paid = Balance(unit, here.amount);
+    let project = election.id(here.at);
+    let others = HowMany(
+        "unfunded projects that are paid for",
+        u64::from(found.count),
+    );
+    format!(in alloc; "{opening}{paid} is paid for project {project}, which isn't funded{others}")
 }
 
 fn c5_line(
@@ -241,21 +234,15 @@ fn c5_line(
     ensures { IfOk result (λ line. string_bytes line ≡ spec.c5_line asked election.now findings.now) }
 {
     let found = &findings.c5;
-    let mut line = opened_if(
+    let opening = OpeningIf(asked, "C5          ", "without --stable", found.count == 0);
+    supporter_line(
         alloc,
-        asked,
-        "C5          ",
-        "without --stable",
-        found.count == 0,
-    )?;
-    push_supporters(
-        &mut line,
         election,
         findings.grains_per_unit,
+        &opening,
         "leftovers",
         found,
-    )?;
-    Ok(line)
+    )
 }
 
 fn s5_line(
@@ -269,45 +256,46 @@ fn s5_line(
     ensures { IfOk result (λ line. string_bytes line ≡ spec.s5_line asked election.now findings.now) }
 {
     let found = &findings.s5;
-    let mut line = opened_if(
+    let opening = OpeningIf(asked, "S5          ", "with --stable", found.count == 0);
+    supporter_line(
         alloc,
-        asked,
-        "S5          ",
-        "with --stable",
-        found.count == 0,
-    )?;
-    push_supporters(
-        &mut line,
         election,
         findings.grains_per_unit,
+        &opening,
         "offers",
         found,
-    )?;
-    Ok(line)
+    )
 }
 
-// Adds what the supporters of unfunded projects have left or can offer.
-fn push_supporters(
-    line: &mut String,
+// What an unfunded project costs, and what its supporters have left or can offer; `sums_of` says which.
+fn supporter_line(
+    alloc: Global,
     election: &Election,
     unit: u64,
+    opening: &OpeningIf,
     sums_of: &str,
     found: &Finding,
-) -> Result<(), AllocError>
+) -> Result<String, AllocError>
     requires unit { 10 ^ 6 ≤ unit }
     requires project { ShowsProject election.now found.now }
-    ensures { OnOk result (string_bytes line.new ≡ string_bytes line.old ++ spec.supporters_told election.now unit sums_of.now found.now) }
+    ensures { IfOk result (λ line. string_bytes line ≡ opening_if (opening.now).0 (opening.now).1.now (opening.now).2.now (opening.now).3 ++ spec.supporters_told election.now unit sums_of.now found.now) }
 {
-    match found.shown {
-        None => line.push_str("every project is funded"),
-        Some(here) if found.count == 0 => words::push_closest(line, election, unit, sums_of, &here),
-        Some(here) => words::push_richer(
-            line,
-            election,
-            unit,
-            sums_of,
-            &here,
-            u64::from(found.count),
-        ),
+    let Some(here) = found.shown else {
+        return format!(in alloc; "{opening}every project is funded");
+    };
+    let project = election.id(here.at);
+    let cost = Amount(unit, here.bound);
+    let sum = Balance(unit, here.amount);
+    if found.count == 0 {
+        return format!(in alloc;
+            "{opening}project {project}, the closest, costs {cost}, and its supporters' {sums_of} come to {sum}"
+        );
     }
+    let others = HowMany(
+        "unfunded projects where that is more than the cost",
+        u64::from(found.count),
+    );
+    format!(in alloc;
+        "{opening}project {project} costs {cost}, and its supporters' {sums_of} come to {sum}{others}"
+    )
 }

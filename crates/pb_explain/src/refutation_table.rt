@@ -5,8 +5,8 @@ ghost use Rattle.pb_election.specs.Instance.{IsProject, most_projects};
 ghost use Rattle.pb_cohesion.specs.Refutations.{is_least, is_left, is_most};
 ghost use Rattle.pb_explain.specs.RefutationTable as spec;
 
-use crate::amounts::{MILLION, push_amount};
-use crate::rows::{opened, push_how_many, push_id, push_line, push_number};
+use crate::amounts::{Amount, MILLION};
+use crate::rows::{HowMany, Opening, push_line};
 use pb_certificate::{Refutation, Role};
 use pb_cohesion::{MisplacedRows, RefutationFindings};
 use pb_election::Election;
@@ -43,12 +43,18 @@ fn u1_line(
     requires project { IfSome (found.now).first (IsProject election.now) }
     ensures { IfOk result (λ line. string_bytes line ≡ spec.u1_line election.now refutation.now found.now) }
 {
-    let mut line = opened(alloc, "U1          ", found.count == 0)?;
-    match found.first {
-        None => push_fitting_rows(&mut line, &row_counts(election, refutation))?,
-        Some(j) => push_misplaced(&mut line, election, j, u64::from(found.count))?,
-    }
-    Ok(line)
+    let opening = Opening("U1          ", found.count == 0);
+    let Some(j) = found.first else {
+        let RowCounts { least, most, left } = row_counts(election, refutation);
+        return format!(in alloc;
+            "{opening}each row fits whether its project is funded; rows of least: {least}, of most: {most}, of left: {left}"
+        );
+    };
+    let project = election.id(j);
+    let others = HowMany("such rows", u64::from(found.count));
+    format!(in alloc;
+        "{opening}the row of project {project} doesn't fit whether it is funded{others}"
+    )
 }
 
 // How many rows of each role there are.
@@ -92,87 +98,32 @@ impl RowCounts {
     }
 }
 
-#[tactic(auto, unfolding(crate::specs::RefutationTable::fitting_rows))]
-fn push_fitting_rows(line: &mut String, rows: &RowCounts) -> Result<(), AllocError>
-    ensures { OnOk result (string_bytes line.new ≡ string_bytes line.old ++ spec.fitting_rows rows.now) }
-{
-    line.push_str("each row fits whether its project is funded")?;
-    push_count(line, "; rows of least: ", rows.least)?;
-    push_count(line, ", of most: ", rows.most)?;
-    push_count(line, ", of left: ", rows.left)
-}
-
-// Adds how many rows have a role.
-fn push_count(line: &mut String, role: &str, count: u32) -> Result<(), AllocError>
-    ensures { OnOk result (string_bytes line.new ≡ string_bytes line.old ++ spec.counted role.now count) }
-{
-    line.push_str(role)?;
-    push_number(line, u128::from(count))
-}
-
-#[tactic(auto, unfolding(crate::specs::RefutationTable::misplaced))]
-fn push_misplaced(
-    line: &mut String,
-    election: &Election,
-    project: u32,
-    count: u64,
-) -> Result<(), AllocError>
-    requires project { IsProject election.now project }
-    ensures { OnOk result (string_bytes line.new ≡ string_bytes line.old ++ spec.misplaced election.now project count) }
-{
-    line.push_str("the row of project ")?;
-    push_id(line, election, project)?;
-    line.push_str(" doesn't fit whether it is funded")?;
-    push_how_many(line, "such rows", count)
-}
-
 fn u2_line(alloc: Global, findings: &RefutationFindings) -> Result<String, AllocError>
     ensures { IfOk result (λ line. string_bytes line ≡ spec.u2_line findings.now) }
 {
-    let mut line = opened(alloc, "U2          ", findings.counted <= findings.taken)?;
-    push_budgets(&mut line, findings.counted, findings.taken)?;
-    Ok(line)
-}
-
-// Adds how many voter budgets the weights count and take.
-#[tactic(auto, unfolding(crate::specs::RefutationTable::budgets_told))]
-fn push_budgets(line: &mut String, counted: u128, taken: u128) -> Result<(), AllocError>
-    ensures { OnOk result (string_bytes line.new ≡ string_bytes line.old ++ spec.budgets_told counted taken) }
-{
-    line.push_str("the weights count at most ")?;
-    push_number(line, counted)?;
-    line.push_str(" voter budgets, and take ")?;
-    push_number(line, taken)
+    let (counted, taken) = (findings.counted, findings.taken);
+    let opening = Opening("U2          ", counted <= taken);
+    format!(in alloc;
+        "{opening}the weights count at most {counted} voter budgets, and take {taken}"
+    )
 }
 
 fn u3_line(alloc: Global, findings: &RefutationFindings) -> Result<String, AllocError>
     ensures { IfOk result (λ line. string_bytes line ≡ spec.u3_line findings.now) }
 {
+    let cover = findings.cover;
+    let opening = Opening("U3          ", costs_differ(findings));
+    let least = Amount(MILLION, findings.at_least);
+    let most = Amount(MILLION, findings.at_most);
+    format!(in alloc;
+        "{opening}costs times weights come to {least} for least and Cover, whose weight is {cover}, and to {most} for most and left"
+    )
+}
+
+// Whether the costs on the one side are more than on the other, or as much and Cover has a weight.
+fn costs_differ(findings: &RefutationFindings) -> bool
+    ensures { result ≡ spec.costs_differ (findings.now).at_least (findings.now).at_most (findings.now).cover }
+{
     let alike = findings.at_most == findings.at_least;
-    let holds = findings.at_most < findings.at_least || (alike && 0 < findings.cover);
-    let mut line = opened(alloc, "U3          ", holds)?;
-    push_least(&mut line, findings.at_least, u128::from(findings.cover))?;
-    push_most(&mut line, findings.at_most)?;
-    Ok(line)
-}
-
-// Adds what costs times weights come to on the one side.
-#[tactic(auto, unfolding(crate::specs::RefutationTable::least_told))]
-fn push_least(line: &mut String, least: u128, cover: u128) -> Result<(), AllocError>
-    ensures { OnOk result (string_bytes line.new ≡ string_bytes line.old ++ spec.least_told least cover) }
-{
-    line.push_str("costs times weights come to ")?;
-    push_amount(line, MILLION, least)?;
-    line.push_str(" for least and Cover, whose weight is ")?;
-    push_number(line, cover)
-}
-
-// Adds what they come to on the other.
-#[tactic(auto, unfolding(crate::specs::RefutationTable::most_told))]
-fn push_most(line: &mut String, most: u128) -> Result<(), AllocError>
-    ensures { OnOk result (string_bytes line.new ≡ string_bytes line.old ++ spec.most_told most) }
-{
-    line.push_str(", and to ")?;
-    push_amount(line, MILLION, most)?;
-    line.push_str(" for most and left")
+    findings.at_most < findings.at_least || (alike && 0 < findings.cover)
 }

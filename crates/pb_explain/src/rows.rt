@@ -1,72 +1,51 @@
-//! The rows of a table of conditions or tests.
-ghost use Rattle.std.specs.Prelude.{◌≡◌, ◌∷◌, ◌++◌, [], IfOk, OnOk, decimal, map, string_bytes};
-ghost use Rattle.pb_election.specs.Instance.{IsProject, id_of};
+//! What the rows of a table have in common.
+ghost use Rattle.std.specs.Prelude.{◌≡◌, ◌∷◌, ◌++◌, [], OnOk, map, string_bytes};
 ghost use Rattle.pb_explain.specs.Rows as spec;
 
-use itoa::Buffer;
-use pb_election::Election;
-use std::alloc::{AllocError, Global};
+use std::alloc::AllocError;
+use std::fmt;
 
-/// Adds a whole number, decimal and without leading zeros.
-pub(crate) fn push_number(line: &mut String, number: u128) -> Result<(), AllocError>
-    ensures { OnOk result (string_bytes line.new ≡ string_bytes line.old ++ decimal number) }
-{
-    let mut digits = Buffer::new();
-    line.push_str(digits.format(number))
-}
+/// The begin of the row of a condition that is always asked for: its name, as a column, and whether it holds.
+#[derive(Clone, Copy)]
+pub(crate) struct Opening<'a>(pub(crate) &'a str, pub(crate) bool);
 
-/// Adds a voter, by its number.
-pub(crate) fn push_voter(line: &mut String, voter: u32) -> Result<(), AllocError>
-    ensures { OnOk result (string_bytes line.new ≡ string_bytes line.old ++ spec.voter voter) }
-{
-    line.push_str("voter ")?;
-    push_number(line, u128::from(voter))
-}
+impl<'a> fmt::Display for Opening<'a> {
+    ghost use Rattle.std.specs.Prelude.{Some};
+    ghost use Rattle.pb_explain.specs.Rows.{opening};
 
-/// Adds a project, by its id.
-pub(crate) fn push_id(
-    line: &mut String,
-    election: &Election,
-    project: u32,
-) -> Result<(), AllocError>
-    requires { IsProject election.now project }
-    ensures { OnOk result (string_bytes line.new ≡ string_bytes line.old ++ id_of election.now project) }
-{
-    line.push_str(election.id(project))
-}
+    ghost output = { λ o. Some (opening o.0.now o.1) };
 
-/// Begins the row of a condition that is always asked for, by its name as a column and whether it holds.
-#[tactic(auto, unfolding(crate::specs::Rows::opening))]
-pub(crate) fn opened(alloc: Global, name: &str, holds: bool) -> Result<String, AllocError>
-    ensures { IfOk result (λ line. string_bytes line ≡ spec.opening name.now holds) }
-{
-    let mut line = String::from_str(alloc, name)?;
-    line.push_str(answer(holds))?;
-    line.push_str("      ")?;
-    Ok(line)
-}
-
-/// Begins the row of a condition that may be asked for or not, and `how` says how it is.
-#[tactic(auto, unfolding(crate::specs::Rows::opening_if, crate::specs::Rows::opening))]
-pub(crate) fn opened_if(
-    alloc: Global,
-    asked: bool,
-    name: &str,
-    how: &str,
-    holds: bool,
-) -> Result<String, AllocError>
-    ensures { IfOk result (λ line. string_bytes line ≡ spec.opening_if asked name.now how.now holds) }
-{
-    if asked {
-        return opened(alloc, name, holds);
+    #[tactic(auto, unfolding(crate::specs::Rows::opening))]
+    fn fmt<W: fmt::Write>(&self, f: &mut fmt::Formatter<W>) -> fmt::Result {
+        write!(f, "{}{}      ", self.0, answer(self.1))
     }
-    let mut line = String::from_str(alloc, name)?;
-    line.push_str("not asked  ")?;
-    line.push_str(how)?;
-    line.push_str(" it ")?;
-    line.push_str(answer(holds))?;
-    line.push_str(": ")?;
-    Ok(line)
+}
+
+/// The begin of the row of a condition that may be asked for or not: whether it is, its name, how to ask for it, and
+/// whether it holds.
+#[derive(Clone, Copy)]
+pub(crate) struct OpeningIf<'a>(
+    pub(crate) bool,
+    pub(crate) &'a str,
+    pub(crate) &'a str,
+    pub(crate) bool,
+);
+
+impl<'a> fmt::Display for OpeningIf<'a> {
+    ghost use Rattle.std.specs.Prelude.{Some};
+    ghost use Rattle.pb_explain.specs.Rows.{opening_if};
+
+    ghost output = { λ o. Some (opening_if o.0 o.1.now o.2.now o.3) };
+
+    #[tactic(auto, unfolding(crate::specs::Rows::opening_if))]
+    fn fmt<W: fmt::Write>(&self, f: &mut fmt::Formatter<W>) -> fmt::Result {
+        let (asked, name, how, holds) = (self.0, self.1, self.2, self.3);
+        if asked {
+            write!(f, "{}", Opening(name, holds))
+        } else {
+            write!(f, "{name}not asked  {how} it {}: ", answer(holds))
+        }
+    }
 }
 
 fn answer<'a>(holds: bool) -> &'a str
@@ -75,16 +54,20 @@ fn answer<'a>(holds: bool) -> &'a str
     if holds { "holds" } else { "fails" }
 }
 
-/// Adds how many culprits there are, by what they are.
-#[tactic(auto, unfolding(crate::specs::Rows::how_many))]
-pub(crate) fn push_how_many(line: &mut String, culprits: &str, count: u64) -> Result<(), AllocError>
-    ensures { OnOk result (string_bytes line.new ≡ string_bytes line.old ++ spec.how_many culprits.now count) }
-{
-    line.push_str(" (")?;
-    line.push_str(culprits)?;
-    line.push_str(": ")?;
-    push_number(line, u128::from(count))?;
-    line.push_str(")")
+/// How many culprits there are, by what they are.
+#[derive(Clone, Copy)]
+pub(crate) struct HowMany<'a>(pub(crate) &'a str, pub(crate) u64);
+
+impl<'a> fmt::Display for HowMany<'a> {
+    ghost use Rattle.std.specs.Prelude.{Some};
+    ghost use Rattle.pb_explain.specs.Rows.{how_many};
+
+    ghost output = { λ it. Some (how_many it.0.now it.1) };
+
+    #[tactic(auto, unfolding(crate::specs::Rows::how_many))]
+    fn fmt<W: fmt::Write>(&self, f: &mut fmt::Formatter<W>) -> fmt::Result {
+        write!(f, " ({}: {})", self.0, self.1)
+    }
 }
 
 /// Adds a line to a list of lines.
