@@ -20,8 +20,8 @@ KEPT = ("lib.rt", "main.rt", "version.rt", "First.antt", "Lib.antt")
 TOOLS = ("bash", "basename", "cat", "chmod", "cp", "dirname", "env", "find", "flock", "mkdir", "mktemp", "mv", "readlink", "rm",
          "rmdir", "sed", "sha256sum", "sleep", "sort", "tail", "tee", "touch", "xargs")  # fmt: skip
 BELOW = {"pb_audit", "pb_case", "pb_certificate", "pb_cohesion", "pb_command", "pb_election", "pb_explain", "pb_figures",
-         "pb_group_parts", "pb_hints", "pb_markup", "pb_money", "pb_page", "pb_parts", "pb_price", "pb_price_parts", "pb_records",
-         "pb_reply", "pb_run", "pb_tables", "pb_visible", "pb_words"}  # fmt: skip
+         "pb_group_parts", "pb_hints", "pb_input", "pb_markup", "pb_money", "pb_page", "pb_parts", "pb_price", "pb_price_parts",
+         "pb_records", "pb_reply", "pb_run", "pb_tables", "pb_visible", "pb_words"}  # fmt: skip
 RT = r"""#!/usr/bin/env bash
 # What rt does here: it notes the call, does what $RT_DOES says, and leaves a program, the C library, or a library where
 # all below it are built.

@@ -8,14 +8,14 @@ use Rattle.pb_certificate.specs.Prices.{Prices}
 use Rattle.pb_reply.specs.Replies.{Answer, Reply, answer_of, refused, with_input}
 use Rattle.pb_audit.specs.Answers.{AnswersAudit, AuditRules, tidy_answer}
 use Rattle.pb_reply.specs.Inputs.{InTurn, Stated, StatesElection, StatesPrices}
-use Rattle.pb_reply.specs.declared.input.InputName.TheVariants as name
-use Rattle.pb_reply.specs.declared.input.InputRefusal.{InputRefusal}
+use Rattle.pb_input.specs.declared.InputName.TheVariants as name
+use Rattle.pb_input.specs.declared.InputRefusal.{InputRefusal}
 use Rattle.pb_audit.specs.InTurn.{ReadsAudit, ReadsTidy}
 use Rattle.pb_reply.specs.Turns.{FileTurn, Turn}
 use Rattle.pb_audit.specs.Inside.Certificates.{AnswersCertificate, IfTold, Promised, Tells, TidiesPrices}
 use Rattle.pb_reply.specs.Inside.Taking.{AuditsOutcome, Gives, GivesOutcome, IfTaken, settled, stopped}
-use Rattle.pb_reply.specs.declared.input.Stop.{Stop}
-use Rattle.pb_reply.specs.declared.input.Stop.TheVariants as stop
+use Rattle.pb_reply.specs.declared.stop.Stop.{Stop}
+use Rattle.pb_reply.specs.declared.stop.Stop.TheVariants as stop
 use Rattle.pb_reply.specs.declared.status.Status.{Status}
 
 -- What is told of some replies is told of others, where each of those is one of these.

@@ -15,13 +15,13 @@ use Rattle.pb_reply.specs.Replies.{Reply, refused, with_input}
 use Rattle.pb_audit.specs.Answers.{price_reply, violation_reply}
 use Rattle.pb_audit.specs.Both.{BothPromise, GroupAndDemand, ReadsBoth, StatesBoth, beside, both_on, both_reply, both_rules, yes_where_both}
 use Rattle.pb_reply.specs.Inputs.{InTurn, Stated, StatesElection, StatesPrices, StatesViolation}
-use Rattle.pb_reply.specs.declared.input.InputRefusal.{InputRefusal}
+use Rattle.pb_input.specs.declared.InputRefusal.{InputRefusal}
 use Rattle.pb_reply.specs.Turns.{FileTurn, Turn}
 use Rattle.pb_audit.specs.Inside.Certificates.{AnswersCertificate, JudgesPrices, Promised}
 use Rattle.pb_reply.specs.Inside.Taking.{Gives, GivesOutcome, IfTaken, settled}
-use Rattle.pb_reply.specs.declared.input.InputName.TheVariants as name
-use Rattle.pb_reply.specs.declared.input.Stop.{Stop}
-use Rattle.pb_reply.specs.declared.input.Stop.TheVariants as stop
+use Rattle.pb_input.specs.declared.InputName.TheVariants as name
+use Rattle.pb_reply.specs.declared.stop.Stop.{Stop}
+use Rattle.pb_reply.specs.declared.stop.Stop.TheVariants as stop
 use Rattle.pb_reply.specs.declared.status.Status.{Status}
 use Rattle.pb_reply.specs.declared.status.Status.TheVariants.{Yes}
 use Rattle.pb_audit.proofs.Audits.{answered, ended_at_election, ended_at_outcome}

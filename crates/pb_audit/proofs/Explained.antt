@@ -31,8 +31,8 @@ use Rattle.pb_reply.specs.Certificates.{Certificate, OfPrices, OfRefutation, OfV
 use Rattle.pb_reply.specs.Inputs.{Stated, StatesPrices, StatesRefutation, StatesViolation}
 use Rattle.pb_audit.specs.Inside.Certificates.{AnswersCertificate, IfTold, Promised}
 use Rattle.pb_reply.specs.Inside.Taking.{settled}
-use Rattle.pb_reply.specs.declared.input.InputName.TheVariants as name
-use Rattle.pb_reply.specs.declared.input.Stop.{Stop}
+use Rattle.pb_input.specs.declared.InputName.TheVariants as name
+use Rattle.pb_reply.specs.declared.stop.Stop.{Stop}
 use Rattle.pb_reply.specs.declared.status.Status.{Status}
 use Rattle.pb_audit.proofs.Audits.{lines_told}
 use Rattle.pb_reply.proofs.Culprits.{among-projects, missing-name, projects-are, unapproved-name}

@@ -11,7 +11,7 @@ use Rattle.pb_cohesion.specs.declared.RefutationFailure.{RefutationFailure}
 use Rattle.pb_price.specs.declared.Mode.{Mode}
 use Rattle.pb_reply.specs.Inputs.{FilesState, Stated, StatesOutcome, audited}
 use Rattle.pb_reply.specs.Replies.{Reply, refused, with_input}
-use Rattle.pb_reply.specs.declared.input.InputRefusal.{InputRefusal}
+use Rattle.pb_input.specs.declared.InputRefusal.{InputRefusal}
 use Rattle.pb_reply.specs.declared.status.Status.TheVariants.{Yes, Refused}
 use Rattle.pb_audit.specs.Answers.{AnswersPrices, AnswersRefutation, AuditRules, OfAccepted, audit_reply, price_reply, price_rules, refutation_reply, refutation_rules, weights_reply}
 use Rattle.pb_reply.specs.Promises.{PricesPromise, RefutationPromises}

@@ -13,7 +13,7 @@ use Rattle.pb_audit.specs.Margins.{margin_rules}
 use Rattle.pb_audit.specs.OneAnswer.{JustOne}
 use Rattle.pb_reply.specs.Inside.Taking.{AuditsOutcome}
 use Rattle.pb_audit.specs.Inside.Certificates.{Promised}
-use Rattle.pb_reply.specs.declared.input.InputName.TheVariants as name
+use Rattle.pb_input.specs.declared.InputName.TheVariants as name
 use Rattle.pb_audit.proofs.Audits.{certificate_answered, election_refused, outcome_refused}
 use Rattle.pb_audit.proofs.Boths.{both_promises}
 use Rattle.pb_audit.proofs.OneStated.{election-one, file-one, outcome-one, prices-one, refutation-one, violation-one}

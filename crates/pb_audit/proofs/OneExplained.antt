@@ -9,7 +9,7 @@ use Rattle.pb_audit.specs.Explained.{AnswersExplained, explained_rules}
 use Rattle.pb_reply.specs.Certificates.{Certificate, OfPrices, OfRefutation, OfViolation, StatesCertificate, StatesKind, as_certificate, kind_in}
 use Rattle.pb_reply.specs.Inputs.{Stated}
 use Rattle.pb_audit.specs.OneAnswer.{JustOne}
-use Rattle.pb_reply.specs.declared.input.InputName.TheVariants as name
+use Rattle.pb_input.specs.declared.InputName.TheVariants as name
 use Rattle.pb_audit.proofs.Explained.{explained_promise}
 use Rattle.pb_audit.proofs.OneAnswer.{audit-one}
 use Rattle.pb_audit.proofs.OneStated.{prices-one, refutation-one, violation-one}

@@ -7,7 +7,7 @@ use Rattle.pb_price.specs.declared.Mode.{Mode}
 use Rattle.pb_reply.specs.Inputs.{FilesState, InTurn, Stated, StatesElection, StatesFile, StatesOutcome, StatesPrices, audited}
 use Rattle.pb_reply.specs.Replies.{Answer, Reply, TellsReply}
 use Rattle.pb_reply.specs.Turns.{gives, gives_file}
-use Rattle.pb_reply.specs.declared.input.InputName.TheVariants as name
+use Rattle.pb_input.specs.declared.InputName.TheVariants as name
 use Rattle.pb_reply.specs.declared.status.Status.{Status}
 use Rattle.pb_audit.specs.Answers.{AnswersAudit, AnswersElection, AnswersTidy, AuditRules, OfAccepted, audit_reply, price_rules, refutation_rules, violation_rules}
 use Rattle.pb_audit.specs.Both.{AnswersBoth, Both, ReadsBoth, StatesBoth, both_rules}

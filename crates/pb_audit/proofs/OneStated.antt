@@ -32,11 +32,11 @@ use Rattle.pb_certificate.proofs.OnRefutations.Texts.{refutation-text-same}
 use Rattle.pb_certificate.proofs.Unique.{group-text-same, outcome-text-same, price-text-same}
 use Rattle.pb_audit.specs.Both.{GroupAndDemand}
 use Rattle.pb_reply.specs.Inputs.{IsRefusedElection, IsRefusedFile, Stated, States, StatesElection, StatesFile, StatesOutcome, StatesPrices, StatesRefutation, StatesViolation, refusal_of}
-use Rattle.pb_reply.specs.declared.input.InputRefusal.{InputRefusal}
+use Rattle.pb_input.specs.declared.InputRefusal.{InputRefusal}
 use Rattle.pb_audit.specs.OneAnswer.{JustOne}
-use Rattle.pb_reply.specs.declared.input.InputFault.TheVariants as fault
-use Rattle.pb_reply.specs.declared.input.InputName.{InputName}
-use Rattle.pb_reply.specs.declared.input.InputName.TheVariants as name
+use Rattle.pb_input.specs.declared.InputFault.TheVariants as fault
+use Rattle.pb_input.specs.declared.InputName.{InputName}
+use Rattle.pb_input.specs.declared.InputName.TheVariants as name
 
 -- Bytes state one thing of a kind, or are refused for one reason, and never both.
 record Decides {A : Type 0} (is_text : List ℕ → A → Type 0) (is_refused : List ℕ → InputRefusal → Type 0) : Type 0 where

@@ -1,5 +1,5 @@
 -- Texts that are made line by line.
-use Rattle.std.proofs.Common.{◌≡◌, List, [], ◌∷◌, ◌++◌, append_assoc, arith}
+use Rattle.std.proofs.Common.{◌≡◌, List, ◌++◌, append_assoc, arith}
 use Rattle.std.proofs.lemmas.List.Concat.{flat_map-append}
 use Rattle.std.specs.Prelude.{Option, codes}
 use Rattle.pb_records.specs.Records.{Text}
@@ -19,22 +19,3 @@ pub found_text : (spelled name : Text) (read : Reply) (prices violation : Option
     → new ≡ second ++ text_of (certificate_lines (spelled ++ codes ".violation.csv") violation)
     → new ≡ old ++ text_of (lines_of (record { name = name; read = read; prices = prices; violation = violation }))
 found_text spelled name read prices violation old first second new is one two three = grind (arith, text_after)
-
--- the line of the total, piece by piece
-pub total_text : (old e y n r : Text)
-    → ((((((((old ++ codes "total ") ++ e) ++ codes " elections ") ++ y) ++ codes " yes ") ++ n) ++ codes " no ") ++ r)
-    ++ text_of (codes " refused" ∷ [])
-    ≡ old ++ text_of
-    ((codes "total " ++ e ++ codes " elections " ++ y ++ codes " yes " ++ n ++ codes " no " ++ r
-    ++ codes " refused") ∷ [])
-total_text old e y n r = simp append_assoc
-
-pub total_pushed : (old a b c d f g h i new e y n r : Text)
-    → a ≡ old ++ codes "total " → b ≡ a ++ e → c ≡ b ++ codes " elections " → d ≡ c ++ y → f ≡ d ++ codes " yes "
-    → g ≡ f ++ n → h ≡ g ++ codes " no " → i ≡ h ++ r
-    → new ≡ i ++ text_of (codes " refused" ∷ [])
-    → new ≡ old
-    ++ text_of
-    ((codes "total " ++ e ++ codes " elections " ++ y ++ codes " yes " ++ n ++ codes " no " ++ r
-    ++ codes " refused") ∷ [])
-total_pushed old a b c d f g h i new e y n r is-a is-b is-c is-d is-f is-g is-h is-i last = grind (arith, total_text)

@@ -18,7 +18,7 @@ use Rattle.pb_reply.specs.Replies.{Answer, Reply, answer_of, price_status, refus
 use Rattle.pb_reply.specs.Inputs.{FilesState, Stated, StatesElection, StatesPrices, StatesRefutation, StatesViolation, audited}
 use Rattle.pb_reply.specs.Lines.{notes, price_line, read_line, refutation_line, violation_line}
 use Rattle.pb_reply.specs.Promises.{PricesPromise, RefutationPromises, ViolationPromises}
-use Rattle.pb_reply.specs.declared.input.InputName.TheVariants as name
+use Rattle.pb_input.specs.declared.InputName.TheVariants as name
 use Rattle.pb_reply.specs.declared.status.Status.{Status}
 use Rattle.pb_reply.specs.declared.status.Status.TheVariants.{Yes}
 

@@ -16,7 +16,7 @@ use Rattle.pb_reply.specs.Inputs.{InTurn, Stated, StatesPrices, StatesViolation}
 use Rattle.pb_reply.specs.Promises.{PricesPromise, ViolationPromises}
 use Rattle.pb_reply.specs.Turns.{FileTurn, Turn}
 use Rattle.pb_audit.specs.InTurn.{AfterOutcome, ReadsAudit}
-use Rattle.pb_reply.specs.declared.input.InputName.TheVariants as name
+use Rattle.pb_input.specs.declared.InputName.TheVariants as name
 use Rattle.pb_reply.specs.declared.status.Status.{Status}
 use Rattle.pb_reply.specs.declared.status.Status.TheVariants.{Yes, No}
 use Rattle.pb_reply.specs.declared.status.Unmet.TheVariants as unmet

@@ -15,10 +15,11 @@ use crate::prices::{price_verdict, verdict_reply};
 use crate::says_little::push_note;
 use crate::violation::group_reply;
 use pb_election::{Election, Outcome};
+use pb_input::InputName;
 use pb_price::{Mode, Verdict};
 use pb_reply::{
-    Answer, File, Given, InputName, Lend, Reply, Status, Stop, Unmet, settled, take_election,
-    take_outcome, violation_of,
+    Answer, File, Given, Lend, Reply, Status, Stop, Unmet, settled, take_election, take_outcome,
+    violation_of,
 };
 use std::alloc::{AllocError, Global};
 

@@ -26,11 +26,9 @@ use pb_certificate::{Kind, Refutation, Violation};
 use pb_cohesion::{refutation_findings, violation_findings};
 use pb_election::{Election, Outcome};
 use pb_explain::{push_group_lines, push_price_table, push_refutation_table, push_violation_table};
+use pb_input::{InputFault, InputName};
 use pb_price::{Findings, Mode, Verdict, findings_of};
-use pb_reply::{
-    File, InputFault, InputName, Reply, Stop, bytes_of, kind_in, refutation_of, stop_at,
-    violation_of,
-};
+use pb_reply::{File, Reply, Stop, bytes_of, kind_in, refutation_of, stop_at, violation_of};
 use std::alloc::{AllocError, Global};
 
 /// The explanation of a verdict, on prices in a mode.

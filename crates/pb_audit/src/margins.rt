@@ -9,8 +9,9 @@ ghost use Rattle.pb_reply.specs.Inside.Taking.{IfTaken};
 use crate::auditing::Audit;
 use crate::margin_table::table_text;
 use pb_election::{Election, Outcome};
+use pb_input::{InputFault, InputName};
 use pb_price::{Margins, margins_of};
-use pb_reply::{Answer, File, InputFault, InputName, Status, Stop, bytes_of, stop_at};
+use pb_reply::{Answer, File, Status, Stop, bytes_of, stop_at};
 use std::alloc::{AllocError, Global};
 
 /// The audit that answers with the table of margins.

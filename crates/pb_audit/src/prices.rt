@@ -12,10 +12,9 @@ ghost use Rattle.pb_election.specs.Outcome.{OutcomeFits};
 use crate::auditing::Audit;
 use crate::says_little::push_note_on_yes;
 use pb_election::{Election, Outcome};
+use pb_input::{InputFault, InputName};
 use pb_price::{Mode, Verdict, check_rows};
-use pb_reply::{
-    File, InputFault, InputName, Reply, Stop, bytes_of, one_line, price_line, price_status, stop_at,
-};
+use pb_reply::{File, Reply, Stop, bytes_of, one_line, price_line, price_status, stop_at};
 use std::alloc::{AllocError, Global};
 
 /// The audit of prices, in a mode.

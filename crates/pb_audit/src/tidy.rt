@@ -9,9 +9,9 @@ ghost use Rattle.pb_reply.specs.Turns.{turn};
 
 use pb_certificate::canonical_text_of;
 use pb_election::Election;
+use pb_input::{InputFault, InputName};
 use pb_reply::{
-    Answer, File, Given, InputFault, InputName, Lend, Status, Stop, bytes_of, settled, stop_at,
-    take_election,
+    Answer, File, Given, Lend, Status, Stop, bytes_of, settled, stop_at, take_election,
 };
 use std::alloc::{AllocError, Global};
 

@@ -3,8 +3,9 @@ ghost use Rattle.std.specs.Prelude.{◌≡◌, ◌∷◌, ◌++◌, [], OnOk, co
 ghost use Rattle.pb_reply.specs.Replies.{text_of};
 ghost use Rattle.pb_audit.specs.Reports as spec;
 
-use pb_reply::{Status, push_line, push_number};
+use pb_reply::Status;
 use std::alloc::AllocError;
+use std::fmt::Write;
 
 /// How the report on a folder ends.
 #[derive(Clone, Copy, Debug, PartialEq, Eq)]
@@ -89,15 +90,11 @@ impl Total {
     pub(crate) fn push_line(self, text: &mut String) -> Result<(), AllocError>
         ensures { OnOk result (string_bytes text.new ≡ string_bytes text.old ++ text_of (spec.total_line self ∷ [])) }
     {
-        text.push_str("total ")?;
-        push_number(text, self.elections as u64)?;
-        text.push_str(" elections ")?;
-        push_number(text, self.yes as u64)?;
-        text.push_str(" yes ")?;
-        push_number(text, self.no as u64)?;
-        text.push_str(" no ")?;
-        push_number(text, self.refused as u64)?;
-        push_line(text, " refused")
+        writeln!(
+            text,
+            "total {} elections {} yes {} no {} refused",
+            self.elections, self.yes, self.no, self.refused
+        )
     }
 }
 

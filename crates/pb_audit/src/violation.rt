@@ -12,9 +12,8 @@ use crate::auditing::Audit;
 use pb_certificate::Violation;
 use pb_cohesion::{ViolationVerdict, check_violation};
 use pb_election::{Election, Outcome};
-use pb_reply::{
-    File, InputName, Reply, Stop, one_line, violation_line, violation_of, violation_status,
-};
+use pb_input::InputName;
+use pb_reply::{File, Reply, Stop, one_line, violation_line, violation_of, violation_status};
 use std::alloc::{AllocError, Global};
 
 /// The audit of a violation.

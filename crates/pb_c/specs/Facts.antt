@@ -6,9 +6,9 @@ use Rattle.pb_cohesion.specs.declared.ViolationFailure.{ViolationFailure}
 use Rattle.pb_cohesion.specs.declared.ViolationFailure.TheVariants as violation
 use Rattle.pb_price.specs.declared.Failure.{Failure}
 use Rattle.pb_price.specs.declared.Failure.TheVariants as prices
-use Rattle.pb_reply.specs.Lines.{fault_number, fault_place}
-use Rattle.pb_reply.specs.declared.input.InputName.{InputName}
-use Rattle.pb_reply.specs.declared.input.InputName.TheVariants as name
+use Rattle.pb_input.specs.Faults.{fault_number, fault_place}
+use Rattle.pb_input.specs.declared.InputName.{InputName}
+use Rattle.pb_input.specs.declared.InputName.TheVariants as name
 use Rattle.pb_reply.specs.declared.status.Status.{Status}
 use Rattle.pb_reply.specs.declared.status.Status.TheVariants.{Yes, No, Refused}
 use Rattle.pb_reply.specs.declared.status.Unmet.{Unmet}

@@ -2,15 +2,15 @@
 ghost use Rattle.std.specs.Prelude.{◌≡◌, ◌≢◌, ◌==◌, ◌||◌, if◌then◌else◌, IfSome, IfNone};
 ghost use Rattle.pb_certificate.specs.Faults as certificates;
 ghost use Rattle.pb_election.specs.Faults as elections;
-ghost use Rattle.pb_reply.specs.Lines.{fault_number, fault_place};
+ghost use Rattle.pb_input.specs.Faults.{fault_number, fault_place};
 ghost use Rattle.pb_certificate.specs.declared.refusal.CertFault.{CertFault};
 ghost use Rattle.pb_election.specs.declared.refusal.ElectionFault.{ElectionFault};
-ghost use Rattle.pb_reply.specs.declared.input.InputFault.{InputFault};
+ghost use Rattle.pb_input.specs.declared.InputFault.{InputFault};
 
 use pb_certificate::{CertFault, CertRefusal};
 use pb_election::{ElectionFault, Refusal};
 use pb_hints::FileKind;
-use pb_reply::InputFault;
+use pb_input::InputFault;
 
 /// The fault that refusals print with this number, at this record. None where no fault has it. A file that can't be
 /// read, and one that is too long, are refused at no record.

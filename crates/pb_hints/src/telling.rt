@@ -5,7 +5,7 @@ use crate::scene::Scene;
 use crate::{FileKind, certificates, elections};
 use pb_certificate::{CertFault, Kind};
 use pb_election::ElectionFault;
-use pb_reply::InputFault;
+use pb_input::InputFault;
 use std::alloc::{AllocError, Global};
 
 /// What a person is told of a file of this kind that is refused for this fault: one or two remarks. The first says what

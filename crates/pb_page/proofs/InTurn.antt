@@ -9,8 +9,8 @@ use Rattle.pb_reply.specs.Inputs.{InTurn, Stated, StatesElection}
 use Rattle.pb_reply.specs.Turns.{FileTurn, Turn}
 use Rattle.pb_reply.specs.Replies.{Answer, answer_of}
 use Rattle.pb_reply.specs.Inside.Taking.{AuditsOutcome, Gives, IfTaken, settled}
-use Rattle.pb_reply.specs.declared.input.Stop.{Stop}
-use Rattle.pb_reply.specs.declared.input.Stop.TheVariants as stop
+use Rattle.pb_reply.specs.declared.stop.Stop.{Stop}
+use Rattle.pb_reply.specs.declared.stop.Stop.TheVariants as stop
 use Rattle.pb_reply.specs.declared.status.Status.{Status}
 use Rattle.pb_page.specs.InTurn.{ReadsPage}
 use Rattle.pb_page.specs.Sums.{files_of, sums_of}

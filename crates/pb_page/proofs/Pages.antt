@@ -7,7 +7,7 @@ use Rattle.pb_price.specs.declared.Mode.{Mode}
 use Rattle.pb_reply.specs.Inputs.{Stated, StatesElection}
 use Rattle.pb_reply.specs.Replies.{Answer, answer_of, price_status, refused, refutation_status, violation_status}
 use Rattle.pb_reply.specs.Inside.Taking.{AuditsOutcome}
-use Rattle.pb_reply.specs.declared.input.InputRefusal.{InputRefusal}
+use Rattle.pb_input.specs.declared.InputRefusal.{InputRefusal}
 use Rattle.pb_reply.specs.declared.status.Status.{Status}
 use Rattle.pb_reply.specs.Certificates.{Certificate, OfPrices, OfRefutation, OfViolation, StatesCertificate, certificate_status}
 use Rattle.pb_reply.specs.Promises.{CertificatePromises}

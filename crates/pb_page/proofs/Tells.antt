@@ -18,7 +18,7 @@ use Rattle.pb_price.specs.declared.Mode.{Mode}
 use Rattle.pb_price.proofs.Told.{tell-first}
 use Rattle.pb_reply.specs.Inputs.{StatesPrices}
 use Rattle.pb_reply.specs.Lines.{price_line}
-use Rattle.pb_reply.specs.declared.input.InputName.TheVariants as name
+use Rattle.pb_input.specs.declared.InputName.TheVariants as name
 use Rattle.pb_reply.specs.Certificates.{OfPrices, StatesKind, kind_in}
 use Rattle.pb_reply.proofs.Culprits.{denominator-low}
 use Rattle.pb_case.specs.Shown.{ShowsLine}

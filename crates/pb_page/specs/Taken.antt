@@ -11,7 +11,7 @@ use Rattle.pb_reply.specs.Inputs.{Stated, StatesElection, StatesPrices}
 use Rattle.pb_reply.specs.Turns.{Turn}
 use Rattle.pb_reply.specs.Replies.{Answer}
 use Rattle.pb_reply.specs.declared.status.Status.{Status}
-use Rattle.pb_reply.specs.declared.input.InputName.TheVariants as name
+use Rattle.pb_input.specs.declared.InputName.TheVariants as name
 use Rattle.pb_reply.specs.Certificates.{Certificate, StatesCertificate}
 use Rattle.pb_page.specs.Answers.{HasAnswer, Tells}
 use Rattle.pb_markup.specs.Pieces.{Piece, rendering}

@@ -17,11 +17,11 @@ use pb_election::{Election, Outcome};
 use pb_figures::{
     CertificateFigures, PriceFigures, RefutationFigures, Style, Told, ViolationFigures, extremes_of,
 };
+use pb_input::{InputFault, InputName};
 use pb_price::{Mode, findings_and_margins_of};
 use pb_reply::{
-    File, InputFault, InputName, Status, Stop, bytes_of, kind_in, price_line, price_status,
-    refutation_line, refutation_of, refutation_status, stop_at, violation_line, violation_of,
-    violation_status,
+    File, Status, Stop, bytes_of, kind_in, price_line, price_status, refutation_line,
+    refutation_of, refutation_status, stop_at, violation_line, violation_of, violation_status,
 };
 use std::alloc::{AllocError, Global};
 

@@ -31,7 +31,7 @@ use Rattle.pb_records.specs.Loading.{Delivery}
 use Rattle.pb_reply.specs.Inputs.{StatesPrices}
 use Rattle.pb_reply.specs.Lines.{price_failed, refutation_failed, violation_failed}
 use Rattle.pb_reply.specs.Named.{NamesProject, PricesNameProject, RefutationNamesProject, ViolationNamesProject}
-use Rattle.pb_reply.specs.declared.input.InputName.{InputName}
+use Rattle.pb_input.specs.declared.InputName.{InputName}
 
 -- projects
 pub projects-are : (e : Instance) → AllByRecursion (IsProject e) (all_projects e)

@@ -26,8 +26,8 @@ use Rattle.pb_certificate.specs.declared.kind.Kind.TheVariants as kind
 use Rattle.pb_reply.specs.Certificates.{Certificate, OfPrices, OfRefutation, OfViolation, StatesCertificate, StatesKind, as_certificate, certificate_status, kind_in}
 use Rattle.pb_reply.specs.Inputs.{Stated, StatesPrices}
 use Rattle.pb_reply.specs.Replies.{price_status, refutation_status, violation_status}
-use Rattle.pb_reply.specs.declared.input.InputName.{InputName}
-use Rattle.pb_reply.specs.declared.input.InputName.TheVariants as name
+use Rattle.pb_input.specs.declared.InputName.{InputName}
+use Rattle.pb_input.specs.declared.InputName.TheVariants as name
 use Rattle.pb_reply.proofs.Culprits.{denominator-low}
 use Rattle.pb_reply.specs.Promises.{CertificatePromises, PricesPromise, RefutationPromises, ViolationPromises}
 use Rattle.pb_reply.specs.declared.status.Status.TheVariants.{Yes, No}

@@ -10,8 +10,8 @@ use Rattle.pb_certificate.proofs.Unique.{group-text-sets}
 use Rattle.pb_reply.specs.Inputs.{StatesOutcome}
 use Rattle.pb_reply.specs.Turns.{file_turn, turn}
 use Rattle.pb_reply.specs.Inside.Taking.{AuditsOutcome, Gives, GivesOutcome, IfTaken}
-use Rattle.pb_reply.specs.declared.input.Stop.{Stop}
-use Rattle.pb_reply.specs.declared.input.Stop.TheVariants as stop
+use Rattle.pb_reply.specs.declared.stop.Stop.{Stop}
+use Rattle.pb_reply.specs.declared.stop.Stop.TheVariants as stop
 
 -- what is demanded is a set of projects
 pub demand_set : (bytes : List ℕ) (e : Instance) (m : Measure) (group demand : List ℕ)

@@ -17,7 +17,7 @@ use Rattle.pb_price.specs.First.{First, verdict_of}
 use Rattle.pb_price.specs.declared.Mode.{Mode}
 use Rattle.pb_reply.specs.Inputs.{Stated, StatesPrices, StatesRefutation, StatesViolation}
 use Rattle.pb_reply.specs.Replies.{price_status, refutation_status, violation_status}
-use Rattle.pb_reply.specs.declared.input.InputName.TheVariants as name
+use Rattle.pb_input.specs.declared.InputName.TheVariants as name
 use Rattle.pb_reply.specs.declared.status.Status.{Status}
 
 -- what a certificate of any kind states: prices, the measure, the group and the demand of a violation, or the weights of

@@ -19,11 +19,11 @@ use Rattle.pb_certificate.specs.Prices.Text.{IsPriceText}
 use Rattle.pb_certificate.specs.declared.violations.measure.Measure.{Measure}
 use Rattle.pb_certificate.specs.declared.refusal.CertFault.{CertFault}
 use Rattle.pb_certificate.specs.declared.refusal.CertRefusal.{CertRefusal}
-use Rattle.pb_reply.specs.declared.input.InputRefusal.{InputRefusal}
-use Rattle.pb_reply.specs.declared.input.InputFault.{InputFault}
-use Rattle.pb_reply.specs.declared.input.InputFault.TheVariants as fault
-use Rattle.pb_reply.specs.declared.input.InputName.{InputName}
-use Rattle.pb_reply.specs.declared.input.InputName.TheVariants as name
+use Rattle.pb_input.specs.declared.InputRefusal.{InputRefusal}
+use Rattle.pb_input.specs.declared.InputFault.{InputFault}
+use Rattle.pb_input.specs.declared.InputFault.TheVariants as fault
+use Rattle.pb_input.specs.declared.InputName.{InputName}
+use Rattle.pb_input.specs.declared.InputName.TheVariants as name
 
 -- an input is what it states, or why it is refused
 abbrev pub Stated : Type 0 → Type 0

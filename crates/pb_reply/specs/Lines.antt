@@ -1,8 +1,6 @@
 -- The printed lines, without their ends.
 use Rattle.std.specs.Prelude.{◌==◌, if◌then◌else◌, Bool, ℕ, List, [], ◌∷◌, ◌++◌, count_by, Option, Some, None, codes, decimal}
 use Rattle.std.specs.Option.{option_map}
-use Rattle.pb_certificate.specs.Faults as certificates
-use Rattle.pb_election.specs.Faults as elections
 use Rattle.pb_election.specs.Instance.{Instance, id_of, projects, voters}
 use Rattle.pb_cohesion.specs.declared.RefutationFailure.{RefutationFailure}
 use Rattle.pb_cohesion.specs.declared.RefutationFailure.TheVariants.{U1, U2, U3}
@@ -17,11 +15,8 @@ use Rattle.pb_price.specs.declared.Failure.TheVariants as failure
 use Rattle.pb_price.specs.declared.Verdict.{Verdict}
 use Rattle.pb_price.specs.declared.Verdict.TheVariants as verdict
 use Rattle.pb_records.specs.Records.{Text}
-use Rattle.pb_reply.specs.declared.input.InputFault.{InputFault}
-use Rattle.pb_reply.specs.declared.input.InputFault.TheVariants as fault
-use Rattle.pb_reply.specs.declared.input.InputName.{InputName}
-use Rattle.pb_reply.specs.declared.input.InputName.TheVariants as name
-use Rattle.pb_reply.specs.declared.input.InputRefusal.{InputRefusal}
+use Rattle.pb_input.specs.Faults.{fault_name, fault_number, fault_place, name_of}
+use Rattle.pb_input.specs.declared.InputRefusal.{InputRefusal}
 
 -- how many projects are funded, where the election says which
 abbrev pub number_of_funded : Instance → Option ℕ
@@ -112,34 +107,6 @@ abbrev pub refutation_line : Instance → RefutationVerdict → Text
 refutation_line e refutation_verdict.Unpriceable = codes "unpriceable"
 refutation_line e refutation_verdict.UnpriceableUnderCover = codes "unpriceable cover"
 refutation_line e (refutation_verdict.Failed f) = failed_line e (refutation_failed f)
-
--- the names of the inputs
-abbrev pub name_of : InputName → Text
-name_of name.Election = codes "election"
-name_of name.Outcome = codes "outcome"
-name_of name.Certificate = codes "certificate"
-name_of name.Prices = codes "prices"
-name_of name.Violation = codes "violation"
-name_of name.Folder = codes "folder"
-
--- the number of a fault, its name, and the record at which it stands
-abbrev pub fault_number : InputFault → ℕ
-fault_number fault.Unread = 18
-fault_number fault.TooLong = 19
-fault_number (fault.Election r) = elections.fault_number r.fault
-fault_number (fault.Certificate r) = certificates.fault_number r.fault
-
-abbrev pub fault_name : InputFault → Text
-fault_name fault.Unread = codes "Read"
-fault_name fault.TooLong = codes "TooLong"
-fault_name (fault.Election r) = elections.fault_name r.fault
-fault_name (fault.Certificate r) = certificates.fault_name r.fault
-
-abbrev pub fault_place : InputFault → ℕ
-fault_place fault.Unread = 0
-fault_place fault.TooLong = 0
-fault_place (fault.Election r) = r.place
-fault_place (fault.Certificate r) = r.place
 
 -- the line of a refusal
 abbrev pub refusal_line : InputRefusal → Text

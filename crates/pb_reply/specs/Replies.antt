@@ -10,7 +10,7 @@ use Rattle.pb_price.specs.declared.Verdict.{Verdict}
 use Rattle.pb_price.specs.declared.Verdict.TheVariants as verdict
 use Rattle.pb_reply.specs.Inputs.{Stated}
 use Rattle.pb_reply.specs.Lines.{refusal_line}
-use Rattle.pb_reply.specs.declared.input.InputRefusal.{InputRefusal}
+use Rattle.pb_input.specs.declared.InputRefusal.{InputRefusal}
 use Rattle.pb_reply.specs.declared.status.Status.{Status}
 use Rattle.pb_reply.specs.declared.status.Status.TheVariants.{Yes, No, Refused}
 use Rattle.pb_reply.specs.declared.status.Unmet.TheVariants as unmet

@@ -5,10 +5,10 @@ ghost use Rattle.pb_reply.specs.Replies as replies;
 ghost use Rattle.pb_reply.specs.Inside.Taking as spec;
 ghost use Rattle.pb_reply.specs.Writing.{Writes};
 
-use crate::input::{InputRefusal, Stop};
 use crate::lines::{push_line, refusal_line};
-use crate::{Fault, Status};
+use crate::{Fault, Status, Stop};
 use pb_election::{Sink, put};
+use pb_input::InputRefusal;
 use std::alloc::{AllocError, Global};
 use std::marker::Model;
 

@@ -3,19 +3,19 @@
 
 mod answer;
 mod given;
-mod input;
 mod lines;
 mod loaded;
 mod status;
+mod stop;
 mod taking;
 mod verdict_lines;
 
 pub use answer::{Answer, Reply, Telling, one_line, refused, settled, stopped, write_reply};
 pub use given::{Given, Lend};
-pub use input::{InputFault, InputName, InputRefusal, Stop, stop_at};
-pub use lines::{push_line, push_notes, push_number, read_line};
+pub use lines::{push_line, push_notes, read_line};
 pub use loaded::{File, Loaded, bytes_of};
 pub use status::{Fault, Status, Unmet};
+pub use stop::{Stop, stop_at};
 pub use taking::{
     election_of, kind_in, outcome_of, refutation_of, take_election, take_outcome, violation_of,
 };

@@ -1,11 +1,10 @@
 //! The lines of the answers.
-ghost use Rattle.std.specs.Prelude.{◌≡◌, ◌∷◌, ◌++◌, [], IfOk, OnOk, decimal, map, string_bytes};
+ghost use Rattle.std.specs.Prelude.{◌≡◌, ◌∷◌, ◌++◌, [], IfOk, OnOk, map, string_bytes};
 ghost use Rattle.pb_reply.specs.Replies.{text_of};
 ghost use Rattle.pb_reply.specs.Lines as spec;
 
-use crate::input::InputRefusal;
-use itoa::Buffer;
 use pb_election::Election;
+use pb_input::InputRefusal;
 use std::alloc::{AllocError, Global};
 
 /// Adds a line and its end to a text.
@@ -14,14 +13,6 @@ pub fn push_line(text: &mut String, line: &str) -> Result<(), AllocError>
 {
     text.push_str(line)?;
     text.push_str("\n")
-}
-
-/// Adds a number to a line, decimal and without leading zeros.
-pub fn push_number(line: &mut String, number: u64) -> Result<(), AllocError>
-    ensures { OnOk result (string_bytes line.new ≡ string_bytes line.old ++ decimal number) }
-{
-    let mut digits = Buffer::new();
-    line.push_str(digits.format(number))
 }
 
 /// The line on an election that was read. How many projects are funded is None where the election states no outcome.
@@ -33,19 +24,11 @@ pub fn read_line(
     requires { funded ≡ spec.number_of_funded election.now }
     ensures { IfOk result (λ line. string_bytes line ≡ spec.read_line election.now) }
 {
-    let mut line = String::from_str(alloc, "read ")?;
-    push_number(&mut line, u64::from(election.voters()))?;
-    line.push_str(" voters ")?;
-    push_number(&mut line, u64::from(election.projects()))?;
-    line.push_str(" projects ")?;
+    let (voters, projects) = (election.voters(), election.projects());
     match funded {
-        Some(count) => {
-            push_number(&mut line, u64::from(count))?;
-            line.push_str(" funded")?;
-        }
-        None => line.push_str("no outcome")?,
+        Some(count) => format!(in alloc; "read {voters} voters {projects} projects {count} funded"),
+        None => format!(in alloc; "read {voters} voters {projects} projects no outcome"),
     }
-    Ok(line)
 }
 
 /// Adds the notes on an election, each where it is due.
@@ -102,13 +85,7 @@ fn push_count_note(
 fn count_words(alloc: Global, key: &str, said: u64, counted: u32) -> Result<String, AllocError>
     ensures { IfOk result (λ line. string_bytes line ≡ spec.count_words key.now said counted) }
 {
-    let mut line = String::from_str(alloc, "note: ")?;
-    line.push_str(key)?;
-    line.push_str(" says ")?;
-    push_number(&mut line, said)?;
-    line.push_str(", counted ")?;
-    push_number(&mut line, u64::from(counted))?;
-    Ok(line)
+    format!(in alloc; "note: {key} says {said}, counted {counted}")
 }
 
 /// Adds the note that some fields of the column `selected` are neither 0 nor 1, where it is due.
@@ -124,10 +101,7 @@ fn push_selected_note(alloc: Global, lines: &mut Vec<String>, count: u32) -> Res
 fn selected_words(alloc: Global, count: u32) -> Result<String, AllocError>
     ensures { IfOk result (λ line. string_bytes line ≡ spec.selected_words count) }
 {
-    let mut line = String::from_str(alloc, "note: selected is neither 0 nor 1 in ")?;
-    push_number(&mut line, u64::from(count))?;
-    line.push_str(" projects")?;
-    Ok(line)
+    format!(in alloc; "note: selected is neither 0 nor 1 in {count} projects")
 }
 
 /// The line of a refusal.
@@ -135,13 +109,9 @@ pub(crate) fn refusal_line(alloc: Global, refusal: &InputRefusal) -> Result<Stri
     ensures { IfOk result (λ line. string_bytes line ≡ spec.refusal_line refusal.now) }
 {
     let InputRefusal { input, fault } = refusal;
-    let mut line = String::from_str(alloc, "refused ")?;
-    line.push_str(input.name())?;
-    line.push_str(" ")?;
-    push_number(&mut line, u64::from(fault.number()))?;
-    line.push_str(" ")?;
-    line.push_str(fault.name())?;
-    line.push_str(" record ")?;
-    push_number(&mut line, fault.place())?;
-    Ok(line)
+    let (number, fault_name, place) = (fault.number(), fault.name(), fault.place());
+    format!(in alloc;
+        "refused {} {number} {fault_name} record {place}",
+        input.name()
+    )
 }

@@ -6,8 +6,9 @@ ghost use Rattle.pb_reply.specs.Inputs.{in_memory, most_bytes};
 ghost use Rattle.pb_reply.specs.Inside.Loaded.{delivery_of, lent};
 ghost use Rattle.pb_reply.specs.Inside.Taking.{IsUnloaded};
 
-use crate::input::{InputFault, InputName, InputRefusal, Stop};
+use crate::Stop;
 use pb_election::{LoadFault, Source, load};
+use pb_input::{InputFault, InputName, InputRefusal};
 use std::alloc::{AllocError, Global};
 
 /// How many bytes an input has at most: 2^28.

@@ -2,9 +2,9 @@
 ghost use Rattle.std.specs.Prelude.{◌≡◌};
 ghost use Rattle.pb_reply.specs.declared.status.Fault.TheVariants.{Memory, Write};
 
-use crate::input::InputRefusal;
 use pb_cohesion::{RefutationFailure, ViolationFailure};
 use pb_election::PutFault;
+use pb_input::InputRefusal;
 use pb_price::Failure;
 use std::alloc::AllocError;
 use thiserror::Error;

@@ -11,10 +11,11 @@ ghost use Rattle.pb_reply.specs.Turns.{file_turn, turn};
 ghost use Rattle.pb_reply.specs.Inside.Taking.{AuditsOutcome, Gives, GivesOutcome, IfTaken, as_marks, claimed};
 
 use crate::given::{Given, Lend};
-use crate::input::{InputFault, InputName, Stop, stop_at};
 use crate::loaded::{File, bytes_of};
+use crate::stop::{Stop, stop_at};
 use pb_certificate::{Kind, Refutation, Violation, kind_of, read_outcome};
 use pb_election::{Election, Outcome};
+use pb_input::{InputFault, InputName};
 use std::alloc::{AllocError, Global};
 
 /// The election that a file states.

@@ -1,11 +1,9 @@
 //! The lines of verdicts.
-ghost use Rattle.std.specs.Prelude.{◌≡◌, ◌++◌, IfOk, IfSome, OnOk, string_bytes};
+ghost use Rattle.std.specs.Prelude.{◌≡◌, IfOk, string_bytes};
 ghost use Rattle.pb_reply.specs.Replies as replies;
 ghost use Rattle.pb_reply.specs.Lines as spec;
 ghost use Rattle.pb_reply.specs.Named.{NamesProject, PricesNameProject, RefutationNamesProject, ViolationNamesProject};
-ghost use Rattle.pb_election.specs.Instance.{IsProject};
 
-use crate::lines::push_number;
 use crate::{Status, Unmet};
 use pb_cohesion::{RefutationFailure, RefutationVerdict, ViolationFailure, ViolationVerdict};
 use pb_election::Election;
@@ -164,34 +162,14 @@ fn failed_line(alloc: Global, election: &Election, failed: &FailedAt) -> Result<
     requires { NamesProject election.now failed.now }
     ensures { IfOk result (λ line. string_bytes line ≡ spec.failed_line election.now failed.now) }
 {
-    let mut line = String::from_str(alloc, "failed ")?;
-    line.push_str(failed.name)?;
-    push_voter(&mut line, failed.voter)?;
-    push_project(&mut line, election, failed.project)?;
-    Ok(line)
-}
-
-fn push_voter(line: &mut String, voter: Option<u32>) -> Result<(), AllocError>
-    ensures { OnOk result (string_bytes line.new ≡ string_bytes line.old ++ spec.voter_words voter) }
-{
-    let Some(i) = voter else {
-        return Ok(());
-    };
-    line.push_str(" voter ")?;
-    push_number(line, u64::from(i))
-}
-
-fn push_project(
-    line: &mut String,
-    election: &Election,
-    project: Option<u32>,
-) -> Result<(), AllocError>
-    requires { IfSome project (IsProject election.now) }
-    ensures { OnOk result (string_bytes line.new ≡ string_bytes line.old ++ spec.project_words election.now project) }
-{
-    let Some(j) = project else {
-        return Ok(());
-    };
-    line.push_str(" project ")?;
-    line.push_str(election.id(j))
+    let name = failed.name;
+    match (failed.voter, failed.project) {
+        (None, None) => format!(in alloc; "failed {name}"),
+        (Some(i), None) => format!(in alloc; "failed {name} voter {i}"),
+        (None, Some(j)) => format!(in alloc; "failed {name} project {}", election.id(j)),
+        (Some(i), Some(j)) => format!(in alloc;
+            "failed {name} voter {i} project {}",
+            election.id(j)
+        ),
+    }
 }

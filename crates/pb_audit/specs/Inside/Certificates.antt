@@ -14,9 +14,9 @@ use Rattle.pb_price.specs.declared.Verdict.{Verdict}
 use Rattle.pb_reply.specs.Inputs.{Stated, StatesPrices}
 use Rattle.pb_reply.specs.Replies.{Answer, Reply, with_input}
 use Rattle.pb_reply.specs.Inside.Taking.{stopped}
-use Rattle.pb_reply.specs.declared.input.InputName.{InputName}
-use Rattle.pb_reply.specs.declared.input.InputName.TheVariants as name
-use Rattle.pb_reply.specs.declared.input.Stop.{Stop}
+use Rattle.pb_input.specs.declared.InputName.{InputName}
+use Rattle.pb_input.specs.declared.InputName.TheVariants as name
+use Rattle.pb_reply.specs.declared.stop.Stop.{Stop}
 use Rattle.pb_reply.specs.declared.status.Status.{Status}
 use Rattle.pb_audit.specs.Answers.{AuditRules, tidy_answer}
 

@@ -1,25 +1,22 @@
 -- What the values stand for that the code takes and hands on between an input and its reply. What an input states is
 -- said without them, in `Inputs` and `Turns`.
-use Rattle.std.specs.Prelude.{◌≡◌, if◌then◌else◌, Bool, true, false, ℕ, List, Option, Some, None, Result, Ok, Err}
+use Rattle.std.specs.Prelude.{◌≡◌, if◌then◌else◌, Bool, ℕ, List, Option, Some, None, Result, Ok, Err}
 use Rattle.std.specs.Option.{option_map}
 use Rattle.pb_election.specs.Instance.{Instance}
 use Rattle.pb_records.specs.Loading.{Delivery}
 use Rattle.pb_records.specs.Loading as delivery
 use Rattle.pb_election.specs.Outcome.{Funding}
-use Rattle.pb_election.specs.declared.refusal.ElectionFault.{ElectionFault}
-use Rattle.pb_election.specs.declared.refusal.ElectionFault.TheVariants as election_fault
 use Rattle.pb_certificate.specs.Violations.{Claim}
 use Rattle.pb_certificate.specs.declared.violations.measure.Measure.{Measure}
-use Rattle.pb_certificate.specs.declared.refusal.CertFault.{CertFault}
-use Rattle.pb_certificate.specs.declared.refusal.CertFault.TheVariants as cert_fault
 use Rattle.pb_reply.specs.Replies.{Reply, refused}
 use Rattle.pb_reply.specs.Inputs.{Stated, StatesFile, StatesOutcome, audited, refusal_of}
 use Rattle.pb_reply.specs.Turns.{FileTurn, Turn}
-use Rattle.pb_reply.specs.declared.input.InputFault.{InputFault}
-use Rattle.pb_reply.specs.declared.input.InputFault.TheVariants as fault
-use Rattle.pb_reply.specs.declared.input.InputName.{InputName}
-use Rattle.pb_reply.specs.declared.input.Stop.{Stop}
-use Rattle.pb_reply.specs.declared.input.Stop.TheVariants as stop
+use Rattle.pb_input.specs.Faults.{wants_memory}
+use Rattle.pb_input.specs.declared.InputFault.{InputFault}
+use Rattle.pb_input.specs.declared.InputFault.TheVariants as fault
+use Rattle.pb_input.specs.declared.InputName.{InputName}
+use Rattle.pb_reply.specs.declared.stop.Stop.{Stop}
+use Rattle.pb_reply.specs.declared.stop.Stop.TheVariants as stop
 
 -- what an input that was taken states, memory aside
 abbrev pub IfTaken : {A : Type 0} → Result A Stop → (Stated A → Type 0) → Type 0
@@ -32,21 +29,6 @@ abbrev pub IsUnloaded : InputName → Delivery → Stop → Type 0
 IsUnloaded input (delivery.Bytes bytes) why = ⊥
 IsUnloaded input delivery.Read why = why ≡ stop.Refused (refusal_of input fault.Unread)
 IsUnloaded input delivery.TooLong why = why ≡ stop.Refused (refusal_of input fault.TooLong)
-
--- whether a fault is out of memory, and not one of the input
-abbrev pub is_election_memory : ElectionFault → Bool
-is_election_memory election_fault.Memory = true
-is_election_memory _ = false
-
-abbrev pub is_certificate_memory : CertFault → Bool
-is_certificate_memory cert_fault.Memory = true
-is_certificate_memory _ = false
-
-abbrev pub wants_memory : InputFault → Bool
-wants_memory fault.Unread = false
-wants_memory fault.TooLong = false
-wants_memory (fault.Election r) = is_election_memory r.fault
-wants_memory (fault.Certificate r) = is_certificate_memory r.fault
 
 -- what the work on an input stops for
 abbrev pub stop_at : InputName → InputFault → Stop

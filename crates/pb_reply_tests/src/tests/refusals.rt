@@ -1,7 +1,8 @@
 //! Refusals, for what is wanted.
 use pb_certificate::{CertFault, CertRefusal};
 use pb_election::{ElectionFault, Refusal as ElectionRefusal};
-use pb_reply::{InputFault, InputName, InputRefusal, Status};
+use pb_input::{InputFault, InputName, InputRefusal};
+use pb_reply::Status;
 
 /// The status of a reply on an input that is refused for this fault.
 pub fn refused(input: InputName, fault: InputFault) -> Status {

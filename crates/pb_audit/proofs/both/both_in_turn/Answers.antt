@@ -6,8 +6,8 @@ use Rattle.pb_reply.specs.Inputs.{StatesViolation}
 use Rattle.pb_reply.specs.Turns.{file_turn, turn}
 use Rattle.pb_audit.specs.Inside.Certificates.{AnswersCertificate}
 use Rattle.pb_reply.specs.Inside.Taking.{settled}
-use Rattle.pb_reply.specs.declared.input.InputName.TheVariants.{Violation}
-use Rattle.pb_reply.specs.declared.input.Stop.TheVariants.{Memory}
+use Rattle.pb_input.specs.declared.InputName.TheVariants.{Violation}
+use Rattle.pb_reply.specs.declared.stop.Stop.TheVariants.{Memory}
 use Rattle.pb_audit.proofs.Boths.{both_ended_at_election, both_ended_at_outcome, both_ended_at_prices, both_settled}
 use Rattle.pb_audit.proofs.both.both_in_turn.Goals as goal
 

@@ -3,7 +3,7 @@ use Rattle.std.specs.Prelude.{Ok}
 use Rattle.pb_explain.specs.PriceTable.{NameProjects}
 use Rattle.pb_price.specs.declared.Findings.{Findings}
 use Rattle.pb_reply.specs.Inside.Loaded.{lent}
-use Rattle.pb_reply.specs.declared.input.InputName.TheVariants.{Certificate}
+use Rattle.pb_input.specs.declared.InputName.TheVariants.{Certificate}
 use Rattle.pb_reply.proofs.Culprits.{denominator-low, told_names_project}
 use Rattle.pb_audit.proofs.Explained.{findings_explain, findings_name_projects}
 use Rattle.pb_audit.proofs.explain.prices_on.Goals as goal

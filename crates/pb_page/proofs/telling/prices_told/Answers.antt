@@ -4,7 +4,7 @@ use Rattle.pb_price.specs.declared.Verdict.{Verdict}
 use Rattle.pb_reply.specs.Inside.Loaded.{lent}
 use Rattle.pb_reply.specs.Lines.{price_line}
 use Rattle.pb_reply.specs.Named.{PricesNameProject}
-use Rattle.pb_reply.specs.declared.input.InputName.TheVariants.{Certificate}
+use Rattle.pb_input.specs.declared.InputName.TheVariants.{Certificate}
 use Rattle.pb_reply.proofs.Culprits.{denominator-low, told_names_project}
 use Rattle.pb_figures.specs.declared.told.CertificateFigures.TheVariants.{Prices}
 use Rattle.pb_case.specs.Shown.{ShowsLine}

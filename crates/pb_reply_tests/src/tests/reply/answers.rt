@@ -4,9 +4,8 @@ use crate::tests::refusals::{in_certificate, in_election, refused};
 use pb_certificate::CertFault;
 use pb_cohesion::ViolationFailure;
 use pb_election::ElectionFault;
-use pb_reply::{
-    Answer, Fault, InputFault, InputName, Reply, Status, Unmet, one_line, settled, stop_at, stopped,
-};
+use pb_input::{InputFault, InputName};
+use pb_reply::{Answer, Fault, Reply, Status, Unmet, one_line, settled, stop_at, stopped};
 use std::alloc::{AllocError, Global};
 use std::process::Abort;
 use std::test::Fail;

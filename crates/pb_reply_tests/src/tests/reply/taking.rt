@@ -1,8 +1,9 @@
 //! What is taken of files and of readers.
 use pb_election::{Election, Input, Outcome};
+use pb_input::{InputName, InputRefusal};
 use pb_reply::{
-    File, Given, InputName, InputRefusal, Lend, Loaded, Stop, bytes_of, election_of, outcome_of,
-    take_election, take_outcome, violation_of,
+    File, Given, Lend, Loaded, Stop, bytes_of, election_of, outcome_of, take_election,
+    take_outcome, violation_of,
 };
 use pb_samples::fakes::InterruptedReader;
 use pb_samples::files::{

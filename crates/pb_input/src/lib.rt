@@ -1,13 +1,12 @@
-//! Inputs: their names, and why the work on them stops.
+//! Inputs: their names, and why one is refused.
+#![tactic(auto)]
+
 ghost use Rattle.std.specs.Prelude.{◌≡◌};
-ghost use Rattle.pb_reply.specs.Lines.{fault_name, fault_number, fault_place, name_of};
-ghost use Rattle.pb_reply.specs.Inside.Taking.{wants_memory};
-ghost use Rattle.pb_reply.specs.Inside.Taking as spec;
-ghost use Rattle.pb_reply.specs.declared.input.Stop.TheVariants.{Memory};
+ghost use Rattle.pb_input.specs.Faults.{fault_name, fault_number, fault_place, name_of};
+ghost use Rattle.pb_input.specs.Faults as spec;
 
 use pb_certificate::{CertFault, CertRefusal};
 use pb_election::{ElectionFault, Refusal as ElectionRefusal};
-use std::alloc::AllocError;
 
 /// The inputs, by the names that refusals are printed with.
 #[derive(Clone, Copy, Debug, PartialEq, Eq)]
@@ -43,23 +42,6 @@ pub struct InputRefusal {
     pub input: InputName,
     /// Why, and at which of its records.
     pub fault: InputFault,
-}
-
-/// Why the work on the inputs ended early.
-#[derive(Clone, Copy)]
-pub enum Stop {
-    /// An input is refused.
-    Refused(InputRefusal),
-    /// Out of memory.
-    Memory,
-}
-
-impl From<AllocError> for Stop {
-    ghost from_gives = { λ _ e. e ≡ Memory };
-
-    fn from(_error: AllocError) -> Stop {
-        Stop::Memory
-    }
 }
 
 impl InputName {
@@ -115,8 +97,8 @@ impl InputFault {
     }
 
     /// Whether the fault is not one of the input: out of memory.
-    fn wants_memory(&self) -> bool
-        ensures { result ≡ wants_memory self.now }
+    pub fn wants_memory(&self) -> bool
+        ensures { result ≡ spec.wants_memory self.now }
     {
         match self {
             InputFault::Unread | InputFault::TooLong => false,
@@ -124,14 +106,4 @@ impl InputFault {
             InputFault::Certificate(refusal) => matches!(refusal.fault, CertFault::Memory),
         }
     }
-}
-
-/// Why the work stops at an input that gave no value.
-pub fn stop_at(input: InputName, fault: InputFault) -> Stop
-    ensures { result ≡ spec.stop_at input fault }
-{
-    if fault.wants_memory() {
-        return Stop::Memory;
-    }
-    Stop::Refused(InputRefusal { input, fault })
 }
