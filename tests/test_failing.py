@@ -48,9 +48,9 @@ TESTS = {
         "tests::certificate::canonical::", "tests::certificate::kinds::",
         "tests::certificate::refutations::refutation_is_read_", "tests::election::",
     ),
-    "pb_price_tests": (
-        "tests::cohesion::", "tests::command::", "tests::price::figures::", "tests::price::verdicts::both_calls_",
-    ),
+    "pb_cohesion_tests": ("tests::cohesion::",),
+    "pb_price_tests": ("tests::price::figures::", "tests::price::verdicts::both_calls_"),
+    "pb_command_tests": ("tests::command::",),
     "pb_reply_tests": ("tests::explain::", "tests::reply::"),
     "pb_audit_tests": ("tests::folders::", "tests::in_turn::each_answer_", "tests::in_turn::each_command_"),
     "pb_page_tests": ("tests::answers::", "tests::names::"),

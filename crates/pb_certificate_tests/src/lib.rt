@@ -1,4 +1,4 @@
-//! The tests of `pb_money`, `pb_records`, `pb_election` and `pb_certificate`.
+//! The tests of `pb_election` and `pb_certificate`.
 #![tactic(auto)]
 
 #[cfg(test)]

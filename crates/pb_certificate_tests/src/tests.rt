@@ -1,6 +1,3 @@
 //! Samples whose answers were worked out by hand, and what no contract says. `NAME` tries the calls of `pb_NAME`.
 mod certificate;
 mod election;
-mod money;
-mod records;
-mod streams;

@@ -1,4 +1,4 @@
-//! The tests of `pb_cohesion`, `pb_price` and `pb_command`.
+//! The tests of `pb_price`.
 #![tactic(auto)]
 
 #[cfg(test)]

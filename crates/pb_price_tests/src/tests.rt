@@ -1,4 +1,2 @@
-//! Samples whose answers were worked out by hand, and what no contract says. `NAME` tries the calls of `pb_NAME`.
-mod cohesion;
-mod command;
+//! Samples whose answers were worked out by hand, and what no contract says.
 mod price;

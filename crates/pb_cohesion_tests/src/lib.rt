@@ -1,0 +1,5 @@
+//! The tests of `pb_cohesion`.
+#![tactic(auto)]
+
+#[cfg(test)]
+mod tests;
