@@ -10,7 +10,6 @@ mod folder;
 mod folder_report;
 mod found;
 pub mod laws;
-mod margin_table;
 mod margins;
 mod prices;
 mod question;

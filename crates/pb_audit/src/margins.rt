@@ -7,8 +7,8 @@ ghost use Rattle.pb_reply.specs.Inside.Loaded.{lent};
 ghost use Rattle.pb_reply.specs.Inside.Taking.{IfTaken};
 
 use crate::auditing::Audit;
-use crate::margin_table::table_text;
 use pb_election::{Election, Outcome};
+use pb_explain::margin_table_text;
 use pb_input::{InputFault, InputName};
 use pb_price::{Margins, margins_of};
 use pb_reply::{Answer, File, Status, Stop, bytes_of, stop_at};
@@ -24,7 +24,7 @@ impl Audit for MarginAudit {
 
     ghost rules = { λ _. margin_rules };
 
-    #[tactic(auto, using(crate::proofs::MarginTable::always_yes))]
+    #[tactic(auto, using(crate::proofs::MarginAnswers::always_yes))]
     fn reply_on(
         &self,
         alloc: Global,
@@ -34,7 +34,7 @@ impl Audit for MarginAudit {
     ) -> Result<Answer<Status>, Stop> {
         let margins = price_margins(alloc, election, outcome, certificate)?;
         Ok(Answer {
-            text: table_text(alloc, election, &margins)?,
+            text: margin_table_text(alloc, election, &margins)?,
             status: Status::Yes,
         })
     }

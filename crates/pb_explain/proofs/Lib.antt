@@ -3,3 +3,4 @@ pub mod Flat
 mod Nearer
 mod Reached
 mod Roles
+pub mod MarginTable

@@ -7,3 +7,4 @@ pub mod NearestGroup
 pub mod Reached
 pub mod GroupLines
 pub mod RefutationTable
+pub mod MarginTable

@@ -1,8 +1,7 @@
 //! Amounts as they are shown.
-ghost use Rattle.std.specs.Prelude.{◌≡◌, ◌<◌, ◌≤◌, ◌^◌, ◌++◌, OnOk, decimal, string_bytes};
+ghost use Rattle.std.specs.Prelude.{◌≡◌, ◌<◌, ◌≤◌, ◌^◌, ◌++◌, OnOk, string_bytes};
 ghost use Rattle.pb_figures.specs.Amounts as spec;
 
-use itoa::Buffer;
 use pb_words::Language;
 use std::alloc::AllocError;
 
@@ -141,7 +140,7 @@ fn push_places(text: &mut String, count: u32, unit: u128, grains: u128) -> Resul
         }
         return Ok(());
     }
-    push_number(text, grains * 10 / unit)?;
+    write!(text, "{}", grains * 10 / unit)?;
     push_places(text, count - 1, unit, grains * 10 % unit)
 }
 
@@ -158,19 +157,14 @@ fn push_groups(text: &mut String, count: u32, number: u128) -> Result<(), AllocE
     ensures { OnOk result (string_bytes text.new ≡ string_bytes text.old ++ spec.groups count number) }
 {
     if count == 0 || number < 1000 {
-        return push_number(text, number);
+        return write!(text, "{number}");
     }
     push_groups(text, count - 1, number / 1000)?;
-    text.push_str("\u{202f}")?;
-    push_number(text, number / 100 % 10)?;
-    push_number(text, number / 10 % 10)?;
-    push_number(text, number % 10)
-}
-
-fn push_number(text: &mut String, number: u128) -> Result<(), AllocError>
-    ensures { OnOk result (string_bytes text.new ≡ string_bytes text.old ++ decimal number) }
-{
-    let mut digits = Buffer::new();
-    text.push_str(digits.format(number))?;
-    Ok(())
+    write!(
+        text,
+        "\u{202f}{}{}{}",
+        number / 100 % 10,
+        number / 10 % 10,
+        number % 10
+    )
 }

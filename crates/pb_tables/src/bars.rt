@@ -1,5 +1,4 @@
 //! Bars.
-use itoa::Buffer;
 use pb_case::Words;
 use pb_markup::{Attributes, Name, Page, Tag};
 use pb_words::Sentence;
@@ -102,10 +101,6 @@ pub fn part_in_words(words: Words, length: u32) -> Result<String, AllocError> {
 
 // Hundredths of a percent in percent, with two decimals behind a sign.
 fn percent(alloc: Global, hundredths: u32, decimal_sign: &str) -> Result<String, AllocError> {
-    let mut text = String::new(alloc);
-    text.push_str(Buffer::new().format(hundredths / 100))?;
-    text.push_str(decimal_sign)?;
-    text.push_str(Buffer::new().format(hundredths / 10 % 10))?;
-    text.push_str(Buffer::new().format(hundredths % 10))?;
-    Ok(text)
+    let (whole, tenth, hundredth) = (hundredths / 100, hundredths / 10 % 10, hundredths % 10);
+    format!(in alloc; "{whole}{decimal_sign}{tenth}{hundredth}")
 }

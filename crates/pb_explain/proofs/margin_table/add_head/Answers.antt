@@ -1,7 +1,7 @@
 use Rattle.std.proofs.Common.{arith}
 use Rattle.pb_records.specs.Inside.RecordWriter.{held}
-use Rattle.pb_audit.proofs.MarginTable.{head_written}
-use Rattle.pb_audit.proofs.margin_table.add_head.Goals as goal
+use Rattle.pb_explain.proofs.MarginTable.{head_written}
+use Rattle.pb_explain.proofs.margin_table.add_head.Goals as goal
 
 pub returns-clause-text : goal.returns-clause-text
 returns-clause-text c =

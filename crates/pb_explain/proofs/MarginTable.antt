@@ -1,4 +1,4 @@
--- The table of margins, as far as it has been written, and the answers with it.
+-- The table of margins, as far as it has been written.
 use Rattle.std.proofs.lemmas.List.FromFn.{length-map-range_with_len}
 use Rattle.pb_records.proofs.Lists.{range-push}
 use Rattle.pb_certificate.proofs.OnPrices.Canon.Written.{lines-push}
@@ -12,17 +12,13 @@ use Rattle.csv.specs.Writing.{default_writer, row_text}
 use Rattle.pb_election.specs.Instance.{Instance, id_of, projects}
 use Rattle.pb_election.specs.Text.{IsId}
 use Rattle.pb_records.specs.Records.{Field, Rec, Text}
-use Rattle.pb_certificate.specs.Prices.Canon.{line, lines, line_end}
+use Rattle.pb_certificate.specs.Prices.Canon.{line, lines}
 use Rattle.pb_certificate.specs.Prices.{Prices}
 use Rattle.pb_certificate.proofs.OnPrices.Canon.Lines.{IsPlain, decimal-plain, id-plain, row-line}
 use Rattle.pb_price.specs.Margins.{AreMargins, margins_of_project}
 use Rattle.pb_price.specs.declared.Margins.{Margins}
 use Rattle.pb_price.specs.declared.ProjectMargins.{ProjectMargins}
-use Rattle.pb_reply.specs.Replies.{Answer, answer_of, text_of}
-use Rattle.pb_audit.specs.Margins.{margin_rules, flag_of, margin_head, margin_rows, margins_reply, record_line, row_of, table_of}
-use Rattle.pb_audit.specs.Inside.Certificates.{Promised}
-use Rattle.pb_reply.specs.declared.status.Status.{Status}
-use Rattle.pb_reply.specs.declared.status.Status.TheVariants.{Yes}
+use Rattle.pb_explain.specs.MarginTable.{flag_of, margin_head, margin_rows, row_of}
 
 -- Fields.
 
@@ -33,16 +29,6 @@ flag_plain false = refl
 pub signed_plain : (z : ℤ) → SFits w128 z → IsPlain (signed_decimal z)
 signed_plain (pos n) fits = decimal-plain n (omega (arith, fits.sfits))
 signed_plain (negsuc n) fits = decimal-plain (suc n) (omega (arith, fits.sfits))
-
--- A record as it is written.
-
-line_is : (r : Rec) → line r ≡ record_line r ++ (line_end ∷ [])
-unfolding line
-line_is r = refl
-
-pub lines_are : (rs : List Rec) → lines rs ≡ text_of (map record_line rs)
-lines_are [] = refl
-lines_are (r ∷ rs) = rw (line_is r, lines_are rs) refl
 
 pub row_written : (id : Field) (m : ProjectMargins) → IsId id → IsPlain (decimal m.supporters)
     → IsPlain (decimal m.cost) → IsPlain (decimal m.paid) → IsPlain (signed_decimal m.left)
@@ -112,15 +98,3 @@ row_pushed e w p m k d before after are low b a =
     ∙ (ap (λ (f : ProjectMargins). lines (head ++ others) ++ line (row_of (id_of e (k + 1)) f)) figures
     ∙ (sym (lines-push (head ++ others) (row (k + 1)))
     ∙ ap lines (append_assoc head others (row (k + 1) ∷ []) ∙ ap (λ (x : List Rec). head ++ x) (sym rows)))))
-
--- The answers.
-
-abbrev answer_with : Text → Answer Status
-answer_with text = record { text = text; status = Yes }
-
-pub text_told : (e : Instance) (w : List Bool) (p : Prices) (text : Text) → text ≡ lines (table_of e w p)
-    → answer_with text ≡ answer_of (margins_reply e w p)
-text_told e w p text is = ap answer_with (is ∙ lines_are (table_of e w p))
-
-pub always_yes : Promised margin_rules
-always_yes e w d p given = refl

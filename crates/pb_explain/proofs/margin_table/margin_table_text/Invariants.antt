@@ -4,8 +4,8 @@ use Rattle.pb_records.specs.Inside.RecordWriter.{IsOpen, held}
 use Rattle.pb_certificate.specs.Prices.Canon.{lines}
 use Rattle.pb_certificate.specs.Prices.{Prices}
 use Rattle.pb_price.specs.Margins.{AreMargins}
-use Rattle.pb_audit.specs.Margins.{margin_head, margin_rows}
-use Rattle.pb_audit.proofs.margin_table.table_text.Given as goal
+use Rattle.pb_explain.specs.MarginTable.{margin_head, margin_rows}
+use Rattle.pb_explain.proofs.margin_table.margin_table_text.Given as goal
 
 abbrev pub invariant-loop-k : goal.invariant-loop-k
 invariant-loop-k l =

@@ -3,8 +3,8 @@ use Rattle.std.proofs.Common.{◌≡◌, ◌∙◌, SFits, ap, rules, to_z-of_z}
 use Rattle.std.specs.Fmt.{signed_decimal}
 use Rattle.pb_certificate.proofs.OnPrices.Canon.Lines.{IsPlain}
 use Rattle.std.specs.Prelude.{decimal}
-use Rattle.pb_audit.proofs.MarginTable.{row_written}
-use Rattle.pb_audit.proofs.margin_table.add_row.Goals as goal
+use Rattle.pb_explain.proofs.MarginTable.{row_written}
+use Rattle.pb_explain.proofs.margin_table.add_row.Goals as goal
 
 pub returns-clause-text : goal.returns-clause-text
 returns-clause-text c =

@@ -1,8 +1,8 @@
 use Rattle.std.proofs.Common.{◌<◌, arith}
 use Rattle.pb_election.specs.Instance.{projects}
 use Rattle.pb_records.specs.Inside.RecordWriter.{held}
-use Rattle.pb_audit.proofs.MarginTable.{row_pushed}
-use Rattle.pb_audit.proofs.margin_table.table_text.Goals as goal
+use Rattle.pb_explain.proofs.MarginTable.{row_pushed}
+use Rattle.pb_explain.proofs.margin_table.margin_table_text.Goals as goal
 
 pub loop-k-preserved : goal.loop-k-preserved
 loop-k-preserved c =

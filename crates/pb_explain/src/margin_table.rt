@@ -9,7 +9,7 @@ ghost use Rattle.pb_records.specs.Inside.RecordWriter.{IsOpen, held};
 ghost use Rattle.pb_certificate.specs.Prices.Canon.{line, lines};
 ghost use Rattle.pb_certificate.specs.Prices.{Prices};
 ghost use Rattle.pb_price.specs.Margins.{AreMargins};
-ghost use Rattle.pb_audit.specs.Margins.{flag_of, margin_head, row_of, table_of};
+ghost use Rattle.pb_explain.specs.MarginTable.{flag_of, margin_head, row_of, table_of};
 
 use csv::Writer;
 use itoa::Buffer;
@@ -18,13 +18,15 @@ use pb_price::{Margins, ProjectMargins};
 use pb_records::record_writer;
 use std::alloc::{AllocError, Global};
 
-/// The text of the table: the head, and then a row for each project.
-pub(crate) fn table_text(
+/// The table as comma-separated values: its name and version, how many grains one unit of the currency has, the names
+/// of the columns, and then a row for each project in the order of the election. Amounts are in grains. The margins are
+/// to be of this election. An error means out of memory.
+pub fn margin_table_text(
     alloc: Global,
     election: &Election,
     margins: &Margins,
 ) -> Result<Vec<u8>, AllocError>
-    requires { length (margins.now).projects.items ≡ projects election.now }
+    requires projects { length (margins.now).projects.items ≡ projects election.now }
     ensures { (w : List Bool) (p : Prices) → AreMargins election.now w p margins.now → IfOk result (λ text. text.items ≡ lines (table_of election.now w p)) }
 {
     let mut writer = record_writer::open(alloc);

@@ -1,7 +1,7 @@
 use Rattle.std.proofs.Common.{◌≡◌, ◌∙◌, ap, to_z-of_z}
 use Rattle.std.specs.Fmt.{signed_decimal}
-use Rattle.pb_audit.proofs.MarginTable.{signed_plain}
-use Rattle.pb_audit.proofs.margin_table.balance.Goals as goal
+use Rattle.pb_explain.proofs.MarginTable.{signed_plain}
+use Rattle.pb_explain.proofs.margin_table.balance.Goals as goal
 
 pub returns : goal.returns
 returns c =
