@@ -50,18 +50,28 @@ fn third_alone(rt: &impl Abort, alloc: Global, election: &Election) -> Result<Ou
     Ok(Outcome::of(marks, election))
 }
 
+/// Both outcomes are to have the marks and the cost that they state.
+fn expect_outcomes(rt: &impl Abort, alloc: Global, election: &Election) -> Result<(), Fail> {
+    let selected = Outcome::selected(alloc, election)?;
+    expect_outcome(rt, election, &selected, [true, false], 10_000_000);
+    let third = third_alone(rt, alloc, election)?;
+    expect_outcome(rt, election, &third, [false, true], 9_000_000);
+    Ok(())
+}
+
+/// The sample election with a limit of 10.5 and ballots in another order, of which projects stand there twice.
+fn untidy_election(alloc: Global) -> Result<String, AllocError> {
+    let limit = ELECTION.replace(alloc, "budget;10", "budget;10,5")?;
+    let votes = "1;a, a,,b \n2;\n3;c,b,c\n";
+    limit.replace(alloc, "1;a,b\n2;a\n3;b,c\n", votes)
+}
+
 /// Ballots are put in order once each.
 #[test]
 fn election_is_read_as_its_file_states_it(rt: HostRuntime) -> Result<(), Fail> {
-    let limit = ELECTION.replace(rt.alloc(), "budget;10", "budget;10,5")?;
-    let votes = "1;a, a,,b \n2;\n3;c,b,c\n";
-    let text = limit.replace(rt.alloc(), "1;a,b\n2;a\n3;b,c\n", votes)?;
+    let text = untidy_election(rt.alloc())?;
     let election = Election::read(rt.alloc(), text.as_bytes())?;
     expect_counts(&rt, &election);
     expect_ballots(&rt, &election);
-    let selected = Outcome::selected(rt.alloc(), &election)?;
-    expect_outcome(&rt, &election, &selected, [true, false], 10_000_000);
-    let third = third_alone(&rt, rt.alloc(), &election)?;
-    expect_outcome(&rt, &election, &third, [false, true], 9_000_000);
-    Ok(())
+    expect_outcomes(&rt, rt.alloc(), &election)
 }

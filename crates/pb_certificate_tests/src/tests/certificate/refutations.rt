@@ -2,6 +2,7 @@
 use pb_certificate::{Refutation, Role};
 use pb_election::Election;
 use pb_samples::files::{ELECTION, NO_VOTERS, REFUTATION};
+use std::alloc::Global;
 use std::process::Abort;
 use std::test::Fail;
 
@@ -58,11 +59,16 @@ fn refutation_is_read_in_any_order_with_its_weights(rt: HostRuntime) -> Result<(
     Ok(())
 }
 
+/// Whether a refutation fits the election of a text.
+fn fits(alloc: Global, refutation: &Refutation, text: &str) -> Result<bool, Fail> {
+    let election = Election::read(alloc, text.as_bytes())?;
+    Ok(refutation.fits(&election))
+}
+
 #[test]
 fn refutation_fits_as_many_projects(rt: HostRuntime) -> Result<(), Fail> {
     let election = Election::read(rt.alloc(), ELECTION.as_bytes())?;
     let refutation = Refutation::read(rt.alloc(), REFUTATION.as_bytes(), &election)?;
-    let other = Election::read(rt.alloc(), NO_VOTERS.as_bytes())?;
-    assert!(rt; !refutation.fits(&other));
+    assert!(rt; !fits(rt.alloc(), &refutation, NO_VOTERS)?);
     Ok(())
 }

@@ -5,16 +5,24 @@ use pb_samples::files::ELECTION;
 use std::process::Abort;
 use std::test::Fail;
 
-/// The next row is to be that of these numbers, or none.
-fn expect_next<'a>(
-    rt: &impl Abort,
-    rows: Rows<'a>,
-    want: Option<(u32, u32, u128)>,
-) -> Result<Rows<'a>, Fail> {
+/// The voter, the project and the payment of a row, or none.
+type Want = Option<(u32, u32, u128)>;
+
+/// The next row is to be this.
+fn expect_next<'a>(rt: &impl Abort, rows: Rows<'a>, want: Want) -> Result<Rows<'a>, Fail> {
     let (rows, row) = rows.next()?;
     let found = row.map(|row: PriceRow| (row.voter, row.project, row.payment));
     assert_eq!(rt; found, want);
     Ok(rows)
+}
+
+/// The next rows are to be these.
+fn expect_rows(rt: &impl Abort, rows: Rows<'_>, wanted: &[Want]) -> Result<(), Fail> {
+    let mut rows = rows;
+    for want in wanted {
+        rows = expect_next(rt, rows, *want)?;
+    }
+    Ok(())
 }
 
 /// Rows of 0 are given. Numbers of up to eighteen digits in a plain line are read another way than longer ones and those
@@ -25,21 +33,22 @@ fn rows_are_given_in_order_and_then_none(rt: HostRuntime) -> Result<(), Fail> {
     let text = "\npb-prices,1\ndenominator,1\nvoter_budget,4\nvoter,project,payment\n\n ,,\n\
         1,a,999999999999999999\n1, b,1000000000000000000\n1,c,0000000000000000007\n\
         2 ,a,4\n2,b,0,\n\n2,\"c\",6\n3,a,8\n3,b ,1000000000000000000000";
-    let mut rows = Rows::open(rt.alloc(), text.as_bytes(), &election)?;
+    let rows = Rows::open(rt.alloc(), text.as_bytes(), &election)?;
     assert_eq!(rt; (rows.denominator(), rows.budget()), (1, 4));
-    for want in [
-        Some((1, 1, 999_999_999_999_999_999)),
-        Some((1, 2, 1_000_000_000_000_000_000)),
-        Some((1, 3, 7)),
-        Some((2, 1, 4)),
-        Some((2, 2, 0)),
-        Some((2, 3, 6)),
-        Some((3, 1, 8)),
-        Some((3, 2, 1_000_000_000_000_000_000_000)),
-        None,
-        None,
-    ] {
-        rows = expect_next(&rt, rows, want)?;
-    }
-    Ok(())
+    expect_rows(
+        &rt,
+        rows,
+        &[
+            Some((1, 1, 999_999_999_999_999_999)),
+            Some((1, 2, 1_000_000_000_000_000_000)),
+            Some((1, 3, 7)),
+            Some((2, 1, 4)),
+            Some((2, 2, 0)),
+            Some((2, 3, 6)),
+            Some((3, 1, 8)),
+            Some((3, 2, 1_000_000_000_000_000_000_000)),
+            None,
+            None,
+        ],
+    )
 }
