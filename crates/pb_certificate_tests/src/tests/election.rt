@@ -59,7 +59,7 @@ fn expect_outcomes(rt: &impl Abort, alloc: Global, election: &Election) -> Resul
     Ok(())
 }
 
-/// The sample election with a limit of 10.5 and ballots in another order, of which projects stand there twice.
+/// The sample election with a limit of 10.5, and with ballots that name projects in any order, some twice.
 fn untidy_election(alloc: Global) -> Result<String, AllocError> {
     let limit = ELECTION.replace(alloc, "budget;10", "budget;10,5")?;
     let votes = "1;a, a,,b \n2;\n3;c,b,c\n";

@@ -68,10 +68,22 @@ fn election_is_taken_or_refused(rt: HostRuntime) -> Result<(), Fail> {
     Ok(())
 }
 
+/// A violation certificate is taken as the input of this name, or refused for this.
+fn expect_violation(
+    rt: &impl Abort,
+    alloc: Global,
+    election: &Election,
+    (input, file, want): (InputName, File<'_>, Option<Why>),
+) -> Result<(), Fail> {
+    let taken = violation_of(alloc, input, file, election);
+    assert_eq!(rt; why(&taken)?, want);
+    Ok(())
+}
+
 #[test]
 fn violation_is_taken_or_refused_by_the_name_it_has(rt: HostRuntime) -> Result<(), Fail> {
     let election = Election::read(rt.alloc(), UNFAIR_ELECTION.as_bytes())?;
-    for (input, file, want) in [
+    for case in [
         (
             InputName::Certificate,
             File::in_memory(VIOLATION.as_bytes()),
@@ -88,8 +100,7 @@ fn violation_is_taken_or_refused_by_the_name_it_has(rt: HostRuntime) -> Result<(
             Some(("violation", 21, "BadHead", 1)),
         ),
     ] {
-        let taken = violation_of(rt.alloc(), input, file, &election);
-        assert_eq!(rt; why(&taken)?, want);
+        expect_violation(&rt, rt.alloc(), &election, case)?;
     }
     Ok(())
 }
@@ -109,6 +120,19 @@ fn expect_outcome(
         assert_eq!(rt; found, marks);
     }
     Ok(())
+}
+
+/// The outcome that is audited of the election of a text, with an outcome file where one is given, is to be this.
+fn expect_outcome_of(
+    rt: &impl Abort,
+    alloc: Global,
+    text: &str,
+    file: Option<File<'_>>,
+    want: Result<[bool; 3], Why>,
+) -> Result<(), Fail> {
+    let election = Election::read(alloc, text.as_bytes())?;
+    let taken = outcome_of(alloc, file, &election);
+    expect_outcome(rt, &election, &taken, want)
 }
 
 #[test]
@@ -136,10 +160,25 @@ fn outcome_is_that_of_the_file_and_else_the_elections_own(rt: HostRuntime) -> Re
             Err(("outcome", 19, "TooLong", 0)),
         ),
     ] {
-        let election = Election::read(alloc, election.as_bytes())?;
-        let taken = outcome_of(alloc, file, &election);
-        expect_outcome(&rt, &election, &taken, want)?;
+        expect_outcome_of(&rt, alloc, election, file, want)?;
     }
+    Ok(())
+}
+
+/// A reader that is interrupted at the read of this number is to be read so often, and whole or not at all.
+fn expect_load(
+    rt: &impl Abort,
+    alloc: Global,
+    interrupted_at: usize,
+    reads: usize,
+    whole: bool,
+) -> Result<(), Fail> {
+    let mut reader = InterruptedReader::new("abcdef", 2, interrupted_at);
+    let loaded = Loaded::load(alloc, &mut Input::new(&mut reader))?;
+    let is_whole = matches!(loaded.lend(), File::Bytes(b"abcdef"));
+    let is_unread = matches!(loaded.lend(), File::Unread);
+    assert_eq!(rt; (is_whole, is_unread), (whole, !whole));
+    assert_eq!(rt; reader.reads, reads);
     Ok(())
 }
 
@@ -152,13 +191,22 @@ fn file_is_loaded_whole_or_not_at_all(rt: HostRuntime) -> Result<(), Fail> {
         (3, 3, false),
         (4, 4, false),
     ] {
-        let mut reader = InterruptedReader::new("abcdef", 2, interrupted_at);
-        let loaded = Loaded::load(rt.alloc(), &mut Input::new(&mut reader))?;
-        let is_whole = matches!(loaded.lend(), File::Bytes(b"abcdef"));
-        let is_unread = matches!(loaded.lend(), File::Unread);
-        assert_eq!(rt; (is_whole, is_unread), (whole, !whole));
-        assert_eq!(rt; reader.reads, reads);
+        expect_load(&rt, rt.alloc(), interrupted_at, reads, whole)?;
     }
+    Ok(())
+}
+
+/// The election of a reader that is interrupted at the read of this number is to be taken, or refused for this.
+fn expect_election(
+    rt: &impl Abort,
+    alloc: Global,
+    text: &'static str,
+    interrupted_at: usize,
+    want: Option<Why>,
+) -> Result<(), Fail> {
+    let mut reader = InterruptedReader::new(text, 100, interrupted_at);
+    let taken = take_election(alloc, &mut Input::new(&mut reader));
+    assert_eq!(rt; why(&taken)?, want);
     Ok(())
 }
 
@@ -171,9 +219,7 @@ fn election_of_a_reader_is_taken_or_refused(rt: HostRuntime) -> Result<(), Fail>
         (ELECTION, 1, unread),
         (ELECTION, 2, unread),
     ] {
-        let mut reader = InterruptedReader::new(text, 100, interrupted_at);
-        let taken = take_election(rt.alloc(), &mut Input::new(&mut reader));
-        assert_eq!(rt; why(&taken)?, want);
+        expect_election(&rt, rt.alloc(), text, interrupted_at, want)?;
     }
     Ok(())
 }
