@@ -40,8 +40,10 @@ import time
 
 HEADER = re.compile(r'(?m)^( *)(?:pub(?:\(\w+\))? )?(?:const )?(?:unsafe )?(?:extern "C" )?fn (\w+)')
 # the paths by which a check names a closure and a function, with the module and the function's name
-CLOSURE = re.compile(r"((?:[^:]+::)*?)fn::(?:[A-Z][^:]*::)?([^:]+)")
-FUNCTION = re.compile(r"((?:[^:A-Z][^:]*::)*)(?:[A-Z].*::)?([^:]+)$")
+CLOSURE = re.compile(r"((?:[^:]+::)*?)fn::(?:([A-Z][^:]*)::)?([^:]+)")
+FUNCTION = re.compile(r"((?:[^:A-Z][^:]*::)*)(?:([A-Z].*)::)?([^:]+)$")
+# how an impl begins: the trait, if it is of one, and the type
+IMPL = re.compile(r"(?m)^impl(?:<[^\n]*?>)? (?:(\w+)(?:<[^\n]*>)? for )?(\w+)")
 # what a check says of a function, and what of a place in a proof
 JUDGED = re.compile(r"(?m)^fn \w+::(\S+): (.*)$")
 ERROR = re.compile(r"(?m)^(?:\./)?proofs/(\S+)\.antt:\d+:\d+: error: (.*)$")
@@ -68,6 +70,12 @@ def module_of(path):
     return "" if parts in (("lib",), ("main",)) else "::".join(parts)
 
 
+def type_around(before):
+    """The type whose methods stand behind this text, with the trait, if they are of one: MarginAudit, or MarginAuditAudit."""
+    begun = [*IMPL.finditer(before)]
+    return begun[-1][2] + (begun[-1][1] or "") if begun else None
+
+
 class Functions:
     """The functions of a crate, each a module and a name, and where the bodies stand."""
 
@@ -82,7 +90,7 @@ class Functions:
                 if end:
                     self.bodies.append((path, start.end(), end.start(), function))
                     if margin:
-                        self.methods.setdefault(function[1], []).append(function)
+                        self.methods.setdefault(function[1], []).append((type_around(text[: header.start()]), function))
         self.known = {it for *_, it in self.bodies}
 
     def words(self, crate, functions):
@@ -99,12 +107,13 @@ class Functions:
         """The function of a path, as a check has it: money::Money::read, or ids::fn::has_id::any of a closure.
 
         A check has the methods of a type where the type is handed on. So where the path's module has no function of the
-        name, it is the one method that has it.
+        name, it is the one method that has it, and of several the one of the path's type.
         """
-        found = CLOSURE.match(path) or FUNCTION.match(path)
-        function = found[1].removesuffix("::"), found[2]
-        methods = self.methods.get(function[1], [])
-        return methods[0] if function not in self.known and len(methods) == 1 else function
+        module, kind, name = (CLOSURE.match(path) or FUNCTION.match(path)).groups()
+        function, methods = (module.removesuffix("::"), name), self.methods.get(name, [])
+        if len(methods) > 1:
+            methods = [it for it in methods if it[0] == kind]
+        return methods[0][1] if function not in self.known and len(methods) == 1 else function
 
 
 class Edit:

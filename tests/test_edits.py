@@ -232,6 +232,37 @@ def test_error_in_a_call_is_told():
         lanes.finish()
 
 
+METHODS = """\
+pub struct {0};
+
+impl {0} {{
+    pub fn verdict(&self) -> bool {{
+        true
+    }}
+}}
+
+impl<'a> Debug for {0} {{
+    fn fmt(&self) -> Result {{
+        Ok(())
+    }}
+}}
+"""
+
+
+@pytest.mark.parametrize("path, wanted", [
+    ("Prices::verdict", ("prices", "verdict")),
+    ("Groups::verdict", ("groups", "verdict")),
+    ("GroupsDebug::fmt", ("groups", "fmt")),
+    ("prices::Prices::verdict", ("prices", "verdict")),
+    ("Others::verdict", ("", "verdict")),
+])  # fmt: skip
+def test_methods_of_one_name_are_told_by_their_types(tmp_path, path, wanted):
+    (tmp_path / "src").mkdir()
+    for module, kind in ("prices", "Prices"), ("groups", "Groups"):
+        (tmp_path / f"src/{module}.rt").write_text(METHODS.format(kind))
+    assert edits.Functions(tmp_path).named(path) == wanted
+
+
 @pytest.mark.parametrize("words", [["--jobs", "0"], ["middle"], ["--unknown"]])
 def test_wrong_words(repository, words):
     status, said, calls = repository(low={"a": "wrong"}).run(*words)
