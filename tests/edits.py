@@ -15,8 +15,9 @@ memory allows. First come those of the largest crates. The proofs go before all 
 A function is proved from its own body and from the contracts of what it calls, and a check says of each function
 whether it is proved. So edits in the bodies of different functions are made in one text, of which those functions are
 checked. Each is refused where a goal of its own function is open or the answer to one is wrong. An edit of which that isn't
-seen is tried again alone, and one that stands in no body is tried alone at once; alone, all is checked, and the goal may be
-any. A check begins with what an earlier one has kept of the crate.
+seen is tried again alone, and one that stands in no body is tried alone at once; alone, the goal may be any. Then all is
+checked, but first what the edit names, if it has lines `refused: FUNCTION`, with a path below the crate. A check begins with
+what earlier ones have kept of the functions that they left as they are.
 
 An edit that doesn't compile has failed. So has one that spoils a proof only because that names what the edit took away,
 since right code would be refused too. `rt must-fail` lets that pass, and tries each edit by a check of its own.
@@ -50,7 +51,7 @@ ERROR = re.compile(r"(?m)^(?:\./)?proofs/(\S+)\.antt:\d+:\d+: error: (.*)$")
 # what an error says where a name isn't there, or an answer rests on one that is wrong
 NAMES = re.compile(r"has no field|is not in scope|has no `|was not admitted|was not checked")
 # how many edits are made in one text
-MOST = 16
+MOST = 32
 # what a check reads in a crate's folder
 PARTS = ("src", "specs", "proofs")
 # where a check keeps its work, from which a later one goes on
@@ -80,7 +81,7 @@ class Functions:
     """The functions of a crate, each a module and a name, and where the bodies stand."""
 
     def __init__(self, crate):
-        self.bodies, self.methods = [], {}
+        self.crate, self.bodies, self.methods = crate.name, [], {}
         for file in sorted((crate / "src").rglob("*.rt")):
             path, text = str(file.relative_to(crate)), file.read_text()
             for header in HEADER.finditer(text):
@@ -93,11 +94,14 @@ class Functions:
                         self.methods.setdefault(function[1], []).append((type_around(text[: header.start()]), function))
         self.known = {it for *_, it in self.bodies}
 
-    def words(self, crate, functions):
-        """By which words a check looks at these functions: at a function by its path, and for a method, in whose path its type
-        stands, at its module."""
-        paths = {"::".join((crate, *filter(None, [module, "" if name in self.methods else name]))) for module, name in functions}
-        return [word for path in sorted(paths) for word in ("--only", path)]
+    def path(self, function):
+        """The path by which a check looks at a function: its own; of a method the end that tells its type, since a check has it
+        where that is handed on; and of methods of one name in one module that module's."""
+        module, name = function
+        kinds = [kind for kind, it in self.methods.get(name, []) if it == function]
+        if len(kinds) == 1 and kinds[0]:
+            return f"{kinds[0]}::{name}"
+        return "::".join(filter(None, (self.crate, module, "" if kinds else name)))
 
     def around(self, path, start, end):
         """The function in whose body this part of a source stands, or None."""
@@ -117,13 +121,15 @@ class Functions:
 
 
 class Edit:
-    """What an edit replaces, and the functions in whose bodies that stands; None for what stands in none."""
+    """What an edit replaces, and the functions in whose bodies that stands, None for what stands in none; and those that it names."""
 
     def __init__(self, file, crate, functions):
-        self.name, self.text, self.pairs, self.functions = file.stem, file.read_text(), [], set()
+        self.name, self.text, self.pairs, self.functions, self.named = file.stem, file.read_text(), [], set(), []
         path = old = None
         for line in self.text.split("\n"):
-            if line.startswith("file: "):
+            if line.startswith("refused: "):
+                self.named.append(line.removeprefix("refused: "))
+            elif line.startswith("file: "):
                 path = line.removeprefix("file: ")
             elif line.startswith("old: "):
                 old = line.removeprefix("old: ")
@@ -238,27 +244,30 @@ class Kept:
 
 
 class Room:
-    """A copy of a crate that is proved, with those below it, in which its edits are tried."""
+    """A copy of a crate that is proved, with those below it, in which edits of it are tried."""
 
     def __init__(self, copy, crate, lines, folder):
-        self.home, self.crate = copy / "crates" / crate, folder / "crates" / crate
-        self.functions, lower = Functions(self.home), below(crate, lines)
+        self.crate, lower = folder / "crates" / crate, below(crate, lines)
         (folder / "crates.txt").write_text("".join(lines[it] for it in lines if it == crate or it in lower))
         shutil.copy(copy / "HANDLES", folder)
         left_out = shutil.ignore_patterns("incremental", "must-fail")
         for it in lower:
             shutil.copytree(copy / "crates" / it, folder / "crates" / it, copy_function=os.link, ignore=left_out)
+        for part in PARTS:
+            if (copy / "crates" / crate / part).is_dir():
+                shutil.copytree(copy / "crates" / crate / part, self.crate / part)
 
-    def check(self, edits, work, *words):
-        """Checks the crate with these edits, or the part of it that the words choose. The work is what an earlier check kept."""
-        parts = {**{part: self.home / part for part in PARTS}, WORK: work}
-        for part, was in parts.items():
-            shutil.rmtree(self.crate / part, ignore_errors=True)
-            if was and was.is_dir():
-                shutil.copytree(was, self.crate / part)
+    def begin_with(self, work):
+        """Puts there what earlier checks have kept, if they have."""
+        if work.is_dir():
+            shutil.copytree(work, self.crate / WORK)
+
+    def check(self, edits, paths):
+        """What a check says of the crate with these edits, or of the functions of these paths."""
         for edit in edits:
             edit.make(self.crate)
-        return Verdict(rt("check", self.crate, "--jobs", "1", *words, behind=BEHIND)[1], self.functions)
+        words = [word for path in sorted(paths) for word in ("--only", path)]
+        return rt("check", self.crate, "--jobs", "1", *words, behind=BEHIND)[1]
 
 
 def edits_of(crate):
@@ -333,26 +342,31 @@ class Trial:
 
     def __init__(self, copy, crate, lines, kept, lanes, folder):
         self.copy, self.crate, self.lines, self.kept, self.lanes = copy, crate, lines, kept, lanes
-        self.not_refused, self.folder, self.change, self.works = [], pathlib.Path(folder), threading.Lock(), {}
+        self.not_refused, self.change, self.work = [], threading.Lock(), pathlib.Path(folder) / crate
+        self.functions = Functions(copy / "crates" / crate)
         self.weight = sum(it.stat().st_size for part in PARTS for it in (copy / "crates" / crate / part).rglob("*") if it.is_file())
         if (copy / "crates" / crate / WORK).is_dir():
             # Later others may build of the crate in its place.
-            self.keep(copy / "crates" / crate, True, shutil.copytree)
+            shutil.copytree(copy / "crates" / crate / WORK, self.work)
 
-    def keep(self, crate, is_whole, by=shutil.move):
-        """Keeps the work of a check of the whole crate or of a part of it, unless there is such already."""
+    def keep(self, crate, edits=()):
+        """Adds to the work that is kept what a check has of functions that its edits left as they are: files whose names have
+        the modules that they are of. What an edit outside of bodies changes isn't told by names, and isn't kept."""
+        functions = set().union(*(it.functions for it in edits))
+        if None in functions:
+            return
+        edited = {f".{name}." for _, name in functions}
         with self.change:
-            if is_whole not in self.works and (crate / WORK).is_dir():
-                self.works[is_whole] = self.folder / f"{self.crate}.{'whole' if is_whole else 'part'}"
-                by(crate / WORK, self.works[is_whole])
+            for file in (crate / WORK).rglob("*"):
+                kept = self.work / file.relative_to(crate / WORK)
+                if file.is_file() and not kept.exists() and not any(it in file.name for it in edited):
+                    kept.parent.mkdir(parents=True, exist_ok=True)
+                    shutil.move(file, kept)
 
     def begin(self, edits):
-        """Tries these edits: the first round, and the first of those that stand in no body, before others of their kind, which
-        begin with what is kept of it."""
-        rounds = rounds_of(edits)
-        strays = [it for it in rounds if None in set().union(*(edit.functions for edit in it))]
-        for first, *others in filter(None, ([it for it in rounds if it not in strays], strays)):
-            self.lanes.add(2 * self.weight, self.try_first, first, others)
+        """Tries these edits: one round, of edits in bodies if there are such, before the others, which begin with what is kept of it."""
+        first, *others = sorted(rounds_of(edits), key=lambda it: any(None in edit.functions for edit in it))
+        self.lanes.add(2 * self.weight, self.try_first, first, others)
 
     def try_first(self, first, others):
         self.try_together(first)
@@ -365,7 +379,7 @@ class Trial:
         if None in functions:
             self.try_alone(*edits)
             return
-        refused = self.check(edits, functions).refused
+        refused = self.check(edits, *map(self.functions.path, functions)).refused
         alone = [it for it in edits if not it.functions & refused]
         self.say(f"{len(edits)} edits in one check, {len(alone)} of them to be tried alone", began)
         for edit in edits:
@@ -375,7 +389,12 @@ class Trial:
                 self.kept.add(self.crate, edit)
 
     def try_alone(self, edit):
-        began, verdict = time.monotonic(), self.check([edit])
+        began = time.monotonic()
+        if edit.named and self.check([edit], *edit.named).refused:
+            self.kept.add(self.crate, edit)
+            self.say(f"{edit.name} by what it names", began)
+            return
+        verdict = self.check([edit])
         if not verdict.is_read:
             # once more, since a check may have been killed for want of memory
             verdict = self.check([edit])
@@ -385,13 +404,14 @@ class Trial:
             self.kept.add(self.crate, edit)
         self.say(f"{edit.name} alone", began)
 
-    def check(self, edits, functions=None):
-        """Checks the crate with these edits, or these functions of it."""
+    def check(self, edits, *paths):
+        """Checks the crate with these edits, or the functions of these paths."""
         with tempfile.TemporaryDirectory(dir=self.copy) as folder:
             room = Room(self.copy, self.crate, self.lines, pathlib.Path(folder))
-            work = self.works.get(True) or self.works.get(False)
-            verdict = room.check(edits, work, *(room.functions.words(self.crate, functions) if functions else []))
-            self.keep(room.crate, functions is None)
+            with self.change:
+                room.begin_with(self.work)
+            verdict = Verdict(room.check(edits, paths), self.functions)
+            self.keep(room.crate, edits)
         return verdict
 
     def say(self, what, began):

@@ -13,8 +13,8 @@ import edits
 from common import HERE, script
 
 # What rt does here. It notes each call; a check, which is 'whole' unless functions are chosen, with the functions whose
-# bodies aren't 'NAME as it was', and with what work it begins. Those that it looks at are proved or not by their words: 'wrong'
-# isn't proved, 'shy' isn't in a whole check, 'right' is. With 'broken' nothing compiles. 'meets N' isn't proved once N such
+# bodies aren't 'NAME as it was', and with what work it begins, of which each function has a part. Those that it looks at are
+# proved or not by their words: 'wrong' isn't proved, 'shy' isn't in a whole check, 'right' is. With 'broken' nothing compiles. 'meets N' isn't proved once N such
 # checks have begun, and 'waits for FILE' once that is there.
 RT = f"#!{sys.executable}" + r"""
 import os, pathlib, re, sys, time
@@ -53,6 +53,10 @@ said, work = [], pathlib.Path("out/incremental/work")
 with open(state / "begun", "a") as begun:
     begun.write((work.read_text() if work.exists() else "nothing") + "\n")
 work.parent.mkdir(parents=True, exist_ok=True)
+with open(state / "parts", "a") as parts:
+    parts.write(" ".join(sorted(it.name for it in work.parent.glob("*.part"))) + "\n")
+for name, body in bodies.items():
+    (work.parent / f"{crate}.{name}.part").write_text(body)
 work.write_text("of a check" if chosen else "of all")
 if any("broken" in body for body in changed.values()):
     sys.exit("error: it doesn't compile")
@@ -178,6 +182,28 @@ def test_largest_first(repository):
     assert (made.state / "begun").read_text() == "of the proof\n" * 3
 
 
+def test_edit_in_no_body_is_tried_by_what_it_names(repository):
+    """And by the whole crate where the prover doesn't refuse it there."""
+    made = repository(low={"a": "wrong", "b": "shy"})
+    for name in ("a", "b"):
+        file = made.copy / f"crates/low/must-fail/{name}.edit"
+        file.write_text(f"refused: low::{name}\n{file.read_text()}old: pub fn other\nnew: pub fn  other\n")
+    status, said, calls = made.run("--jobs", "1")
+    assert (status, calls) == (0, ["lib low", "check low a", "check low b", "whole low b"])
+    assert "low: a by what it names, " in said and "low: b alone, " in said
+
+
+def test_work_on_functions_that_were_not_edited_is_kept(repository):
+    """A function may be edited twice, each time in another check. What an edit in no body changes isn't known, so nothing is kept."""
+    made = repository(low={"a": "wrong", "b": "wrong"})
+    edits_of_low = made.copy / "crates/low/must-fail"
+    (edits_of_low / "c.edit").write_text((edits_of_low / "a.edit").read_text())
+    (edits_of_low / "d.edit").write_text("file: src/lib.rt\nold: pub fn other\nnew: pub fn  other\n")
+    made.run("--jobs", "1")
+    other, both = "low.other.part", "low.b.part low.other.part"
+    assert (made.state / "parts").read_text() == f"\n{other}\n{both}\n"
+
+
 def test_libraries_that_are_awaited(repository):
     """What is proved elsewhere isn't proved here: edits wait for the libraries, and begin with what a check of them has kept."""
     made = repository(low={"a": "shy"}, high={"b": "wrong"})
@@ -261,6 +287,24 @@ def test_methods_of_one_name_are_told_by_their_types(tmp_path, path, wanted):
     for module, kind in ("prices", "Prices"), ("groups", "Groups"):
         (tmp_path / f"src/{module}.rt").write_text(METHODS.format(kind))
     assert edits.Functions(tmp_path).named(path) == wanted
+
+
+@pytest.mark.parametrize("function, wanted", [
+    (("prices", "verdict"), "Prices::verdict"),
+    (("groups", "fmt"), "GroupsDebug::fmt"),
+    (("prices", "free"), "low::prices::free"),
+    (("", "free"), "low::free"),
+    (("others", "fmt"), "low::others"),
+])  # fmt: skip
+def test_methods_are_chosen_by_their_types(tmp_path, function, wanted):
+    """Of methods of one name in one module it isn't told which is meant, so the module is looked at."""
+    home = tmp_path / "low"
+    (home / "src").mkdir(parents=True)
+    sources = {"prices": METHODS.format("Prices"), "groups": METHODS.format("Groups"), "lib": "",
+               "others": METHODS.format("One") + METHODS.format("Two")}  # fmt: skip
+    for module, text in sources.items():
+        (home / f"src/{module}.rt").write_text(text + "\npub fn free() {\n}\n")
+    assert edits.Functions(home).path(function) == wanted
 
 
 @pytest.mark.parametrize("words", [["--jobs", "0"], ["middle"], ["--unknown"]])
