@@ -15,15 +15,24 @@ use std::test::Fail;
 /// What is found, and the verdict, by a measure.
 type Judged = (ViolationFindings, ViolationVerdict);
 
+/// The sample group of an election, judged by a measure.
+fn judged_in<S: Satisfaction>(
+    alloc: Global,
+    election: &Election,
+    measure: &S,
+) -> Result<Judged, Fail> {
+    let outcome = Outcome::selected(alloc, election)?;
+    let violation = Violation::read(alloc, VIOLATION.as_bytes(), election)?;
+    Ok((
+        violation_findings(election, &outcome, &violation, measure),
+        check_violation(election, &outcome, &violation, measure),
+    ))
+}
+
 /// Voters 1 and 2, who demand two projects for 2 each, and get one for 8, judged by a measure.
 fn judged<S: Satisfaction>(alloc: Global, measure: &S) -> Result<Judged, Fail> {
     let election = Election::read(alloc, SMALL_SHARE_ELECTION.as_bytes())?;
-    let outcome = Outcome::selected(alloc, &election)?;
-    let violation = Violation::read(alloc, VIOLATION.as_bytes(), &election)?;
-    Ok((
-        violation_findings(&election, &outcome, &violation, measure),
-        check_violation(&election, &outcome, &violation, measure),
-    ))
+    judged_in(alloc, &election, measure)
 }
 
 /// The certificate counts, and yet a caller may judge it by cost.
@@ -65,19 +74,21 @@ fn group_is_judged_by_the_measure_that_is_given(rt: HostRuntime) -> Result<(), F
     Ok(())
 }
 
+/// The second of two projects is to be worth 1 where projects are counted, and else its cost of 6.
+fn expect_worths(rt: &impl Abort, election: &Election) {
+    assert_eq!(rt; election.projects(), 2);
+    let counted = [
+        Count.worth(election, 2),
+        Measure::ByCount.worth(election, 2),
+    ];
+    let by_cost = [Cost.worth(election, 2), Measure::ByCost.worth(election, 2)];
+    assert_eq!(rt; (counted, by_cost), ([1, 1], [6_000_000, 6_000_000]));
+}
+
 #[test]
 fn project_is_worth_one_or_its_cost(rt: HostRuntime) -> Result<(), Fail> {
     let election = Election::read(rt.alloc(), DEAR_ELECTION.as_bytes())?;
-    assert_eq!(rt; election.projects(), 2);
-    let counted = [
-        Count.worth(&election, 2),
-        Measure::ByCount.worth(&election, 2),
-    ];
-    let by_cost = [
-        Cost.worth(&election, 2),
-        Measure::ByCost.worth(&election, 2),
-    ];
-    assert_eq!(rt; (counted, by_cost), ([1, 1], [6_000_000, 6_000_000]));
+    expect_worths(&rt, &election);
     Ok(())
 }
 
@@ -100,19 +111,27 @@ fn expect_refuted(rt: &impl Abort, election: &Election, outcome: &Outcome, weigh
     assert_eq!(rt; verdict, RefutationVerdict::Unpriceable);
 }
 
+/// The sample weights are to refute prices for the outcome that an election states.
+fn expect_sample_refutes(rt: &impl Abort, alloc: Global, election: &Election) -> Result<(), Fail> {
+    let outcome = Outcome::selected(alloc, election)?;
+    let weights = Refutation::read(alloc, REFUTATION.as_bytes(), election)?;
+    expect_refuted(rt, election, &outcome, &weights);
+    Ok(())
+}
+
 /// Voter 2 wants the pool alone, which costs 7. At least 12 is paid for the park, and at most 4 for the library, so that
 /// more than 7 is left for the pool.
+fn unpriceable_election(alloc: Global) -> Result<Election, Fail> {
+    let text = ELECTION.replace(
+        alloc,
+        "c;9;Pool;0\nVOTES\nvoter_id;vote\n1;a,b\n2;a\n",
+        "c;7;Pool;0\nVOTES\nvoter_id;vote\n1;a,b\n2;c\n",
+    )?;
+    Ok(Election::read(alloc, text.as_bytes())?)
+}
+
 #[test]
 fn weights_refute_all_prices(rt: HostRuntime) -> Result<(), Fail> {
-    let text = ELECTION.replace(
-        rt.alloc(),
-        "c;9;Pool;0\nVOTES\nvoter_id;vote\n1;a,b\n2;a\n",
-        "\
-        c;7;Pool;0\nVOTES\nvoter_id;vote\n1;a,b\n2;c\n",
-    )?;
-    let election = Election::read(rt.alloc(), text.as_bytes())?;
-    let outcome = Outcome::selected(rt.alloc(), &election)?;
-    let weights = Refutation::read(rt.alloc(), REFUTATION.as_bytes(), &election)?;
-    expect_refuted(&rt, &election, &outcome, &weights);
-    Ok(())
+    let election = unpriceable_election(rt.alloc())?;
+    expect_sample_refutes(&rt, rt.alloc(), &election)
 }
