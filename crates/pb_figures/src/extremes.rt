@@ -11,7 +11,7 @@ use std::alloc::{AllocError, Global};
 const GRAINS: u128 = 1_000_000;
 
 /// The payments that break C1 and C2 by most. Amounts are in grains.
-#[derive(Clone, Copy, Debug, PartialEq, Eq)]
+#[derive(Clone, Copy)]
 pub struct Extremes {
     /// The largest payment for a project that its voter doesn't approve; of several that of the lowest voter, and there
     /// for the lowest project.
@@ -21,7 +21,7 @@ pub struct Extremes {
 }
 
 /// What a voter pays for a project.
-#[derive(Clone, Copy, Debug, PartialEq, Eq)]
+#[derive(Clone, Copy)]
 pub struct Payment {
     pub voter: u32,
     pub project: u32,
@@ -29,7 +29,7 @@ pub struct Payment {
 }
 
 /// What a voter pays for all projects.
-#[derive(Clone, Copy, Debug, PartialEq, Eq)]
+#[derive(Clone, Copy)]
 pub struct Spender {
     pub voter: u32,
     pub grains: u128,

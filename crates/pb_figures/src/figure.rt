@@ -1,7 +1,7 @@
 //! The figures that a page shows, by name.
 
 /// An amount that a page shows. Projects are numbered from 1; one that the election has not shows 0.
-#[derive(Clone, Copy, Debug, PartialEq, Eq)]
+#[derive(Clone, Copy)]
 pub enum Figure {
     /// The budget limit.
     Limit,
@@ -55,7 +55,7 @@ pub enum Figure {
 }
 
 /// The conditions whose findings show two sums.
-#[derive(Clone, Copy, Debug, PartialEq, Eq)]
+#[derive(Clone, Copy)]
 pub enum Compared {
     Exhaustive,
     C2,

@@ -81,7 +81,7 @@ pub fn missing(project: &ProjectMargins, stable: bool) -> i128
 }
 
 /// What some projects may be put in order by, the largest first.
-#[derive(Clone, Copy, Debug, PartialEq, Eq)]
+#[derive(Clone, Copy)]
 pub enum Size {
     Cost,
     Supporters,

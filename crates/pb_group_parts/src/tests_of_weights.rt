@@ -8,7 +8,7 @@ use pb_tables::{State, push_name};
 use pb_words::Sentence;
 
 // A test of a refutation.
-#[derive(Clone, Copy, Debug, PartialEq, Eq)]
+#[derive(Clone, Copy)]
 enum Test {
     U1,
     U2,

@@ -4,7 +4,7 @@ use pb_tables::State;
 use pb_words::Sentence;
 
 /// A condition on prices.
-#[derive(Clone, Copy, Debug, PartialEq, Eq)]
+#[derive(Clone, Copy)]
 pub(crate) enum Condition {
     Feasible,
     Exhaustive,

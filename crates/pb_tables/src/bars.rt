@@ -12,7 +12,7 @@ pub const MARK: u32 = 7_500;
 const BEYOND: u32 = 20_000;
 
 /// How a bar looks.
-#[derive(Clone, Copy, Debug, PartialEq, Eq)]
+#[derive(Clone, Copy)]
 pub enum Look {
     /// A part of a whole.
     Part,

@@ -27,7 +27,7 @@ pub const STATE: Column = Column {
 };
 
 /// What a column has.
-#[derive(Clone, Copy, Debug, PartialEq, Eq)]
+#[derive(Clone, Copy)]
 pub enum ColumnKind {
     /// Words.
     Words,

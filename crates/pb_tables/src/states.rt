@@ -4,7 +4,7 @@ use pb_markup::{Page, Tag};
 use pb_words::Sentence;
 
 /// What became of a condition or a test.
-#[derive(Clone, Copy, Debug, PartialEq, Eq)]
+#[derive(Clone, Copy)]
 pub enum State {
     Holds,
     Fails,

@@ -5,7 +5,7 @@ ghost use Rattle.pb_words.specs.Headlines as spec;
 use crate::language::Language;
 
 /// The answer in a sentence.
-#[derive(Clone, Copy, Debug, PartialEq, Eq)]
+#[derive(Clone, Copy)]
 pub enum Headline {
     /// The prices support the outcome, in the plain form.
     Supported,

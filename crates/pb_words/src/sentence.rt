@@ -3,7 +3,7 @@ use crate::language::Language;
 
 /// A sentence, or a word that stands by itself. What it says in each language stands in `wording`, with placeholders
 /// in braces. One that speaks of a number of things has a form for each way to say that.
-#[derive(Clone, Copy, Debug, PartialEq, Eq)]
+#[derive(Clone, Copy)]
 pub enum Sentence {
     // The head of the page.
     Kicker,
@@ -270,7 +270,7 @@ pub enum Sentence {
 
 /// How a language speaks of a number of things. English, German and French have one way for one thing and another for
 /// more, which is that of `Few` and `Many`.
-#[derive(Clone, Copy, Debug, PartialEq, Eq)]
+#[derive(Clone, Copy)]
 pub enum Plural {
     One,
     Few,
