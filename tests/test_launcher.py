@@ -417,6 +417,12 @@ def test_release_of_another_source(released, name):
     released.expect(8, 0, FIRST, "x")
 
 
+@pytest.mark.parametrize("name", ["crates/pb_price_tests/src/lib.rt", "crates/pb_samples/src/lib.rt"])
+def test_release_does_not_rest_on_tests(released, name):
+    turn(released.copy / name)
+    released.expect(8, 0, FIRST, "x")
+
+
 def test_release_of_a_source_less_or_more(released):
     added = released.copy / "crates/pb_money/src/added.rt"
     added.touch()
