@@ -20,7 +20,7 @@ MILLION = 10**6
 FORMS = [{"--no-exhaustive"}, {"--no-exhaustive", "--stable"}]
 
 
-@pytest.fixture(params=["reference", "program"])
+@pytest.fixture(params=["reference", pytest.param("program", marks=pytest.mark.built)])
 def ask(request, room):
     """Answers a command on files, by the reference and by the program: the text and the status."""
     program = request.getfixturevalue("program") if request.param == "program" else None
