@@ -4,6 +4,7 @@ By default the program is crates/pbaudit/out/pbaudit, the library is in lib, and
 else those of release/, if it was made of these sources. What isn't there is a reason to skip, and so is a tool that isn't
 installed. With --gate a test fails that is skipped for any other reason, or for want of what is there.
 """
+import collections
 import lzma
 import pathlib
 import re
@@ -47,10 +48,19 @@ BUILT = {"program", "library", "arm_library", "page", "again", "built_here"}
 
 
 def pytest_collection_modifyitems(items):
-    """`-m built` chooses the tests of what is built, and `-m 'not built'` those of the sources and the scripts."""
+    """`-m built` chooses the tests of what is built, and `-m 'not built'` those of the sources and the scripts. The tests of a group
+    run one after the other where there are several workers, so the largest groups come first, and single tests fill up."""
     for item in items:
         if BUILT & {*item.fixturenames}:
             item.add_marker("built")
+    sizes = collections.Counter(group_of(item) for item in items)
+    items.sort(key=lambda item: -sizes[group_of(item)] if group_of(item) else 0)
+
+
+def group_of(item):
+    """The group of a test, by which `--dist loadgroup` gives it to a worker, or None."""
+    mark = item.get_closest_marker("xdist_group")
+    return mark and (mark.args[0] if mark.args else mark.kwargs["name"])
 
 
 def pytest_generate_tests(metafunc):
