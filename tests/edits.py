@@ -94,12 +94,12 @@ class Functions:
                         self.methods.setdefault(function[1], []).append((type_around(text[: header.start()]), function))
         self.known = {it for *_, it in self.bodies}
 
-    def path(self, function):
+    def path(self, function, by_type=True):
         """The path by which a check looks at a function: its own; of a method the end that tells its type, since a check has it
-        where that is handed on; and of methods of one name in one module that module's."""
+        where that is handed on, or its module's; and of methods of one name in one module that module's."""
         module, name = function
         kinds = [kind for kind, it in self.methods.get(name, []) if it == function]
-        if len(kinds) == 1 and kinds[0]:
+        if by_type and len(kinds) == 1 and kinds[0]:
             return f"{kinds[0]}::{name}"
         return "::".join(filter(None, (self.crate, module, "" if kinds else name)))
 
@@ -357,7 +357,7 @@ class Trial:
             return
         edited = {f".{name}." for _, name in functions}
         with self.change:
-            for file in (crate / WORK).rglob("*"):
+            for file in [*(crate / WORK).rglob("*")]:
                 kept = self.work / file.relative_to(crate / WORK)
                 if file.is_file() and not kept.exists() and not any(it in file.name for it in edited):
                     kept.parent.mkdir(parents=True, exist_ok=True)
@@ -379,8 +379,11 @@ class Trial:
         if None in functions:
             self.try_alone(*edits)
             return
-        refused = self.check(edits, *map(self.functions.path, functions)).refused
-        alone = [it for it in edits if not it.functions & refused]
+        verdict = self.check(edits, *(self.functions.path(it) for it in functions))
+        if not verdict.is_read:
+            # A check may have a type's method by another path, as one of a trait with parameters.
+            verdict = self.check(edits, *(self.functions.path(it, by_type=False) for it in functions))
+        alone = [it for it in edits if not it.functions & verdict.refused]
         self.say(f"{len(edits)} edits in one check, {len(alone)} of them to be tried alone", began)
         for edit in edits:
             if edit in alone:

@@ -127,7 +127,7 @@ def repository(room):
      ["3 passed, 0 failed"]),
     ({"a": "wrong", "b": "shy", "c": "right"}, {}, 1, ["lib low", "check low a b c", "whole low b", "whole low c"],
      ["low/c: it is proved", "2 passed, 1 failed"]),
-    ({"a": "broken", "b": "wrong"}, {}, 1, ["lib low", "check low a b", "whole low a", "whole low a", "whole low b"],
+    ({"a": "broken", "b": "wrong"}, {}, 1, ["lib low", "check low a b", "check low a b", "whole low a", "whole low a", "whole low b"],
      ["low/a: it doesn't compile", "1 passed, 1 failed"]),
     ({}, {}, 1, None, ["0 passed, 0 failed"]),
 ], ids=["refused", "proved", "broken", "none"])  # fmt: skip
@@ -304,7 +304,9 @@ def test_methods_are_chosen_by_their_types(tmp_path, function, wanted):
                "others": METHODS.format("One") + METHODS.format("Two")}  # fmt: skip
     for module, text in sources.items():
         (home / f"src/{module}.rt").write_text(text + "\npub fn free() {\n}\n")
-    assert edits.Functions(home).path(function) == wanted
+    functions = edits.Functions(home)
+    assert functions.path(function) == wanted
+    assert functions.path(function, by_type=False) == (wanted if wanted.startswith("low") else f"low::{function[0]}")
 
 
 @pytest.mark.parametrize("words", [["--jobs", "0"], ["middle"], ["--unknown"]])
