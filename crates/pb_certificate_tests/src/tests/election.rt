@@ -7,18 +7,19 @@ use std::test::Fail;
 
 /// The limit, the counts and the projects are to be those of the sample.
 fn expect_counts(rt: &impl Abort, election: &Election) {
+    let counts = (election.projects(), election.voters());
     let declared = (election.declared_projects(), election.declared_votes());
-    assert_eq!(rt; (election.projects(), election.voters()), (3, 3));
-    assert_eq!(rt; declared, (Some(3), Some(3)));
+    let selected = (election.other_selected(), election.has_selected());
     assert_eq!(rt;
-        (election.other_selected(), election.has_selected()),
-        (0, true)
+        (counts, declared, selected),
+        ((3, 3), (Some(3), Some(3)), (0, true))
     );
     let limit = election.limit().millionths();
     let costs = [election.cost(1).millionths(), election.cost(3).millionths()];
     assert_eq!(rt; (limit, costs), (10_500_000, [6_000_000, 9_000_000]));
-    assert_eq!(rt; (election.id(1), election.id(3)), ("a", "c"));
-    assert_eq!(rt; (election.find("b"), election.find("B")), (Some(2), None));
+    let ids = [election.id(1), election.id(3)];
+    let places = [election.find("b"), election.find("B")];
+    assert_eq!(rt; (ids, places), (["a", "c"], [Some(2), None]));
 }
 
 /// Voter 1 is to approve projects 1 and 2, voter 2 none, and voter 3 projects 2 and 3.

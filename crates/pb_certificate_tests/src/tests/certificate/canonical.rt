@@ -30,18 +30,28 @@ fn expect_written(rt: &impl Abort, alloc: Global, election: &Election, prices: &
     assert!(rt; written.as_slice() == QUOTED_PRICES.as_bytes());
 }
 
+/// Prices in any form are to be written in their canonical form.
+fn expect_tidied(rt: &impl Abort, alloc: Global, election: &Election) -> Result<(), Fail> {
+    let prices = Prices::read(alloc, UNTIDY_QUOTED_PRICES.as_bytes(), election)?;
+    expect_written(rt, alloc, election, &prices);
+    Ok(())
+}
+
 #[test]
 fn prices_are_written_in_one_way(rt: HostRuntime) -> Result<(), Fail> {
     let election = Election::read(rt.alloc(), QUOTED_ELECTION.as_bytes())?;
-    let prices = Prices::read(rt.alloc(), UNTIDY_QUOTED_PRICES.as_bytes(), &election)?;
-    expect_written(&rt, rt.alloc(), &election, &prices);
+    expect_tidied(&rt, rt.alloc(), &election)
+}
+
+/// The canonical text of prices in any form is to be the one that is written.
+fn expect_text(rt: &impl Abort, alloc: Global, election: &Election) -> Result<(), Fail> {
+    let text = canonical_text_of(alloc, UNTIDY_QUOTED_PRICES.as_bytes(), election)?;
+    assert!(rt; text.as_slice() == QUOTED_PRICES.as_bytes());
     Ok(())
 }
 
 #[test]
 fn text_of_prices_is_the_one_that_is_written(rt: HostRuntime) -> Result<(), Fail> {
     let election = Election::read(rt.alloc(), QUOTED_ELECTION.as_bytes())?;
-    let text = canonical_text_of(rt.alloc(), UNTIDY_QUOTED_PRICES.as_bytes(), &election)?;
-    assert!(rt; text.as_slice() == QUOTED_PRICES.as_bytes());
-    Ok(())
+    expect_text(&rt, rt.alloc(), &election)
 }

@@ -2,6 +2,7 @@
 use pb_certificate::{PriceRow, Rows};
 use pb_election::Election;
 use pb_samples::files::ELECTION;
+use std::alloc::Global;
 use std::process::Abort;
 use std::test::Fail;
 
@@ -16,9 +17,16 @@ fn expect_next<'a>(rt: &impl Abort, rows: Rows<'a>, want: Want) -> Result<Rows<'
     Ok(rows)
 }
 
-/// The next rows are to be these.
-fn expect_rows(rt: &impl Abort, rows: Rows<'_>, wanted: &[Want]) -> Result<(), Fail> {
-    let mut rows = rows;
+/// A text is to have a denominator of 1, a budget of 4, and these rows.
+fn expect_rows(
+    rt: &impl Abort,
+    alloc: Global,
+    election: &Election,
+    text: &str,
+    wanted: &[Want],
+) -> Result<(), Fail> {
+    let mut rows = Rows::open(alloc, text.as_bytes(), election)?;
+    assert_eq!(rt; (rows.denominator(), rows.budget()), (1, 4));
     for want in wanted {
         rows = expect_next(rt, rows, *want)?;
     }
@@ -33,11 +41,11 @@ fn rows_are_given_in_order_and_then_none(rt: HostRuntime) -> Result<(), Fail> {
     let text = "\npb-prices,1\ndenominator,1\nvoter_budget,4\nvoter,project,payment\n\n ,,\n\
         1,a,999999999999999999\n1, b,1000000000000000000\n1,c,0000000000000000007\n\
         2 ,a,4\n2,b,0,\n\n2,\"c\",6\n3,a,8\n3,b ,1000000000000000000000";
-    let rows = Rows::open(rt.alloc(), text.as_bytes(), &election)?;
-    assert_eq!(rt; (rows.denominator(), rows.budget()), (1, 4));
     expect_rows(
         &rt,
-        rows,
+        rt.alloc(),
+        &election,
+        text,
         &[
             Some((1, 1, 999_999_999_999_999_999)),
             Some((1, 2, 1_000_000_000_000_000_000)),
