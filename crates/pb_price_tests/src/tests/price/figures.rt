@@ -1,7 +1,5 @@
 //! What each condition comes to and the figures of each project, one by each call, and the verdict that findings tell.
 //! What they are on other files is tried from outside.
-ghost use Rattle.pb_election.specs.Outcome.{OutcomeFits};
-
 use pb_election::{Election, Outcome};
 use pb_price::{
     Comparison, Failure, Finding, Findings, Margins, Mode, PaymentFinding, ProjectMargins, Verdict,
@@ -111,14 +109,12 @@ fn expect_overspent(
     rt: &impl Abort,
     alloc: Global,
     election: &Election,
-    outcome: &Outcome,
     bytes: &[u8],
-) -> Result<(), Fail>
-    requires { OutcomeFits outcome.now election.now }
-{
-    expect_findings(rt, &findings_of(alloc, election, outcome, bytes)?);
-    expect_margins(rt, &margins_of(alloc, election, outcome, bytes)?);
-    let (findings, margins) = findings_and_margins_of(alloc, election, outcome, bytes)?;
+) -> Result<(), Fail> {
+    let outcome = Outcome::selected(alloc, election)?;
+    expect_findings(rt, &findings_of(alloc, election, &outcome, bytes)?);
+    expect_margins(rt, &margins_of(alloc, election, &outcome, bytes)?);
+    let (findings, margins) = findings_and_margins_of(alloc, election, &outcome, bytes)?;
     expect_findings(rt, &findings);
     expect_margins(rt, &margins);
     Ok(())
@@ -131,8 +127,7 @@ fn expect_overspent(
 fn voter_over_its_budget_is_found(rt: HostRuntime) -> Result<(), Fail> {
     let prices = certificate(rt.alloc(), "1", "4", "1,a,2\n1,b,2\n2,a,6\n3,b,2\n")?;
     let election = Election::read(rt.alloc(), ELECTION.as_bytes())?;
-    let outcome = Outcome::selected(rt.alloc(), &election)?;
-    expect_overspent(&rt, rt.alloc(), &election, &outcome, prices.as_bytes())
+    expect_overspent(&rt, rt.alloc(), &election, prices.as_bytes())
 }
 
 fn expect_failure(rt: &impl Abort, findings: &Findings, mode: Mode, failure: Failure) {

@@ -3,7 +3,7 @@ ghost use Rattle.pb_election.specs.Outcome.{OutcomeFits};
 
 use pb_certificate::Prices;
 use pb_election::{Election, Outcome};
-use pb_price::{Failure, Mode, Verdict, check, check_rows};
+use pb_price::{Checked, Failure, Mode, Verdict, check, check_rows};
 use pb_samples::files::{ELECTION, NO_MONEY, PRICES, certificate};
 use std::alloc::{AllocError, Global};
 use std::process::Abort;
@@ -25,32 +25,44 @@ fn both(
     Ok([verdict, checked.verdict])
 }
 
-/// Each condition in its order, with its first culprit.
+/// Rows, and the verdict on them: each condition in its order, with its first culprit.
+const SAMPLES: &[(&str, Verdict)] = &[
+    ("1,a,2\n1,b,2\n2,a,4\n3,b,2\n", Verdict::Supported),
+    // A payment of 0 is no culprit.
+    ("1,a,2\n1,b,2\n1,c,0\n2,a,4\n3,b,2\n", Verdict::Supported),
+    // Rows of one voter in falling order of projects.
+    ("2,c,1\n2,b,1\n", Verdict::Failed(Failure::C1(2, 2))),
+    // The first voter over its budget, though all approve what they pay for.
+    ("1,a,2\n2,a,5\n3,b,5\n", Verdict::Failed(Failure::C2(2))),
+    // A funded project paid for too much, before an unfunded one that is paid for.
+    (
+        "1,a,2\n1,b,2\n2,a,4\n3,b,3\n3,c,1\n",
+        Verdict::Failed(Failure::C3(2)),
+    ),
+    (
+        "1,a,2\n1,b,2\n2,a,4\n3,b,2\n3,c,1\n",
+        Verdict::Failed(Failure::C4(3)),
+    ),
+];
+
+/// Both calls are to answer the verdict of each sample.
+fn expect_verdicts(
+    rt: &impl Abort,
+    alloc: Global,
+    election: &Election,
+    samples: &[(&str, Verdict)],
+) -> Result<(), Fail> {
+    let outcome = Outcome::selected(alloc, election)?;
+    for (rows, want) in samples {
+        assert_eq!(rt; both(alloc, election, &outcome, rows)?, [*want, *want]);
+    }
+    Ok(())
+}
+
 #[test]
 fn both_calls_name_the_same_first_culprit(rt: HostRuntime) -> Result<(), Fail> {
     let election = Election::read(rt.alloc(), ELECTION.as_bytes())?;
-    let outcome = Outcome::selected(rt.alloc(), &election)?;
-    for (rows, want) in [
-        ("1,a,2\n1,b,2\n2,a,4\n3,b,2\n", Verdict::Supported),
-        // A payment of 0 is no culprit.
-        ("1,a,2\n1,b,2\n1,c,0\n2,a,4\n3,b,2\n", Verdict::Supported),
-        // Rows of one voter in falling order of projects.
-        ("2,c,1\n2,b,1\n", Verdict::Failed(Failure::C1(2, 2))),
-        // The first voter over its budget, though all approve what they pay for.
-        ("1,a,2\n2,a,5\n3,b,5\n", Verdict::Failed(Failure::C2(2))),
-        // A funded project paid for too much, before an unfunded one that is paid for.
-        (
-            "1,a,2\n1,b,2\n2,a,4\n3,b,3\n3,c,1\n",
-            Verdict::Failed(Failure::C3(2)),
-        ),
-        (
-            "1,a,2\n1,b,2\n2,a,4\n3,b,2\n3,c,1\n",
-            Verdict::Failed(Failure::C4(3)),
-        ),
-    ] {
-        assert_eq!(rt; both(rt.alloc(), &election, &outcome, rows)?, [want, want]);
-    }
-    Ok(())
+    expect_verdicts(&rt, rt.alloc(), &election, SAMPLES)
 }
 
 /// An election of so many projects, each past its limit of 0, and of so many voters who approve of none.
@@ -69,18 +81,37 @@ fn empty_ballots(alloc: Global, projects: u32, voters: u32) -> Result<String, Al
     Ok(text)
 }
 
+/// What the second call answers for prices and the outcome that an election states.
+fn checked_for(
+    alloc: Global,
+    election: &Election,
+    prices: &str,
+    mode: Mode,
+) -> Result<Checked, Fail> {
+    let outcome = Outcome::selected(alloc, election)?;
+    Ok(check_rows(alloc, election, &outcome, prices.as_bytes(), mode)?)
+}
+
+/// The same of their texts.
+fn checked_texts(
+    alloc: Global,
+    (election, prices): (&str, &str),
+    mode: Mode,
+) -> Result<Checked, Fail> {
+    let election = Election::read(alloc, election.as_bytes())?;
+    checked_for(alloc, &election, prices, mode)
+}
+
 /// Prices are to support an outcome, which is found in at least and at most so many steps.
 fn expect_steps(
     rt: &impl Abort,
     alloc: Global,
-    (election, prices): (&str, &str),
+    texts: (&str, &str),
     mode: Mode,
     least: u64,
     most: u64,
 ) -> Result<(), Fail> {
-    let election = Election::read(alloc, election.as_bytes())?;
-    let outcome = Outcome::selected(alloc, &election)?;
-    let checked = check_rows(alloc, &election, &outcome, prices.as_bytes(), mode)?;
+    let checked = checked_texts(alloc, texts, mode)?;
     assert_eq!(rt; checked.verdict, Verdict::Supported);
     assert!(rt; least <= checked.steps && checked.steps <= most);
     Ok(())
