@@ -22,6 +22,13 @@ fn put_writes_all_bytes(rt: HostRuntime) -> Result<(), Fail> {
     Ok(())
 }
 
+/// A row of a text with blanks, an empty one and one of a blank is to have these cells, and not to be blank.
+fn expect_cells(rt: &impl Abort, row: &StringRecord) {
+    assert!(rt; cell(row, 0) == "a");
+    assert!(rt; cell(row, 3) == "");
+    assert!(rt; !is_blank(row));
+}
+
 #[test]
 fn cleaning_takes_off_ascii_blanks_alone(rt: HostRuntime) -> Result<(), Fail> {
     for (text, want) in [
@@ -34,9 +41,7 @@ fn cleaning_takes_off_ascii_blanks_alone(rt: HostRuntime) -> Result<(), Fail> {
         assert!(rt; clean(text) == want);
     }
     let row = StringRecord::from_fields(rt.alloc(), &[" a ", "", " "])?;
-    assert!(rt; cell(&row, 0) == "a");
-    assert!(rt; cell(&row, 3) == "");
-    assert!(rt; !is_blank(&row));
+    expect_cells(&rt, &row);
     Ok(())
 }
 
@@ -56,16 +61,21 @@ fn expect_next(
     Ok(())
 }
 
+/// The first record and the third are to come, with two fields each, and then the end.
+fn expect_two_records(rt: &impl Abort, cursor: &mut Cursor<'_>) -> Result<(), Fail> {
+    assert!(rt; cursor.place() == 0);
+    expect_next(rt, cursor, Next::Record, 1, &["a", "1"])?;
+    assert!(rt; cursor.row().get(2) == None);
+    expect_next(rt, cursor, Next::Record, 3, &["b\nc", "\"2\""])?;
+    expect_next(rt, cursor, Next::End, 4, &[])?;
+    expect_next(rt, cursor, Next::End, 4, &[])
+}
+
 #[test]
 fn cursor_skips_blank_records_and_counts_them(rt: HostRuntime) -> Result<(), Fail> {
     let file = b"\xEF\xBB\xBFa,1\r\n\n ,\n\"b\nc\",\"\"\"2\"\"\"\n,,\n".as_slice();
     let mut cursor = Cursor::open(rt.alloc(), file, b',');
-    assert!(rt; cursor.place() == 0);
-    expect_next(&rt, &mut cursor, Next::Record, 1, &["a", "1"])?;
-    assert!(rt; cursor.row().get(2) == None);
-    expect_next(&rt, &mut cursor, Next::Record, 3, &["b\nc", "\"2\""])?;
-    expect_next(&rt, &mut cursor, Next::End, 4, &[])?;
-    expect_next(&rt, &mut cursor, Next::End, 4, &[])
+    expect_two_records(&rt, &mut cursor)
 }
 
 #[test]
