@@ -78,10 +78,15 @@ fn cursor_skips_blank_records_and_counts_them(rt: HostRuntime) -> Result<(), Fai
     expect_two_records(&rt, &mut cursor)
 }
 
+/// The second record is to be no text, and the last.
+fn expect_no_text(rt: &impl Abort, cursor: &mut Cursor<'_>) -> Result<(), Fail> {
+    expect_next(rt, cursor, Next::NotText, 2, &[])?;
+    assert!(rt; cursor.advance()? == Next::End);
+    Ok(())
+}
+
 #[test]
 fn record_that_is_not_utf8_is_told_and_passed(rt: HostRuntime) -> Result<(), Fail> {
     let mut cursor = Cursor::open(rt.alloc(), b";\na;\xFF\nb\n".as_slice(), b';');
-    expect_next(&rt, &mut cursor, Next::NotText, 2, &[])?;
-    assert!(rt; cursor.advance()? == Next::End);
-    Ok(())
+    expect_no_text(&rt, &mut cursor)
 }
