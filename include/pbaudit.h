@@ -1,7 +1,7 @@
 /* pbaudit: an auditor for participatory budgeting outcomes, over files in memory.
  *
  * Each function reads whole files, given as a pointer and a length in bytes, and answers what the command of the same
- * name prints. The result is that command's exit status:
+ * name prints. The result is that command's exit status (but for pbaudit_groups, which answers a number alone):
  *   0  yes: the answer is yes, or what was asked for is given
  *   1  no: a condition or a test failed, which the text names
  *   2  refused: a file has an error; the text says which file, and the first thing wrong
@@ -114,6 +114,17 @@ uint8_t pbaudit_answer_page(const uint8_t *election, size_t election_length,
 uint8_t pbaudit_note(const uint8_t *election, size_t election_length,
                      const uint8_t *certificate, size_t certificate_length,
                      uint8_t *out, size_t room, size_t *needed);
+
+/* What a yes to a price certificate says of every group of voters who all approve an unfunded project, by whether
+ * exhaustive was asked: PBAUDIT_STRICT, their equal part of the limit is less than what that project costs and the funded
+ * projects that at least one of them approves, together; PBAUDIT_WEAK, it is no more than that; PBAUDIT_LITTLE, nothing.
+ * It holds of the files, whatever the answer is; where one of them is refused, it is 0. 0, 1, 2, 3, or 4 where memory ran
+ * out. */
+enum {
+    PBAUDIT_LITTLE = 1, PBAUDIT_WEAK, PBAUDIT_STRICT
+};
+uint8_t pbaudit_groups(const uint8_t *election, size_t election_length,
+                       const uint8_t *certificate, size_t certificate_length, bool exhaustive);
 
 /* Why a file is refused, for a person: as an example, for the refusal `refused certificate 24 UnknownVoter record 5`
  *   there is no voter '7010'; the election has 3 voters

@@ -17,6 +17,9 @@ use Rattle.pb_reply.specs.Inside.Taking.{AuditsOutcome, Gives, GivesOutcome, IfT
 use Rattle.pb_reply.specs.declared.stop.Stop.{Stop}
 use Rattle.pb_reply.specs.declared.stop.Stop.TheVariants as stop
 use Rattle.pb_reply.specs.declared.status.Status.{Status}
+use Rattle.pb_reply.specs.contracts.stop.StopFromAllocError.TheImpl.{from_gives-value}
+use Rattle.std.specs.Result.{IsErr, IsErrAnd}
+use Rattle.std.specs.declared.alloc.AllocError.{AllocError}
 
 -- What is told of some replies is told of others, where each of those is one of these.
 pub told_weaker : {T : Type 0} (told : Reply → T) (P Q : Reply → Type 0) → ((r : Reply) → P r → Q r)
@@ -211,3 +214,9 @@ tidy_answered election certificate e d (Ok answer) given delivered tidied =
 tidy_answered election certificate e d (Err (stop.Refused r)) given delivered tidied =
     in_turn_tidied election certificate (Ok e) (Err r) d _ given tidied delivered refl
 tidy_answered election certificate e d (Err stop.Memory) given delivered tidied = tt
+
+-- a failed allocation is told as out of memory
+pub memory_told : {T : Type 0} (r : Result T Stop) (e : AllocError)
+    → IsErr r × IsErrAnd r (from_gives-value.it e) → r ≡ Err stop.Memory
+memory_told (Ok x) e h = absurd h.1
+memory_told (Err s) e h = ap Err h.1

@@ -46,7 +46,7 @@ both_promise m e w d p claim states group demand =
       prices = on_prices;
       violation = on_claim;
       never_both =
-          λ stable cover counting supports violates. on_prices.covered_yes (on_prices.exactly.1 supports) stable cover
+          λ stable strict counting supports violates. on_prices.covered_yes (on_prices.exactly.1 supports) stable strict
           claim.1 claim.2 group demand
           (subst (λ (k : Measure). Violates (worth_by k e) e w claim.1 claim.2) counting violates);
     }

@@ -1,27 +1,29 @@
 -- The answers of `explain`.
-use Rattle.std.proofs.Common.{◌≡◌, ◌∙◌, ◌++◌, ◌*◌, ap, cond, false, get_or, true, ℕ, Bool, List, [], ◌≤◌, refl, subst, sym, arith}
-use Rattle.std.specs.Prelude.{ℤ, pos, ◌-ℤ◌, IfSome, nat_lt, Option, Result, Some, None, Ok, Err, option_map, slice_get}
+use Rattle.std.proofs.Common.{◌≡◌, ◌∙◌, ◌++◌, ap, get_or, ℕ, Bool, List, [], ◌≤◌, refl, subst, sym, arith}
+use Rattle.std.specs.Prelude.{ℤ, pos, ◌-ℤ◌, IfSome, Option, Result, Some, None, Ok, Err, option_map, slice_get}
 use Rattle.std.specs.List.{AllByRecursion}
 use Rattle.std.specs.Option.{option_or}
-use Rattle.std.proofs.lemmas.Bool.{ltb-false, ltb-true}
 use Rattle.pb_records.specs.Loading.{Delivery}
 use Rattle.pb_records.proofs.Each.{all-filter, all-first}
-use Rattle.pb_election.specs.Instance.{Instance, IsProject, IsSet, all_projects, projects, supporters, voters}
+use Rattle.pb_election.specs.Instance.{Instance, IsProject, IsSet, all_projects, projects, supporters}
 use Rattle.pb_certificate.specs.Prices.{Prices}
 use Rattle.pb_certificate.specs.Refutations.{Weights}
 use Rattle.pb_certificate.specs.declared.kind.Kind.TheVariants as kind
-use Rattle.pb_cohesion.specs.Amounts.{beta, budget_limit, cost, left, paid}
+use Rattle.pb_cohesion.specs.Amounts.{budget_limit, cost, left, paid}
 use Rattle.pb_cohesion.specs.Conditions.{culprits_of_C1, culprits_of_C3, culprits_of_C4, culprits_of_C5, culprits_of_Exhaustive, culprits_of_S5, most_of, sum_ℤ}
 use Rattle.pb_cohesion.specs.FirstV.{culprits_of_V2}
 use Rattle.pb_cohesion.specs.Outcome.{unfunded}
 use Rattle.pb_cohesion.specs.Refutations.{culprits_of_U1}
 use Rattle.pb_price.specs.Findings.{comparison, finding, findings, total_grains}
 use Rattle.pb_price.specs.First.{verdict_of}
+use Rattle.pb_price.specs.OnGroups.{HoldsOfGroups, groups_by, on_groups}
 use Rattle.pb_price.specs.Told.{first_told}
 use Rattle.pb_price.specs.declared.Findings.{Findings}
 use Rattle.pb_price.specs.declared.Mode.{Mode}
+use Rattle.pb_price.specs.declared.OnGroups.{OnGroups}
+use Rattle.pb_price.specs.declared.OnGroups.TheVariants.{Strict, Weak, Little}
 use Rattle.pb_price.proofs.Told.{tell-first}
-use Rattle.pb_explain.specs.GroupLines.{group_lines, not_passed_over, not_shown, within_reach}
+use Rattle.pb_explain.specs.GroupLines.{below_reach, claim, group_lines, not_shown, within_reach}
 use Rattle.pb_explain.specs.PriceTable.{NameProjects, ShowsProject, price_table}
 use Rattle.pb_reply.specs.Replies.{Reply, with_input}
 use Rattle.pb_audit.specs.Answers.{verdict_reply}
@@ -42,28 +44,22 @@ use Rattle.pb_reply.proofs.Promises.{certificate_promises}
 differ : (xs ys : List ℕ) (k : ℕ) → xs ≡ ys → (get_or xs k 0 ≡ get_or ys k 0 → ⊥) → ⊥
 differ xs ys k same apart = apart (ap (λ zs. get_or zs k 0) same)
 
-said_of_reach : (less more : Bool)
-    → cond less not_shown (cond more not_passed_over within_reach) ≡ within_reach → less ≡ false
-said_of_reach true more h = absurd (differ not_shown within_reach 0 h (λ same. omega arith))
-said_of_reach false more h = refl
+said-weak : (said : OnGroups) → claim said ≡ within_reach → said ≡ Weak
+said-weak Strict h = absurd (differ below_reach within_reach 86 h (λ same. omega arith))
+said-weak Weak h = refl
+said-weak Little h = absurd (differ not_shown within_reach 0 h (λ same. omega arith))
 
-said_of_none : (less more : Bool)
-    → cond less not_shown (cond more not_passed_over within_reach) ≡ not_passed_over → more ≡ true
-said_of_none true more h = absurd (differ not_shown not_passed_over 0 h (λ same. omega arith))
-said_of_none false true h = refl
-said_of_none false false h = absurd (differ within_reach not_passed_over 8 h (λ same. omega arith))
+said-strict : (said : OnGroups) → claim said ≡ below_reach → said ≡ Strict
+said-strict Strict h = refl
+said-strict Weak h = absurd (differ within_reach below_reach 86 h (λ same. omega arith))
+said-strict Little h = absurd (differ not_shown below_reach 0 h (λ same. omega arith))
 
 so_of_groups : (m : Mode) (status : Status) (e : Instance) (w : List Bool) (p : Prices) → PricesPromise m status e w p
-    → IsSoOfGroups status e w (findings e w p)
-so_of_groups m status e w p promise =
-    let limit : ℕ = budget_limit e p in
-    let budgets : ℕ = voters e * beta p in
-    record {
-      reach = λ yes' told. promise.share_yes yes'
-          (ltb-false budgets limit (said_of_reach (nat_lt budgets limit) (nat_lt limit budgets) told));
-      passed_over = λ yes' told. promise.pjr_plus_yes yes'
-          (ltb-true limit budgets (said_of_none (nat_lt budgets limit) (nat_lt limit budgets) told));
-    }
+    → IsSoOfGroups status e w (groups_by m e p)
+so_of_groups m status e w p promise = record {
+  reach = λ yes' told. subst (λ said. HoldsOfGroups said e w) (said-weak (groups_by m e p) told) (promise.groups_yes yes');
+  below = λ yes' told. subst (λ said. HoldsOfGroups said e w) (said-strict (groups_by m e p) told) (promise.groups_yes yes');
+}
 
 pub explained_promise : (m : Mode) → Promised (explained_rules m)
 explained_promise m e w d (OfPrices p) given =
@@ -159,6 +155,6 @@ misplaced_names_projects e w r =
 pub findings_explain : (m : Mode) (e : Instance) (w : List Bool) (p : Prices) (f : Findings) → 1 ≤ p.denominator
     → f ≡ findings e w p
     → with_table
-    (price_table m e f ++ groups_told (verdict_of (first_told m f)) (group_lines e w f))
+    (price_table m e f ++ groups_told (verdict_of (first_told m f)) (group_lines e w (on_groups m.exhaustive f.budgets f.limit)))
     (verdict_reply m e (verdict_of (first_told m f))) ≡ explained_prices m e w p
 findings_explain m e w p f low is = grind (arith, tell-first)

@@ -7,6 +7,7 @@ use Rattle.pb_certificate.specs.declared.violations.measure.Measure.{Measure}
 use Rattle.pb_certificate.specs.declared.violations.measure.Measure.TheVariants.{ByCount}
 use Rattle.pb_cohesion.specs.Groups.{Violates}
 use Rattle.pb_cohesion.specs.Satisfactions.{worth_by}
+use Rattle.pb_price.specs.OnGroups.{IsStrict}
 use Rattle.pb_price.specs.Supports.{Supports}
 use Rattle.pb_price.specs.declared.Mode.{Mode}
 use Rattle.pb_price.specs.declared.Verdict.{Verdict}
@@ -43,15 +44,15 @@ abbrev pub beside : Mode → Verdict → Instance → List Bool → GroupAndDema
 beside m verdict e w claim = joined (verdict_reply m e verdict) (violation_reply e w claim)
 
 -- The status is yes exactly where the prices support the outcome and the group and its demand are a violation. Each
--- line promises what it promises alone. What is more, where the stable form and Cover are asked for, prices that
--- support the outcome never stand beside a violation by counting.
+-- line promises what it promises alone. What is more, where the stable form is asked for, prices that support the
+-- outcome and say the strict case of groups never stand beside a violation by counting.
 pub record BothPromise (m : Mode) (status : Status) (e : Instance) (w : List Bool) (p : Prices)
     (claim : GroupAndDemand) : Type 0 where
   pub exactly : (status ≡ Yes) ↔
       (Supports m e w p × Violates (worth_by claim.0 e) e w claim.1 claim.2)
   pub prices : PricesPromise m (price_reply m e w p).status e w p
   pub violation : ViolationPromises (violation_reply e w claim).status e w claim
-  pub never_both : IsTrue m.stable → IsTrue m.cover → claim.0 ≡ ByCount
+  pub never_both : IsTrue m.stable → IsStrict m e p → claim.0 ≡ ByCount
       → Supports m e w p → Violates (worth_by claim.0 e) e w claim.1 claim.2 → ⊥
 
 -- What the violation certificate states counts where the prices are accepted. So both certificates state the prices

@@ -12,10 +12,11 @@ use Rattle.pb_cohesion.specs.ViolationFindings.{violation_findings}
 use Rattle.pb_price.specs.Findings.{findings}
 use Rattle.pb_price.specs.declared.Mode.{Mode}
 use Rattle.pb_price.specs.First.{First, verdict_of}
-use Rattle.pb_price.specs.declared.Findings.{Findings}
+use Rattle.pb_price.specs.OnGroups.{groups_by}
+use Rattle.pb_price.specs.declared.OnGroups.{OnGroups}
 use Rattle.pb_price.specs.declared.Verdict.{Verdict}
 use Rattle.pb_price.specs.declared.Verdict.TheVariants.{Supported, Failed}
-use Rattle.pb_explain.specs.GroupLines.{claim, group_lines, not_passed_over, within_reach}
+use Rattle.pb_explain.specs.GroupLines.{below_reach, claim, group_lines, within_reach}
 use Rattle.pb_explain.specs.PriceTable.{price_table}
 use Rattle.pb_explain.specs.RefutationTable.{refutation_table}
 use Rattle.pb_explain.specs.ViolationTable.{violation_table}
@@ -43,7 +44,7 @@ abbrev pub explained_prices : Mode → Instance → List Bool → Prices → Rep
 explained_prices m e w p =
     with_table
     (price_table m e (findings e w p)
-    ++ groups_told (verdict_of (First m e w p)) (group_lines e w (findings e w p)))
+    ++ groups_told (verdict_of (First m e w p)) (group_lines e w (groups_by m e p)))
     (price_reply m e w p)
 
 abbrev pub explained_violation : Instance → List Bool → Measure × List ℕ × List ℕ → Reply
@@ -59,15 +60,15 @@ explained_reply m e w (OfPrices p) = explained_prices m e w p
 explained_reply m e w (OfViolation v) = explained_violation e w v
 explained_reply m e w (OfRefutation r) = explained_refutation e w r
 
--- What is said of groups is so. Where it is said that a group's share is within reach, it is, and where that no group is
--- passed over, none is.
-pub record IsSoOfGroups (status : Status) (e : Instance) (w : List Bool) (f : Findings) : Type 0 where
-  pub reach : status ≡ Yes → claim f ≡ within_reach → SharesAreWithinReach e w
-  pub passed_over : status ≡ Yes → claim f ≡ not_passed_over → NoGroupIsPassedOver e w
+-- What is said of groups is so: after `no more than` the share of every group is within reach, and after `less than` no
+-- group is passed over.
+pub record IsSoOfGroups (status : Status) (e : Instance) (w : List Bool) (said : OnGroups) : Type 0 where
+  pub reach : status ≡ Yes → claim said ≡ within_reach → SharesAreWithinReach e w
+  pub below : status ≡ Yes → claim said ≡ below_reach → NoGroupIsPassedOver e w
 
 -- the status promises what it does without the table, and what is said of groups is so
 abbrev pub ExplainedPromise : Mode → Status → Instance → List Bool → Certificate → Type 0
-ExplainedPromise m status e w (OfPrices p) = PricesPromise m status e w p × IsSoOfGroups status e w (findings e w p)
+ExplainedPromise m status e w (OfPrices p) = PricesPromise m status e w p × IsSoOfGroups status e w (groups_by m e p)
 ExplainedPromise m status e w (OfViolation v) = ViolationPromises status e w v
 ExplainedPromise m status e w (OfRefutation r) = RefutationPromises status e w r
 

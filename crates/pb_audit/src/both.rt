@@ -11,8 +11,8 @@ ghost use Rattle.pb_audit.specs.Inside.Certificates.{AnswersCertificate, JudgesP
 ghost use Rattle.pb_reply.specs.Inside.Taking.{Gives, IfTaken, settled};
 ghost use Rattle.pb_election.specs.Outcome.{OutcomeFits};
 
+use crate::on_groups::push_note;
 use crate::prices::{price_verdict, verdict_reply};
-use crate::says_little::push_note;
 use crate::violation::group_reply;
 use pb_election::{Election, Outcome};
 use pb_input::InputName;

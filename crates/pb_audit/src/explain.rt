@@ -15,12 +15,13 @@ ghost use Rattle.pb_election.specs.Outcome.{OutcomeFits};
 ghost use Rattle.pb_explain.specs.GroupLines.{group_lines};
 ghost use Rattle.pb_explain.specs.PriceTable.{NameProjects, price_table};
 ghost use Rattle.pb_price.specs.First.{verdict_of};
+ghost use Rattle.pb_price.specs.OnGroups.{on_groups};
 ghost use Rattle.pb_price.specs.Told.{first_told};
 
 use crate::auditing::Audit;
+use crate::on_groups::push_note_on_yes;
 use crate::prices::verdict_reply;
 use crate::refutation::weights_verdict_reply;
-use crate::says_little::push_note_on_yes;
 use crate::violation::group_verdict_reply;
 use pb_certificate::{Kind, Refutation, Violation};
 use pb_cohesion::{refutation_findings, violation_findings};
@@ -98,7 +99,7 @@ fn findings_reply(
     requires unit { 10 ^ 6 ≤ (findings.now).grains_per_unit }
     requires named { NameProjects election.now findings.now }
     requires verdict { PricesNameProject election.now (verdict_of (first_told mode findings.now)) }
-    ensures { IfOk result (λ reply. reply ≡ with_table (price_table mode election.now findings.now ++ groups_told (verdict_of (first_told mode findings.now)) (group_lines election.now (outcome.now).marks findings.now)) (verdict_reply mode election.now (verdict_of (first_told mode findings.now)))) }
+    ensures { IfOk result (λ reply. reply ≡ with_table (price_table mode election.now findings.now ++ groups_told (verdict_of (first_told mode findings.now)) (group_lines election.now (outcome.now).marks (on_groups mode.exhaustive (findings.now).budgets (findings.now).limit))) (verdict_reply mode election.now (verdict_of (first_told mode findings.now)))) }
 {
     let mut reply = verdict_reply(alloc, election, findings.verdict(mode), mode)?;
     reply.lines.push(String::new(alloc))?;
@@ -117,12 +118,12 @@ fn push_groups_on_yes(
     mode: Mode,
 ) -> Result<(), AllocError>
     requires { OutcomeFits outcome.now election.now }
-    ensures { OnOk result (map string_bytes lines.new.items ≡ map string_bytes lines.old.items ++ groups_told (verdict_of (first_told mode findings.now)) (group_lines election.now (outcome.now).marks findings.now)) }
+    ensures { OnOk result (map string_bytes lines.new.items ≡ map string_bytes lines.old.items ++ groups_told (verdict_of (first_told mode findings.now)) (group_lines election.now (outcome.now).marks (on_groups mode.exhaustive (findings.now).budgets (findings.now).limit))) }
 {
     match findings.verdict(mode) {
         Verdict::Supported => {
             lines.push(String::new(alloc))?;
-            push_group_lines(alloc, lines, election, outcome, findings)
+            push_group_lines(alloc, lines, election, outcome, findings.on_groups(mode))
         }
         Verdict::Failed(_) => Ok(()),
     }

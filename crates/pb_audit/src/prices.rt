@@ -10,7 +10,7 @@ ghost use Rattle.pb_certificate.specs.Prices.{Prices};
 ghost use Rattle.pb_election.specs.Outcome.{OutcomeFits};
 
 use crate::auditing::Audit;
-use crate::says_little::push_note_on_yes;
+use crate::on_groups::push_note_on_yes;
 use pb_election::{Election, Outcome};
 use pb_input::{InputFault, InputName};
 use pb_price::{Mode, Verdict, check_rows};

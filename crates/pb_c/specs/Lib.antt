@@ -2,3 +2,4 @@ pub mod Commands
 pub mod Facts
 pub mod Files
 pub mod Reports
+pub mod Groups

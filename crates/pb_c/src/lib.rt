@@ -4,7 +4,7 @@
 //! at a failed allocation is tested and not proved.
 #![tactic(auto)]
 
-ghost use Rattle.std.specs.Prelude.{◌≡◌, IfNone, IfSome, option_map};
+ghost use Rattle.std.specs.Prelude.{◌≡◌, ◌≤◌, IfNone, IfSome, option_map};
 ghost use Rattle.pb_audit.specs.Questions.{Answers};
 ghost use Rattle.pb_c.specs.Commands.{question_of};
 ghost use Rattle.pb_c.specs.Files.{given_file, given_mode};
@@ -18,12 +18,14 @@ ghost use Rattle.pb_words.specs.Languages.{language_of};
 mod answers;
 mod facts;
 mod faults;
+mod groups;
 mod hints;
 mod notes;
 mod report;
 
 use answers::{answer_on, given_bytes, page_on, question_of};
 pub use facts::{Culprit, Facts};
+use groups::groups_on;
 use hints::hint_answer;
 use notes::note_answer;
 use pb_page::{Language, PageNames};
@@ -145,6 +147,21 @@ pub extern "C" fn pbaudit_note(
     ensures { Reports (λ answer. answer.status ≡ Yes) result out.old out.new needed.new }
 {
     report(&note_answer(alloc, election, certificate), out, needed)
+}
+
+/// Tells what a yes to a price certificate says of groups of voters, by whether the condition Exhaustive was asked for: 1
+/// little, 2 the weak case, 3 the strict one; 0 where a file is refused, and 4 where memory ran out. It isn't looked
+/// whether the prices support an outcome.
+#[unsafe(no_mangle)]
+pub extern "C" fn pbaudit_groups(
+    alloc: Global,
+    election: &[u8],
+    certificate: &[u8],
+    exhaustive: bool,
+) -> u8
+    ensures { result ≤ 4 }
+{
+    groups_on(alloc, election, certificate, exhaustive)
 }
 
 /// Tells a person why a file is refused, by its bytes and by the number and the record (`place`) of its refusal: 0 where it is

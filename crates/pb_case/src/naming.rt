@@ -82,12 +82,18 @@ fn is_longer(text: &str, most: usize) -> bool {
     text.chars().nth(most).is_some()
 }
 
+// So many characters of a text from its beginning, or all if it has fewer.
+fn front(alloc: Global, text: &str, most: usize) -> Result<String, AllocError> {
+    let mut front = String::new(alloc);
+    for c in text.chars().take(most) {
+        front.push(c)?;
+    }
+    Ok(front)
+}
+
 // A text, cut behind so many characters.
 fn cut(alloc: Global, text: &str, most: usize) -> Result<String, AllocError> {
-    let mut shown = String::new(alloc);
-    for c in text.chars().take(most) {
-        shown.push(c)?;
-    }
+    let mut shown = front(alloc, text, most)?;
     if is_longer(text, most) {
         shown.push_str("\u{2026}")?;
     }
@@ -137,12 +143,15 @@ impl Case<'_> {
         self.said(Sentence::VoterRow, &fillings)
     }
 
-    /// The id of a project, which is numbered from 1, as it is shown.
+    /// The id of a project, which is numbered from 1, as it is shown, or as much of a long one as any label shows.
     pub fn id(&self, j: u32) -> Result<String, AllocError> {
+        let alloc = self.words.alloc;
         if j == 0 || j > self.election.projects() {
-            return Ok(String::new(self.words.alloc));
+            return Ok(String::new(alloc));
         }
-        visible(self.words.alloc, self.election.id(j).as_bytes())
+        // How a character is shown depends on the one behind it, and whether a text is cut on one more.
+        let id = front(alloc, self.election.id(j), MOST_IN_TITLE + 2)?;
+        visible(alloc, id.as_bytes())
     }
 
     /// A project by its id, and its name where it has one.

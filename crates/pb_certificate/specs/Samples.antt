@@ -2,6 +2,7 @@
 use Rattle.std.specs.Prelude.{◌+◌, ◌*◌, ℕ, Bool, true, false, List, [], ◌∷◌, ◌++◌, map, length, filter_map, slice_get, codes, Option, Some, None, option_map}
 use Rattle.std.specs.List.{range_with_len}
 use Rattle.pb_election.specs.Instance.{Instance}
+use Rattle.pb_election.specs.Rows.{unused_columns}
 use Rattle.pb_records.specs.Records.{Field, Rec}
 use Rattle.pb_records.specs.FirstFault.{Form, fault_at}
 use Rattle.pb_certificate.specs.declared.refusal.CertFault.{CertFault}
@@ -25,6 +26,7 @@ election limit ids costs selected ballots = record {
   other_selected = 0;
   declared_projects = None;
   declared_votes = None;
+  unused = unused_columns [];
   ballots = ballots;
 }
 

@@ -19,7 +19,7 @@ use Rattle.pb_cohesion.proofs.Sums.{all-among, among, at, range-le, range-same, 
 use Rattle.pb_cohesion.proofs.Sets.{largest-at, set-all, set-le-range}
 use Rattle.pb_cohesion.proofs.Plain.{left_ℕ}
 use Rattle.pb_cohesion.proofs.Stable.{group-offers, most_ℕ}
-use Rattle.pb_cohesion.proofs.Reaches.{costs-in-grains, pays-none, pays-wasted}
+use Rattle.pb_cohesion.proofs.Reaches.{costs-in-grains, left-le-most, pays-none, pays-wasted}
 
 -- the funded part of a set, and the rest
 abbrev pub funded_part : List Bool → List ℕ → List ℕ
@@ -103,23 +103,25 @@ spent-parts e w p t i approved none_wasted v projects_t =
       ]
     ]
 
--- so many payments at most, and what is left, are at most as many offers and one more
-times-le : (t l m v r : ℕ) → t ≤ m → l ≤ m → v < r → t * v + l ≤ r * m
-times-le t l m v r a b c = grind arith
+-- so many payments at most, and one offer, are at most as many offers and one more
+times-le : (t m v r : ℕ) → t ≤ m → v < r → t * v + m ≤ r * m
+times-le t m v r a b = grind arith
 
--- a member that gets less than the whole set has a budget of at most what it pays inside and its offers for the rest
+-- a member that gets less than the whole set has a budget of at most what it pays inside, its offers for the rest but
+-- one, and what it has left
 pub budget-le : (e : Instance) (w : List Bool) (p : Prices) (t : List ℕ) (i : ℕ) → C1 e p → C4 e w p → IsVoter e i
     → AreProjects e t → AllByRecursion (λ j. Approves e i j) t
     → length (gets e w i) < length t
-    → beta p ≤ sum_by (pays p i) (funded_part w t) + length (rest_of w t) * most_ℕ e p i
+    → beta p + most_ℕ e p i
+    ≤ sum_by (pays p i) (funded_part w t) + (length (rest_of w t) * most_ℕ e p i + left_ℕ e p i)
 budget-le e w p t i approved none_wasted v projects_t approve less =
     let whole : length t ≡ length (funded_part w t) + length (rest_of w t) =
     sym (sum-ones t) ∙ sum-parts (λ j. 1) w t
     ∙ (omega (arith, sum-ones (funded_part w t), sum-ones (rest_of w t))) in
     let few : sum_by (others e w t i) (all_projects e) < length (rest_of w t) =
     omega (arith, gets-parts e w t i projects_t approve) in
-    let bound : top e p i * sum_by (others e w t i) (all_projects e) + left_ℕ e p i
-    ≤ length (rest_of w t) * most_ℕ e p i = times-le _ _ _ _ _ (omega arith) (omega arith) few in
+    let bound : top e p i * sum_by (others e w t i) (all_projects e) + most_ℕ e p i
+    ≤ length (rest_of w t) * most_ℕ e p i = times-le _ _ _ _ (omega arith) few in
     omega (arith, spent-parts e w p t i approved none_wasted v projects_t)
 
 -- some member gets at least so many, or each gets fewer
@@ -155,12 +157,15 @@ rest-each e w P (j ∷ js) h k = elim (cases_Bool (has w j)) [
 pub all-turned : (P : ℕ → ℕ → Type 0) (s t : List ℕ) → All (λ i. All (P i) t) s → All (λ j. All (λ i. P i j) s) t
 all-turned P s t h k d within l b low = h l b low k d within
 
--- where each member of a group gets less than a set, its budgets come to at most what the set costs
-pub all_less : (e : Instance) (w : List Bool) (p : Prices) (s t : List ℕ) → C1 e p → C3 e w p → C4 e w p → S5 e w p
+-- where each member of a group gets less than a set, its budgets come to at most what the funded part costs, the offers
+-- for the rest but one, and what is left
+pub group-parts : (e : Instance) (w : List Bool) (p : Prices) (s t : List ℕ) → C1 e p → C3 e w p → C4 e w p
     → IsGroup e s → AreProjects e t
     → All (λ i. All (Approves e i) t) s → AllByRecursion (λ i. length (gets e w i) < length t) s
-    → length s * beta p ≤ sum_by (cost e p) t
-all_less e w p s t approved paid_for none_wasted stable group projects_t approve less =
+    → length s * beta p + sum_by (most_ℕ e p) s
+    ≤ sum_by (cost e p) (funded_part w t)
+    + (length (rest_of w t) * sum_by (most_ℕ e p) s + sum_by (left_ℕ e p) s)
+group-parts e w p s t approved paid_for none_wasted group projects_t approve less =
     let members : AllByRecursion (IsVoter e) s = set-all (IsVoter e) 1 (voters e) s group (λ i low high. (low, high)) in
     let in_t : AllByRecursion (IsProject e) t =
     set-all (IsProject e) 1 (projects e) t projects_t (λ j low high. (low, high)) in
@@ -169,14 +174,15 @@ all_less e w p s t approved paid_for none_wasted stable group projects_t approve
     let known : AllByRecursion (λ i. IsVoter e i × All (Approves e i) t) s =
     all-both (IsVoter e) (λ i. All (Approves e i) t) (λ i. IsVoter e i × All (Approves e i) t) s (λ i v a. (v, a))
     members approve_each in
-    let each : AllByRecursion (λ i. beta p ≤ sum_by (pays p i) (funded_part w t) + length (rest_of w t) * most_ℕ e p i)
-    s
+    let each : AllByRecursion (λ i. beta p + most_ℕ e p i
+    ≤ sum_by (pays p i) (funded_part w t) + (length (rest_of w t) * most_ℕ e p i + left_ℕ e p i)) s
     = all-both (λ i. IsVoter e i × All (Approves e i) t) (λ i. length (gets e w i) < length t)
-    (λ i. beta p ≤ sum_by (pays p i) (funded_part w t) + length (rest_of w t) * most_ℕ e p i) s
+    (λ i. beta p + most_ℕ e p i
+    ≤ sum_by (pays p i) (funded_part w t) + (length (rest_of w t) * most_ℕ e p i + left_ℕ e p i)) s
     (λ i k l. budget-le e w p t i approved none_wasted k.0 projects_t (recursion_from_All (Approves e i) t k.1) l) known
     less in
-    let budgets : sum_by (λ i. beta p) s
-    ≤ sum_by (λ i. sum_by (pays p i) (funded_part w t) + length (rest_of w t) * most_ℕ e p i) s =
+    let budgets : sum_by (λ i. beta p + most_ℕ e p i) s
+    ≤ sum_by (λ i. sum_by (pays p i) (funded_part w t) + (length (rest_of w t) * most_ℕ e p i + left_ℕ e p i)) s =
     sum-le _ _ s each in
     let swapped : sum_by (λ i. sum_by (pays p i) (funded_part w t)) s
     ≡ sum_by (λ j. sum_by (λ i. pays p i j) s) (funded_part w t) = sum-exchange (pays p) s (funded_part w t) in
@@ -186,19 +192,49 @@ all_less e w p s t approved paid_for none_wasted stable group projects_t approve
     (λ j f.
     (let whole : paid e p j ≡ cost e p j = paid_for j f in let part : sum_by (λ i. pays p i j) s
     ≤ paid e p j = set-le-range (λ i. pays p i j) (voters e) s group in omega arith)) (funded-each e w t in_t)) in
-    let outside : sum_by (λ j. sum_by (most_ℕ e p) s) (rest_of w t) ≤ sum_by (cost e p) (rest_of w t)
-    = sum-le _ _ (rest_of w t)
-    (all-weaker (λ j. IsUnfunded e w j × All (λ i. Approves e i j) s) (λ j. sum_by (most_ℕ e p) s ≤ cost e p j)
-    (rest_of w t)
-    (λ j k. group-offers e w p s j stable k.0 (group, k.1))
-    (rest-each e w (λ j. All (λ i. Approves e i j) s) t in_t
-    (recursion_from_All (λ j. All (λ i. Approves e i j) s) t (all-turned (Approves e) s t approve)))) in
     omega (
       arith,
       sum-const (beta p) s,
-      sum-add (λ i. sum_by (pays p i) (funded_part w t)) (λ i. length (rest_of w t) * most_ℕ e p i) s,
+      sum-add (λ i. beta p) (most_ℕ e p) s,
+      sum-add (λ i. sum_by (pays p i) (funded_part w t))
+          (λ i. length (rest_of w t) * most_ℕ e p i + left_ℕ e p i) s,
+      sum-add (λ i. length (rest_of w t) * most_ℕ e p i) (left_ℕ e p) s,
       sum-mul (length (rest_of w t)) (most_ℕ e p) s,
-      sum-const (sum_by (most_ℕ e p) s) (rest_of w t),
+    )
+
+-- each of the rest is unfunded and costs at least what the group can offer
+pub rest-costs : (e : Instance) (w : List Bool) (p : Prices) (s t : List ℕ) → S5 e w p → IsGroup e s → AreProjects e t
+    → All (λ i. All (Approves e i) t) s
+    → AllByRecursion (λ j. IsUnfunded e w j × (sum_by (most_ℕ e p) s ≤ cost e p j)) (rest_of w t)
+rest-costs e w p s t stable group projects_t approve =
+    let in_t : AllByRecursion (IsProject e) t =
+    set-all (IsProject e) 1 (projects e) t projects_t (λ j low high. (low, high)) in
+    all-weaker (λ j. IsUnfunded e w j × All (λ i. Approves e i j) s)
+    (λ j. IsUnfunded e w j × (sum_by (most_ℕ e p) s ≤ cost e p j)) (rest_of w t)
+    (λ j k. (k.0, group-offers e w p s j stable k.0 (group, k.1)))
+    (rest-each e w (λ j. All (λ i. Approves e i j) s) t in_t
+    (recursion_from_All (λ j. All (λ i. Approves e i j) s) t (all-turned (Approves e) s t approve)))
+
+-- so many offers are at most what as many projects cost, each of which costs no less than one
+pub offers-le : (e : Instance) (w : List Bool) (p : Prices) (most : ℕ) (rest : List ℕ)
+    → AllByRecursion (λ j. IsUnfunded e w j × (most ≤ cost e p j)) rest → length rest * most ≤ sum_by (cost e p) rest
+offers-le e w p most rest each =
+    let all : sum_by (λ j. most) rest ≤ sum_by (cost e p) rest =
+    sum-le _ _ rest (all-weaker (λ j. IsUnfunded e w j × (most ≤ cost e p j)) (λ j. most ≤ cost e p j) rest (λ j k. k.1)
+    each) in
+    omega (arith, sum-const most rest)
+
+-- where each member of a group gets less than a set, its budgets come to at most what the set costs
+pub all_less : (e : Instance) (w : List Bool) (p : Prices) (s t : List ℕ) → C1 e p → C3 e w p → C4 e w p → S5 e w p
+    → IsGroup e s → AreProjects e t
+    → All (λ i. All (Approves e i) t) s → AllByRecursion (λ i. length (gets e w i) < length t) s
+    → length s * beta p ≤ sum_by (cost e p) t
+all_less e w p s t approved paid_for none_wasted stable group projects_t approve less =
+    omega (
+      arith,
+      group-parts e w p s t approved paid_for none_wasted group projects_t approve less,
+      offers-le e w p (sum_by (most_ℕ e p) s) (rest_of w t) (rest-costs e w p s t stable group projects_t approve),
+      left-le-most e p s,
       sum-parts (cost e p) w t,
     )
 

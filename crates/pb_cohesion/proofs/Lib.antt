@@ -6,6 +6,7 @@ pub mod Stable
 pub mod Reaches
 pub mod Justified
 pub mod Shares
+pub mod Exhausted
 pub mod Culprits
 pub mod Verdicts
 pub mod Ballots

@@ -59,7 +59,7 @@ none_passed_over e w p s c approved paid_for none_wasted form cover passed =
     absurd (omega arith)
 
 -- a group that is not empty is one of an election with voters
-some-voter : (e : Instance) (s : List ℕ) → IsGroup e s → s ≢ [] → 0 < voters e
+pub some-voter : (e : Instance) (s : List ℕ) → IsGroup e s → s ≢ [] → 0 < voters e
 some-voter e [] group some = absurd (some refl)
 some-voter e (i ∷ s) group some =
     let low : 1 ≤ i = group.0 in let high : i ≤ voters e = group.1 in omega arith

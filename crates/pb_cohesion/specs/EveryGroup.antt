@@ -1,5 +1,5 @@
 -- What the conditions promise of every group of voters.
-use Rattle.std.specs.Prelude.{◌<◌, ◌≤◌, ◌*◌, ◌+◌, ℕ, pos, ◌≤ℤ◌, ◌<ℤ◌, All, Any, Bool, List, length, sum_by}
+use Rattle.std.specs.Prelude.{◌≡◌, ◌<◌, ◌≤◌, ◌*◌, ◌+◌, ℕ, pos, ◌≤ℤ◌, ◌<ℤ◌, All, Any, Bool, List, length, sum_by}
 use Rattle.pb_election.specs.Instance.{Approves, Instance, cost_of, cost_of_all, supporters, voters}
 use Rattle.pb_certificate.specs.Prices.{Prices}
 use Rattle.pb_cohesion.specs.Amounts.{beta, budget_limit, cost, left}
@@ -34,6 +34,10 @@ BudgetsAreWithinReach e w p = (s : List ℕ) (c : ℕ) → IsUnfunded e w c → 
 -- the voter budgets of all voters together are at least the limit; Cover says that they are more
 abbrev pub BudgetsReachTheLimit : Instance → Prices → Type 0
 BudgetsReachTheLimit e p = budget_limit e p ≤ voters e * beta p
+
+-- they are the limit
+abbrev pub BudgetsAreTheLimit : Instance → Prices → Type 0
+BudgetsAreTheLimit e p = voters e * beta p ≡ budget_limit e p
 
 -- the share of a group of supporters of an unfunded project in the limit is at most what this project costs and what
 -- was funded for the group together

@@ -8,7 +8,7 @@ ghost use Rattle.pb_certificate.specs.Prices.{Prices};
 ghost use Rattle.pb_certificate.specs.Refutations.{Weights};
 ghost use Rattle.pb_cohesion.specs.Amounts.{paid, spent};
 ghost use Rattle.pb_cohesion.specs.Conditions.{C1, C2, C3, C4, C5, Cover, Exhaustive, S5, culprits_of_C1, culprits_of_C2, culprits_of_C3, culprits_of_C4, culprits_of_C5, culprits_of_Exhaustive, culprits_of_S5, most_of};
-ghost use Rattle.pb_cohesion.specs.EveryGroup.{BudgetsAreWithinReach, BudgetsReachTheLimit, DemandsAreWithinReach, GroupsGetTheirShare, NoDemandIsPassedOver, NoGroupHasMoreLeft, NoGroupIsPassedOver, NoViolationByCounting, NothingBlocks, SharesAreWithinReach, SupportersBlock, SupportersHaveMoreLeft};
+ghost use Rattle.pb_cohesion.specs.EveryGroup.{BudgetsAreTheLimit, BudgetsAreWithinReach, BudgetsReachTheLimit, DemandsAreWithinReach, GroupsGetTheirShare, NoDemandIsPassedOver, NoGroupHasMoreLeft, NoGroupIsPassedOver, NoViolationByCounting, NothingBlocks, SharesAreWithinReach, SupportersBlock, SupportersHaveMoreLeft};
 ghost use Rattle.pb_cohesion.specs.FirstU.{FirstU};
 ghost use Rattle.pb_cohesion.specs.FirstV.{FirstV};
 ghost use Rattle.pb_cohesion.specs.Groups.{Offer, Violates};
@@ -67,6 +67,13 @@ pub fn budgets_within_reach()
 pub fn shares_within_reach()
     ensures reached { (e : Instance) (w : List Bool) (p : Prices) → 1 ≤ p.denominator → C1 e p → C3 e w p → C4 e w p → ((C2 e p × C5 e w p) ⊎ S5 e w p) → BudgetsReachTheLimit e p → SharesAreWithinReach e w }
     ensures covered { (e : Instance) (w : List Bool) (p : Prices) → C1 e p → C3 e w p → C4 e w p → ((C2 e p × C5 e w p) ⊎ S5 e w p) → Cover e p → NoGroupIsPassedOver e w }
+{}
+
+/// So it is also where the budgets of all voters together are the limit, and no unfunded project can be added within it:
+/// under C1 to C4 no group is passed over, and under S5 none is a violation by counting.
+pub fn exhaustive_is_as_good_as_cover_at_the_limit()
+    ensures shares { (e : Instance) (w : List Bool) (p : Prices) → 1 ≤ p.denominator → C1 e p → C2 e p → C3 e w p → C4 e w p → Exhaustive e w → BudgetsAreTheLimit e p → NoGroupIsPassedOver e w }
+    ensures counting { (e : Instance) (w : List Bool) (p : Prices) → 1 ≤ p.denominator → C1 e p → C2 e p → C3 e w p → C4 e w p → S5 e w p → Exhaustive e w → BudgetsAreTheLimit e p → NoViolationByCounting e w }
 {}
 
 /// So no demand is passed over: what a cohesive group demands costs at most what any unfunded project of it costs and

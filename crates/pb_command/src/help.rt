@@ -32,7 +32,8 @@ pub(crate) const READ_NOTES: &str = "\
 Prints how many voters, projects and funded projects an election has. A project
 is funded if it has a 1 in the column 'selected'; without that column the
 election has no outcome. Notes follow if the file declares another number of
-projects or votes than it has, or if 'selected' is neither 0 nor 1 somewhere.
+projects or votes than it has, if 'selected' is neither 0 nor 1 somewhere, and
+on columns 'weight', 'points' or 'sign' of the votes, which aren't used.
 
 A file that is not an election with approval ballots is refused. The line names
 the first error and its record, counted from 1 without empty lines:
@@ -77,7 +78,7 @@ fails. If that names a voter or a project, it is the first voter and then the
 first project, by their rows in the election, at which the condition fails:
   failed C5 project pool
 A no by C1 or a later condition is about these payments only: others may support
-the outcome. That no payments at all support it is what a refutation proves.
+the outcome. That none do, or none with Cover, is what a refutation proves.
 
 An outcome file has the record pb-outcome,1 and then a record project,ID for
 each funded project.
@@ -127,8 +128,9 @@ Examples:
 /// What `refutation` tests.
 pub(crate) const REFUTATION_NOTES: &str = "\
 A refutation gives projects weights. If all tests below are passed, they prove
-that no payments whatever support the outcome, whatever the voter budget is: no
-price certificate can be found, in any mode. It is a file of records such as
+that no prices support the outcome, whatever the voter budget is: where the
+weight behind 'cover' is 0, no prices in any mode; where it is more, no prices
+with the condition Cover. It is a file of records such as
   pb-refutation,1
   cover,0
   role,project,weight

@@ -11,6 +11,7 @@ use Rattle.pb_records.specs.Records.{Field, Rec}
 use Rattle.pb_records.specs.Cells.{cell, clean}
 use Rattle.pb_election.specs.Names.{cut_at, is_among, lower}
 use Rattle.pb_election.specs.declared.columns.Columns.{Columns}
+use Rattle.pb_election.specs.declared.columns.UnusedColumns.{UnusedColumns}
 use Rattle.pb_election.specs.declared.keys.Key.{Key}
 use Rattle.pb_election.specs.declared.keys.Key.TheVariants.{Budget, NumProjects, NumVotes, VoteType}
 use Rattle.pb_election.specs.declared.sections.Section.{Section}
@@ -154,6 +155,18 @@ others_in columns rows = count_by (says_neither columns) rows
 -- the place of the column that is read
 abbrev pub vote_column : Rec → Option ℕ
 vote_column header = column_named (codes "vote") header
+
+-- which columns that weigh votes a header has: a vote counts the same with them and without
+abbrev pub has_column : Field → Rec → Bool
+has_column name header = not (occurrences name header == 0)
+
+abbrev pub unused_columns : Rec → UnusedColumns
+unused_columns header =
+    record {
+      weight = has_column (codes "weight") header;
+      points = has_column (codes "points") header;
+      sign = has_column (codes "sign") header;
+    }
 
 -- the ids that a vote names: its pieces between commas, cleaned, but for the empty ones
 unfoldable pub names_in : Field → List Field

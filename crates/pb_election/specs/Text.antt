@@ -9,7 +9,7 @@ use Rattle.pb_records.specs.Records.{Field, Rec, election_records}
 use Rattle.pb_election.specs.Instance.{Instance, IsBallot, approvals, most_approvals, most_projects, most_voters, projects, voters}
 use Rattle.pb_records.specs.Cells.{clean, is_text, nonblank}
 use Rattle.pb_election.specs.Markers.{marker_of}
-use Rattle.pb_election.specs.Rows.{ballots_in, columns_of, cost_in, costs_in, declared_count, funded_in, has_key, id_in, ids_in, is_approval, is_id, is_known, needed_columns, others_in, read_columns, read_keys, stated_value, occurrences, vote_column}
+use Rattle.pb_election.specs.Rows.{ballots_in, columns_of, cost_in, costs_in, declared_count, funded_in, has_key, id_in, ids_in, is_approval, is_id, is_known, needed_columns, others_in, read_columns, read_keys, stated_value, occurrences, unused_columns, vote_column}
 use Rattle.pb_election.specs.declared.columns.Columns.{Columns}
 use Rattle.pb_election.specs.declared.keys.Key.TheVariants.{Budget, NumProjects, NumVotes, VoteType}
 use Rattle.pb_election.specs.declared.sections.Section.{Section}
@@ -70,6 +70,7 @@ election_in meta projects votes =
       other_selected = others_in columns projects.rows;
       declared_projects = declared_count NumProjects meta.rows;
       declared_votes = declared_count NumVotes meta.rows;
+      unused = unused_columns votes.header;
       ballots = ballots_in (vote_column votes.header) ids votes.rows;
     }
 

@@ -1,5 +1,5 @@
 //! The columns of PROJECTS and VOTES, which their headers name.
-ghost use Rattle.std.specs.Prelude.{◌≡◌, ◌<◌, ◌+◌, ◌^◌, ◌==◌, nat_lt, drop, IfSome};
+ghost use Rattle.std.specs.Prelude.{◌≡◌, ◌<◌, ◌+◌, ◌^◌, ◌==◌, nat_lt, drop, IfSome, []};
 ghost use Rattle.std.specs.List.{list_any, position_from};
 ghost use Rattle.csv.specs.Records.{fields_of};
 ghost use Rattle.pb_election.specs.Names.{lower};
@@ -9,6 +9,28 @@ use crate::markers::is_named;
 use crate::sections::Section;
 use csv::StringRecord;
 use pb_records::{cell, clean};
+
+/// Which columns the header of VOTES has that weigh votes in elections of other kinds. None of them is read: each vote
+/// counts as much as any other.
+#[derive(Clone, Copy)]
+pub struct UnusedColumns {
+    pub weight: bool,
+    pub points: bool,
+    pub sign: bool,
+}
+
+impl UnusedColumns {
+    /// None of them.
+    pub(crate) fn none() -> UnusedColumns
+        ensures { result ≡ rows.unused_columns [] }
+    {
+        UnusedColumns {
+            weight: false,
+            points: false,
+            sign: false,
+        }
+    }
+}
 
 /// The places of the columns of PROJECTS that are read, from 0.
 #[derive(Clone, Copy)]
@@ -104,6 +126,17 @@ pub(crate) fn vote_column(header: &StringRecord) -> Option<usize>
     ensures { result ≡ rows.vote_column (fields_of header.now) }
 {
     column_named("vote", header)
+}
+
+/// Which columns that weigh votes the header of VOTES has.
+pub(crate) fn unused_columns_of(header: &StringRecord) -> UnusedColumns
+    ensures { result ≡ rows.unused_columns (fields_of header.now) }
+{
+    UnusedColumns {
+        weight: !is_missing("weight", header),
+        points: !is_missing("points", header),
+        sign: !is_missing("sign", header),
+    }
 }
 
 /// The field of a row in a column, cleaned, and empty where there is no such column or field.

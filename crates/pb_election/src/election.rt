@@ -6,11 +6,10 @@ ghost use Rattle.pb_election.specs.Instance as spec;
 ghost use Rattle.pb_election.specs.Instance.{Instance, IsBallot, IsProject, IsVoter, most_projects};
 ghost use Rattle.pb_election.specs.Text.{IsElection, IsTextOf};
 
+use crate::columns::UnusedColumns;
 use crate::election_draft::ElectionDraft;
-use crate::guesses::Guesses;
-use crate::ids::position_of;
+use crate::ids::Ids;
 use crate::{ElectionFault, Refusal};
-use indexmap::IndexSet;
 use pb_money::Money;
 use pb_records::{FaultAt, Runs, Stop, take_all};
 use std::alloc::Global;
@@ -22,13 +21,13 @@ use std::marker::Model;
 #[derive(Drop)]
 pub struct Election {
     pub(crate) limit: Money,
-    pub(crate) ids: IndexSet<String>,
-    pub(crate) guesses: Guesses,
+    pub(crate) ids: Ids,
     pub(crate) costs: Vec<Money>,
     pub(crate) selected: Option<Vec<bool>>,
     pub(crate) other_selected: u32,
     pub(crate) declared_projects: Option<u64>,
     pub(crate) declared_votes: Option<u64>,
+    pub(crate) unused: UnusedColumns,
     pub(crate) ballots: Runs<u32>,
 }
 
@@ -98,7 +97,7 @@ impl Election {
         requires { IsProject self.now j }
         ensures { result.now ≡ spec.id_of self.now j }
     {
-        &self.ids[j as usize - 1]
+        self.ids.get(j as usize - 1)
     }
 
     /// What project j costs, from 0 up. Projects are numbered from 1.
@@ -114,7 +113,7 @@ impl Election {
         ensures value { result ≡ spec.position_of self.now id.now }
         ensures project { IfSome result (λ j. IsProject self.now j × (spec.id_of self.now j ≡ id.now)) }
     {
-        let place = position_of(&self.ids, &self.guesses, id)?;
+        let place = self.ids.position(id)?;
         Some(place as u32)
     }
 
@@ -151,6 +150,13 @@ impl Election {
         ensures { result ≡ (self.now).declared_votes }
     {
         self.declared_votes
+    }
+
+    /// Which columns that weigh votes the file has. They aren't read, and each vote counts the same.
+    pub fn unused_columns(&self) -> UnusedColumns
+        ensures { result ≡ (self.now).unused }
+    {
+        self.unused
     }
 
     /// Of how many projects the column `selected` says neither `1`, funded, nor `0`, not funded; 0 where there is no

@@ -6,24 +6,23 @@ ghost use Rattle.pb_election.specs.Names.{is_among};
 ghost use Rattle.pb_records.specs.Cells.{is_text};
 ghost use Rattle.pb_election.specs.Markers.{marker_of};
 ghost use Rattle.pb_election.specs.Faults.{election_form, lowest_fault_at_end};
-ghost use Rattle.pb_election.specs.Inside.Ids.{ids_kept};
 ghost use Rattle.pb_election.specs.Instance.{most_projects};
 ghost use Rattle.pb_election.specs.Rows as rows;
 ghost use Rattle.pb_election.specs.Inside.SoFar.{Steps, before_next};
 ghost use Rattle.pb_election.specs.Text.{IsElection};
 ghost use Rattle.pb_election.specs.Inside.ProjectRows.{AddsProject};
 
-use crate::columns::{Columns, columns_of, field_in, misses, repeats, vote_column};
+use crate::columns::{
+    Columns, UnusedColumns, columns_of, field_in, misses, repeats, unused_columns_of, vote_column,
+};
 use crate::election::Election;
-use crate::guesses::Guesses;
-use crate::ids::{add_id, has_id, is_id};
+use crate::ids::{Ids, is_id};
 use crate::keys::{Key, Keys, count_in, is_approval, key_in};
 use crate::markers::marker_of;
 use crate::refusal::ElectionFault;
 use crate::sections::{Role, Section};
 use crate::votes::ballot_in;
 use csv::StringRecord;
-use indexmap::IndexSet;
 use pb_money::Money;
 use pb_records::{Draft, Runs, Stop, cell};
 use std::alloc::{AllocError, Global};
@@ -51,8 +50,7 @@ pub(crate) struct MetaRows {
 #[derive(Drop)]
 pub(crate) struct ProjectRows {
     pub columns: Columns,
-    pub ids: IndexSet<String>,
-    pub guesses: Guesses,
+    pub ids: Ids,
     pub costs: Vec<Money>,
     pub selected: Option<Vec<bool>>,
     pub other_selected: u32,
@@ -62,6 +60,7 @@ pub(crate) struct ProjectRows {
 #[derive(Drop)]
 pub(crate) struct VoteRows {
     pub column: Option<usize>,
+    pub unused: UnusedColumns,
     pub ballots: Runs<u32>,
     // The ballot of the row at hand.
     pub ballot: Vec<u32>,
@@ -80,7 +79,6 @@ pub(crate) struct ElectionDraft {
 impl Model for ElectionDraft {
     ghost use Rattle.std.specs.Prelude.{◌≤◌, length};
     ghost use Rattle.std.specs.Option.{option_map};
-    ghost use Rattle.pb_election.specs.Inside.Ids.{ids_kept};
     ghost use Rattle.pb_election.specs.Instance.{approvals, most_approvals, most_projects};
     ghost use Rattle.pb_election.specs.Inside.SoFar.{SoFar};
 
@@ -93,17 +91,18 @@ impl Model for ElectionDraft {
       vote_column = a.votes.column;
       election = record {
         limit = a.meta.limit;
-        ids = ids_kept a.projects.ids.keys;
+        ids = a.projects.ids;
         costs = a.projects.costs.items;
         selected = option_map (λ v. v.items) a.projects.selected;
         other_selected = a.projects.other_selected;
         declared_projects = a.meta.declared_projects;
         declared_votes = a.meta.declared_votes;
+        unused = a.votes.unused;
         ballots = a.votes.ballots;
       };
     } };
 
-    ghost invariant = { λ a. (length a.projects.ids.keys ≤ most_projects) × (a.projects.other_selected ≤ length a.projects.ids.keys) × (approvals a.votes.ballots ≤ most_approvals) };
+    ghost invariant = { λ a. (length a.projects.ids ≤ most_projects) × (a.projects.other_selected ≤ length a.projects.ids) × (approvals a.votes.ballots ≤ most_approvals) };
 }
 
 impl ElectionDraft {
@@ -130,14 +129,14 @@ impl ElectionDraft {
                     cost: None,
                     selected: None,
                 },
-                ids: IndexSet::new(alloc),
-                guesses: Guesses::new(alloc)?,
+                ids: Ids::new(alloc)?,
                 costs: Vec::new(alloc),
                 selected: None,
                 other_selected: 0,
             },
             votes: VoteRows {
                 column: None,
+                unused: UnusedColumns::none(),
                 ballots: Runs::new(alloc)?,
                 ballot: Vec::new(alloc),
             },
@@ -224,6 +223,7 @@ impl ElectionDraft {
             return Err(Stop::Fault(ElectionFault::RepeatedColumn));
         }
         self.votes.column = vote_column(row);
+        self.votes.unused = unused_columns_of(row);
         self.role = Role::Inside(Section::Votes);
         Ok(())
     }
@@ -312,7 +312,7 @@ impl ElectionDraft {
         if !is_id(id) {
             return Err(Stop::Fault(ElectionFault::BadId));
         }
-        if has_id(&self.projects.ids, id) {
+        if self.projects.ids.has(id) {
             return Err(Stop::Fault(ElectionFault::RepeatedProject));
         }
         if self.projects.ids.len() >= MOST_PROJECTS {
@@ -335,12 +335,7 @@ impl ElectionDraft {
             return Err(Stop::Fault(ElectionFault::UnexpectedSection));
         }
         let vote = field_in(self.votes.column, row);
-        let Ok(known) = ballot_in(
-            &self.projects.ids,
-            &self.projects.guesses,
-            vote,
-            &mut self.votes.ballot,
-        ) else {
+        let Ok(known) = ballot_in(&self.projects.ids, vote, &mut self.votes.ballot) else {
             return Err(Stop::Memory);
         };
         if !known {
@@ -386,12 +381,12 @@ impl ElectionDraft {
         Election {
             limit: meta.limit,
             ids: projects.ids,
-            guesses: projects.guesses,
             costs: projects.costs,
             selected: projects.selected,
             other_selected: projects.other_selected,
             declared_projects: meta.declared_projects,
             declared_votes: meta.declared_votes,
+            unused: votes.unused,
             ballots: votes.ballots,
         }
     }
@@ -426,15 +421,14 @@ impl ProjectRows {
         cost: Money,
         selected: &str,
     ) -> Result<(), AllocError>
-        requires new { is_among (ids_kept self.old.ids.keys) id.now ≡ false }
-        requires room { length self.old.ids.keys < most_projects }
-        requires others { self.old.other_selected ≤ length self.old.ids.keys }
+        requires new { is_among self.old.ids id.now ≡ false }
+        requires room { length self.old.ids < most_projects }
+        requires others { self.old.other_selected ≤ length self.old.ids }
         ensures added { OnOk result (AddsProject self.old self.new id.now cost selected.now) }
-        ensures ids { length self.new.ids.keys ≤ length self.old.ids.keys + 1 }
-        ensures others { self.new.other_selected ≤ length self.new.ids.keys }
+        ensures ids { length self.new.ids ≤ length self.old.ids + 1 }
+        ensures others { self.new.other_selected ≤ length self.new.ids }
     {
-        self.guesses.note(id, self.ids.len());
-        add_id(alloc, &mut self.ids, id)?;
+        self.ids.add(alloc, id)?;
         self.costs.push(cost)?;
         if let Some(marks) = &mut self.selected {
             marks.push(selected == "1")?;

@@ -4,6 +4,9 @@ use std::alloc::{AllocError, Global};
 /// How many slots there are: far more than most elections have projects, and few enough for a processor's cache.
 const SLOTS: usize = 1 << 15;
 
+/// An odd number whose bits are mixed well, by which a word is multiplied.
+const MULTIPLIER: u64 = 0x9E37_79B9_7F4A_7C15;
+
 /// How far the bits of a slot stand up in a word of 64.
 const SHIFT: u32 = 49;
 
@@ -40,9 +43,14 @@ impl Guesses {
     }
 }
 
-// The slot of an id, by its last eight, four or three bytes, or all of fewer.
+// The slot of an id, by its first eight bytes and its last eight, by its last eight, four or three, or by all of fewer.
 fn slot_of(id: &str) -> usize {
     let word = match id.as_bytes() {
+        [a, b, c, d, e, f, g, h, .., s, t, u, v, w, x, y, z] => {
+            let first = u64::from_le_bytes([*a, *b, *c, *d, *e, *f, *g, *h]);
+            let last = u64::from_le_bytes([*s, *t, *u, *v, *w, *x, *y, *z]);
+            first.wrapping_mul(MULTIPLIER) ^ last
+        }
         [.., a, b, c, d, e, f, g, h] => u64::from_le_bytes([*a, *b, *c, *d, *e, *f, *g, *h]),
         [.., a, b, c, d] => u64::from(u32::from_le_bytes([*a, *b, *c, *d])),
         [.., a, b, c] => u64::from(u32::from_le_bytes([*a, *b, *c, 0])),
@@ -50,5 +58,5 @@ fn slot_of(id: &str) -> usize {
             .iter()
             .fold(0u64, |word, byte| word << 8 | u64::from(*byte)),
     };
-    (word.wrapping_mul(0x9E37_79B9_7F4A_7C15) >> SHIFT) as usize
+    (word.wrapping_mul(MULTIPLIER) >> SHIFT) as usize
 }

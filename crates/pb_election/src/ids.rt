@@ -1,14 +1,17 @@
 //! The ids of projects.
-ghost use Rattle.std.specs.Prelude.{◌≡◌, ◌≤◌, ◌∷◌, ◌++◌, [], false, length, Some, IfSome, OnOk, OnErr};
-ghost use Rattle.std.specs.List.{list_any, position_from};
+ghost use Rattle.std.specs.Prelude.{◌≡◌, ◌<◌, ◌≤◌, ◌∷◌, ◌++◌, false, length, slice_index_or, Some, [], IfOk, IfSome, OnOk, OnErr};
+ghost use Rattle.std.specs.List.{IsDistinct, list_any, position_from};
 ghost use Rattle.std.specs.Str.{bytes_eq};
 ghost use Rattle.pb_election.specs.Names.{is_among};
 ghost use Rattle.pb_election.specs.Inside.Ids.{ids_kept};
 ghost use Rattle.pb_election.specs.Rows as rows;
 
 use crate::guesses::Guesses;
+use crate::order::Order;
+use crate::steps::Steps;
 use indexmap::IndexSet;
 use std::alloc::{AllocError, Global};
+use std::marker::Model;
 
 fn has_control(text: &str) -> bool
     ensures { result ≡ list_any rows.is_control text.now }
@@ -23,55 +26,153 @@ pub(crate) fn is_id(id: &str) -> bool
     !id.is_empty() && !has_control(id)
 }
 
-/// Whether an id is among those kept.
-pub(crate) fn has_id(ids: &IndexSet<String>, id: &str) -> bool
-    ensures { result ≡ is_among (ids_kept ids.now.keys) id.now }
-{
-    ids.contains(id)
+/// The ids of the projects, in the order of their rows. They stand in a set that hashes them, until a look-up there takes
+/// too many steps, as where they were made to collide, and from then on in an order.
+#[derive(Drop)]
+pub(crate) struct Ids {
+    guesses: Guesses,
+    steps: Steps,
+    set: IndexSet<String>,
+    order: Option<Order>,
 }
 
-/// Adds a new id at the end.
-pub(crate) fn add_id(alloc: Global, ids: &mut IndexSet<String>, id: &str) -> Result<(), AllocError>
-    requires { is_among (ids_kept ids.old.keys) id.now ≡ false }
-    ensures added { OnOk result (ids_kept ids.new.keys ≡ ids_kept ids.old.keys ++ id.now ∷ []) }
-    ensures kept { OnErr result (ids_kept ids.new.keys ≡ ids_kept ids.old.keys) }
-{
-    let key = String::from_str(alloc, id)?;
-    ids.insert(key)?;
-    Ok(())
+impl Model for Ids {
+    ghost use Rattle.pb_records.specs.Records.{Rec};
+    ghost use Rattle.pb_election.specs.Inside.Ids.{ids_in_order_or_set};
+
+    ghost Value = { Rec };
+
+    ghost view = { λ a. ids_in_order_or_set a.order a.set.keys };
 }
 
-// The position of an id, from 1, if it stands at this index.
-fn position_at(ids: &IndexSet<String>, index: usize, id: &str) -> Option<usize>
-    ensures value { IfSome result (λ place. position_from (bytes_eq id.now) 1 (ids_kept ids.now.keys) ≡ Some place) }
-    ensures within { IfSome result (λ place. place ≤ length (ids_kept ids.now.keys)) }
-{
-    let kept = ids.as_slice().get(index)?;
-    if kept.as_str() != id {
-        return None;
+impl Ids {
+    /// No ids.
+    pub fn new(alloc: Global) -> Result<Ids, AllocError>
+        ensures { IfOk result (λ ids. ids ≡ []) }
+    {
+        Ok(Ids {
+            guesses: Guesses::new(alloc)?,
+            steps: Steps::new(alloc),
+            set: IndexSet::new(alloc),
+            order: None,
+        })
     }
-    Some(index + 1)
-}
 
-// The position of an id, from 1, if it is kept. It is out of line, so that a right guess costs less.
-#[cold]
-#[inline(never)]
-fn search(ids: &IndexSet<String>, id: &str) -> Option<usize>
-    ensures value { result ≡ position_from (bytes_eq id.now) 1 (ids_kept ids.now.keys) }
-    ensures within { IfSome result (λ place. place ≤ length (ids_kept ids.now.keys)) }
-{
-    let index = ids.get_index_of(id)?;
-    prove!(index < ids.len());
-    Some(index + 1)
-}
+    /// How many there are. None is kept twice.
+    pub fn len(&self) -> usize
+        ensures value { result ≡ length self.now }
+        ensures distinct { IsDistinct bytes_eq self.now }
+    {
+        self.texts().len()
+    }
 
-/// The position of an id, from 1, if it is kept. A right guess spares the search.
-pub(crate) fn position_of(ids: &IndexSet<String>, guesses: &Guesses, id: &str) -> Option<usize>
-    ensures value { result ≡ position_from (bytes_eq id.now) 1 (ids_kept ids.now.keys) }
-    ensures within { IfSome result (λ place. place ≤ length (ids_kept ids.now.keys)) }
-{
-    match position_at(ids, guesses.guess(id), id) {
-        Some(position) => Some(position),
-        None => search(ids, id),
+    /// The id at an index, from 0.
+    pub fn get(&self, index: usize) -> &str
+        requires { index < length self.now }
+        ensures { result.now ≡ slice_index_or self.now index [] }
+    {
+        &self.texts()[index]
+    }
+
+    /// Whether an id is among them.
+    pub fn has(&self, id: &str) -> bool
+        ensures { result ≡ is_among self.now id.now }
+    {
+        match &self.order {
+            None => self.set.contains(id),
+            Some(order) => order.has(id),
+        }
+    }
+
+    /// Adds a new id at the end.
+    pub fn add(&mut self, alloc: Global, id: &str) -> Result<(), AllocError>
+        requires { is_among self.old id.now ≡ false }
+        ensures added { OnOk result (self.new ≡ self.old ++ id.now ∷ []) }
+        ensures kept { OnErr result (self.new ≡ self.old) }
+    {
+        self.prepare(alloc, id)?;
+        match &mut self.order {
+            None => {
+                let key = String::from_str(alloc, id)?;
+                self.set.insert(key)?;
+                Ok(())
+            }
+            Some(order) => order.add(alloc, id),
+        }
+    }
+
+    // Notes where a new id will stand, and goes over to an order once a look-up in the set would take too many steps.
+    fn prepare(&mut self, alloc: Global, id: &str) -> Result<(), AllocError>
+        ensures { self.new ≡ self.old }
+    {
+        let index = self.len();
+        self.guesses.note(id, index);
+        if self.order.is_none() && self.steps.exceed(id)? {
+            self.begin_order(alloc)?;
+        }
+        Ok(())
+    }
+
+    // Goes over to an order.
+    #[cold]
+    #[inline(never)]
+    fn begin_order(&mut self, alloc: Global) -> Result<(), AllocError>
+        ensures { self.new ≡ self.old }
+    {
+        let order = Order::of(alloc, self.texts())?;
+        self.order = Some(order);
+        self.set = IndexSet::new(alloc);
+        self.steps = Steps::new(alloc);
+        Ok(())
+    }
+
+    fn texts(&self) -> &[String]
+        ensures value { ids_kept result.now ≡ self.now }
+        ensures distinct { IsDistinct bytes_eq self.now }
+    {
+        match &self.order {
+            None => self.set.as_slice(),
+            Some(order) => order.texts(),
+        }
+    }
+
+    /// The position of an id, from 1, if it is among them. A right guess spares the search.
+    pub fn position(&self, id: &str) -> Option<usize>
+        ensures value { result ≡ position_from (bytes_eq id.now) 1 self.now }
+        ensures within { IfSome result (λ place. place ≤ length self.now) }
+    {
+        match self.position_at(self.guesses.guess(id), id) {
+            Some(position) => Some(position),
+            None => self.search(id),
+        }
+    }
+
+    // The position of an id, from 1, if it stands at this index.
+    fn position_at(&self, index: usize, id: &str) -> Option<usize>
+        ensures value { IfSome result (λ place. position_from (bytes_eq id.now) 1 self.now ≡ Some place) }
+        ensures within { IfSome result (λ place. place ≤ length self.now) }
+    {
+        let kept = self.texts().get(index)?;
+        if kept.as_str() != id {
+            return None;
+        }
+        Some(index + 1)
+    }
+
+    // The position of an id, from 1, if it is among them. It is out of line, so that a right guess costs less.
+    #[cold]
+    #[inline(never)]
+    fn search(&self, id: &str) -> Option<usize>
+        ensures value { result ≡ position_from (bytes_eq id.now) 1 self.now }
+        ensures within { IfSome result (λ place. place ≤ length self.now) }
+    {
+        match &self.order {
+            None => {
+                let index = self.set.get_index_of(id)?;
+                prove!(index < self.set.len());
+                Some(index + 1)
+            }
+            Some(order) => order.position(id),
+        }
     }
 }

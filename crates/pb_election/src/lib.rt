@@ -10,13 +10,15 @@ mod ids;
 mod keys;
 pub mod laws;
 mod markers;
+mod order;
 mod outcome;
 mod outline;
 mod refusal;
 mod sections;
+mod steps;
 mod votes;
 
-pub use columns::{column_named, field_in};
+pub use columns::{UnusedColumns, column_named, field_in};
 pub use election::Election;
 pub use election_draft::MOST_VOTERS;
 pub use markers::{is_named, marker_of};

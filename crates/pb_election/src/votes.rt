@@ -4,13 +4,11 @@ ghost use Rattle.std.specs.List.{list_all, list_any};
 ghost use Rattle.std.specs.Option.{option_copied};
 ghost use Rattle.std.specs.Str.{byte};
 ghost use Rattle.pb_election.specs.Names.{is_among};
-ghost use Rattle.pb_election.specs.Inside.Ids.{ids_kept, position_in};
+ghost use Rattle.pb_election.specs.Inside.Ids.{position_in};
 ghost use Rattle.pb_election.specs.Instance.{most_projects};
 ghost use Rattle.pb_election.specs.Rows.{names_in, positions_of};
 
-use crate::guesses::Guesses;
-use crate::ids::position_of;
-use indexmap::IndexSet;
+use crate::ids::Ids;
 use pb_records::clean;
 use std::alloc::AllocError;
 
@@ -34,15 +32,10 @@ fn cut_first(text: &str) -> (&str, Option<&str>)
 
 // Puts the positions of the ids that a vote names into a list, in the vote's order and in place of what it held, and
 // tells whether each of them is kept.
-fn find_positions(
-    ids: &IndexSet<String>,
-    guesses: &Guesses,
-    vote: &str,
-    found: &mut Vec<u32>,
-) -> Result<bool, AllocError>
-    requires { length (ids_kept ids.now.keys) ≤ most_projects }
-    ensures known { IfOk result (λ known. known ≡ list_all (is_among (ids_kept ids.now.keys)) (names_in vote.now)) }
-    ensures found { IfOk result (λ known. known ≡ true → map Some found.new.items ≡ map (position_in (ids_kept ids.now.keys)) (names_in vote.now)) }
+fn find_positions(ids: &Ids, vote: &str, found: &mut Vec<u32>) -> Result<bool, AllocError>
+    requires { length ids.now ≤ most_projects }
+    ensures known { IfOk result (λ known. known ≡ list_all (is_among ids.now) (names_in vote.now)) }
+    ensures found { IfOk result (λ known. known ≡ true → map Some found.new.items ≡ map (position_in ids.now) (names_in vote.now)) }
 {
     found.clear();
     let mut left = Some(vote);
@@ -51,7 +44,7 @@ fn find_positions(
         left = rest;
         let name = clean(piece);
         if !name.is_empty() {
-            let Some(position) = position_of(ids, guesses, name) else {
+            let Some(position) = ids.position(name) else {
                 return Ok(false);
             };
             found.push(position as u32)?;
@@ -62,17 +55,12 @@ fn find_positions(
 
 /// Puts the ballot that a vote states into a list in place of what it held, as the positions of its projects from 1,
 /// rising. Tells whether each text that the vote names is the id of a project; where not, the list is left open.
-pub(crate) fn ballot_in(
-    ids: &IndexSet<String>,
-    guesses: &Guesses,
-    vote: &str,
-    ballot: &mut Vec<u32>,
-) -> Result<bool, AllocError>
-    requires { length (ids_kept ids.now.keys) ≤ most_projects }
-    ensures known { IfOk result (λ known. known ≡ list_all (is_among (ids_kept ids.now.keys)) (names_in vote.now)) }
-    ensures ballot { IfOk result (λ known. known ≡ true → ballot.new.items ≡ positions_of (names_in vote.now) (ids_kept ids.now.keys)) }
+pub(crate) fn ballot_in(ids: &Ids, vote: &str, ballot: &mut Vec<u32>) -> Result<bool, AllocError>
+    requires { length ids.now ≤ most_projects }
+    ensures known { IfOk result (λ known. known ≡ list_all (is_among ids.now) (names_in vote.now)) }
+    ensures ballot { IfOk result (λ known. known ≡ true → ballot.new.items ≡ positions_of (names_in vote.now) ids.now) }
 {
-    if !find_positions(ids, guesses, vote, ballot)? {
+    if !find_positions(ids, vote, ballot)? {
         return Ok(false);
     }
     // Also tells the proof that no id is kept twice.

@@ -1,31 +1,31 @@
 -- What is said of groups behind the table of a yes to prices.
-use Rattle.std.specs.Prelude.{◌==◌, ◌*◌, ◌^◌, if◌then◌else◌, nat_lt, Bool, ℕ, List, [], ◌∷◌, ◌++◌, Option, Some, None, codes, decimal}
+use Rattle.std.specs.Prelude.{◌==◌, ◌*◌, ◌^◌, if◌then◌else◌, Bool, ℕ, List, [], ◌∷◌, ◌++◌, Option, Some, None, codes, decimal}
 use Rattle.pb_election.specs.Instance.{Instance, cost_of, id_of, voters}
-use Rattle.pb_price.specs.declared.Findings.{Findings}
+use Rattle.pb_price.specs.declared.OnGroups.{OnGroups}
+use Rattle.pb_price.specs.declared.OnGroups.TheVariants.{Strict, Weak, Little}
 use Rattle.pb_records.specs.Records.{Text}
 use Rattle.pb_explain.specs.Amounts.{amount}
 use Rattle.pb_explain.specs.NearestGroup.{nearest_group}
 use Rattle.pb_explain.specs.declared.nearest.NearestGroup.{NearestGroup}
 
--- where all voter budgets together are less than the limit
+-- Little is said where all voter budgets together are less than the limit.
 abbrev pub not_shown : Text
 not_shown =
-    codes "whether a group is passed over isn't shown: all voter budgets together are less than the limit"
+    codes "of groups of voters this says little: all voter budgets together are less than the limit"
 
--- where they are the limit (SharesAreWithinReach), and where they are more (NoGroupIsPassedOver)
+-- the weak case (SharesAreWithinReach), and the strict one (NoGroupIsPassedOver)
 abbrev pub within_reach : Text
 within_reach =
-    codes "no group's share of the limit is more than an unfunded project that all its members approve and all that was funded for the group cost together"
+    codes "take any voters who all approve an unfunded project: their equal part of the limit is no more than that project's cost plus the cost of all funded projects that at least one of them approves"
 
-abbrev pub not_passed_over : Text
-not_passed_over =
-    codes "no group is passed over: where a group has members, who all approve an unfunded project, its share of the limit is less than this project and all that was funded for the group cost together"
+abbrev pub below_reach : Text
+below_reach =
+    codes "take any voters who all approve an unfunded project: their equal part of the limit is less than that project's cost plus the cost of all funded projects that at least one of them approves"
 
-abbrev pub claim : Findings → Text
-claim f =
-    if nat_lt f.budgets f.limit then not_shown
-    else if nat_lt f.limit f.budgets then not_passed_over
-    else within_reach
+abbrev pub claim : OnGroups → Text
+claim Strict = below_reach
+claim Weak = within_reach
+claim Little = not_shown
 
 -- The project whose supporters come nearest, with their share. Where a millionth is cut into as many parts as there are
 -- voters, that is a whole number of parts.
@@ -52,5 +52,11 @@ abbrev pub nearest_lines : Instance → Option NearestGroup → List Text
 nearest_lines e None = []
 nearest_lines e (Some g) = if voters e == 0 then [] else nearest_line e g ∷ []
 
-abbrev pub group_lines : Instance → List Bool → Findings → List Text
-group_lines e w f = claim f ∷ (if nat_lt f.budgets f.limit then [] else nearest_lines e (nearest_group e w))
+-- where little is said, there is nothing to come near to
+abbrev pub nearest_told : OnGroups → List Text → List Text
+nearest_told Strict lines = lines
+nearest_told Weak lines = lines
+nearest_told Little lines = []
+
+abbrev pub group_lines : Instance → List Bool → OnGroups → List Text
+group_lines e w said = claim said ∷ nearest_told said (nearest_lines e (nearest_group e w))

@@ -3,58 +3,69 @@ ghost use Rattle.std.specs.Prelude.{◌≡◌, ◌<◌, ◌++◌, IfOk, OnOk, ma
 ghost use Rattle.pb_election.specs.Instance.{IsProject, voters};
 ghost use Rattle.pb_election.specs.Outcome.{OutcomeFits};
 ghost use Rattle.pb_explain.specs.GroupLines as spec;
+ghost use Rattle.pb_explain.specs.NearestGroup.{nearest_group};
 
 use crate::amounts::{Amount, MILLION};
 use crate::nearest::{NearestGroup, nearest_group};
 use crate::rows::push_line;
 use pb_election::{Election, Outcome};
-use pb_price::Findings;
+use pb_price::OnGroups;
 use std::alloc::{AllocError, Global};
 
 const NOT_SHOWN: &str =
-    "whether a group is passed over isn't shown: all voter budgets together are less than the limit";
+    "of groups of voters this says little: all voter budgets together are less than the limit";
 
 const WITHIN_REACH: &str =
-    "no group's share of the limit is more than an unfunded project that all its members approve and all that was funded for the group cost together";
+    "take any voters who all approve an unfunded project: their equal part of the limit is no more than that project's cost plus the cost of all funded projects that at least one of them approves";
 
-const NOT_PASSED_OVER: &str =
-    "no group is passed over: where a group has members, who all approve an unfunded project, its share of the limit is less than this project and all that was funded for the group cost together";
+const BELOW_REACH: &str =
+    "take any voters who all approve an unfunded project: their equal part of the limit is less than that project's cost plus the cost of all funded projects that at least one of them approves";
 
-/// Adds what a yes to prices says of every group, by whether all voter budgets together are the limit or more, and the
-/// figures of the unfunded project whose supporters come nearest; or that it says nothing of that. The findings are to
-/// be of prices that support this outcome, which is to fit the election. An error means out of memory, after which some
-/// of the lines may have been added.
+/// Adds what a yes to prices says of every group, and, unless that is little, the figures of the unfunded project whose
+/// supporters come nearest. The outcome is to fit the election. An error means out of memory, after which some of the
+/// lines may have been added.
 pub fn push_group_lines(
     alloc: Global,
     lines: &mut Vec<String>,
     election: &Election,
     outcome: &Outcome,
-    findings: &Findings,
+    said: OnGroups,
 ) -> Result<(), AllocError>
     requires { OutcomeFits outcome.now election.now }
-    ensures { OnOk result (map string_bytes lines.new.items ≡ map string_bytes lines.old.items ++ spec.group_lines election.now (outcome.now).marks findings.now) }
+    ensures { OnOk result (map string_bytes lines.new.items ≡ map string_bytes lines.old.items ++ spec.group_lines election.now (outcome.now).marks said) }
 {
-    push_line(lines, claim_line(alloc, findings)?)?;
-    if findings.budgets < findings.limit {
-        return Ok(());
+    push_line(lines, String::from_str(alloc, claim(said))?)?;
+    match said {
+        OnGroups::Strict | OnGroups::Weak => push_nearest(alloc, lines, election, outcome),
+        OnGroups::Little => Ok(()),
     }
+}
+
+fn claim(said: OnGroups) -> &'static str
+    ensures { result.now ≡ spec.claim said }
+{
+    match said {
+        OnGroups::Strict => BELOW_REACH,
+        OnGroups::Weak => WITHIN_REACH,
+        OnGroups::Little => NOT_SHOWN,
+    }
+}
+
+/// Adds the figures of the unfunded project whose supporters come nearest, where there are voters and such a project.
+fn push_nearest(
+    alloc: Global,
+    lines: &mut Vec<String>,
+    election: &Election,
+    outcome: &Outcome,
+) -> Result<(), AllocError>
+    requires { OutcomeFits outcome.now election.now }
+    ensures { OnOk result (map string_bytes lines.new.items ≡ map string_bytes lines.old.items ++ spec.nearest_lines election.now (nearest_group election.now (outcome.now).marks)) }
+{
     match nearest_group(alloc, election, outcome)? {
         Some(group) if election.voters() != 0 => {
             push_line(lines, nearest_line(alloc, election, &group)?)
         }
         _ => Ok(()),
-    }
-}
-
-fn claim_line(alloc: Global, findings: &Findings) -> Result<String, AllocError>
-    ensures { IfOk result (λ line. string_bytes line ≡ spec.claim findings.now) }
-{
-    if findings.budgets < findings.limit {
-        String::from_str(alloc, NOT_SHOWN)
-    } else if findings.limit < findings.budgets {
-        String::from_str(alloc, NOT_PASSED_OVER)
-    } else {
-        String::from_str(alloc, WITHIN_REACH)
     }
 }
 

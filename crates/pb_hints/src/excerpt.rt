@@ -17,7 +17,7 @@ pub(crate) fn quoted(alloc: Global, words: &str, bytes: &[u8]) -> Result<String,
 
 /// Adds an excerpt between quotes: at most 60 characters, and dots where there are more. Characters that can't be seen,
 /// joiners too, are shown by their numbers, and so are bytes that aren't UTF-8.
-pub(crate) fn push_quoted(text: &mut String, bytes: &[u8]) -> Result<(), AllocError> {
+pub fn push_quoted(text: &mut String, bytes: &[u8]) -> Result<(), AllocError> {
     text.push('\'')?;
     push_excerpt(text, bytes)?;
     text.push('\'')?;

@@ -17,7 +17,7 @@ mod story;
 mod telling;
 mod walk;
 
-pub use excerpt::push_shown;
+pub use excerpt::{push_quoted, push_shown};
 pub use file_kind::FileKind;
 pub use remark::Remark;
 pub use telling::hint;

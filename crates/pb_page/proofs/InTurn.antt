@@ -1,6 +1,7 @@
 -- The answer on the inputs of a page in their turn.
-use Rattle.std.proofs.Common.{◌≡◌, Bool, List, Option, subst}
-use Rattle.std.specs.Prelude.{IfSome, Ok, Err, Some, None}
+use Rattle.std.proofs.Common.{◌≡◌, Bool, List, Option, ap, subst}
+use Rattle.std.specs.Prelude.{IfSome, Ok, Err, Result, Some, None}
+use Rattle.std.specs.Result.{IsErr, IsErrAnd}
 use Rattle.pb_election.specs.Instance.{Instance}
 use Rattle.pb_records.specs.Loading.{Delivery}
 use Rattle.pb_records.specs.Loading as delivery
@@ -92,3 +93,9 @@ answered m l election outcome certificate d o f e w t a delivered given loaded t
           subst (λ (s : Stated (List Bool)). InTurn s (λ marks. certificate (Some f)) (certificate None))
           taken.is read;
     }
+
+-- an error of which one value alone can be told is that value
+pub err-is : {T E : Type 0} (P : E → Type 0) (r : Result T E) (e : E) → ((f : E) → P f → f ≡ e)
+    → IsErr r × IsErrAnd r P → r ≡ Err e
+err-is P (Ok x) e only h = absurd h.1
+err-is P (Err f) e only h = ap Err (only f h.1)

@@ -1,6 +1,6 @@
 //! What the answer doesn't say, what it lets one say in public, and the words of the page.
 use crate::asked::fails_as_stable_alone;
-use crate::groups::{said_of_groups, says_little};
+use crate::groups::{on_groups, said_of_groups, says_little};
 use pb_case::Case;
 use pb_certificate::Measure;
 use pb_figures::{CertificateFigures, PriceFigures};
@@ -20,18 +20,21 @@ fn push_not_said(page: &mut Page, case: &Case<'_>) {
     page.element(Tag::H2, case.words.say(Sentence::NotSaid));
     page.open(Tag::Ul);
     page.element(Tag::Li, case.words.say(not_said(case)));
-    push_no_groups(page, case);
+    push_not_said_of_groups(page, case);
     page.element(Tag::Li, case.words.say(Sentence::NotSaidFiles));
     page.close();
     page.close();
 }
 
-// Adds that a yes says nothing of groups, where that is so.
-fn push_no_groups(page: &mut Page, case: &Case<'_>) {
-    if !says_little(case) {
+// Adds what a yes to prices doesn't say of groups.
+fn push_not_said_of_groups(page: &mut Page, case: &Case<'_>) {
+    if on_groups(&case.told).is_none() {
         return;
     }
-    page.element(Tag::Li, case.words.say(Sentence::NotSaidGroups));
+    page.element(Tag::Li, case.words.say(Sentence::NotSaidDeserved));
+    if says_little(case) {
+        page.element(Tag::Li, case.words.say(Sentence::NotSaidGroups));
+    }
 }
 
 fn not_said(case: &Case<'_>) -> Sentence {

@@ -4,36 +4,36 @@ use pb_election::{Election, Outcome};
 use pb_explain::{NearestGroup, nearest_group};
 use pb_figures::{CertificateFigures, Told};
 use pb_markup::{Page, Tag};
-use pb_price::Verdict;
+use pb_price::{OnGroups, Verdict};
 use pb_words::Sentence;
 use std::alloc::{AllocError, Global};
 
 // A unit of the currency in millionths.
 const MILLION: u64 = 1_000_000;
 
-/// What a yes to prices says of groups, by whether the budgets of all voters together are the limit or more.
-pub(crate) fn said_of_groups(told: &Told) -> Option<Sentence> {
+/// What the answer says of groups, where it is a yes to prices.
+pub(crate) fn on_groups(told: &Told) -> Option<OnGroups> {
     let CertificateFigures::Prices(figures) = &told.found else {
         return None;
     };
-    let findings = &figures.findings;
-    if findings.verdict(told.mode) != Verdict::Supported || findings.budgets < findings.limit {
-        return None;
-    }
-    if findings.budgets == findings.limit {
-        Some(Sentence::GroupsWithinReach)
-    } else {
-        Some(Sentence::NoGroupPassedOver)
+    match figures.findings.verdict(told.mode) {
+        Verdict::Supported => Some(figures.findings.on_groups(told.mode)),
+        Verdict::Failed(_) => None,
     }
 }
 
-/// Whether the answer is a yes by prices, and the budgets of all voters together are less than the limit.
+/// The sentence that says it, unless it is little.
+pub(crate) fn said_of_groups(told: &Told) -> Option<Sentence> {
+    match on_groups(told) {
+        Some(OnGroups::Strict) => Some(Sentence::GroupsBelowReach),
+        Some(OnGroups::Weak) => Some(Sentence::GroupsWithinReach),
+        Some(OnGroups::Little) | None => None,
+    }
+}
+
+/// Whether the answer is a yes to prices, and says little of groups.
 pub fn says_little(case: &Case<'_>) -> bool {
-    let CertificateFigures::Prices(figures) = &case.told.found else {
-        return false;
-    };
-    let findings = &figures.findings;
-    findings.verdict(case.told.mode) == Verdict::Supported && findings.budgets < findings.limit
+    on_groups(&case.told) == Some(OnGroups::Little)
 }
 
 /// The supporters of an unfunded project who come nearest to their share, where something is said of groups.

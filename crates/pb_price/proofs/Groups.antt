@@ -1,12 +1,14 @@
 -- What a verdict says of every group of supporters.
-use Rattle.std.proofs.Common.{◌≡◌, ◌≤◌, ℕ, Bool, true, false, List, refl, sym, ◌∙◌, ap, inl, inr, arith}
+use Rattle.std.proofs.Common.{◌≡◌, ◌≤◌, ◌*◌, ℕ, Bool, true, false, List, refl, sym, ◌∙◌, ap, inl, inr, arith}
 use Rattle.std.specs.Prelude.{◌⊎◌, IsFalse, IsTrue, Ok, Option, Result, Some, None}
 use Rattle.std.proofs.lemmas.Bool.{cases_Bool}
-use Rattle.pb_election.specs.Instance.{Instance}
+use Rattle.pb_election.specs.Instance.{Instance, voters}
 use Rattle.pb_certificate.specs.Prices.{Prices}
-use Rattle.pb_cohesion.specs.Conditions.{C5, Cover, S5}
+use Rattle.pb_cohesion.specs.Amounts.{beta, budget_limit}
+use Rattle.pb_cohesion.specs.Conditions.{C5, S5}
 use Rattle.pb_cohesion.specs.EveryGroup.{BudgetsAreWithinReach, BudgetsReachTheLimit, GroupsGetTheirShare, NoGroupHasMoreLeft, NoGroupIsPassedOver, NoViolationByCounting, NothingBlocks, SharesAreWithinReach, SupportersBlock, SupportersHaveMoreLeft}
 use Rattle.pb_cohesion.specs.Refutations.{NothingRefutes}
+use Rattle.pb_cohesion.proofs.Exhausted.{no_violation_at_limit, none_passed_over_at_limit}
 use Rattle.pb_cohesion.proofs.Justified.{stable_has_no_violation, stable_is_fair}
 use Rattle.pb_cohesion.proofs.Plain as plain
 use Rattle.pb_cohesion.proofs.Reaches.{within_reach}
@@ -16,7 +18,11 @@ use Rattle.pb_cohesion.proofs.Stable as stable
 use Rattle.pb_price.proofs.FirstFalse.{first-false, is-less, supports-iff}
 use Rattle.pb_price.specs.Answers.{IsVerdictOn}
 use Rattle.pb_price.specs.First.{First, verdict_of}
+use Rattle.pb_price.specs.OnGroups.{HoldsOfGroups, IsCaseOf, IsStrict, groups_by}
 use Rattle.pb_price.specs.Supports.{Supports}
+use Rattle.pb_price.specs.declared.OnGroups.{OnGroups}
+use Rattle.pb_price.specs.declared.OnGroups.TheVariants.{Strict, Weak, Little}
+use Rattle.pb_price.proofs.SaidOfGroups.{is_case}
 use Rattle.pb_price.specs.declared.Mode.{Mode}
 use Rattle.pb_price.specs.declared.Failure.{Failure}
 use Rattle.pb_price.specs.declared.Failure.TheVariants as failure
@@ -56,9 +62,25 @@ pub shares : (m : Mode) (e : Instance) (w : List Bool) (p : Prices) → 1 ≤ p.
     → BudgetsReachTheLimit e p → SharesAreWithinReach e w
 shares m e w p low none reached s c unfunded group = grind (arith, supports-iff, cases_Bool, shares_reach)
 
-pub passes-nobody-over : (m : Mode) (e : Instance) (w : List Bool) (p : Prices) → First m e w p ≡ None → Cover e p
-    → NoGroupIsPassedOver e w
-passes-nobody-over m e w p none cover s c passed = grind (arith, supports-iff, cases_Bool, none_passed_over)
+pub passes-nobody-over : (m : Mode) (e : Instance) (w : List Bool) (p : Prices) → 1 ≤ p.denominator
+    → First m e w p ≡ None → IsStrict m e p → NoGroupIsPassedOver e w
+passes-nobody-over m e w p low none (inl cover) s c passed = grind (arith, supports-iff, cases_Bool, none_passed_over)
+passes-nobody-over m e w p low none (inr full) s c passed =
+    let yes' : Supports m e w p = (supports-iff m e w p).0 none in
+    none_passed_over_at_limit e w p s c low yes'.approved yes'.within_budget yes'.paid_for yes'.none_wasted
+    (yes'.exhausts full.1) full.0 passed
+
+-- what the case says of groups is so
+pub holds-of : (m : Mode) (e : Instance) (w : List Bool) (p : Prices) → 1 ≤ p.denominator → First m e w p ≡ None
+    → (said : OnGroups) → IsCaseOf m e p said → HoldsOfGroups said e w
+holds-of m e w p low none Strict is = passes-nobody-over m e w p low none (is.strict.0 refl)
+holds-of m e w p low none Weak is =
+    shares m e w p low none (let full : voters e * beta p ≡ budget_limit e p = (is.weak.0 refl).0 in omega arith)
+holds-of m e w p low none Little is = tt
+
+pub groups : (m : Mode) (e : Instance) (w : List Bool) (p : Prices) → 1 ≤ p.denominator → First m e w p ≡ None
+    → HoldsOfGroups (groups_by m e p) e w
+groups m e w p low none = holds-of m e w p low none (groups_by m e p) (is_case m e p)
 
 -- one of the two conditions of the supporters holds
 either-form : (stable : Bool) (e : Instance) (w : List Bool) (p : Prices) → (IsFalse stable → C5 e w p)
@@ -86,12 +108,16 @@ fair m e w p none is_stable s t group projects approve rich =
     stable_is_fair e w p s t yes'.approved yes'.paid_for yes'.none_wasted (yes'.stable_form is_stable) group projects
     approve rich
 
-pub no-violation : (m : Mode) (e : Instance) (w : List Bool) (p : Prices) → First m e w p ≡ None → m.stable ≡ true
-    → m.cover ≡ true → NoViolationByCounting e w
-no-violation m e w p none is_stable is_covered s t group projects violation =
+pub no-violation : (m : Mode) (e : Instance) (w : List Bool) (p : Prices) → 1 ≤ p.denominator
+    → First m e w p ≡ None → m.stable ≡ true → IsStrict m e p → NoViolationByCounting e w
+no-violation m e w p low none is_stable (inl cover) s t group projects violation =
     let yes' : Supports m e w p = (supports-iff m e w p).0 none in
     stable_has_no_violation e w p s t yes'.approved yes'.paid_for yes'.none_wasted (yes'.stable_form is_stable)
-    (yes'.covers is_covered) group projects violation
+    cover group projects violation
+no-violation m e w p low none is_stable (inr full) s t group projects violation =
+    let yes' : Supports m e w p = (supports-iff m e w p).0 none in
+    no_violation_at_limit e w p s t low yes'.approved yes'.within_budget yes'.paid_for yes'.none_wasted
+    (yes'.stable_form is_stable) (yes'.exhausts full.1) full.0 group projects violation
 
 -- a verdict tells its failure
 supported-none : (o : Option Failure) → verdict_of o ≡ verdict.Supported → o ≡ None
@@ -114,12 +140,13 @@ on-prices m e w p v low is = record {
   stable_no = λ c h. stable-no m e w p c (failed-some (First m e w p) (failure.S5 c) (sym is ∙ h));
   any_yes = λ h. budgets m e w p (none h);
   share_yes = λ h reached. shares m e w p low (none h) reached;
-  pjr_plus_yes = λ h cover. passes-nobody-over m e w p (none h) cover;
+  groups_yes = λ h. groups m e w p low (none h);
+  pjr_plus_yes = λ h strict. passes-nobody-over m e w p low (none h) strict;
   demand_yes = λ h reached. demands_reach e w (shares m e w p low (none h) reached);
-  pjr_yes = λ h cover. no_demand_passed_over e w (passes-nobody-over m e w p (none h) cover);
+  pjr_yes = λ h strict. no_demand_passed_over e w (passes-nobody-over m e w p low (none h) strict);
   unrefuted_yes = λ h. unrefuted m e w p low (none h);
   fair_yes = λ h stable'. fair m e w p (none h) stable';
-  covered_yes = λ h stable' cover'. no-violation m e w p (none h) stable' cover';
+  covered_yes = λ h stable' strict. no-violation m e w p low (none h) stable' strict;
 }
   where
     none : v ≡ verdict.Supported → First m e w p ≡ None

@@ -1,3 +1,4 @@
+pub mod SaidOfGroups
 pub mod Groups
 pub mod Sums
 pub mod Signed

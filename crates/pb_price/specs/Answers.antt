@@ -4,10 +4,10 @@ use Rattle.pb_election.specs.Instance.{Instance, approvals, projects, voters}
 use Rattle.pb_records.specs.Cells.{nonblank}
 use Rattle.pb_certificate.specs.Faults.{certificate_records}
 use Rattle.pb_certificate.specs.Prices.{Prices}
-use Rattle.pb_cohesion.specs.Conditions.{Cover}
 use Rattle.pb_cohesion.specs.EveryGroup.{BudgetsAreWithinReach, BudgetsReachTheLimit, DemandsAreWithinReach, GroupsGetTheirShare, NoDemandIsPassedOver, NoGroupHasMoreLeft, NoGroupIsPassedOver, NoViolationByCounting, NothingBlocks, SharesAreWithinReach, SupportersBlock, SupportersHaveMoreLeft}
 use Rattle.pb_cohesion.specs.Refutations.{NothingRefutes}
 use Rattle.pb_price.specs.First.{First, verdict_of}
+use Rattle.pb_price.specs.OnGroups.{HoldsOfGroups, IsStrict, groups_by}
 use Rattle.pb_price.specs.Supports.{Supports}
 use Rattle.pb_price.specs.declared.Failure.TheVariants as failure
 use Rattle.pb_price.specs.declared.Mode.{Mode}
@@ -25,14 +25,15 @@ pub record IsVerdictOn (m : Mode) (e : Instance) (w : List Bool) (p : Prices) (v
   pub stable_yes : v ≡ verdict.Supported → IsTrue m.stable → NothingBlocks e w p
   pub stable_no : (c : ℕ) → v ≡ verdict.Failed (failure.S5 c) → SupportersBlock e w p c
   pub fair_yes : v ≡ verdict.Supported → IsTrue m.stable → GroupsGetTheirShare e w p
-  pub covered_yes : v ≡ verdict.Supported → IsTrue m.stable → IsTrue m.cover → NoViolationByCounting e w
+  pub covered_yes : v ≡ verdict.Supported → IsTrue m.stable → IsStrict m e p → NoViolationByCounting e w
   -- what a yes in either form says
   pub any_yes : v ≡ verdict.Supported → BudgetsAreWithinReach e w p
-  -- and where the budgets of all voters together are at least the limit, or more
+  -- and of shares, by the three cases: where the budgets of all voters together are at least the limit, or strictly
+  pub groups_yes : v ≡ verdict.Supported → HoldsOfGroups (groups_by m e p) e w
   pub share_yes : v ≡ verdict.Supported → BudgetsReachTheLimit e p → SharesAreWithinReach e w
-  pub pjr_plus_yes : v ≡ verdict.Supported → Cover e p → NoGroupIsPassedOver e w
+  pub pjr_plus_yes : v ≡ verdict.Supported → IsStrict m e p → NoGroupIsPassedOver e w
   pub demand_yes : v ≡ verdict.Supported → BudgetsReachTheLimit e p → DemandsAreWithinReach e w
-  pub pjr_yes : v ≡ verdict.Supported → Cover e p → NoDemandIsPassedOver e w
+  pub pjr_yes : v ≡ verdict.Supported → IsStrict m e p → NoDemandIsPassedOver e w
   -- what a yes in any mode says of refutations
   pub unrefuted_yes : v ≡ verdict.Supported → NothingRefutes m.cover e w
 

@@ -1,4 +1,5 @@
 pub mod Supports
+pub mod OnGroups
 pub mod First
 pub mod FirstFalse
 pub mod Answers

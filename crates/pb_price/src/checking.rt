@@ -7,10 +7,10 @@ ghost use Rattle.pb_certificate.specs.Faults.{Refuses, certificate_records, no_m
 ghost use Rattle.pb_certificate.specs.Prices as spec;
 ghost use Rattle.pb_certificate.specs.Prices.Text.{IsPriceText};
 ghost use Rattle.pb_certificate.specs.Prices.{PricesFit, most_denominator};
-ghost use Rattle.pb_cohesion.specs.Conditions.{Cover};
 ghost use Rattle.pb_cohesion.specs.EveryGroup.{BudgetsAreWithinReach, BudgetsReachTheLimit, DemandsAreWithinReach, GroupsGetTheirShare, NoDemandIsPassedOver, NoGroupHasMoreLeft, NoGroupIsPassedOver, NoViolationByCounting, NothingBlocks, SharesAreWithinReach, SupportersBlock, SupportersHaveMoreLeft};
 ghost use Rattle.pb_cohesion.specs.Refutations.{NothingRefutes};
 ghost use Rattle.pb_price.specs.Answers.{AreStepsOf, IsVerdictOn, row_count};
+ghost use Rattle.pb_price.specs.OnGroups.{HoldsOfGroups, IsStrict, groups_by};
 ghost use Rattle.pb_price.specs.Supports.{Supports};
 ghost use Rattle.pb_price.specs.First.{First, verdict_of};
 ghost use Rattle.pb_price.specs.Inside.Tallies.{AreInRange, IsTallyOf, most_grains, sums_of};
@@ -47,19 +47,20 @@ pub fn check(
     ensures stable_yes { result ≡ Ok Verdict.Supported → IsTrue mode.stable → NothingBlocks election.now (outcome.now).marks prices.now }
     ensures stable_no { (c : ℕ) → result ≡ Ok (Verdict.Failed (Failure.S5 c)) → SupportersBlock election.now (outcome.now).marks prices.now c }
 
-    // What a stable yes says of what groups deserve, and with Cover.
+    // What a stable yes says of what groups deserve, and where it is strict of groups.
     ensures fair_yes { result ≡ Ok Verdict.Supported → IsTrue mode.stable → GroupsGetTheirShare election.now (outcome.now).marks prices.now }
-    ensures covered_yes { result ≡ Ok Verdict.Supported → IsTrue mode.stable → IsTrue mode.cover → NoViolationByCounting election.now (outcome.now).marks }
+    ensures covered_yes { result ≡ Ok Verdict.Supported → IsTrue mode.stable → IsStrict mode election.now prices.now → NoViolationByCounting election.now (outcome.now).marks }
 
     // What a yes in either form says.
     ensures any_yes { result ≡ Ok Verdict.Supported → BudgetsAreWithinReach election.now (outcome.now).marks prices.now }
 
     // What it says of shares of the limit and of demands, where the budgets of all voters together are at least the
-    // limit, and, as with Cover, where they are more.
+    // limit, and where it is strict of groups. Each case of `OnGroups` holds.
+    ensures groups_yes { result ≡ Ok Verdict.Supported → HoldsOfGroups (groups_by mode election.now prices.now) election.now (outcome.now).marks }
     ensures share_yes { result ≡ Ok Verdict.Supported → BudgetsReachTheLimit election.now prices.now → SharesAreWithinReach election.now (outcome.now).marks }
-    ensures pjr_plus_yes { result ≡ Ok Verdict.Supported → Cover election.now prices.now → NoGroupIsPassedOver election.now (outcome.now).marks }
+    ensures pjr_plus_yes { result ≡ Ok Verdict.Supported → IsStrict mode election.now prices.now → NoGroupIsPassedOver election.now (outcome.now).marks }
     ensures demand_yes { result ≡ Ok Verdict.Supported → BudgetsReachTheLimit election.now prices.now → DemandsAreWithinReach election.now (outcome.now).marks }
-    ensures pjr_yes { result ≡ Ok Verdict.Supported → Cover election.now prices.now → NoDemandIsPassedOver election.now (outcome.now).marks }
+    ensures pjr_yes { result ≡ Ok Verdict.Supported → IsStrict mode election.now prices.now → NoDemandIsPassedOver election.now (outcome.now).marks }
 
     // What a yes in any mode says of refutations.
     ensures unrefuted_yes { result ≡ Ok Verdict.Supported → NothingRefutes mode.cover election.now (outcome.now).marks }

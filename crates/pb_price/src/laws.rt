@@ -7,6 +7,7 @@ ghost use Rattle.pb_certificate.specs.Prices.{ArePrices, Prices};
 ghost use Rattle.pb_price.specs.Findings.{findings};
 ghost use Rattle.pb_price.specs.First.{First};
 ghost use Rattle.pb_price.specs.FirstFalse.{IsFirstFalse};
+ghost use Rattle.pb_price.specs.OnGroups.{IsCaseOf, groups_by};
 ghost use Rattle.pb_price.specs.Supports.{Supports};
 ghost use Rattle.pb_price.specs.Ranges.{AllSumsFit};
 ghost use Rattle.pb_price.specs.Told.{TellWhatHolds, first_told};
@@ -29,6 +30,12 @@ pub fn fails_at_the_first_false_condition()
 /// left can reach the lower end.
 pub fn sums_fit()
     ensures { (e : Instance) (w : List Bool) (p : Prices) → IsElection e → ArePrices e p → AllSumsFit e w p }
+{}
+
+/// What a yes says of groups is strict exactly where the budgets of all voters together are more than the limit, or are
+/// the limit and Exhaustive is asked for; weak where they are the limit without that; and little where they are less.
+pub fn one_of_three_cases_is_said_of_groups()
+    ensures { (m : Mode) (e : Instance) (p : Prices) → IsCaseOf m e p (groups_by m e p) }
 {}
 
 /// The findings on prices tell which conditions hold: Feasible where the total is at most the limit, Cover where the

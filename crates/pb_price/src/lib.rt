@@ -8,6 +8,7 @@ mod explaining;
 mod figures;
 pub mod laws;
 mod noting;
+mod on_groups;
 mod samples;
 mod tally;
 mod tallying;
@@ -75,6 +76,19 @@ pub enum Failure {
     /// The supporters of this unfunded project can offer together more than it costs, each either what it has left or
     /// its largest payment.
     S5(u32),
+}
+
+/// What a yes to prices says of every group of voters who all approve an unfunded project, by the voter budgets of all
+/// voters together.
+#[derive(Clone, Copy, Debug, PartialEq, Eq)]
+pub enum OnGroups {
+    /// The budgets are more than the limit, or they are the limit and the condition Exhaustive was asked for. Then the
+    /// share of such a group in the limit is less than what that project costs and what was funded for the group together.
+    Strict,
+    /// The budgets are the limit, and Exhaustive was not asked for. Then its share is no more than that.
+    Weak,
+    /// The budgets are less than the limit. Then nothing is said of shares.
+    Little,
 }
 
 /// What a pass over a certificate answers.

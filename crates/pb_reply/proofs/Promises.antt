@@ -19,7 +19,7 @@ use Rattle.pb_cohesion.proofs.Verdicts.{violates-iff}
 use Rattle.pb_price.specs.First.{First, verdict_of}
 use Rattle.pb_price.specs.declared.Failure.{Failure}
 use Rattle.pb_price.specs.declared.Mode.{Mode}
-use Rattle.pb_price.proofs.Groups.{budgets, fair, no-violation, passes-nobody-over, plain-no, plain-yes, shares, stable-no, stable-yes, unrefuted}
+use Rattle.pb_price.proofs.Groups.{budgets, fair, groups, no-violation, passes-nobody-over, plain-no, plain-yes, shares, stable-no, stable-yes, unrefuted}
 use Rattle.pb_price.proofs.FirstFalse.{supports-iff}
 use Rattle.pb_certificate.specs.declared.kind.Kind.{Kind}
 use Rattle.pb_certificate.specs.declared.kind.Kind.TheVariants as kind
@@ -51,12 +51,13 @@ prices_promise m input e w d p given = by_first (First m e w p) refl
       stable_yes = λ yes' stable. stable-yes m e w p is stable;
       any_yes = λ yes'. budgets m e w p is;
       share_yes = λ yes' reached. shares m e w p low is reached;
-      pjr_plus_yes = λ yes' cover. passes-nobody-over m e w p is cover;
+      groups_yes = λ yes'. groups m e w p low is;
+      pjr_plus_yes = λ yes' strict. passes-nobody-over m e w p low is strict;
       demand_yes = λ yes' reached. demands_reach e w (shares m e w p low is reached);
-      pjr_yes = λ yes' cover. no_demand_passed_over e w (passes-nobody-over m e w p is cover);
+      pjr_yes = λ yes' strict. no_demand_passed_over e w (passes-nobody-over m e w p low is strict);
       unrefuted_yes = λ yes'. unrefuted m e w p low is;
       fair_yes = λ yes' stable. fair m e w p is stable;
-      covered_yes = λ yes' stable cover. no-violation m e w p is stable cover;
+      covered_yes = λ yes' stable strict. no-violation m e w p low is stable strict;
       plain_no = λ c h. plain-no m e w p c h;
       stable_no = λ c h. stable-no m e w p c h;
     }
@@ -66,12 +67,13 @@ prices_promise m input e w d p given = by_first (First m e w p) refl
       stable_yes = λ yes' stable. no-yes yes';
       any_yes = λ yes'. no-yes yes';
       share_yes = λ yes' reached. no-yes yes';
-      pjr_plus_yes = λ yes' cover. no-yes yes';
+      groups_yes = λ yes'. no-yes yes';
+      pjr_plus_yes = λ yes' strict. no-yes yes';
       demand_yes = λ yes' reached. no-yes yes';
-      pjr_yes = λ yes' cover. no-yes yes';
+      pjr_yes = λ yes' strict. no-yes yes';
       unrefuted_yes = λ yes'. no-yes yes';
       fair_yes = λ yes' stable. no-yes yes';
-      covered_yes = λ yes' stable cover. no-yes yes';
+      covered_yes = λ yes' stable strict. no-yes yes';
       plain_no = λ c h. plain-no m e w p c h;
       stable_no = λ c h. stable-no m e w p c h;
     }

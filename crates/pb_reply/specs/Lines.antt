@@ -2,6 +2,7 @@
 use Rattle.std.specs.Prelude.{◌==◌, if◌then◌else◌, Bool, ℕ, List, [], ◌∷◌, ◌++◌, count_by, Option, Some, None, codes, decimal}
 use Rattle.std.specs.Option.{option_map}
 use Rattle.pb_election.specs.Instance.{Instance, id_of, projects, voters}
+use Rattle.pb_election.specs.declared.columns.UnusedColumns.{UnusedColumns}
 use Rattle.pb_cohesion.specs.declared.RefutationFailure.{RefutationFailure}
 use Rattle.pb_cohesion.specs.declared.RefutationFailure.TheVariants.{U1, U2, U3}
 use Rattle.pb_cohesion.specs.declared.RefutationVerdict.{RefutationVerdict}
@@ -31,8 +32,8 @@ abbrev pub read_line : Instance → Text
 read_line e = codes "read " ++ decimal (voters e) ++ codes " voters " ++ decimal (projects e) ++ codes " projects "
     ++ outcome_words (number_of_funded e)
 
--- the notes on an election, in their order: a declared count is not the counted one, and some fields of the column
--- `selected` are neither 0 nor 1
+-- the notes on an election, in their order: a declared count is not the counted one, some fields of the column
+-- `selected` are neither 0 nor 1, and VOTES has a column that would weigh votes and is not used
 abbrev pub count_words : Text → ℕ → ℕ → Text
 count_words key said counted = codes "note: " ++ key ++ codes " says " ++ decimal said ++ codes ", counted "
     ++ decimal counted
@@ -41,17 +42,34 @@ abbrev pub count_note : Text → Option ℕ → ℕ → List Text
 count_note key None counted = []
 count_note key (Some said) counted = if said == counted then [] else count_words key said counted ∷ []
 
+abbrev pub count_notes : Instance → List Text
+count_notes e =
+    count_note (codes "num_projects") e.declared_projects (projects e)
+    ++ count_note (codes "num_votes") e.declared_votes (voters e)
+
 abbrev pub selected_words : ℕ → Text
 selected_words k = codes "note: selected is neither 0 nor 1 in " ++ decimal k ++ codes " projects"
 
 abbrev pub selected_note : ℕ → List Text
 selected_note k = if k == 0 then [] else selected_words k ∷ []
 
+abbrev pub column_words : Text → Text
+column_words name = codes "note: column " ++ name ++ codes " of VOTES is not used"
+
+abbrev pub column_note : Text → Bool → List Text
+column_note name has = if has then column_words name ∷ [] else []
+
+abbrev pub column_notes : UnusedColumns → List Text
+column_notes unused =
+    column_note (codes "weight") unused.weight
+    ++ column_note (codes "points") unused.points
+    ++ column_note (codes "sign") unused.sign
+
 abbrev pub notes : Instance → List Text
 notes e =
-    count_note (codes "num_projects") e.declared_projects (projects e)
-    ++ count_note (codes "num_votes") e.declared_votes (voters e)
+    count_notes e
     ++ selected_note e.other_selected
+    ++ column_notes e.unused
 
 -- a condition or a test that fails: its name, and the voter and the project at which it does
 pub record Failed : Type 0 where

@@ -4,12 +4,12 @@ use Rattle.pb_election.specs.Instance.{Instance}
 use Rattle.pb_certificate.specs.Prices.{Prices}
 use Rattle.pb_certificate.specs.Refutations.{Weights}
 use Rattle.pb_certificate.specs.declared.violations.measure.Measure.{Measure}
-use Rattle.pb_cohesion.specs.Conditions.{Cover}
 use Rattle.pb_cohesion.specs.EveryGroup.{BudgetsAreWithinReach, BudgetsReachTheLimit, DemandsAreWithinReach, GroupsGetTheirShare, NoDemandIsPassedOver, NoGroupHasMoreLeft, NoGroupIsPassedOver, NoViolationByCounting, NothingBlocks, SharesAreWithinReach, SupportersBlock, SupportersHaveMoreLeft}
 use Rattle.pb_cohesion.specs.Groups.{Violates}
 use Rattle.pb_cohesion.specs.Refutations.{NoPricesSupport, NoPricesWithCoverSupport, NothingRefutes, Refutes}
 use Rattle.pb_cohesion.specs.Satisfactions.{worth_by}
 use Rattle.pb_price.specs.First.{First}
+use Rattle.pb_price.specs.OnGroups.{HoldsOfGroups, IsStrict, groups_by}
 use Rattle.pb_price.specs.Supports.{Supports}
 use Rattle.pb_price.specs.declared.Failure.TheVariants as failure
 use Rattle.pb_price.specs.declared.Mode.{Mode}
@@ -25,11 +25,12 @@ pub record PricesPromise (m : Mode) (status : Status) (e : Instance) (w : List B
   pub stable_yes : status ≡ Yes → IsTrue m.stable → NothingBlocks e w p
   pub any_yes : status ≡ Yes → BudgetsAreWithinReach e w p
   pub share_yes : status ≡ Yes → BudgetsReachTheLimit e p → SharesAreWithinReach e w
-  pub pjr_plus_yes : status ≡ Yes → Cover e p → NoGroupIsPassedOver e w
+  pub groups_yes : status ≡ Yes → HoldsOfGroups (groups_by m e p) e w
+  pub pjr_plus_yes : status ≡ Yes → IsStrict m e p → NoGroupIsPassedOver e w
   pub demand_yes : status ≡ Yes → BudgetsReachTheLimit e p → DemandsAreWithinReach e w
-  pub pjr_yes : status ≡ Yes → Cover e p → NoDemandIsPassedOver e w
+  pub pjr_yes : status ≡ Yes → IsStrict m e p → NoDemandIsPassedOver e w
   pub fair_yes : status ≡ Yes → IsTrue m.stable → GroupsGetTheirShare e w p
-  pub covered_yes : status ≡ Yes → IsTrue m.stable → IsTrue m.cover → NoViolationByCounting e w
+  pub covered_yes : status ≡ Yes → IsTrue m.stable → IsStrict m e p → NoViolationByCounting e w
   pub unrefuted_yes : status ≡ Yes → NothingRefutes m.cover e w
   pub plain_no : (c : ℕ) → First m e w p ≡ Some (failure.C5 c) → SupportersHaveMoreLeft e p c
   pub stable_no : (c : ℕ) → First m e w p ≡ Some (failure.S5 c) → SupportersBlock e w p c

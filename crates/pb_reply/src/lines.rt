@@ -3,7 +3,7 @@ ghost use Rattle.std.specs.Prelude.{◌≡◌, ◌∷◌, ◌++◌, [], IfOk, On
 ghost use Rattle.pb_reply.specs.Replies.{text_of};
 ghost use Rattle.pb_reply.specs.Lines as spec;
 
-use pb_election::Election;
+use pb_election::{Election, UnusedColumns};
 use pb_input::InputRefusal;
 use std::alloc::{AllocError, Global};
 
@@ -39,6 +39,27 @@ pub fn push_notes(
 ) -> Result<(), AllocError>
     ensures { OnOk result (map string_bytes lines.new.items ≡ map string_bytes lines.old.items ++ spec.notes election.now) }
 {
+    push_count_notes(alloc, lines, election)?;
+    push_selected_note(alloc, lines, election.other_selected())?;
+    push_column_notes(alloc, lines, election.unused_columns())
+}
+
+/// Adds a line to a list of lines.
+fn push_whole(lines: &mut Vec<String>, line: String) -> Result<(), AllocError>
+    ensures { OnOk result (map string_bytes lines.new.items ≡ map string_bytes lines.old.items ++ (string_bytes line ∷ [])) }
+{
+    lines.push(line)?;
+    Ok(())
+}
+
+/// Adds the notes that the declared counts are not the counted ones, each where it is due.
+fn push_count_notes(
+    alloc: Global,
+    lines: &mut Vec<String>,
+    election: &Election,
+) -> Result<(), AllocError>
+    ensures { OnOk result (map string_bytes lines.new.items ≡ map string_bytes lines.old.items ++ spec.count_notes election.now) }
+{
     push_count_note(
         alloc,
         lines,
@@ -52,16 +73,7 @@ pub fn push_notes(
         "num_votes",
         election.declared_votes(),
         election.voters(),
-    )?;
-    push_selected_note(alloc, lines, election.other_selected())
-}
-
-/// Adds a line to a list of lines.
-fn push_whole(lines: &mut Vec<String>, line: String) -> Result<(), AllocError>
-    ensures { OnOk result (map string_bytes lines.new.items ≡ map string_bytes lines.old.items ++ (string_bytes line ∷ [])) }
-{
-    lines.push(line)?;
-    Ok(())
+    )
 }
 
 /// Adds the note that a declared count is not the counted one, where it is due.
@@ -102,6 +114,40 @@ fn selected_words(alloc: Global, count: u32) -> Result<String, AllocError>
     ensures { IfOk result (λ line. string_bytes line ≡ spec.selected_words count) }
 {
     format!(in alloc; "note: selected is neither 0 nor 1 in {count} projects")
+}
+
+/// Adds a note on each column of VOTES that weighs votes, since none of them is used.
+fn push_column_notes(
+    alloc: Global,
+    lines: &mut Vec<String>,
+    unused: UnusedColumns,
+) -> Result<(), AllocError>
+    ensures { OnOk result (map string_bytes lines.new.items ≡ map string_bytes lines.old.items ++ spec.column_notes unused) }
+{
+    push_column_note(alloc, lines, "weight", unused.weight)?;
+    push_column_note(alloc, lines, "points", unused.points)?;
+    push_column_note(alloc, lines, "sign", unused.sign)
+}
+
+/// Adds the note that a column is not used, where the file has it.
+fn push_column_note(
+    alloc: Global,
+    lines: &mut Vec<String>,
+    name: &str,
+    has: bool,
+) -> Result<(), AllocError>
+    ensures { OnOk result (map string_bytes lines.new.items ≡ map string_bytes lines.old.items ++ spec.column_note name.now has) }
+{
+    if !has {
+        return Ok(());
+    }
+    push_whole(lines, column_words(alloc, name)?)
+}
+
+fn column_words(alloc: Global, name: &str) -> Result<String, AllocError>
+    ensures { IfOk result (λ line. string_bytes line ≡ spec.column_words name.now) }
+{
+    format!(in alloc; "note: column {name} of VOTES is not used")
 }
 
 /// The line of a refusal.

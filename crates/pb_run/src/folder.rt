@@ -15,8 +15,22 @@ use pb_reply::{refused, write_reply};
 use std::alloc::AllocError;
 use std::io::{IsTerminal, Write};
 
-/// How many files are named that aren't audited.
+/// How many files are named in a line.
 const MOST_NAMED: usize = 5;
+
+/// What is told of names, ahead of them and behind them.
+const NOT_AUDITED: &str = "not audited";
+
+const UNSEEN: &str = "names with characters that can't be seen";
+
+const NAMES: &str =
+    "an election is NAME.pb, and its certificates are NAME.prices.csv and NAME.violation.csv, with endings in lower case";
+
+const REGULAR: &str = "only regular files are, and no links, folders or pipes";
+
+const CLEAN: &str = "their names have control characters";
+
+const AS_THEY_ARE: &str = "the report has them as they are";
 
 /// Writes the report on a folder of elections on `out`, once the whole of it is there. Where `err` is a terminal, it
 /// tells there how far it is. That the folder has no election, or can't be listed, is told on `err` as well, and so are
@@ -53,8 +67,8 @@ pub fn run_folder<W: Sink, E: Write + IsTerminal>(
     Ok(End::Reported(status))
 }
 
-/// Tells that there is no election, and in one line which files may be meant to be audited and aren't. What `err` does
-/// not take is lost, and the files are not told if memory runs out.
+/// Tells that there is no election, which files may be meant to be audited and aren't, and in which names something
+/// can't be seen. What `err` does not take is lost, and the files are not told if memory runs out.
 fn tell_beside<E: Write>(rt: &HostRuntime, listing: &Listing, err: &mut E) {
     if listing.elections().is_empty() {
         let _ = writeln!(
@@ -62,44 +76,52 @@ fn tell_beside<E: Write>(rt: &HostRuntime, listing: &Listing, err: &mut E) {
             "pbaudit: no election was found: the folder has no file named NAME.pb"
         );
     }
-    if let Ok(Some(line)) = overlooked_line(rt, listing) {
-        let _ = err.write_all(line.as_bytes());
+    if let Ok(lines) = lines_on_names(rt, listing) {
+        let _ = err.write_all(lines.as_bytes());
     }
 }
 
-/// The line that names the files that may be meant to be audited and aren't, if there are any.
-fn overlooked_line(rt: &HostRuntime, listing: &Listing) -> Result<Option<String>, AllocError> {
-    let names = listing.overlooked(rt.alloc())?;
-    if names.is_empty() {
-        return Ok(None);
+/// The lines that name files, a line for each of the reasons for which there are any.
+fn lines_on_names(rt: &HostRuntime, listing: &Listing) -> Result<String, AllocError> {
+    let mut lines = String::new(rt.alloc());
+    let overlooked = listing.overlooked(rt.alloc())?;
+    let mut rule = String::from_str(rt.alloc(), NAMES)?;
+    if listing.has_refutations() {
+        rule.push_str("; a refutation is audited by itself, with pbaudit refutation")?;
     }
-    let mut line = String::new(rt.alloc());
-    push_overlooked(&mut line, &names, listing.has_refutations())?;
-    Ok(Some(line))
+    push_names(&mut lines, NOT_AUDITED, &overlooked, &rule)?;
+    push_names(&mut lines, NOT_AUDITED, listing.irregular(), REGULAR)?;
+    push_names(&mut lines, NOT_AUDITED, listing.unclean(), CLEAN)?;
+    push_names(
+        &mut lines,
+        UNSEEN,
+        &listing.unseen(rt.alloc())?,
+        AS_THEY_ARE,
+    )?;
+    Ok(lines)
 }
 
-fn push_overlooked(
-    line: &mut String,
+/// Adds a line of these words, the first of the names, and a rule, where there are names.
+fn push_names(
+    lines: &mut String,
+    words: &str,
     names: &[String],
-    has_refutations: bool,
+    rule: &str,
 ) -> Result<(), AllocError> {
-    line.push_str("pbaudit: not audited: ")?;
+    if names.is_empty() {
+        return Ok(());
+    }
+    write!(lines, "pbaudit: {words}: ")?;
     for (place, name) in names.iter().take(MOST_NAMED).enumerate() {
         if place > 0 {
-            line.push_str(", ")?;
+            lines.push_str(", ")?;
         }
-        push_shown(line, name)?;
+        push_shown(lines, name)?;
     }
     if names.len() > MOST_NAMED {
-        write!(line, " and {} more", names.len() - MOST_NAMED)?;
+        write!(lines, " and {} more", names.len() - MOST_NAMED)?;
     }
-    line.push_str(
-        "; an election is NAME.pb, and its certificates are NAME.prices.csv and NAME.violation.csv, with endings in lower case",
-    )?;
-    if has_refutations {
-        line.push_str("; a refutation is audited by itself, with pbaudit refutation")?;
-    }
-    line.push('\n')
+    writeln!(lines, "; {rule}")
 }
 
 /// The report on what a folder lists. One entry after the other is loaded, audited and let go.

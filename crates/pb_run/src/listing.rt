@@ -1,29 +1,36 @@
 //! What a folder lists.
 use pb_audit::endings::{ELECTION, PRICES, VIOLATION};
+use pb_visible::is_hidden;
 use std::alloc::{AllocError, Global};
-use std::fs::DirEntry;
-use std::io::ErrorKind;
+use std::fs::{DirEntry, Files};
+use std::io::{ErrorKind, Read};
 use std::{fs, io};
 
-/// The elections and the certificates of a folder, by their names without these endings, in byte order.
+/// The elections and the certificates of a folder, by their names without these endings, in byte order. The other names
+/// have their endings.
 #[derive(Drop)]
 pub struct Listing {
     elections: Vec<String>,
     prices: Vec<String>,
     violations: Vec<String>,
-    /// The names, with their endings, of files whose endings are the same but for small and capital letters, and of
-    /// certificates that have no name before it.
-    misnamed: Vec<String>,
-    /// The names, with their endings, of refutations.
     refutations: Vec<String>,
+    /// Files whose endings are right but for small and capital letters, and certificates without a name.
+    misnamed: Vec<String>,
+    /// Files whose endings are right, with a control character in their names.
+    unclean: Vec<String>,
+    /// Links, folders, pipes and the like, with names by which a file would stand in one of these lists.
+    irregular: Vec<String>,
 }
 
-/// What a file of a folder is.
+/// What a file of a folder is by its name.
 #[derive(Clone, Copy)]
 enum Role {
     Election,
     Prices,
     Violation,
+    Refutation,
+    Misnamed,
+    Unclean,
 }
 
 /// How the name of a refutation ends, `NAME.refutation.csv`. Those of a folder aren't audited.
@@ -69,13 +76,17 @@ impl Listing {
             elections: Vec::new(alloc),
             prices: Vec::new(alloc),
             violations: Vec::new(alloc),
-            misnamed: Vec::new(alloc),
             refutations: Vec::new(alloc),
+            misnamed: Vec::new(alloc),
+            unclean: Vec::new(alloc),
+            irregular: Vec::new(alloc),
         };
         listing.take_all(rt, folder)?;
         listing.elections.sort_unstable();
         listing.prices.sort_unstable();
         listing.violations.sort_unstable();
+        listing.unclean.sort_unstable();
+        listing.irregular.sort_unstable();
         Ok(listing)
     }
 
@@ -89,41 +100,56 @@ impl Listing {
     /// Takes what is listed, where it is an election or a certificate, or has nearly such a name.
     fn take(&mut self, alloc: Global, entry: &DirEntry) -> Result<(), ListFault> {
         let file_name = entry.file_name();
-        let Some((role, name)) = split(file_name) else {
-            return self.pass_over(alloc, entry);
-        };
-        if !is_entry_name(name) || !is_file(entry)? {
+        let Some((role, name)) = role_of(file_name) else {
             return Ok(());
-        }
-        let name = String::from_str(alloc, name)?;
-        let taken = match role {
-            Role::Election => self.elections.push(name),
-            Role::Prices => self.prices.push(name),
-            Role::Violation => self.violations.push(name),
         };
-        taken.map_err(AllocError::from)?;
+        let pushed = if is_file(entry)? {
+            let name = String::from_str(alloc, name)?;
+            self.names_of(role).push(name)
+        } else {
+            self.irregular.push(String::from_str(alloc, file_name)?)
+        };
+        pushed.map_err(AllocError::from)?;
         Ok(())
     }
 
-    /// Notes what is listed, where it is a refutation or has nearly the name of a file that is audited.
-    fn pass_over(&mut self, alloc: Global, entry: &DirEntry) -> Result<(), ListFault> {
-        let name = entry.file_name();
-        let is_refutation = is_like(name, REFUTATION);
-        if !(is_refutation || is_misnamed(name)) || !is_file(entry)? {
-            return Ok(());
+    /// The list of the files that are this.
+    fn names_of(&mut self, role: Role) -> &mut Vec<String> {
+        match role {
+            Role::Election => &mut self.elections,
+            Role::Prices => &mut self.prices,
+            Role::Violation => &mut self.violations,
+            Role::Refutation => &mut self.refutations,
+            Role::Misnamed => &mut self.misnamed,
+            Role::Unclean => &mut self.unclean,
         }
-        let name = String::from_str(alloc, name)?;
-        let noted = match is_refutation {
-            true => self.refutations.push(name),
-            false => self.misnamed.push(name),
-        };
-        noted.map_err(AllocError::from)?;
-        Ok(())
     }
 
     /// Whether there are refutations, which aren't audited.
     pub fn has_refutations(&self) -> bool {
         !self.refutations.is_empty()
+    }
+
+    /// The names, in byte order, of files whose endings are right, with a control character in each.
+    pub fn unclean(&self) -> &[String] {
+        &self.unclean
+    }
+
+    /// The names, in byte order, of links, folders, pipes and the like by which a file would be audited or overlooked.
+    pub fn irregular(&self) -> &[String] {
+        &self.irregular
+    }
+
+    /// The names, with their endings and in byte order, of the elections in whose names are characters that can't be
+    /// seen.
+    pub fn unseen(&self, alloc: Global) -> Result<Vec<String>, AllocError> {
+        let mut names = Vec::new(alloc);
+        for name in &self.elections {
+            if name.chars().any(|c| is_hidden(c)) {
+                names.push(format!(in alloc; "{name}{ELECTION}")?)?;
+            }
+        }
+        Ok(names)
     }
 
     /// The names, with their endings and in byte order, of the files that may be meant to be audited and aren't: those
@@ -188,7 +214,34 @@ impl Listing {
     }
 }
 
-/// What a file is by its name, and the name without the ending.
+/// Of the names that a folder lists and that aren't UTF-8, the first in byte order.
+pub fn first_not_text(rt: &HostRuntime, folder: &str) -> io::Result<Option<Vec<u8>>> {
+    let path = format!(in rt.alloc(); "{folder}/")?;
+    let mut names = Vec::new(rt.alloc());
+    rt.open_dir(&path)?.read_to_end(&mut names)?;
+    let first = names
+        .split(|byte| *byte == 0)
+        .filter(|name| str::from_utf8(name).is_err())
+        .min();
+    match first {
+        Some(name) => Ok(Some(Vec::from_slice(rt.alloc(), name)?)),
+        None => Ok(None),
+    }
+}
+
+/// What a file is by its name, where it is audited or told; and the name, without its ending where it is audited.
+fn role_of(file_name: &str) -> Option<(Role, &str)> {
+    match split(file_name) {
+        Some((_, "")) => None,
+        Some((_, name)) if !is_clean(name) => Some((Role::Unclean, file_name)),
+        Some(of_entry) => Some(of_entry),
+        None if is_like(file_name, REFUTATION) => Some((Role::Refutation, file_name)),
+        None if is_misnamed(file_name) => Some((Role::Misnamed, file_name)),
+        None => None,
+    }
+}
+
+/// What a file is whose name has one of the endings, and the name without it.
 fn split(file_name: &str) -> Option<(Role, &str)> {
     for (ending, role) in ROLES {
         if let Some(name) = file_name.strip_suffix(ending) {
@@ -223,9 +276,9 @@ fn is_bare(file_name: &str, ending: &str) -> bool {
         .is_some_and(|bare| bare == file_name)
 }
 
-/// Whether an entry may have this name: it isn't empty and holds no control byte.
-fn is_entry_name(name: &str) -> bool {
-    !name.is_empty() && name.bytes().all(|byte| byte >= 32 && byte != 127)
+/// Whether a name has no control byte.
+fn is_clean(name: &str) -> bool {
+    name.bytes().all(|byte| byte >= 32 && byte != 127)
 }
 
 /// Whether this is a regular file. What can't be looked at counts as one, so that it isn't skipped: reading it will

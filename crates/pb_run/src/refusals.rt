@@ -1,10 +1,11 @@
 //! What people are told beside an answer: notes on the election, and why a file is refused.
 use crate::file::FileReader;
+use crate::listing::first_not_text;
 use pb_audit::{InputFault, InputName, InputRefusal, Loaded};
 use pb_certificate::CertFault;
 use pb_command::Task;
 use pb_election::Input;
-use pb_hints::{FileKind, Remark, hint, push_shown};
+use pb_hints::{FileKind, Remark, hint, push_quoted, push_shown};
 use std::alloc::AllocError;
 use std::io::Write;
 use std::{fs, io};
@@ -53,10 +54,32 @@ fn push_note(text: &mut String, path: &str, note: &str) -> Result<(), AllocError
 
 /// Tells on `err` why a folder was not listed.
 pub fn tell_unlisted<E: Write>(rt: &HostRuntime, folder: &str, failure: Option<i32>, err: &mut E) {
-    let words = "it has a file whose name isn't UTF-8";
-    if let Ok(remarks) = unread(rt, Some(folder), failure, words) {
+    if let Ok(remarks) = unlisted(rt, folder, failure) {
         tell_remarks(rt, folder, &remarks, err);
     }
+}
+
+/// Why a folder was not listed.
+fn unlisted(
+    rt: &HostRuntime,
+    folder: &str,
+    failure: Option<i32>,
+) -> Result<Vec<Remark>, AllocError> {
+    if failure.is_some() {
+        return unread(rt, Some(folder), failure, "");
+    }
+    let words = not_text_words(rt, folder)?;
+    unread(rt, Some(folder), failure, words.as_str())
+}
+
+/// That a folder has a file whose name isn't UTF-8, with the name, where that can be read again.
+fn not_text_words(rt: &HostRuntime, folder: &str) -> Result<String, AllocError> {
+    let mut words = String::from_str(rt.alloc(), "it has a file whose name isn't UTF-8")?;
+    if let Ok(Some(name)) = first_not_text(rt, folder) {
+        words.push_str(": ")?;
+        push_quoted(&mut words, &name)?;
+    }
+    Ok(words)
 }
 
 fn tell_remarks<E: Write>(rt: &HostRuntime, name: &str, remarks: &[Remark], err: &mut E) {

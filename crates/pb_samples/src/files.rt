@@ -109,7 +109,7 @@ C4          holds      nothing is paid for an unfunded project
 C5          holds      project c, the closest, costs 9.00, and its supporters' leftovers come to 2.00
 S5          not asked  with --stable it holds: project c, the closest, costs 9.00, and its supporters' offers come to 2.00
 
-no group is passed over: where a group has members, who all approve an unfunded project, its share of the limit is less than this project and all that was funded for the group cost together
+take any voters who all approve an unfunded project: their equal part of the limit is less than that project's cost plus the cost of all funded projects that at least one of them approves
 nearest to that comes project c: the share of its 1 supporters is 3 1/3, it costs 9.00, and 4.00 was funded for them
 ";
 

@@ -23,7 +23,7 @@ pub enum Sentence {
     SaysLittle,
     SaysLess,
     GroupsWithinReach,
-    NoGroupPassedOver,
+    GroupsBelowReach,
     NearestGroup(Plural),
     // What is asked.
     AskedPlain,
@@ -211,6 +211,7 @@ pub enum Sentence {
     // What the page doesn't say, and what may be said.
     NotSaid,
     NotSaidOthers,
+    NotSaidDeserved,
     NotSaidGroups,
     NotSaidPayments,
     NotSaidOutcome,

@@ -1,15 +1,19 @@
 //! Elections and their outcomes.
+mod colliding;
+
 use pb_election::{Election, Outcome};
 use pb_samples::files::ELECTION;
 use std::alloc::{AllocError, Global};
 use std::process::Abort;
 use std::test::Fail;
 
-/// The limit, the counts and the projects are to be those of the sample.
+/// The limit, the counts, the columns and the projects are to be those of the sample.
 fn expect_counts(rt: &impl Abort, election: &Election) {
     let counts = (election.projects(), election.voters());
     let declared = (election.declared_projects(), election.declared_votes());
     let selected = (election.other_selected(), election.has_selected());
+    let unused = election.unused_columns();
+    assert!(rt; unused.weight && !unused.points && unused.sign);
     assert_eq!(rt;
         (counts, declared, selected),
         ((3, 3), (Some(3), Some(3)), (0, true))
@@ -60,11 +64,12 @@ fn expect_outcomes(rt: &impl Abort, alloc: Global, election: &Election) -> Resul
     Ok(())
 }
 
-/// The sample election with a limit of 10.5, and with ballots that name projects in any order, some twice.
+/// The sample election with a limit of 10.5, with columns that weigh votes, and with ballots that name projects in any
+/// order, some twice.
 fn untidy_election(alloc: Global) -> Result<String, AllocError> {
     let limit = ELECTION.replace(alloc, "budget;10", "budget;10,5")?;
-    let votes = "1;a, a,,b \n2;\n3;c,b,c\n";
-    limit.replace(alloc, "1;a,b\n2;a\n3;b,c\n", votes)
+    let votes = "SIGN;vote;weight\n1;a, a,,b \n2;;9\n3;c,b,c;0\n";
+    limit.replace(alloc, "voter_id;vote\n1;a,b\n2;a\n3;b,c\n", votes)
 }
 
 /// Ballots are put in order once each.

@@ -3,13 +3,12 @@
 use Rattle.std.specs.Prelude.{◌≡◌, ◌+◌, ◌++◌, ◌&&◌, if◌then◌else◌, is_some, ℕ, [], ◌∷◌}
 use Rattle.std.specs.Option.{option_map}
 use Rattle.pb_records.specs.Records.{Field}
-use Rattle.pb_election.specs.Inside.Ids.{ids_kept}
 use Rattle.pb_election.specs.Rows.{is_neither, says_funded}
 use Rattle.pb_election.specs.declared.election_draft.ProjectRows.{ProjectRows}
 
 pub record AddsProject (old new : ProjectRows) (id : Field) (cost : ℕ) (mark : Field) : Type 0 where
   pub columns : new.columns ≡ old.columns
-  pub ids : ids_kept new.ids.keys ≡ ids_kept old.ids.keys ++ id ∷ []
+  pub ids : new.ids ≡ old.ids ++ id ∷ []
   pub costs : new.costs.items ≡ old.costs.items ++ cost ∷ []
   pub selected : option_map (λ v. v.items) new.selected
       ≡ option_map (λ v. v.items ++ says_funded mark ∷ []) old.selected

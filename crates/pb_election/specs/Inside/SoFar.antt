@@ -17,7 +17,7 @@ use Rattle.pb_election.specs.declared.refusal.ElectionFault.{ElectionFault}
 use Rattle.pb_records.specs.declared.drafts.Stop.{Stop}
 use Rattle.pb_records.specs.declared.drafts.Stop.TheVariants.{Fault, Memory}
 use Rattle.pb_election.specs.Markers.{is_marker}
-use Rattle.pb_election.specs.Rows.{ballot_in, columns_of, cost_in, count_in, funded_in, has_key, id_in, key_in, says_funded, says_neither, selected_in, value_in, vote_column}
+use Rattle.pb_election.specs.Rows.{ballot_in, columns_of, cost_in, count_in, funded_in, has_key, id_in, key_in, says_funded, says_neither, selected_in, unused_columns, value_in, vote_column}
 use Rattle.pb_election.specs.Faults.{Before, lowest_fault}
 
 pub record SoFar : Type 0 where
@@ -95,7 +95,12 @@ next_by (Header Projects) s r =
       columns = columns_of r;
       election = record s.election { selected = funded_in (columns_of r) [] };
     }
-next_by (Header Votes) s r = record s { role = Inside Votes; vote_column = vote_column r }
+next_by (Header Votes) s r =
+    record s {
+      role = Inside Votes;
+      vote_column = vote_column r;
+      election = record s.election { unused = unused_columns r };
+    }
 next_by (Inside Meta) s r =
     if is_marker r then record s { role = Header Projects }
     else record s { keys = with_key (key_in r) s.keys; election = with_value (key_in r) (value_in r) s.election }

@@ -45,13 +45,15 @@ pub fn wording(sentence: Sentence) -> &'static str {
              zusammen {budgets}, und das ist weniger als das Gesamtbudget von {limit}. Jede Gruppe \
              kann also weniger ausgeben als ihren Anteil am Gesamtbudget.",
         Sentence::GroupsWithinReach =>
-            "Wo sich eine Gruppe von Abstimmenden über ein nicht gefördertes Projekt einig ist, \
-             ist ihr Anteil am Gesamtbudget nicht größer als die Kosten dieses Projekts und von \
-             allem, was für die Gruppe gefördert wird, zusammen.",
-        Sentence::NoGroupPassedOver =>
-            "Keine Gruppe von Abstimmenden wird übergangen: Wo sich eine Gruppe über ein nicht \
-             gefördertes Projekt einig ist, ist ihr Anteil am Gesamtbudget kleiner als die Kosten \
-             dieses Projekts und von allem, was für die Gruppe gefördert wird, zusammen.",
+            "Nehmen Sie beliebige Abstimmende, die alle für dasselbe nicht geförderte Projekt \
+             gestimmt haben. Teilt man das Gesamtbudget gleichmäßig auf alle Abstimmenden auf, \
+             ist ihr Anteil nicht größer als die Kosten dieses Projekts plus die Kosten aller \
+             geförderten Projekte, für die mindestens eine dieser Personen gestimmt hat.",
+        Sentence::GroupsBelowReach =>
+            "Nehmen Sie beliebige Abstimmende, die alle für dasselbe nicht geförderte Projekt \
+             gestimmt haben. Teilt man das Gesamtbudget gleichmäßig auf alle Abstimmenden auf, \
+             ist ihr Anteil kleiner als die Kosten dieses Projekts plus die Kosten aller \
+             geförderten Projekte, für die mindestens eine dieser Personen gestimmt hat.",
         Sentence::NearestGroup(Plural::One) =>
             "Am nächsten kommt Projekt {project}: Der Anteil seiner {count} unterstützenden Person \
              ist {share}. Es kostet {cost}, und für sie wird Weiteres für {funded} gefördert.",
@@ -363,9 +365,13 @@ pub fn wording(sentence: Sentence) -> &'static str {
         Sentence::NotSaidOthers =>
             "Ob andere Projekte ebenso gerecht gewesen wären. Oft lassen sich mehrere Ergebnisse \
              stützen.",
+        Sentence::NotSaidDeserved =>
+            "Ob jede Gruppe von Abstimmenden bekommt, was ihr zusteht. Eine andere Prüfung kann \
+             immer noch zeigen, dass eine Gruppe weniger bekommt, als ihr zusteht.",
         Sentence::NotSaidGroups =>
-            "Ob keine Gruppe von Abstimmenden übergangen wird. Um das zu zeigen, müssen die \
-             Budgets aller Abstimmenden zusammen mindestens das Gesamtbudget ergeben.",
+            "Wie viel Gruppen von Abstimmenden für ihren Anteil am Gesamtbudget bekommen. Damit \
+             sich das sagen lässt, müssen die Budgets aller Abstimmenden zusammen mindestens das \
+             Gesamtbudget ergeben.",
         Sentence::NotSaidPayments =>
             "Ob das Ergebnis ungerecht ist. Dieses Nein gilt nur für diese Zahlungen, und andere \
              können dieselben Projekte stützen.",

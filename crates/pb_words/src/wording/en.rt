@@ -41,13 +41,13 @@ pub fn wording(sentence: Sentence) -> &'static str {
              together, which is less than the limit of {limit}. So each group has less to spend \
              than its share of the limit.",
         Sentence::GroupsWithinReach =>
-            "Where a group of voters agrees on a project that wasn’t funded, its share of the \
-             limit is no more than that project costs and all that was funded for the group, \
-             together.",
-        Sentence::NoGroupPassedOver =>
-            "No group of voters is passed over: where a group agrees on a project that wasn’t \
-             funded, its share of the limit is less than that project costs and all that was \
-             funded for the group, together.",
+            "Take any voters who all voted for a project that wasn’t funded. Their equal part of \
+             the limit is no more than that project’s cost plus the cost of all funded projects \
+             that at least one of them voted for.",
+        Sentence::GroupsBelowReach =>
+            "Take any voters who all voted for a project that wasn’t funded. Their equal part of \
+             the limit is less than that project’s cost plus the cost of all funded projects that \
+             at least one of them voted for.",
         Sentence::NearestGroup(Plural::One) =>
             "Project {project} comes nearest: the share of its {count} supporter is {share}. It \
              costs {cost}, and {funded} was funded for that voter.",
@@ -340,9 +340,12 @@ pub fn wording(sentence: Sentence) -> &'static str {
         Sentence::NotSaid => "What this doesn’t say",
         Sentence::NotSaidOthers =>
             "Whether other projects would have been as fair. Several outcomes can be supported.",
+        Sentence::NotSaidDeserved =>
+            "That each group of voters got what it deserves. Another test can still show that a \
+             group got less than it deserves.",
         Sentence::NotSaidGroups =>
-            "That no group of voters is passed over. To show that, the budgets of all voters have \
-             to come to the limit at least.",
+            "How much groups of voters got for their part of the limit. To say that, the budgets \
+             of all voters have to come to the limit at least.",
         Sentence::NotSaidPayments =>
             "That the outcome is unfair. This no speaks of these payments alone, and others may \
              support the same projects.",

@@ -44,13 +44,15 @@ pub fn wording(sentence: Sentence) -> &'static str {
              ensemble {budgets}, moins que l’enveloppe de {limit}. Chaque groupe a donc moins à \
              dépenser que sa part de l’enveloppe.",
         Sentence::GroupsWithinReach =>
-            "Là où un groupe de votants s’accorde sur un projet non financé, sa part de \
-             l’enveloppe ne dépasse pas ce que coûtent ensemble ce projet et tout ce qui a été \
-             financé pour le groupe.",
-        Sentence::NoGroupPassedOver =>
-            "Aucun groupe de votants n’est oublié\u{a0}: là où un groupe s’accorde sur un projet \
-             non financé, sa part de l’enveloppe est inférieure à ce que coûtent ensemble ce \
-             projet et tout ce qui a été financé pour le groupe.",
+            "Prenez des votants quelconques qui ont tous voté pour un même projet non financé. \
+             Leur part de l’enveloppe, partagée également entre tous les votants, ne dépasse pas \
+             le coût de ce projet augmenté du coût de tous les projets financés pour lesquels au \
+             moins l’un d’eux a voté.",
+        Sentence::GroupsBelowReach =>
+            "Prenez des votants quelconques qui ont tous voté pour un même projet non financé. \
+             Leur part de l’enveloppe, partagée également entre tous les votants, est inférieure \
+             au coût de ce projet augmenté du coût de tous les projets financés pour lesquels au \
+             moins l’un d’eux a voté.",
         Sentence::NearestGroup(Plural::One) =>
             "Le projet {project} en est le plus proche\u{a0}: la part de son {count} soutien est \
              de {share}. Il coûte {cost}, et {funded} ont été financés pour ce votant.",
@@ -362,9 +364,13 @@ pub fn wording(sentence: Sentence) -> &'static str {
         Sentence::NotSaidOthers =>
             "Si d’autres projets auraient été aussi équitables. Plusieurs résultats peuvent se \
              justifier.",
+        Sentence::NotSaidDeserved =>
+            "Que chaque groupe de votants a reçu ce qu’il mérite. Un autre test peut encore \
+             montrer qu’un groupe a reçu moins que ce qu’il mérite.",
         Sentence::NotSaidGroups =>
-            "Qu’aucun groupe de votants n’est oublié. Pour le montrer, il faut que les budgets de \
-             tous les votants atteignent ensemble au moins l’enveloppe.",
+            "Ce que les groupes de votants ont reçu pour leur part de l’enveloppe. Pour pouvoir \
+             le dire, il faut que les budgets de tous les votants atteignent ensemble au moins \
+             l’enveloppe.",
         Sentence::NotSaidPayments =>
             "Que le résultat est injuste. Ce non ne vaut que pour ces paiements, et d’autres \
              peuvent justifier les mêmes projets.",

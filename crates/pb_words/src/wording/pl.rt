@@ -43,13 +43,15 @@ pub fn wording(sentence: Sentence) -> &'static str {
              razem {budgets}, a to mniej niż pula {limit}. Każda grupa może więc wydać mniej, niż \
              wynosi jej część puli.",
         Sentence::GroupsWithinReach =>
-            "Gdy grupa głosujących zgodnie popiera niewybrany projekt, przypadająca jej część puli \
-             nie przekracza kosztu tego projektu i wszystkiego, co wybrano dla grupy, razem \
-             wziętych.",
-        Sentence::NoGroupPassedOver =>
-            "Żadnej grupy głosujących nie pominięto: gdy grupa zgodnie popiera niewybrany projekt, \
-             przypadająca jej część puli jest mniejsza od kosztu tego projektu i wszystkiego, co \
-             wybrano dla grupy, razem wziętych.",
+            "Weźmy dowolnych głosujących, którzy wszyscy głosowali na ten sam niewybrany projekt. \
+             Gdyby podzielić pulę równo między wszystkich głosujących, ich część nie \
+             przekraczałaby kosztu tego projektu powiększonego o koszt wszystkich wybranych \
+             projektów, na które głosowało przynajmniej jedno z nich.",
+        Sentence::GroupsBelowReach =>
+            "Weźmy dowolnych głosujących, którzy wszyscy głosowali na ten sam niewybrany projekt. \
+             Gdyby podzielić pulę równo między wszystkich głosujących, ich część byłaby mniejsza \
+             od kosztu tego projektu powiększonego o koszt wszystkich wybranych projektów, na \
+             które głosowało przynajmniej jedno z nich.",
         Sentence::NearestGroup(Plural::One) =>
             "Najbliżej jest projekt {project}: część puli przypadająca jego {count} zwolennikowi \
              to {share}. Projekt kosztuje {cost}, a dla tego głosującego wybrano projekty za \
@@ -351,9 +353,12 @@ pub fn wording(sentence: Sentence) -> &'static str {
         Sentence::NotSaid => "Czego to nie mówi",
         Sentence::NotSaidOthers =>
             "Czy inne projekty byłyby równie sprawiedliwe. Uzasadnić można nieraz kilka wyników.",
+        Sentence::NotSaidDeserved =>
+            "Że każda grupa głosujących dostała to, na co zasługuje. Inne kryterium może nadal \
+             wykazać, że jakaś grupa dostała mniej, niż jej się należy.",
         Sentence::NotSaidGroups =>
-            "Że nie pominięto żadnej grupy głosujących. Żeby to wykazać, budżety wszystkich \
-             głosujących muszą razem sięgać co najmniej puli.",
+            "Ile grupy głosujących dostały za swoją część puli. Żeby dało się to powiedzieć, \
+             budżety wszystkich głosujących muszą razem sięgać co najmniej puli.",
         Sentence::NotSaidPayments =>
             "Że wynik jest niesprawiedliwy. Ta odpowiedź dotyczy tylko tych płatności; inne mogą \
              uzasadniać te same projekty.",

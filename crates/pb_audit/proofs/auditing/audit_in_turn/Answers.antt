@@ -3,7 +3,7 @@ use Rattle.std.specs.Prelude.{Err}
 use Rattle.pb_records.specs.Loading.{Delivery}
 use Rattle.pb_reply.specs.Turns.{file_turn, turn}
 use Rattle.pb_audit.specs.Inside.Certificates.{AnswersCertificate, IfTold}
-use Rattle.pb_audit.proofs.Audits.{answer_settled, ended_at_election, ended_at_outcome}
+use Rattle.pb_audit.proofs.Audits.{answer_settled, ended_at_election, ended_at_outcome, memory_told}
 use Rattle.pb_audit.proofs.auditing.audit_in_turn.Goals as goal
 
 pub returns-in_err-election : goal.returns-in_err-election
@@ -38,3 +38,9 @@ returns g c =
     (AnswersCertificate (g.A.Audit.rules c.args.audit.now).states (g.A.Audit.rules c.args.audit.now).reply
     c.in_ok-election.election
     c.in_ok-outcome.outcome.marks d) c.reply_on-told.result) c.lend.ensures c.reply_on-told.ensures.reply)
+
+pub returns-in_err-push_notes_on : goal.returns-in_err-push_notes_on
+returns-in_err-push_notes_on g c = rw (memory_told _ _ c.from_residual-in_err-push_notes_on.ensures) tt
+
+pub returns-in_err-certificate : goal.returns-in_err-certificate
+returns-in_err-certificate g c = rw (memory_told _ _ c.from_residual-in_err-certificate.ensures) tt

@@ -7,7 +7,7 @@ use Rattle.pb_reply.specs.Turns.{file_turn, turn}
 use Rattle.pb_audit.specs.Inside.Certificates.{AnswersCertificate}
 use Rattle.pb_reply.specs.Inside.Taking.{settled}
 use Rattle.pb_input.specs.declared.InputName.TheVariants.{Violation}
-use Rattle.pb_reply.specs.declared.stop.Stop.TheVariants.{Memory}
+use Rattle.pb_audit.proofs.Audits.{memory_told}
 use Rattle.pb_audit.proofs.Boths.{both_ended_at_election, both_ended_at_outcome, both_ended_at_prices, both_settled}
 use Rattle.pb_audit.proofs.both.both_in_turn.Goals as goal
 
@@ -60,6 +60,7 @@ returns g c =
     c.lend.ensures c.beside-reply.ensures)
 
 pub returns-in_err-push_where_told : goal.returns-in_err-push_where_told
-returns-in_err-push_where_told g c =
-    let is : c.from_residual-in_err-push_where_told.result ≡ Err Memory = search rules in
-    rw is tt
+returns-in_err-push_where_told g c = rw (memory_told _ _ c.from_residual-in_err-push_where_told.ensures) tt
+
+pub returns-in_err-violation : goal.returns-in_err-violation
+returns-in_err-violation g c = rw (memory_told _ _ c.from_residual-in_err-violation.ensures) tt

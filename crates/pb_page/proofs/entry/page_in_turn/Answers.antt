@@ -4,11 +4,12 @@ use Rattle.pb_records.specs.Loading.{Delivery}
 use Rattle.pb_reply.specs.Inside.Loaded.{lent}
 use Rattle.pb_reply.specs.Turns.{file_turn, turn}
 use Rattle.pb_reply.specs.Inside.Taking.{AuditsOutcome, IfTaken}
+use Rattle.pb_reply.specs.declared.stop.Stop.TheVariants.{Memory}
 use Rattle.pb_figures.specs.declared.amounts.Style.{Style}
 use Rattle.pb_figures.specs.declared.told.Told.{Told}
 use Rattle.pb_page.specs.Sums.{sums_of}
 use Rattle.pb_page.specs.Taken.{RendersTold, TellsCertificate, sum_of}
-use Rattle.pb_page.proofs.InTurn.{answered, ended-at-certificate, ended-at-election, ended-at-outcome}
+use Rattle.pb_page.proofs.InTurn.{answered, err-is, ended-at-certificate, ended-at-election, ended-at-outcome}
 use Rattle.pb_page.proofs.entry.page_in_turn.Goals as goal
 
 pub returns-in_err-taken : goal.returns-in_err-taken
@@ -24,7 +25,8 @@ returns-in_err-taken g c =
 
 pub returns-in_err-funded : goal.returns-in_err-funded
 returns-in_err-funded g c =
-    let is : c.from_residual-in_err-funded.result ≡ Err c.in_err-funded.field-0.0 = search rules in
+    let is : c.from_residual-in_err-funded.result ≡ Err c.in_err-funded.field-0.0 =
+    err-is _ _ c.in_err-funded.field-0.0 (λ stop is_it. is_it) c.from_residual-in_err-funded.ensures in
     let given = c.in_ok-taken.ensures.given in
     let taken =
     subst (λ (o : Option Delivery). IfTaken {A = List Bool} (Err c.in_err-funded.field-0.0) (AuditsOutcome c.in_ok-taken.taken.election o))
@@ -40,7 +42,8 @@ returns-in_err-funded g c =
 
 pub returns-in_err-told : goal.returns-in_err-told
 returns-in_err-told g c =
-    let is : c.from_residual-in_err-told.result ≡ Err c.in_err-told.field-0.0 = search rules in
+    let is : c.from_residual-in_err-told.result ≡ Err c.in_err-told.field-0.0 =
+    err-is _ _ c.in_err-told.field-0.0 (λ stop is_it. is_it) c.from_residual-in_err-told.ensures in
     let given = c.in_ok-taken.ensures.given in
     let taken =
     subst (λ (o : Option Delivery). AuditsOutcome c.in_ok-taken.taken.election o (Ok c.in_ok-funded.funded.marks))
@@ -59,6 +62,10 @@ returns-in_err-told g c =
     c.in_ok-taken.taken.election c.in_ok-funded.funded.marks c.in_err-told.field-0.0 given.delivered given.states
     c.in_ok-given.ensures taken c.in_ok-certificate.ensures states
     )
+
+pub returns-in_err-certificate : goal.returns-in_err-certificate
+returns-in_err-certificate g c =
+    rw (err-is _ _ Memory (λ stop is_it. is_it) c.from_residual-in_err-certificate.ensures) tt
 
 pub returns : goal.returns
 returns g c =

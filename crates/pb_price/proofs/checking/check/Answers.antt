@@ -34,6 +34,7 @@ returns c =
       stable_yes = λ h. on.stable_yes (same-answer _ _ h);
       stable_no = λ project h. on.stable_no project (same-answer _ _ h);
       any_yes = λ h. on.any_yes (same-answer _ _ h);
+      groups_yes = λ h. on.groups_yes (same-answer _ _ h);
       share_yes = λ h. on.share_yes (same-answer _ _ h);
       pjr_plus_yes = λ h. on.pjr_plus_yes (same-answer _ _ h);
       demand_yes = λ h. on.demand_yes (same-answer _ _ h);

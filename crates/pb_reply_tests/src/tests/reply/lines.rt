@@ -54,7 +54,8 @@ fn election_and_verdicts_have_their_lines(rt: HostRuntime) -> Result<(), Fail> {
         "num_projects;3\nnum_votes;3",
         "num_projects;2\nnum_votes;4",
     )?;
-    let election = Election::read(rt.alloc(), counted.as_bytes())?;
+    let weighed = counted.replace(rt.alloc(), "voter_id;vote", "points;vote;weight")?;
+    let election = Election::read(rt.alloc(), weighed.as_bytes())?;
     expect_lines(
         &rt,
         &lines_on(&rt, rt.alloc(), &election)?,
@@ -62,6 +63,8 @@ fn election_and_verdicts_have_their_lines(rt: HostRuntime) -> Result<(), Fail> {
             "read 3 voters 3 projects no outcome",
             "note: num_projects says 2, counted 3",
             "note: num_votes says 4, counted 3",
+            "note: column weight of VOTES is not used",
+            "note: column points of VOTES is not used",
             "failed C1 voter 3 project a",
             "failed V2 voter 2 project c",
         ],
