@@ -89,7 +89,8 @@ def unstarted():
 
 
 def policy(scripts, styles):
-    """Nothing is fetched, and nothing runs but the scripts of the file and the module. Few browsers know `webrtc`."""
+    """Nothing is fetched, and nothing runs but the scripts of the file and the module. It has no rule that a browser doesn't
+    know: each tells such a one on its console."""
     rules = {
         "default-src": ["'none'"],
         "connect-src": ["'none'"],
@@ -99,7 +100,6 @@ def policy(scripts, styles):
         "img-src": ["data:"],
         "form-action": ["'none'"],
         "base-uri": ["'none'"],
-        "webrtc": ["'block'"],
     }
     return "; ".join(f"{name} {' '.join(values)}" for name, values in rules.items())
 

@@ -67,14 +67,17 @@ def test_bad_news_comes_first(opened, folder):
 
 # What each row begins with in each language, behind its name, and the file of the election that it names.
 SENTENCES = {
-    "en": ["The prices don\u2019t support this outcome. Not met: \u201cPaid only for approved projects\u201d (voter 2, project b).",
-           "There is no answer: west.prices.csv has an error.", "The prices support this outcome."],
-    "de": ["Die Preise st\u00fctzen dieses Ergebnis nicht. Nicht erf\u00fcllt: \u201eNur f\u00fcr Unterst\u00fctztes bezahlt\u201c",
-           "Es gibt keine Antwort: west.prices.csv enth\u00e4lt einen Fehler.", "Die Preise st\u00fctzen dieses Ergebnis."],
-    "fr": ["Les prix ne justifient pas ce r\u00e9sultat. Non rempli :", "Il n\u2019y a pas de r\u00e9ponse :",
-           "Les prix justifient ce r\u00e9sultat."],
-    "pl": ["Ceny nie uzasadniaj\u0105 tego wyniku. Niespe\u0142nione:", "Nie ma odpowiedzi: w pliku west.prices.csv jest b\u0142\u0105d.",
-           "Ceny uzasadniaj\u0105 ten wynik."],
+    "en": ["Not shown to be fair by these prices. The prices don\u2019t support this outcome. Not met: \u201cPaid only for approved "
+           "projects\u201d (voter 2, project b).", "There is no answer: west.prices.csv has an error.",
+           "Fair by prices. The prices support this outcome."],
+    "de": ["Mit diesen Preisen nicht als gerecht gezeigt. Die Preise st\u00fctzen dieses Ergebnis nicht. Nicht erf\u00fcllt: "
+           "\u201eNur f\u00fcr Unterst\u00fctztes bezahlt\u201c", "Es gibt keine Antwort: west.prices.csv enth\u00e4lt einen Fehler.",
+           "Gerecht nach Preisen. Die Preise st\u00fctzen dieses Ergebnis."],
+    "fr": ["Ces prix ne montrent pas que c\u2019est \u00e9quitable. Les prix ne justifient pas ce r\u00e9sultat. Non rempli :",
+           "Il n\u2019y a pas de r\u00e9ponse :", "\u00c9quitable par les prix. Les prix justifient ce r\u00e9sultat."],
+    "pl": ["Te ceny nie wykazuj\u0105, \u017ce jest sprawiedliwie. Ceny nie uzasadniaj\u0105 tego wyniku. Niespe\u0142nione:",
+           "Nie ma odpowiedzi: w pliku west.prices.csv jest b\u0142\u0105d.",
+           "Sprawiedliwie wed\u0142ug cen. Ceny uzasadniaj\u0105 ten wynik."],
 }  # fmt: skip
 
 
@@ -98,7 +101,7 @@ def test_sentences_of_a_list_are_those_of_the_pages(opened, folder):
         page = opened.says("page", f"{name.split('.')[0]}.pb", name, folder=folder)
         sentence = page.split('<section class="answer', 1)[1].split("<h2>", 1)[1].split("</h2>")[0]
         told = next(each[2] for each in opened.browser.ask(ROWS) if each[0] == name)
-        assert told.startswith(f"{name} {sentence}."), told
+        assert f". {sentence}." in told, told
 
 
 def test_filter(opened, folder):
@@ -112,7 +115,8 @@ def test_filter(opened, folder):
     opened.browser.ask(SEARCH, "NORTH")
     assert names(opened.browser.ask(ROWS)) == ["north.prices.csv"]
     assert opened.text("#shown-of") == "1 of 5 are shown."
-    assert opened.text("#totals").startswith("Prices support the outcome: 1, don't support it: 1."), "totals are of all"
+    totals = "Prices support the outcome: 1, don't support it: 1 (asked: Plain form, Nothing left affordable)."
+    assert opened.text("#totals").startswith(totals), "totals are of all"
 
 
 def test_check_all_again(opened, folder):
@@ -135,9 +139,10 @@ def test_list_as_csv(opened, folder):
     opened.browser.click("#save-list")
     browsers.until(lambda: saved.exists() and saved.stat().st_size, 20, "the list")
     rows = list(csv.reader(io.StringIO(saved.read_text(encoding="utf-8-sig"))))
-    assert rows[0] == ["certificate", "election", "outcome", "answer", "sentence", "line"]
-    assert rows[1][:4] == ["south.prices.csv", "south.pb", "", "No"]
-    assert rows[1][5] == opened.says("prices", "south.pb", "south.prices.csv", folder=folder).splitlines()[0]
+    assert rows[0] == ["certificate", "election", "outcome", "answer", "of", "asked", "sentence", "groups", "line"]
+    assert rows[1][:5] == ["south.prices.csv", "south.pb", "", "No", "Not shown to be fair by these prices"]
+    assert rows[1][5] == "Plain form, Nothing left affordable" and rows[1][6].startswith("The prices don\u2019t support")
+    assert rows[1][8] == opened.says("prices", "south.pb", "south.prices.csv", folder=folder).splitlines()[0]
     assert [row for row in rows if row[1].startswith("=")] == [] and any(row[1] == "'=cmd.pb" for row in rows)
     saved.unlink()
 

@@ -37,12 +37,12 @@ label.querySelector('input').click();
 TOO_WIDE = "return document.documentElement.scrollWidth - document.documentElement.clientWidth"
 # The election of district.pb, as is read off the file: id, cost, supporters as its column `votes` says, funded.
 PROJECTS = [
-    ("Spielplatz an der Mühle erneuern", "101", "39,600", "27", True),
-    ("Radbügel am Bahnhof; 24 Stück", "102", "14,400", "12", False),
-    ("Bäume für die Łódź-Straße", "104", "21,600", "30", True),
-    ('Bücherschrank "Zum Raben"', "105", "4,187.50", "14", True),
-    ("Sprachcafé für Neuzugezogene", "108", "9,600", "9", False),
-    ("Trinkbrunnen auf dem Marktplatz", "109", "15,900", "20", True),
+    ("Spielplatz an der Mühle erneuern", "101", "39\u202f600", "27", True),
+    ("Radbügel am Bahnhof; 24 Stück", "102", "14\u202f400", "12", False),
+    ("Bäume für die Łódź-Straße", "104", "21\u202f600", "30", True),
+    ('Bücherschrank "Zum Raben"', "105", "4\u202f187.50", "14", True),
+    ("Sprachcafé für Neuzugezogene", "108", "9\u202f600", "9", False),
+    ("Trinkbrunnen auf dem Marktplatz", "109", "15\u202f900", "20", True),
 ]  # fmt: skip
 
 
@@ -77,7 +77,7 @@ def test_what_the_file_says(visit):
     show(visit, DISTRICT)
     facts = text(visit, "#facts")
     for each in ("Participatory budget of Altenbrück, district Brückenviertel", "Brückenviertel, Altenbrück, Nowhere",
-                 "60", "111,000 EUR", "12", "102,177.50 EUR", "ballots on paper were typed in"):  # fmt: skip
+                 "60", "111\u202f000 EUR", "12", "102\u202f177.50 EUR", "ballots on paper were typed in"):  # fmt: skip
         assert each in facts
     wanted = [[f"{name} {number}", cost, supporters, "funded" if is_funded else "not funded"]
               for name, number, cost, supporters, is_funded in PROJECTS]
@@ -143,9 +143,10 @@ def test_a_violation_claim_from_a_bare_election(visit):
     visit.wait("return document.querySelector('#group').textContent.includes('Sprachcafé')", "the figures")
     told = text(visit, "#group")
     # Nine voters have 9 of the 60 shares of 111,000, which is 16,650.
-    for each in ("They cost 9,600 EUR together", "approve all of them: 9.", "budget limit: 16,650 EUR"):
+    for each in ("They cost 9\u202f600 EUR together", "approve all of them: 9.", "budget limit: 16\u202f650 EUR"):
         assert each in told
-    assert "That is too little." in told
+    # By cost and by counting each of the nine has something funded that is worth as much, or their share is too small.
+    assert told.count("No claim: ") == 2 and "proves" not in told
     visit.ask(PRESS, "#group", "Have it checked anyway")
     visit.wait("return document.querySelector('.made')", "the certificate")
     audited(visit, ("district.found.violation.csv", "No"))
@@ -165,7 +166,7 @@ choice.dispatchEvent(new Event('change'));""")
     done(visit)
     assert "a group was found" in text(visit, "#looked")
     visit.ask(PRESS, "#looked", "Tick these projects")
-    visit.wait("return document.querySelector('#group').textContent.includes('That is enough')", "the figures")
+    visit.wait("return document.querySelector('#group').textContent.includes('This proves unfair treatment')", "the figures")
     visit.ask(PRESS, "#looked", "Make a violation certificate")
     visit.wait("return document.querySelector('#looked .made')", "the certificate")
     audited(visit, ("district.found.violation.csv", "Yes"))
@@ -202,24 +203,93 @@ def test_no_prices_and_how_a_refutation_is_made(visit, tmp_path):
     assert visit.ask(AUDITS) == [["none.pb", "Read"]]
 
 
-@pytest.mark.parametrize("rows, told", [
-    (["a;6;A;1", "b;6;B;1"], "cost more than the budget limit together"),
-    (["a;6;A;1", "b;4;Nobody's;1"], "Nobody's is funded, and nobody approves it"),
-])  # fmt: skip
-def test_no_prices_can_be(visit, tmp_path, rows, told):
-    show(visit, write(tmp_path / "never.pb", *rows, votes=["1;a"]))
+def test_an_outcome_that_costs_too_much(visit, tmp_path):
+    """That no prices support it is what the auditor answers of any."""
+    show(visit, write(tmp_path / "dear.pb", "a;6;A;1", "b;6;B;1", votes=["1;a"]))
     visit.ask(PRESS, "#making", "Look for prices")
     visit.wait("return document.querySelector('#looked').textContent", "that there can be none")
-    assert told in text(visit, "#looked")
+    assert "cost more than the budget limit together" in text(visit, "#looked")
+    assert text(visit, "#looked code") == "failed Feasible"
 
 
-def test_what_could_be_added_is_left_out(visit, tmp_path):
-    show(visit, write(tmp_path / "room.pb", "a;2;A;1", "b;8;B;0", votes=["1;a", "2;b"]))
+def test_a_project_that_nobody_approves(visit, program, tmp_path):
+    """That no prices support its outcome is stated as a refutation, which the proved program accepts."""
+    path = write(tmp_path / "never.pb", "a;6;A;1", "b;4;Nobody's;1", votes=["1;a"])
+    show(visit, path)
     visit.ask(PRESS, "#making", "Look for prices")
-    visit.wait("return document.querySelector('.made')", "the prices")
-    audited(visit, ("room.found.prices.csv", "Yes"))
-    assert "B could be added within the budget limit" in text(visit, "#looked")
-    assert not visit.ask("return document.querySelector('#exhaustive').checked")
+    visit.wait("return document.querySelector('#looked .made')", "the refutation")
+    assert "Nobody's is funded and nobody approves it" in text(visit, "#looked")
+    audited(visit, ("never.found.refutation.csv", "Yes"))
+    visit.ask(PRESS, "#looked", "Save never.found.refutation.csv")
+    certificate = tmp_path / "found.csv"
+    certificate.write_bytes(saved(visit, "never.found.refutation.csv"))
+    told = subprocess.run([program, "refutation", path, certificate], stdout=subprocess.PIPE, text=True, check=False)
+    assert told.stdout == "unpriceable\n"
+
+
+# An election of which a search for groups goes on for long: half of the voters approve each of 55 projects.
+def slow(path):
+    chance = random.Random(7)
+    rows = [f"f{at};40;F{at};1" for at in range(5)] + [f"u{at};1;U{at};0" for at in range(55)]
+    wanted = [f"u{at}" for at in range(55)]
+    votes = [f"{voter};f0,f1,f2,f3,f4," + ",".join(chance.sample(wanted, 28)) for voter in range(3000)]
+    return write(path, *rows, votes=votes, budget=200)
+
+
+def searching(visit):
+    visit.ask(PRESS, "#making", "Look for groups")
+    visit.wait("return document.querySelector('#looking-for').textContent.includes('trying sets of')", "the search")
+
+
+IS_LOOKING = "return document.querySelector('#looking').checkVisibility() && !document.querySelector('#looking').hidden"
+
+
+def test_other_files_leave_a_search_alone(visit, tmp_path):
+    """Another election, and an outcome with a certificate, come while a search goes on: it goes on."""
+    path = slow(tmp_path / "slow.pb")
+    write(tmp_path / "other.pb", "a;4;A;1", votes=["1;a"])
+    (tmp_path / "slow.outcome.csv").write_text("pb-outcome,1\nproject,f0\n")
+    (tmp_path / "slow.violation.csv").write_text("pb-violation,1\nproject,u0\nvoter,1\n")
+    show(visit, path)
+    searching(visit)
+    visit.give("#files-input", *(tmp_path / name for name in ("other.pb", "slow.outcome.csv", "slow.violation.csv")))
+    visit.wait("return document.querySelectorAll('#file-list > li').length === 4", "the files")
+    visit.wait("return !document.querySelector('[data-state=waiting], [data-state=running]')", "the audits")
+    assert visit.ask(IS_LOOKING)
+    assert visit.ask("return document.querySelector('#election-remark').hidden")
+    visit.ask("document.querySelector('#stop-looking').click()")
+    visit.wait("return document.querySelector('#looking').hidden", "the end of the search", 20)
+    assert "stopped. No group was found." in text(visit, "#looked")
+
+
+def test_a_search_ends_with_a_word(visit, tmp_path):
+    """The election of a search is given anew: the search is ended, which is said."""
+    path = slow(tmp_path / "slow.pb")
+    show(visit, path)
+    searching(visit)
+    write(path, "a;4;A;1", votes=["1;a"])
+    visit.give("#files-input", path)
+    visit.wait("return document.querySelectorAll('#projects tbody tr').length === 1", "the other election")
+    assert text(visit, "#election-remark").startswith("The search was ended")
+    assert visit.ask("return document.querySelector('#looking').hidden")
+
+
+@pytest.mark.parametrize("button", ["Look for prices", "Look for groups"])
+def test_a_file_that_was_changed_is_not_searched(visit, tmp_path, button):
+    """What is kept of a file that was changed since isn't searched, which is said, and no certificate is made of it. Chromium
+    doesn't read such a file any more, and Firefox reads what is there now."""
+    path = write(tmp_path / "kept.pb", "a;4;A;1", "b;9;B;0", votes=["1;a", "2;b"])
+    show(visit, path)
+    write(path, "a;4;A;1", "b;9;B;0", "c;9;C;0", votes=["1;a", "2;b"])
+    visit.ask(PRESS, "#making", button)
+    visit.wait("return /changed/.test(document.querySelector('#election-remark').innerText)", "that it was changed")
+    done(visit)
+    [(name, answer)] = visit.ask(AUDITS)
+    assert name == "kept.pb"
+    if answer == "No answer":
+        assert "kept.pb can't be read" in text(visit, "#audit-list")
+    else:
+        assert "Projects: 3." in text(visit, "#audit-list")
 
 
 def test_an_election_without_an_outcome(visit, tmp_path):
@@ -253,6 +323,9 @@ def test_hostile_texts(visit, tmp_path):
     assert bad in text(visit, "#facts") and "10 <b>\\u{202e}" in text(visit, "#facts")
     visit.ask(TICK, bad)
     visit.wait("return document.querySelector('#group').textContent.includes('<img')", "its name")
+    visit.ask(PRESS, "#making", "Look for prices")
+    visit.wait("return document.querySelector('#looked code')", "the project that could be added")
+    assert text(visit, "#looked code") == f"failed Exhaustive project {'x' * 5000}"[:300] + "…"
     assert visit.ask("return document.querySelectorAll('main img, main b').length") == 0
     assert visit.ask("return document.title") != "taken"
     assert visit.ask(TOO_WIDE) == 0
@@ -271,7 +344,14 @@ choice.dispatchEvent(new Event('change'));"""
     for place, count in ((2, 1), (1, 12)):
         visit.ask(choose, place)
         visit.wait(f"return document.querySelectorAll('#projects tbody tr').length === {count}", "its projects")
-    visit.ask("[...document.querySelectorAll('#file-list button')].at(-1).click()")
+    visit.give("#files-input", EXAMPLES / "sample.pb", EXAMPLES / "sample.prices.csv")
+    audited(visit, ("one.pb", "Read"), ("two.pb", "Read"), ("sample.prices.csv", "Yes"))
+    for place, count in ((3, 3), (2, 1), (1, 12)):
+        visit.ask(choose, place)
+        visit.wait(f"return document.querySelectorAll('#projects tbody tr').length === {count}", "its projects")
+        assert visit.ask("return document.querySelector('#election-open').open")
+    for _ in range(3):
+        visit.ask("[...document.querySelectorAll('#file-list button')].at(-1).click()")
     visit.wait(IS_SHOWN, "the one that is left")
     assert len(visit.ask(ROWS)) == 12
 
@@ -280,15 +360,15 @@ def test_in_each_language(visit):
     show(visit, DISTRICT)
     visit.ask(TICK, "Sprachcafé")
     visit.wait("return !document.querySelector('#group').hidden", "the figures")
-    told_in = {"de": ["Gesamtbudget", "16.650 EUR"], "pl": ["Pula środków", "16\u00a0650 EUR"],
-               "fr": ["Enveloppe", "16\u202f650 EUR"], "en": ["Budget limit", "16,650 EUR"]}  # fmt: skip
+    told_in = {"de": ["Gesamtbudget", "Kein Anspruch: "], "pl": ["Pula środków", "Brak roszczenia: "],
+               "fr": ["Enveloppe", "Aucun grief\u00a0: "], "en": ["Budget limit", "No claim: "]}  # fmt: skip
     for code, words in told_in.items():
         visit.ask("""const choice = document.querySelector('#language');
 choice.value = arguments[0];
 choice.dispatchEvent(new Event('change'));""", code)
         done(visit)
         told = text(visit, "#election")
-        assert all(each in told for each in words), (code, told)
+        assert all(each in told for each in [*words, "16\u202f650 EUR"]), (code, told)
         assert visit.ask(TOO_WIDE) == 0, code
 
 
@@ -301,10 +381,10 @@ def test_a_large_election_is_read_again(visit, tmp_path):
     visit.wait("return document.querySelector('.made')", "the prices")
     audited(visit, ("large.found.prices.csv", "Yes"))
     visit.ask(TICK, "A")
-    visit.wait("return document.querySelector('#group').textContent.includes('50,001')", "the figures")
+    visit.wait("return document.querySelector('#group').textContent.includes('50\u202f001')", "the figures")
 
 
-def test_a_refutation_of_a_group_that_was_passed_over(visit, program, tmp_path):
+def test_a_refutation_of_a_group_whose_share_was_enough(visit, program, tmp_path):
     """Two of three voters have a share of 6, which covers `b` and what was funded for them: 2 and 3."""
     if "refutation" not in subprocess.run([program, "--help"], stdout=subprocess.PIPE, text=True, check=True).stdout:
         pytest.skip("the program is older, and knows no refutations")
@@ -312,7 +392,7 @@ def test_a_refutation_of_a_group_that_was_passed_over(visit, program, tmp_path):
     show(visit, path)
     visit.ask(TICK, "A")
     visit.ask(TICK, "B")
-    visit.wait("return document.querySelector('#group').textContent.includes('That is enough')", "the figures")
+    visit.wait("return document.querySelector('#group').textContent.includes('This proves unfair treatment')", "the figures")
     visit.ask(PRESS, "#group", "Make a violation certificate")
     visit.wait("return document.querySelector('#group .made')", "the certificate")
     audited(visit, ("passed.found.violation.csv", "Yes"))
@@ -327,13 +407,8 @@ def test_a_refutation_of_a_group_that_was_passed_over(visit, program, tmp_path):
 
 def test_a_search_is_stopped(visit, tmp_path):
     """Sets of six among 60 projects that half of the voters approve take long; a search that was stopped says so."""
-    chance = random.Random(7)
-    rows = [f"f{at};40;F{at};1" for at in range(5)] + [f"u{at};1;U{at};0" for at in range(55)]
-    wanted = [f"u{at}" for at in range(55)]
-    votes = [f"{voter};f0,f1,f2,f3,f4," + ",".join(chance.sample(wanted, 28)) for voter in range(3000)]
-    show(visit, write(tmp_path / "dense.pb", *rows, votes=votes, budget=200))
-    visit.ask(PRESS, "#making", "Look for groups")
-    visit.wait("return document.querySelector('#looking-for').textContent.includes('trying sets of')", "the search")
+    show(visit, slow(tmp_path / "dense.pb"))
+    searching(visit)
     assert visit.ask("return document.activeElement.id") == "stop-looking"
     visit.ask("document.querySelector('#stop-looking').click()")
     visit.wait("return document.querySelector('#looking').hidden", "the end of the search", 20)

@@ -63,7 +63,6 @@ def test_kind_by_name(opened):
     assert opened.text("#totals") == "Violation proved: 1, not proved: 0. Without a certificate: 1."
     colour = "return document.querySelector('#audit-list .badge').className"
     assert opened.browser.ask(colour) == "badge bad"
-    assert opened.browser.ask("return document.querySelector('#options').hidden")
     opened.browser.click("[aria-label='Show the answer on a.prices.csv']")
     opened.browser.wait("return !document.querySelector('#answer').hidden", "its page")
     for part in ("margins", "tidy"):
@@ -143,11 +142,11 @@ def test_notes(opened):
     (room / "a.pb").write_text(text.replace("c;9;Pool;0", "c;9;Pool;2"), encoding="utf-8")
     (room / "a.prices.csv").write_text(PRICES, encoding="utf-8")
     english = ["Note: the election gives 4 as its number of projects, and has 3.",
-               "Note: the election gives 9,990 as its number of votes, and has 3.",
+               "Note: the election gives 9\u202f990 as its number of votes, and has 3.",
                "Note: projects in which “selected” is neither 0 nor 1: 1. They count as not funded."]
     assert opened.says("read", "a.pb", folder=room).count("note: ") == 3
-    others = {"de": ["9.990 als Zahl der Stimmen", "4 als Zahl der Projekte", "weder 0 noch 1 ist: 1"],
-              "pl": ["liczbę głosów 9990", "liczbę projektów 4", "ani 0, ani 1: 1"],
+    others = {"de": ["9\u202f990 als Zahl der Stimmen", "4 als Zahl der Projekte", "weder 0 noch 1 ist: 1"],
+              "pl": ["liczbę głosów 9\u202f990", "liczbę projektów 4", "ani 0, ani 1: 1"],
               "fr": ["9\u202f990 comme nombre de votes", "4 comme nombre de projets", "ni 0 ni 1\u00a0: 1"]}  # fmt: skip
     opened.open()
     for files in (["a.pb"], ["a.prices.csv"]):
@@ -172,15 +171,31 @@ def test_notes(opened):
     assert english[0] in opened.browser.ask(ROW, 1)
 
 
+def test_unused_columns(opened):
+    """Columns of ballots that would weigh votes, and aren't used, are told in each language."""
+    path = opened.new_room() / "a.pb"
+    path.write_text(ELECTION.replace("voter_id;vote\n", "voter_id;vote;weight;points;sign\n"), encoding="utf-8")
+    wanted = {"en": "Note: the column “{}” of the ballots isn't used.", "de": "Die Spalte „{}“ der Stimmzettel wird nicht benutzt.",
+              "pl": "Kolumna „{}” w głosach nie jest używana.", "fr": "la colonne «\u00a0{}\u00a0» des bulletins n’est pas utilisée."}  # fmt: skip
+    opened.open()
+    opened.give(path)
+    for code, note in wanted.items():
+        opened.speak(code)
+        opened.answers(1)
+        told = opened.browser.ask("return [...document.querySelectorAll('#audit-list .note')].map(e => e.textContent)")
+        assert len(told) == 3
+        assert all(note.format(name).lower() in each.lower() for name, each in zip(("weight", "points", "sign"), told))
+
+
 def test_numbers(opened):
-    """Numbers of voters as each language groups them."""
+    """Numbers of voters are grouped as on the page about a certificate."""
     room = opened.new_room()
     head, _, _ = ELECTION.partition("voter_id;vote\n")
     (room / "many.pb").write_text(f"{head}voter_id;vote\n" + "1;a\n" * 12345, encoding="utf-8")
     opened.open()
     opened.give(room / "many.pb")
-    for code, wanted in {"en": "Voters: 12,345.", "de": "Abstimmende: 12.345.", "pl": "Głosujący: 12\u00a0345.",
-                         "fr": "Votants\u00a0: 12\u202f345."}.items():  # fmt: skip
+    for code, wanted in {"en": "Voters: 12\u202f345.", "de": "Abstimmende: 12\u202f345.",
+                         "pl": "Głosujący: 12\u202f345.", "fr": "Votants\u00a0: 12\u202f345."}.items():  # fmt: skip
         opened.speak(code)
         opened.answers(1)
         assert wanted in opened.text("#audit-list")

@@ -71,11 +71,15 @@ const told = (verdict: Verdict): string => {
   return verdict.status === 1 ? `${verdict.condition} ${verdict.project ?? ''}` : verdict.form ?? 'violation';
 };
 const ask = (a: Auditor): string => told(a.prices('', new Uint8Array(), { stable: true, outcome: '' }));
-auditor().then(a => [ask(a), a.folder(new Map([['a.pb', '']])).files.map(({ file }) => file), a.read('').text]);
+const page = (a: Auditor): string => a.page('', new ArrayBuffer(0), { language: 'de-AT', names: { election: 'a.pb' } }).text;
+const groups = (verdict: Verdict): 'strict' | 'weak' | 'little' | null => verdict.saysOfGroups;
+auditor().then(a => [ask(a), page(a), groups(a.prices(new DataView(new ArrayBuffer(0)), '')), a.folder(new Map([['a.pb', '']])).files.map(({ file }) => file), a.read('').text]);
 """
 # Each is a mistake that the types have to tell.
 MISTAKES = ["told(a.read(''))", "a.prices('')", "a.prices('', '', { stabel: true })", "a.page('', '', { language: 'xx' })",
-            "a.violation('', '', { stable: true })", "a.violation('', '').condition", "a.folder(['a.pb'])"]  # fmt: skip
+            "a.violation('', '', { stable: true })", "a.violation('', '').condition", "a.folder(['a.pb'])",
+            "a.prices('', null)", "a.prices('', '', { stable: 'true' })", "a.read(new Blob([]))", "a.folder(null)",
+            "a.tidy('', '', { outcome: '' })"]  # fmt: skip
 
 
 def ends(command, words, cwd, stdin=b""):
@@ -181,15 +185,56 @@ def test_the_example_of_the_documents(installed, certificate, wanted):
 
 
 def test_verdicts_have_facts(told):
-    assert told["yes"] == {"status": 0, "answer": "yes", "form": "stable", "notes": [], "text": "supported stable\n"}
-    assert told["no"] == {"status": 1, "answer": "no", "condition": "S5", "project": "102", "notes": [],
-                          "text": "failed S5 project 102\n"}  # fmt: skip
+    # Three voters with 4 each have more than the limit, 10.
+    assert told["yes"] == {"status": 0, "answer": "yes", "form": "stable", "saysOfGroups": "strict", "notes": [],
+                           "text": "supported stable\n"}  # fmt: skip
+    assert told["no"] == {"status": 1, "answer": "no", "condition": "S5", "project": "102", "saysOfGroups": None,
+                          "notes": [], "text": "failed S5 project 102\n"}  # fmt: skip
     assert told["text"]["form"] == "priceable"
-    assert told["violation"]["answer"] == "yes"
+    assert (told["violation"]["answer"], told["violation"]["saysOfGroups"]) == ("yes", None)
     assert (told["both"]["status"], told["both"]["prices"]["answer"]) == (1, "yes")
     assert told["both"]["violation"]["condition"] in ("V1", "V2", "V3", "V4")
     assert told["read"] == {"status": 0, "answer": "read", "voters": 3, "projects": 3, "funded": 2, "notes": [],
                             "remarks": [], "text": "read 3 voters 3 projects 2 funded\n"}  # fmt: skip
+
+
+@pytest.mark.parametrize("budget, exhaustive, wanted", [
+    (1999, False, "strict"), (1999, True, "strict"), (2000, False, "weak"), (2000, True, "strict"), (2001, False, "little"),
+    (2001, True, "little"),
+])  # fmt: skip
+def test_what_a_yes_says_of_groups(installed, budget, exhaustive, wanted):
+    """Two voters have 1000 each. Nothing that they didn't get can be afforded, so Exhaustive holds."""
+    (installed / "groups.mjs").write_text(r"""
+import { auditor } from 'pbaudit';
+const [budget, exhaustive] = JSON.parse(process.argv[2]), a = await auditor();
+const pb = `META\nkey;value\nbudget;${budget}\nvote_type;approval\nPROJECTS\nproject_id;cost;selected\na;1;1\nb;3000;0\n`
+  + 'VOTES\nvoter_id;vote\n1;a,b\n2;b\n';
+const prices = 'pb-prices,1\ndenominator,1\nvoter_budget,1000\nvoter,project,payment\n1,a,1\n';
+const group = 'pb-violation,1\nproject,b\nvoter,1\n', asked = { exhaustive };
+const yes = [a.prices(pb, prices, asked), a.explain(pb, prices, asked), a.page(pb, prices, asked),
+             a.both(pb, prices, group, asked).prices];
+const others = [a.prices(pb, prices.replace('1,a,1', '1,a,2'), asked), a.prices(pb, group, asked), a.violation(pb, group),
+                a.both(pb, prices, group, asked).violation, a.explain(pb, group), a.page(pb, group)];
+console.log(JSON.stringify([yes.map(({ answer }) => answer), ...[yes, others].map(all => all.map(each => each.saysOfGroups))]));
+""")
+    ran = subprocess.run(["node", "groups.mjs", json.dumps([budget, exhaustive])], cwd=installed, stdout=subprocess.PIPE,
+                         check=True)  # fmt: skip
+    assert json.loads(ran.stdout) == [["yes"] * 4, [wanted] * 4, [None] * 6]
+
+
+def test_notes_on_columns_that_are_not_used(installed):
+    """As the program notes them; the files are counted as always."""
+    (installed / "columns.mjs").write_text(r"""
+import { readFileSync } from 'node:fs';
+import { auditor } from 'pbaudit';
+const file = name => readFileSync(`${process.argv[2]}/${name}`).toString(), a = await auditor();
+const pb = file('sample.pb').replace('voter_id;vote', 'voter_id;vote;weight;points').replace(/^(\d;[a-c,]+)$/gm, '$1;1;2');
+const answers = [a.read(pb), a.prices(pb, file('sample.prices.csv')), a.violation(pb, file('sample.wrong.violation.csv'))];
+console.log(JSON.stringify(answers.map(({ notes }) => notes)));
+""")
+    ran = subprocess.run(["node", "columns.mjs", EXAMPLES], cwd=installed, stdout=subprocess.PIPE, check=True)
+    notes = [f"note: column {name} of VOTES is not used" for name in ("weight", "points")]
+    assert json.loads(ran.stdout) == [notes] * 3
 
 
 def test_refused_files_are_values(told):

@@ -69,6 +69,8 @@ def test_facts(node, room, name):
     for row, words, files in tables.asked(name):
         cases.write_files(room, {"missing": b"", **files})
         told = node.ask(by_node.call_of(words, room))["facts"]
+        says = told.pop("saysOfGroups", None)
+        assert says is None or row.text.startswith("supported ")
         assert told == as_told(calls.facts_of(row.text.encode(), files[words[1]])), (row.group, words)
 
 

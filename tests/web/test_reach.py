@@ -4,6 +4,7 @@ import pytest
 
 import browsers
 from tables import EXAMPLES
+from visiting import sentence
 
 pytestmark = pytest.mark.parametrize("address", ["disk", "server"], indirect=True)
 MOST_TABS = 40
@@ -57,7 +58,8 @@ def test_keyboard(opened, downloads):
     assert opened.browser.ask("return window.isAsked === true")
     opened.give(EXAMPLES / "sample.pb", EXAMPLES / "sample.prices.csv")
     assert opened.answers(1) == [("sample.prices.csv", "Yes", None)]
-    assert opened.text("#spoken") == "sample.prices.csv: Yes. The prices support this outcome"
+    wanted = f"Yes. Fair by prices. The prices support this outcome. {sentence('en', 'GroupsBelowReach')}"
+    assert opened.text("#spoken").startswith(f"sample.prices.csv: {wanted}")
     tab_to(opened, "#exhaustive")
     opened.browser.press(browsers.SPACE)
     is_checked = opened.browser.ask("return document.querySelector('#exhaustive').checked")

@@ -211,7 +211,17 @@ def test_ways_out(alone, page):
         alone.browser.ask(TRIES, host.address)
         came = {path.split("/")[1].split(".")[0] for path in host.asked}
         assert len(came) >= 12
-    assert "webrtc 'block'" in policy_of(page)
+
+
+@everywhere
+def test_nothing_on_the_console(alone):
+    """A browser tells there what it doesn't know in a page, as a rule of a policy: whoever looks there would take it for a fault."""
+    alone.open()
+    alone.give(*FILES)
+    assert alone.answers(1) == [("sample.prices.csv", "Yes", None)]
+    alone.give(EXAMPLES / "district.pb")
+    alone.answers(2)
+    assert alone.browser.messages() == []
 
 
 def policy_of(page):

@@ -19,6 +19,8 @@ AUDITS_IN_A_ROW = 50
 LONGEST_FILE = 2**28
 HEADS = {"en": "Check a participatory budgeting outcome", "pl": "Sprawdź wynik budżetu obywatelskiego",
          "de": "Ein Ergebnis eines Bürgerhaushalts prüfen", "fr": "Vérifier le résultat d’un budget participatif"}
+# What is asked of prices unless somebody ticks otherwise.
+USUAL = "asked: Plain form, Nothing left affordable"
 # What is told of sample.pb.
 READ = "Voters: 3. Projects: 3. Funded: 2."
 BAD_NAME = "<img src=x onerror=\"document.title='taken'\"><b>.pb"
@@ -94,9 +96,8 @@ def test_answers(opened):
     assert opened.answers(1) == [("district.violation.csv", "Yes", None)]
     words = ["page", "district.pb", "district.violation.csv", "--outcome", "district.other.outcome.csv"]
     assert opened.shown() == opened.says(*words)
-    wanted = "district.violation.csv: Yes. This group was treated worse than it deserves"
+    wanted = "district.violation.csv: Yes. Unfair treatment proved. This group was treated worse than it deserves"
     assert opened.text("#spoken") == wanted
-    assert opened.browser.ask("return document.querySelector('#options').hidden")
 
 
 def test_frame(opened):
@@ -285,7 +286,7 @@ def test_totals(opened):
     opened.open()
     opened.give(EXAMPLES / "sample.pb", EXAMPLES / "sample.prices.csv", *room.iterdir())
     opened.answers(4)
-    wanted = "Prices support the outcome: 1, don't support it: 0. Refused: 2. Not answered: 1."
+    wanted = f"Prices support the outcome: 1, don't support it: 0 ({USUAL}). Refused: 2. Not answered: 1."
     assert [opened.text("#totals"), opened.text("#spoken")] == [wanted, wanted]
 
 
@@ -308,7 +309,7 @@ def test_unused(opened):
     assert told == wanted
     opened.choose(choice.format(2), "as the election says")
     assert [word for _, word, _ in opened.answers(2)] == ["Yes", "Yes"]
-    totals = "Prices support the outcome: 1, don't support it: 0. Violation proved: 1, not proved: 0."
+    totals = f"Prices support the outcome: 1, don't support it: 0 ({USUAL}). Violation proved: 1, not proved: 0."
     assert [opened.text("#totals"), opened.text("#notes")] == [totals, ""]
     opened.choose(choice.format(1), "as the election says")
     assert [word for _, word, _ in opened.answers(2)] == ["Yes", "No"]
@@ -490,8 +491,8 @@ def test_folder(opened):
     assert found == wanted
     assert READ in opened.text("#audit-list")
     assert "notes.txt" in opened.text("#notes")
-    wanted = ("Prices support the outcome: 1, don't support it: 1. Violation proved: 0, not proved: 1. Refused: 1. "
-              "Without a certificate: 1.")  # fmt: skip
+    wanted = (f"Prices support the outcome: 1, don't support it: 1 ({USUAL}). Violation proved: 0, not proved: 1. "
+              "Refused: 1. Without a certificate: 1.")  # fmt: skip
     assert opened.text("#totals") == wanted
     opened.browser.click("#audit-list [aria-label='Show the answer on north.prices.csv']")
     opened.browser.wait("return !document.querySelector('#answer').hidden", "the answer")
@@ -655,7 +656,7 @@ def test_bad_files(opened):
     opened.open()
     opened.give(room / "long.pb")
     opened.answers(1)
-    assert "more than 268,435,456 bytes" in opened.text("#audit-list")
+    assert "more than 268\u202f435\u202f456 bytes" in opened.text("#audit-list")
     opened.browser.click("#clear")
     opened.give(changing, EXAMPLES / "sample.prices.csv")
     opened.answers(1)

@@ -7,6 +7,7 @@ import subprocess
 import pytest
 
 from common import needs
+from visiting import sentence
 
 WEB = pathlib.Path(__file__).resolve().parent.parent.parent / "web"
 DE, EN, FR, PL, LISTS = "src/words/de.ts", "src/words/en.ts", "src/words/fr.ts", "src/words/pl.ts", "src/page/lists.ts"
@@ -24,6 +25,19 @@ MISTAKES = [
     {LISTS: ("a slot that the text hasn't", r"fill\(words\.kindOf, \{", "fill(words.kindOf, { line: 1,")},
     {EN: ("a slot that is none", r"^(  kindOf: .*)\{file\}", r"\1{filename}")},
 ]  # fmt: skip
+
+
+# What the page says as the page about a certificate does, by that one's name for the sentence.
+SHARED = {"groupsBelowReach": "GroupsBelowReach", "groupsWithinReach": "GroupsWithinReach", "notSaidDeserved": "NotSaidDeserved"}
+
+
+@pytest.mark.parametrize("code", ["en", "pl", "de", "fr"])
+def test_what_a_yes_says_is_said_in_the_same_words(code):
+    text = (WEB / f"src/words/{code}.ts").read_text(encoding="utf-8")
+    said = {name: re.search(rf'^  {name}: "(.*)",$', text, re.MULTILINE)[1] for name in SHARED}
+    wanted = {name: sentence(code, theirs) for name, theirs in SHARED.items()}
+    # What isn't said begins with what it would be, which stands in a list there.
+    assert said == {**wanted, "notSaidDeserved": wanted["notSaidDeserved"].split(". ", 1)[1]}
 
 
 @pytest.mark.parametrize("mistakes", MISTAKES, ids=lambda mistakes: ", ".join(what for what, *_ in mistakes.values()))

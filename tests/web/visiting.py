@@ -1,9 +1,11 @@
 """The page, opened in a browser, and the program beside it."""
 import pathlib
+import re
 import shutil
 import subprocess
 import tempfile
 
+from common import TOP
 from tables import EXAMPLES
 
 # What the list of audits says: the file, the word on it, the line of the program, and what is beside it.
@@ -85,3 +87,10 @@ def districts(room):
     (room / "west.prices.csv").write_bytes(b"pb-prices,1\ndenominator,x\n")
     (room / "notes.txt").write_text("nothing")
     (room / "alone.pb").write_bytes((EXAMPLES / "sample.pb").read_bytes())
+
+
+def sentence(code, name):
+    """A sentence of the page about a certificate."""
+    source = (TOP / "crates/pb_words/src/wording" / f"{code}.rt").read_text(encoding="utf-8")
+    text = re.sub(r"\\\n *", "", re.search(rf'Sentence::{name} =>\s*"([^"]*)"', source)[1])
+    return re.sub(r"\\u\{(\w+)\}", lambda found: chr(int(found[1], 16)), text)

@@ -73,9 +73,10 @@ test("amounts are exact", () => {
 });
 
 test("amounts are written as each language does", () => {
-  assert.equal(amountIn(1_234_567_000_000n, "en"), "1,234,567");
-  assert.equal(amountIn(1_234_500_000n, "de"), "1.234,50");
-  assert.equal(amountIn(1_234_567_891n, "en"), "1,234.567891");
+  assert.equal(amountIn(1_234_567_000_000n, "en"), "1\u202f234\u202f567");
+  assert.equal(amountIn(1_234_500_000n, "de"), "1\u202f234,50");
+  assert.equal(amountIn(1_234_567_891n, "en"), "1\u202f234.567891");
+  assert.equal(amountIn(1_234_500_000n, "pl"), "1\u202f234,50");
   assert.equal(amountIn(500_000n, "fr"), "0,50");
 });
 

@@ -126,7 +126,7 @@ test("what is found is what trying all sets finds", () => {
   for (const size of ["count 1", "count 2", "count 3", "cost 1", "cost 2", "cost 3"]) assert(sizes.has(size), size);
 });
 
-test("a group that was passed over gives a refutation", () => {
+test("a group whose share was enough gives a refutation", () => {
   const town = townFrom([2, 3], 10, ["0,1", "0,1", "0,1", "0", ""], [0]);
   const refutation = refutationOf(town, { voters: Uint32Array.of(0, 1, 2), projects: [1] });
   assert(refutation);

@@ -60,6 +60,9 @@ test("notes on an election", () => {
   const votes = { says: "otherCount", of: "votes", said: "4", counted: "3" };
   assert.deepEqual(noteOf("note: num_votes says 4, counted 3"), votes);
   assert.deepEqual(noteOf("note: selected is neither 0 nor 1 in 2 projects"), { says: "oddSelected", projects: "2" });
+  for (const column of ["weight", "points", "sign"]) {
+    assert.deepEqual(noteOf(`note: column ${column} of VOTES is not used`), { says: "unusedColumn", column });
+  }
   assert.equal(noteOf("note: another"), undefined);
 });
 

@@ -2,7 +2,7 @@
 
 import assert from "node:assert/strict";
 import test from "node:test";
-import { numberIn, shortened, shownName, toldName, visible } from "../src/files/names.js";
+import { shortened, shownName, toldName, visible } from "../src/files/names.js";
 
 test("a character that can't be seen is shown by its number", () => {
   assert.equal(visible("a\u202egpj.pb"), "a\\u{202e}gpj.pb");
@@ -34,9 +34,4 @@ test("a long name keeps its front and its end", () => {
 test("a name from right to left is set apart from the sentence", () => {
   assert.equal(toldName("\u05d0.pb"), "\u2068\u05d0.pb\u2069");
   assert.equal(toldName("a.pb"), "a.pb");
-});
-
-test("a number is grouped as its language does", () => {
-  assert.equal(numberIn(12345, "en"), "12,345");
-  assert.equal(numberIn("12345", "de"), "12.345");
 });

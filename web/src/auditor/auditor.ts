@@ -2,11 +2,11 @@
    bytes and facts. Room that was given isn't taken back before the next audit, for which all memory is as it was at
    first. */
 
-import { callOf, COMMANDS, INPUTS } from "./commands.js";
-import { FACTS_LENGTH, factsIn } from "./facts.js";
-import { OutOfMemory, YES } from "./statuses.js";
+import { callOf, COMMANDS, groupsCall, INPUTS, isOnPrices } from "./commands.js";
+import { FACTS_LENGTH, factsIn, onGroupsBy } from "./facts.js";
+import { NO, NO_MEMORY, OutOfMemory, YES } from "./statuses.js";
 import type { Call, Command, Input, Place, Question, Row, Word } from "./commands.js";
-import type { Facts } from "./facts.js";
+import type { Facts, OnGroups } from "./facts.js";
 import type { Hint } from "./lines.js";
 
 /** How a call ends, and its text. */
@@ -44,15 +44,18 @@ function guessFor(command: Command, { files }: Question): number {
 
 export class Auditor {
   readonly calls: Calls;
-  /** The memory below the heap, as it was at first. */
+  /** The memory below the heap, as it was at first: the stack, in which there is nothing, and from here on these bytes. */
+  private readonly from: number;
   private readonly first: Uint8Array;
-  private answer: Place | undefined;
+  private answered: Place | undefined;
   private needed: Place | undefined;
   private facts: Place | undefined;
 
   constructor(module: WebAssembly.Module) {
     this.calls = new WebAssembly.Instance(module, {}).exports as unknown as Calls;
-    this.first = this.bytes({ at: 0n, length: this.room(0).at }).slice();
+    const below = this.below();
+    this.from = Math.max(0, below.findIndex(byte => byte !== 0));
+    this.first = below.slice(this.from);
   }
 
   /** The bytes of memory that the module has taken. */
@@ -62,10 +65,15 @@ export class Auditor {
 
   /** Makes the memory what it was at first, but for how much there is. */
   reset(): void {
-    const top = this.room(0).at;
-    this.bytes({ at: 0n, length: top }).fill(0, this.first.length);
-    this.bytes({ at: 0n, length: top }).set(this.first);
-    this.answer = this.needed = this.facts = undefined;
+    const below = this.below();
+    below.fill(0);
+    below.set(this.first, this.from);
+    this.answered = this.needed = this.facts = undefined;
+  }
+
+  /** The memory below what was never taken. */
+  private below(): Uint8Array {
+    return this.bytes({ at: 0n, length: this.room(0).at });
   }
 
   private export(name: string): (...words: Word[]) => Word {
@@ -94,8 +102,24 @@ export class Auditor {
     return this.put(new TextEncoder().encode(text));
   }
 
-  /** Calls a command. Where the answer needs more than the room that was guessed, the command is called again. */
+  /** Calls a command, and asks after a yes to prices what it says of groups. */
   ask(command: Command, asked: Question, guess = guessFor(command, asked)): Reply {
+    const reply = this.answer(command, asked, guess), { status, facts } = reply;
+    // Of both, the prices may be right where the violation is none.
+    const isYes = status === YES || (command === "both" && status === NO && !facts.condition);
+    const saysOfGroups = isYes && isOnPrices(command) ? this.groups(asked) : undefined;
+    return saysOfGroups ? { ...reply, facts: { ...facts, saysOfGroups } } : reply;
+  }
+
+  /** What a yes says of groups, if the certificate is one of prices. */
+  private groups(asked: Question): OnGroups | undefined {
+    const { name, words } = groupsCall(asked), number = this.export(name)(...words) as number;
+    if (number === NO_MEMORY) throw new OutOfMemory();
+    return onGroupsBy(number);
+  }
+
+  /** Calls a command. Where the answer needs more than the room that was guessed, the command is called again. */
+  answer(command: Command, asked: Question, guess = guessFor(command, asked)): Reply {
     const facts = this.facts ??= this.room(FACTS_LENGTH);
     // A call that tells no facts leaves none.
     this.bytes(facts).fill(0);
@@ -125,9 +149,9 @@ export class Auditor {
   /** Calls a function of the module. The room of an answer is used again for the next. */
   private call({ name, words }: Call, guess: number): Ended {
     const needed = this.needed ??= this.room(8);
-    let room = this.answer && this.answer.length >= guess ? this.answer : this.room(guess);
+    let room = this.answered && this.answered.length >= guess ? this.answered : this.room(guess);
     for (;; room = this.room(this.number(needed))) {
-      this.answer = room;
+      this.answered = room;
       const status = this.export(name)(...words, room.at, room.length, needed.at) as number;
       const length = this.number(needed);
       if (length <= Number(room.length)) {

@@ -82,6 +82,14 @@ const given = (place: Place | undefined): Word[] => {
   return [place.at, place.length];
 };
 
+/** Whether the command answers whether prices support an outcome, if its certificate is one of prices. */
+export const isOnPrices = (command: Command): boolean =>
+  command === "page" || ((COMMANDS[command] as Row).beside ?? []).includes("yes");
+
+/** The call that tells what a yes to prices says of groups. */
+export const groupsCall = ({ files: { election, certificate }, mode }: Question): Call =>
+  ({ name: "pbaudit_groups", words: [...given(election), ...given(certificate), Number(mode.exhaustive)] });
+
 /** The call of a command. The facts that are told of its answer go to this place. */
 export function callOf(command: Command, { files, names, mode, language }: Question, facts: Place): Call {
   const { question, needs }: Row = COMMANDS[command];

@@ -27,11 +27,23 @@ export interface Culprit {
   readonly project?: number;
 }
 
-/** The fault of a file, or the first condition on prices and the first test of a group or of weights that fail. */
+/**
+ * What a yes to prices says of groups of voters (docs/WEB.md, For JavaScript), in the order of the numbers by which the
+ * library tells it (pbaudit_groups in pbaudit.h).
+ */
+const ON_GROUPS = [undefined, "little", "weak", "strict"] as const;
+
+export type OnGroups = NonNullable<typeof ON_GROUPS[number]>;
+
+/**
+ * The fault of a file, or the first condition on prices and the first test of a group or of weights that fail; and what
+ * a yes to prices says of groups.
+ */
 export interface Facts {
   readonly fault?: Fault;
   readonly condition?: Culprit;
   readonly test?: Culprit;
+  readonly saysOfGroups?: OnGroups;
 }
 
 /** The numbers of refusals for want of an outcome, and of a file that can't be read. */
@@ -54,3 +66,6 @@ export function factsIn(facts: DataView): Facts {
   const condition = culpritAt(facts, CONDITION_AT), test = culpritAt(facts, TEST_AT);
   return { ...condition ? { condition } : {}, ...test ? { test } : {} };
 }
+
+/** What a number says of groups. Of files that are refused nothing is said. */
+export const onGroupsBy = (number: number): OnGroups | undefined => ON_GROUPS[number];

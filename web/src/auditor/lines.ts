@@ -49,7 +49,8 @@ export interface ReadLine {
 /** What is remarked on an election. */
 export type Note =
   | { readonly says: "otherCount"; readonly of: "votes" | "projects"; readonly said: string; readonly counted: string }
-  | { readonly says: "oddSelected"; readonly projects: string };
+  | { readonly says: "oddSelected"; readonly projects: string }
+  | { readonly says: "unusedColumn"; readonly column: string };
 
 export type Line = Supported | Violated | Unpriceable | Failed | RefusedLine | ReadLine;
 
@@ -103,7 +104,9 @@ export function lineOf({ fault, condition, test }: Facts, line: string): Line | 
 export function noteOf(note: string): Note | undefined {
   const [, of, said, counted] = /^note: num_(votes|projects) says (\d+), counted (\d+)$/.exec(note) ?? [];
   const [, projects] = /^note: selected is neither 0 nor 1 in (\d+) projects$/.exec(note) ?? [];
+  const [, column] = /^note: column (\w+) of VOTES is not used$/.exec(note) ?? [];
   if (projects) return { says: "oddSelected", projects };
+  if (column) return { says: "unusedColumn", column };
   return of === "votes" || of === "projects" ? { says: "otherCount", of, said, counted } : undefined;
 }
 

@@ -1,6 +1,6 @@
 /* Amounts of money as whole numbers of millionths, which are exact. */
 
-import { formatIn } from "../words/formats.js";
+import { formatIn, grouped } from "../words/formats.js";
 
 export const MILLION = 1_000_000n;
 const PLACES = 6;
@@ -16,7 +16,7 @@ export function amountOf(text: string): bigint | undefined {
 /** How an amount is written in a language: whole, or with two to six places. */
 export function amountIn(millionths: bigint, language: string): string {
   const whole = millionths / MILLION, rest = millionths % MILLION;
-  const told = formatIn(language, { useGrouping: true }).format(whole);
+  const told = grouped(whole);
   if (!rest) return told;
   const places = `${rest}`.padStart(PLACES, "0").replace(/0+$/, "").padEnd(2, "0");
   const point = formatIn(language).formatToParts(0.5).find(({ type }) => type === "decimal");

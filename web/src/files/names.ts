@@ -1,7 +1,5 @@
 /* How the page shows what others wrote: names of files, lines of the program, records of a file. */
 
-import { formatIn } from "../words/formats.js";
-
 const LONGEST_NAME = 120;
 export const LONGEST_LINE = 300;
 /**
@@ -78,6 +76,3 @@ export function shownLine(line: string): string {
   return shortened(visible(line.slice(0, 4 * LONGEST_LINE)), LONGEST_LINE);
 }
 
-/** A number in the page's language. */
-export const numberIn = (number: number | string, language: string): string =>
-  formatIn(language).format(Number(number));

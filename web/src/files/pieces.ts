@@ -1,6 +1,7 @@
 /* The files that were given: what each is, and which belong together. */
 
 import type { Kind } from "../auditor/kinds.js";
+import type { Mode } from "../auditor/statuses.js";
 
 /** A file that was found. `folder` is the folder that it lay in, where a folder was given. */
 export interface Found {
@@ -10,12 +11,13 @@ export interface Found {
 
 /**
  * A file that was given. The auditor told its kind, or else its name does, or somebody chose it. An example is the
- * page's own.
+ * page's own. Prices that the page made are asked as they were looked for, by `mode`.
  */
 export interface Piece extends Found {
   readonly kind: Kind;
   readonly isTold: boolean;
   readonly isExample?: boolean;
+  readonly mode?: Mode;
 }
 
 /**

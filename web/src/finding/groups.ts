@@ -109,14 +109,14 @@ function reachOf({ ballots: { starts, places }, isFunded }: Town, voters: Uint32
   return [...reached].sort((one, other) => one - other);
 }
 
-/** Weights by which no prices whose budgets are more than the limit together support the outcome. */
+/** Weights by which no prices support the outcome, or with a weight of Cover none with budgets above the limit. */
 export interface Refutation {
   readonly cover: number;
   readonly weights: readonly Weight[];
 }
 
 /**
- * The refutation that a group gives which was passed over: its share covers an unfunded project that all of it approve,
+ * The refutation that a group gives whose share was enough: it covers an unfunded project that all of it approve,
  * and all that was funded for any of them, together. Undefined where the group isn't so.
  */
 export function refutationOf(town: Town, { voters, projects }: Demand): Refutation | undefined {
@@ -126,6 +126,10 @@ export function refutationOf(town: Town, { voters, projects }: Demand): Refutati
   const weight = votersIn(town), bought: Weight[] = reach.map(each => ({ role: "most", project: each, weight }));
   return { cover: members, weights: [{ role: "left", project, weight }, ...bought] };
 }
+
+/** The refutation of all prices where nobody approves a funded project that costs something: nobody may pay for it. */
+export const unpaidRefutation = (project: number): Refutation =>
+  ({ cover: 0, weights: [{ role: "least", project, weight: 1 }] });
 
 /** Whether the outcome costs more than the limit, and the first unfunded project that could be added within it. */
 export function roomOf(town: Town): { isFeasible: boolean; addable: number | undefined } {

@@ -8,6 +8,7 @@ import { USAGE } from "./generated.js";
 import { moduleBytes } from "./module.js";
 import { modeOf, Task } from "./run.js";
 import { askedBy, Ended } from "./usage.js";
+import { awaited } from "./waiting.js";
 import type { Command } from "../auditor/commands.js";
 import type { Run } from "./run.js";
 import type { Asked } from "./usage.js";
@@ -17,14 +18,11 @@ const LANGUAGES: readonly (string | null | undefined)[] = [undefined, "en", "pl"
 const NO_WORDS = "error: an argument is not UTF-8\n";
 const NO_LANGUAGE = "error: the language of a page has to be en, pl, de or fr\n";
 
-/** Writes all of it. What reads may be slower than this. */
+/** Writes all of it. */
 function write(file: number, bytes: Uint8Array): void {
   for (let at = 0; at < bytes.length;) {
-    try {
-      at += writeSync(file, bytes, at);
-    } catch (error) {
-      if ((error as { code?: string }).code !== "EAGAIN") throw error;
-    }
+    const from = at;
+    at += awaited(() => writeSync(file, bytes, from));
   }
 }
 

@@ -77,3 +77,20 @@ export function overlookedIn(files: readonly string[]): string[] {
     [...each].filter(name => !hasElectionOf(names.election, name)).map(name => `${name}${certificates[at]}`));
   return [...files.filter(file => isMisnamed(file) || isRefutation(file)), ...alone].sort(byBytes);
 }
+
+/** Whether a name is like those of files that are audited, or is one of them. */
+function isLikeOne(file: string): boolean {
+  const found = split(file);
+  return found ? found.name !== "" : isRefutation(file) || isMisnamed(file);
+}
+
+/** Of what isn't a regular file, the names by which a file would be audited or told. */
+export const irregularIn = (others: readonly string[]): string[] => others.filter(isLikeOne).sort(byBytes);
+
+/** The names of files whose endings are right, with a control character in each. */
+export function uncleanIn(files: readonly string[]): string[] {
+  return files.filter(file => {
+    const found = split(file);
+    return found !== undefined && found.name !== "" && !isEntryName(found.name);
+  }).sort(byBytes);
+}

@@ -1,7 +1,7 @@
 /* What the package answers: the program's text and status, and what it says as facts. */
 
 import { lineOf, linesOf, noteOf, readOf, sentenceIn } from "../auditor/lines.js";
-import type { Facts } from "../auditor/facts.js";
+import type { Facts, OnGroups } from "../auditor/facts.js";
 import type { Hint, Line, Note, RefusedLine } from "../auditor/lines.js";
 
 /** What the program prints, and the status that it ends with. */
@@ -20,17 +20,20 @@ export interface Refused extends Said {
   /** The line of the file on which the record begins, as an editor counts. */
   readonly line?: number;
   readonly hint: readonly string[];
+  readonly saysOfGroups: null;
 }
 
 /**
  * The certificate shows what it claims. `form` is that of prices; `cover` says of a refutation that it is about prices
- * that satisfy condition Cover. `notes` are lines of the program beside the answer.
+ * that satisfy condition Cover. `saysOfGroups` is what a yes to prices says of groups of voters, and null where the
+ * question isn't one of prices. `notes` are lines of the program beside the answer.
  */
 export interface Yes extends Said {
   readonly status: 0;
   readonly answer: "yes";
   readonly form?: "priceable" | "stable";
   readonly cover?: boolean;
+  readonly saysOfGroups: OnGroups | null;
   readonly notes: readonly string[];
 }
 
@@ -41,6 +44,7 @@ export interface No extends Said {
   readonly condition: string;
   readonly voter?: number;
   readonly project?: string;
+  readonly saysOfGroups: null;
   readonly notes: readonly string[];
 }
 
@@ -77,6 +81,7 @@ export interface Page extends Said {
   readonly status: 0 | 1;
   readonly answer: "yes" | "no";
   readonly sentence: string;
+  readonly saysOfGroups: OnGroups | null;
 }
 
 /** The report on a folder, and what it says of each file, by its name and in its order. */
@@ -95,13 +100,13 @@ const OPENING = "a text that isn't the library's";
 
 /** The verdict that a line gives. */
 export function verdictOf(told: Facts, line: string, text: string, notes: readonly string[]): Yes | No {
-  const said = lineOf(told, line);
-  if (said?.says === "supported") return { status: 0, answer: "yes", form: said.form, notes, text };
-  if (said?.says === "violation") return { status: 0, answer: "yes", notes, text };
-  if (said?.says === "unpriceable") return { status: 0, answer: "yes", cover: said.cover, notes, text };
+  const said = lineOf(told, line), yes = { status: 0, answer: "yes", saysOfGroups: told.saysOfGroups ?? null } as const;
+  if (said?.says === "supported") return { ...yes, form: said.form, notes, text };
+  if (said?.says === "violation") return { ...yes, notes, text };
+  if (said?.says === "unpriceable") return { ...yes, cover: said.cover, notes, text };
   if (said?.says !== "failed") throw new Error(OPENING);
   const { says: _, ...facts } = said;
-  return { status: 1, answer: "no", ...facts, notes, text };
+  return { status: 1, answer: "no", ...facts, saysOfGroups: null, notes, text };
 }
 
 export function readingOf(text: string): Reading {
@@ -112,15 +117,15 @@ export function readingOf(text: string): Reading {
   return { status: 0, answer: "read", ...facts, notes, remarks, text };
 }
 
-export function bothOf(status: number, text: string, { condition, test }: Facts): Both {
+export function bothOf(status: number, text: string, { condition, test, saysOfGroups }: Facts): Both {
   const [first, second] = linesOf(text);
-  const prices = verdictOf({ condition }, first, `${first}\n`, []);
+  const prices = verdictOf({ condition, saysOfGroups }, first, `${first}\n`, []);
   const violation = verdictOf({ test }, second, `${second}\n`, []);
   return { ...yesOrNo(status), prices, violation, text };
 }
 
-export const pageOf = (status: number, text: string): Page =>
-  ({ ...yesOrNo(status), sentence: sentenceIn(text) ?? "", text });
+export const pageOf = (status: number, text: string, { saysOfGroups }: Facts): Page =>
+  ({ ...yesOrNo(status), sentence: sentenceIn(text) ?? "", saysOfGroups: saysOfGroups ?? null, text });
 
 const yesOrNo = (status: number): { status: 0 | 1; answer: "yes" | "no" } =>
   status === 0 ? { status, answer: "yes" } : { status: 1, answer: "no" };
@@ -128,6 +133,6 @@ const yesOrNo = (status: number): { status: 0 | 1; answer: "yes" | "no" } =>
 export function refusalOf({ says: _, input, ...facts }: RefusedLine, text: string, { line, sentences }: Hint): Refused {
   return {
     status: 2, answer: "refused", input: input as Refused["input"], ...facts, ...line > 0 ? { line } : {},
-    hint: sentences, text,
+    hint: sentences, saysOfGroups: null, text,
   };
 }

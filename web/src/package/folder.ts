@@ -2,14 +2,14 @@
 
 import { readdirSync } from "node:fs";
 import process from "node:process";
-import { Auditor } from "../auditor/auditor.js";
+import { Keeper } from "../auditor/keeper.js";
 import { NO_MEMORY, OutOfMemory, REFUSED } from "../auditor/statuses.js";
 import { seen, shownPath } from "../files/names.js";
-import { ENDINGS, entriesOf, isRefutation, overlookedIn } from "./entries.js";
+import { ENDINGS, entriesOf, irregularIn, isRefutation, overlookedIn, uncleanIn } from "./entries.js";
 import { load, reasonOf, Unread } from "./reading.js";
-import { reportOf } from "./report.js";
+import { ASKED, reportOf } from "./report.js";
 import { unreadLine, unreadReply } from "./run.js";
-import type { Reply } from "../auditor/auditor.js";
+import type { Auditor, Reply } from "../auditor/auditor.js";
 import type { Place } from "../auditor/commands.js";
 import type { Mode } from "../auditor/statuses.js";
 import type { Entry, EntryRole } from "./entries.js";
@@ -19,6 +19,7 @@ const MOST_NAMED = 5;
 /** So many letters of a name are shown that the line fits a terminal, since a line that is broken can't be cleared. */
 const MOST_SHOWN = 50;
 const CLEARED = "\r\u001b[K";
+const NAMES = "an election is NAME.pb, and its certificates are NAME.prices.csv and NAME.violation.csv, with endings in lower case";
 
 const bytes = (words: string): Uint8Array => new TextEncoder().encode(words);
 
@@ -33,11 +34,17 @@ function textOf(name: Uint8Array): string {
   }
 }
 
-/** The names of a folder's files. Links in it aren't followed, and nothing but regular files is taken. */
-function filesOf(folder: string): string[] {
+/** What a folder lists: the names of its regular files, and those of links, folders and the like, which aren't followed. */
+interface Listed {
+  readonly files: readonly string[];
+  readonly others: readonly string[];
+}
+
+function listedIn(folder: string): Listed {
   const entries = readdirSync(folder, { withFileTypes: true, encoding: "buffer" });
   const named = entries.map(entry => ({ name: textOf(entry.name), isFile: entry.isFile() }));
-  return named.filter(({ isFile }) => isFile).map(({ name }) => name);
+  const namesOf = (wanted: boolean): string[] => named.filter(({ isFile }) => isFile === wanted).map(({ name }) => name);
+  return { files: namesOf(true), others: namesOf(false) };
 }
 
 function unlisted(folder: string, error: unknown): Run {
@@ -47,41 +54,52 @@ function unlisted(folder: string, error: unknown): Run {
   return { out: unreadLine("folder"), err, status: REFUSED };
 }
 
-/** That there is no election, and which files may be meant to be audited and aren't. */
-function besideOf(files: readonly string[], isEmpty: boolean): string {
-  const none = isEmpty ? "pbaudit: no election was found: the folder has no file named NAME.pb\n" : "";
-  const names = overlookedIn(files), more = names.length - MOST_NAMED;
-  if (names.length === 0) return none;
+/** A line of these words, the first of the names, and a rule, where there are names. */
+function lineOn(words: string, names: readonly string[], rule: string): string {
+  if (names.length === 0) return "";
+  const more = names.length - MOST_NAMED;
   const told = names.slice(0, MOST_NAMED).map(shownPath).join(", ") + (more > 0 ? ` and ${more} more` : "");
-  const alone = files.some(isRefutation) ? "; a refutation is audited by itself, with pbaudit refutation" : "";
-  return `${none}pbaudit: not audited: ${told}; an election is NAME.pb, and its certificates are NAME.prices.csv and `
-    + `NAME.violation.csv, with endings in lower case${alone}\n`;
+  return `pbaudit: ${words}: ${told}; ${rule}\n`;
 }
 
-/** Asks a command of an entry's files. A file that can't be read is refused for that, unless an earlier one is. */
-class EntryTask {
-  private readonly auditor: Auditor;
+/** That there is no election, which files may be meant to be audited and aren't, and in which names something can't be seen. */
+function besideOf({ files, others }: Listed, elections: readonly string[]): string {
+  const none = elections.length === 0 ? "pbaudit: no election was found: the folder has no file named NAME.pb\n" : "";
+  const alone = files.some(isRefutation) ? "; a refutation is audited by itself, with pbaudit refutation" : "";
+  const unseen = elections.filter(name => seen(name) !== name).map(name => `${name}${ENDINGS.election}`);
+  return none + lineOn("not audited", overlookedIn(files), NAMES + alone)
+    + lineOn("not audited", irregularIn(others), "only regular files are, and no links, folders or pipes")
+    + lineOn("not audited", uncleanIn(files), "their names have control characters")
+    + lineOn("names with characters that can't be seen", unseen, "the report has them as they are");
+}
 
-  constructor(module: WebAssembly.Module, private readonly folder: string, private readonly mode: Mode) {
-    this.auditor = new Auditor(module);
+/** The files of an entry. One that can't be read is refused for that, unless the election is refused. */
+class EntryTask {
+  private readonly election: Place | Reply;
+
+  constructor(
+    private readonly auditor: Auditor, private readonly folder: string, private readonly entry: Entry,
+    private readonly mode: Mode,
+  ) {
+    this.election = this.file("election");
   }
 
-  private file({ name }: Entry, role: EntryRole): Place | Reply {
+  private file(role: EntryRole): Place | Reply {
     try {
-      return load(this.auditor, `${this.folder}/${name}${ENDINGS[role]}`);
+      return load(this.auditor, `${this.folder}/${this.entry.name}${ENDINGS[role]}`);
     } catch (error) {
       if (!(error instanceof Unread)) throw error;
       return unreadReply(role === "election" ? role : "certificate");
     }
   }
 
-  ask(command: "read" | "prices" | "violation", entry: Entry, role: EntryRole): Reply {
-    const election = this.file(entry, "election"), file = role === "election" ? undefined : this.file(entry, role);
+  ask(role: EntryRole): Reply {
+    const { election, auditor, mode } = this;
     if ("status" in election) return election;
+    const file = role === "election" ? undefined : this.file(role);
     const isUnread = file !== undefined && "status" in file;
-    const certificate = isUnread ? this.auditor.room(0) : file as Place | undefined;
-    const asked = { files: { election, certificate }, names: {}, mode: this.mode };
-    const reply = this.auditor.ask(command, asked);
+    const certificate = isUnread ? auditor.room(0) : file as Place | undefined;
+    const reply = auditor.answer(ASKED[role], { files: { election, certificate }, names: {}, mode });
     if (reply.status === NO_MEMORY) throw new OutOfMemory();
     return isUnread && reply.facts.fault?.input !== "election" ? file as Reply : reply;
   }
@@ -98,17 +116,21 @@ function progressOf(tell: (text: string) => void, names: readonly string[]): { n
 }
 
 export function auditFolder(module: WebAssembly.Module, folder: string, mode: Mode, tell: (text: string) => void): Run {
-  let files: string[];
+  let listed: Listed;
   try {
-    files = filesOf(folder);
+    listed = listedIn(folder);
   } catch (error) {
     return unlisted(folder, error);
   }
-  const entries = entriesOf(files), progress = progressOf(tell, entries.map(({ name }) => name));
-  const report = reportOf(entries, (command, entry, role) => {
-    if (role === "election") progress.next();
-    return new EntryTask(module, folder, mode).ask(command, entry, role);
+  const entries = entriesOf(listed.files), names = entries.map(({ name }) => name), progress = progressOf(tell, names);
+  const keeper = new Keeper(module);
+  const report = reportOf(entries, (entry, does) => {
+    progress.next();
+    return keeper.use(auditor => {
+      const task = new EntryTask(auditor, folder, entry, mode);
+      return does(role => task.ask(role));
+    });
   });
   progress.end();
-  return { out: bytes(report.text), err: besideOf(files, entries.length === 0), status: report.status };
+  return { out: bytes(report.text), err: besideOf(listed, names), status: report.status };
 }

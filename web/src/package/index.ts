@@ -1,28 +1,30 @@
 /* The auditor for JavaScript: the proved library's answers, with what they say as facts. */
 
-import { Auditor as Calls } from "../auditor/auditor.js";
-import { linesOf, refusedOf, yesOf } from "../auditor/lines.js";
+import { Keeper } from "../auditor/keeper.js";
+import { linesOf, refusedOf } from "../auditor/lines.js";
 import { hintOn } from "../auditor/refusals.js";
-import { LONGEST_FILE, NO_MEMORY, OutOfMemory, USUAL_MODE } from "../auditor/statuses.js";
+import { LONGEST_FILE, NO_MEMORY, OutOfMemory } from "../auditor/statuses.js";
 import { ENDINGS, entriesOf } from "./entries.js";
 import { bothOf, pageOf, readingOf, refusalOf, verdictOf } from "./facts.js";
+import { folderIn, handedIn } from "./handed.js";
 import { moduleBytes } from "./module.js";
-import { reportOf } from "./report.js";
-import type { Reply } from "../auditor/auditor.js";
-import type { Command, Place, Question, Role } from "../auditor/commands.js";
+import { ASKED, reportOf } from "./report.js";
+import type { Auditor as Calls, Reply } from "../auditor/auditor.js";
+import type { Command, Place, Question } from "../auditor/commands.js";
 import type { Facts } from "../auditor/facts.js";
 import type { Mode } from "../auditor/statuses.js";
+import type { EntryRole } from "./entries.js";
 import type { Both, Page, Reading, Refused, Report, Verdict, Written } from "./facts.js";
+import type { CallName, Handed, Names, Source } from "./handed.js";
 
 export { OutOfMemory };
 export type { Both, Mode, Page, Reading, Refused, Report, Verdict, Written };
 export type { No, Reported, Yes } from "./facts.js";
+export type { Names, Source } from "./handed.js";
+export type { OnGroups } from "../auditor/facts.js";
 export type {
   Failed, Line, Note, ReadLine, RefusedLine, Supported, Unpriceable, Violated,
 } from "../auditor/lines.js";
-
-/** A file: its bytes, or its text. */
-export type Source = Uint8Array | string;
 
 /** The outcome in the place of the election's own. */
 export interface ForOutcome {
@@ -32,10 +34,15 @@ export interface ForOutcome {
 /** What is asked of prices: usually condition Exhaustive too, and neither the stable form nor condition Cover. */
 export interface ForPrices extends ForOutcome, Partial<Mode> {}
 
+type Code = "en" | "pl" | "de" | "fr";
+type AnyCode = Code | Uppercase<Code>;
+/** A language, perhaps with a region, as `de-AT`. */
+export type Language = AnyCode | `${AnyCode}-${string}`;
+
 /** The language of a page, and the names by which it calls the files. */
 export interface ForPage extends ForPrices {
-  readonly language?: "en" | "pl" | "de" | "fr";
-  readonly names?: { readonly election?: string; readonly outcome?: string; readonly certificate?: string };
+  readonly language?: Language;
+  readonly names?: Names;
 }
 
 /** Each answers as the program's command of its name does. Out of memory, each throws OutOfMemory. */
@@ -53,132 +60,114 @@ export interface Auditor {
   folder(files: Iterable<readonly [string, Source]>, asked?: Partial<Mode>): Report;
 }
 
-type Sources = { readonly [Name in Role]?: Source | undefined };
-
-const bytesOf = (source: Source): Uint8Array => typeof source === "string" ? new TextEncoder().encode(source) : source;
-
 /** A file in the module's memory. Of one that is too long there is enough that it is refused for that. */
-const put = (calls: Calls, source: Source): Place => calls.put(bytesOf(source).subarray(0, LONGEST_FILE + 1));
+const put = (calls: Calls, bytes: Uint8Array): Place => calls.put(bytes.subarray(0, LONGEST_FILE + 1));
+
+function answered(reply: Reply): Reply {
+  if (reply.status === NO_MEMORY) throw new OutOfMemory();
+  return reply;
+}
 
 /** One call: its files, and what is asked of them. */
 class Call {
-  readonly calls: Calls;
   readonly asked: Question;
 
-  constructor(module: WebAssembly.Module, files: Sources, { language = "en", names = {}, ...mode }: ForPage = {}) {
-    this.calls = new Calls(module);
-    const given = Object.entries(files).filter((each): each is [Role, Source] => each[1] !== undefined);
-    const nameOf = (role: keyof typeof names): Place => this.calls.putText(names[role] ?? role);
+  constructor(private readonly calls: Calls, { files, mode, language, names }: Handed) {
+    const nameOf = (role: keyof Names): Place => calls.putText(names[role] ?? role);
+    const places = Object.entries(files).map(([role, bytes]) => [role, put(calls, bytes)]);
     this.asked = {
-      files: Object.fromEntries(given.map(([role, source]) => [role, put(this.calls, source)])),
+      files: Object.fromEntries(places), mode, language: calls.putText(language),
       names: { election: nameOf("election"), outcome: nameOf("outcome"), certificate: nameOf("certificate") },
-      mode: modeOf(mode), language: this.calls.putText(language),
     };
   }
 
   ask(command: Command): Reply {
-    const reply = this.calls.ask(command, this.asked);
-    if (reply.status === NO_MEMORY) throw new OutOfMemory();
-    return reply;
+    return answered(this.calls.ask(command, this.asked));
   }
 
   /** What a command answers, or the refusal of a file. */
-  answer<Answer>(command: Command, answered: (status: number, text: string, facts: Facts) => Answer): Answer | Refused {
+  answer<Answer>(command: Command, says: (status: number, text: string, facts: Facts) => Answer): Answer | Refused {
     const { status, bytes, facts } = this.ask(command), text = new TextDecoder().decode(bytes), { fault } = facts;
-    if (!fault) return answered(status, text, facts);
+    if (!fault) return says(status, text, facts);
     return refusalOf(refusedOf(fault, text), text, hintOn(this.calls, command, this.asked, fault));
   }
 
   /** What the program remarks beside an answer: on the election, and on a yes to prices that says little. */
-  notes(isYesToPrices: boolean): string[] {
-    const [, ...notes] = linesOf(new TextDecoder().decode(this.ask("read").bytes));
-    return isYesToPrices ? [...notes, ...linesOf(new TextDecoder().decode(this.ask("note").bytes))] : notes;
+  notes({ saysOfGroups }: Facts): string[] {
+    const asked: Command[] = saysOfGroups === "little" ? ["read", "note"] : ["read"];
+    const [[, ...notes], more = []] = asked.map(command => linesOf(new TextDecoder().decode(this.ask(command).bytes)));
+    return [...notes, ...more];
   }
 }
 
-const modeOf = (asked: Partial<Mode>): Mode => ({
-  stable: asked.stable ?? USUAL_MODE.stable, exhaustive: asked.exhaustive ?? USUAL_MODE.exhaustive,
-  cover: asked.cover ?? USUAL_MODE.cover,
-});
-
-/** What was asked. One name more, as of a misspelt option, would be the answer to another question. */
-const asks = <Asked extends object>(asked: Asked, ...names: (keyof Asked & string)[]): Asked => {
-  const other = Object.keys(asked).find(name => !names.some(each => each === name));
-  if (other !== undefined) throw new TypeError(`there is no option '${other}' here: those are ${names.join(", ")}`);
-  return asked;
-};
-
-const asksOutcome = (asked: ForOutcome): ForOutcome => asks(asked, "outcome");
-const asksMode = (asked: Partial<Mode>): Partial<Mode> => asks(asked, "stable", "exhaustive", "cover");
-const asksPrices = (asked: ForPrices): ForPrices => asks(asked, "outcome", "stable", "exhaustive", "cover");
-const asksPage = (asked: ForPage): ForPage =>
-  asks(asked, "outcome", "stable", "exhaustive", "cover", "language", "names");
-
 const written = (_: number, text: string): Written => ({ status: 0, answer: "written", text });
 
-/** The module as one auditor. Each call has a memory of its own, which the next doesn't see. */
+/** The module as one auditor. No call sees what the one before it left in memory. */
 class Library implements Auditor {
-  constructor(private readonly module: WebAssembly.Module) {}
+  private readonly keeper: Keeper;
 
-  private verdict(command: Command, files: Sources, asked?: ForPrices): Verdict {
-    const call = new Call(this.module, files, asked);
-    return call.answer(command, (_, text, facts) => {
-      const [line] = linesOf(text), isYesToPrices = yesOf(line)?.says === "supported";
-      return verdictOf(facts, line, text, call.notes(isYesToPrices));
-    });
+  constructor(module: WebAssembly.Module) {
+    this.keeper = new Keeper(module);
   }
 
-  read(election: Source): Reading | Refused {
-    return new Call(this.module, { election }).answer("read", (_, text) => readingOf(text));
+  private call<Answer>(name: CallName, handed: readonly unknown[], does: (call: Call) => Answer): Answer {
+    const given = handedIn(name, handed);
+    return this.keeper.use(calls => does(new Call(calls, given)));
   }
 
-  prices(election: Source, certificate: Source, options: ForPrices = {}): Verdict {
-    const { outcome, ...asked } = asksPrices(options);
-    return this.verdict("prices", { election, outcome, certificate }, asked);
+  private verdict(name: CallName, handed: readonly unknown[]): Verdict {
+    return this.call(name, handed, call => call.answer(name, (_, text, facts) => {
+      const [line] = linesOf(text);
+      return verdictOf(facts, line, text, call.notes(facts));
+    }));
   }
 
-  violation(election: Source, certificate: Source, options: ForOutcome = {}): Verdict {
-    const { outcome } = asksOutcome(options);
-    return this.verdict("violation", { election, outcome, certificate });
+  read(...handed: unknown[]): Reading | Refused {
+    return this.call("read", handed, call => call.answer("read", (_, text) => readingOf(text)));
   }
 
-  refutation(election: Source, certificate: Source, options: ForOutcome = {}): Verdict {
-    const { outcome } = asksOutcome(options);
-    return this.verdict("refutation", { election, outcome, certificate });
+  prices(...handed: unknown[]): Verdict {
+    return this.verdict("prices", handed);
   }
 
-  both(election: Source, prices: Source, violation: Source, options: ForPrices = {}): Both | Refused {
-    const { outcome, ...asked } = asksPrices(options);
-    return new Call(this.module, { election, outcome, certificate: prices, violation }, asked).answer("both", bothOf);
+  violation(...handed: unknown[]): Verdict {
+    return this.verdict("violation", handed);
   }
 
-  explain(election: Source, certificate: Source, options: ForPrices = {}): Verdict {
-    const { outcome, ...asked } = asksPrices(options);
-    return this.verdict("explain", { election, outcome, certificate }, asked);
+  refutation(...handed: unknown[]): Verdict {
+    return this.verdict("refutation", handed);
   }
 
-  page(election: Source, certificate: Source, options: ForPage = {}): Page | Refused {
-    const { outcome, ...asked } = asksPage(options);
-    return new Call(this.module, { election, outcome, certificate }, asked).answer("page", pageOf);
+  both(...handed: unknown[]): Both | Refused {
+    return this.call("both", handed, call => call.answer("both", bothOf));
   }
 
-  margins(election: Source, certificate: Source, options: ForOutcome = {}): Written | Refused {
-    const { outcome } = asksOutcome(options);
-    return new Call(this.module, { election, outcome, certificate }).answer("margins", written);
+  explain(...handed: unknown[]): Verdict {
+    return this.verdict("explain", handed);
   }
 
-  tidy(election: Source, certificate: Source): Written | Refused {
-    return new Call(this.module, { election, certificate }).answer("tidy", written);
+  page(...handed: unknown[]): Page | Refused {
+    return this.call("page", handed, call => call.answer("page", pageOf));
   }
 
-  folder(files: Iterable<readonly [string, Source]>, asked: Partial<Mode> = {}): Report {
-    asksMode(asked);
-    const given = new Map(files);
-    return reportOf(entriesOf([...given.keys()]), (command, { name }, role) => {
-      const election = given.get(`${name}${ENDINGS.election}`);
-      const certificate = role === "election" ? undefined : given.get(`${name}${ENDINGS[role]}`);
-      return new Call(this.module, { election, certificate }, asked).ask(command);
-    });
+  margins(...handed: unknown[]): Written | Refused {
+    return this.call("margins", handed, call => call.answer("margins", written));
+  }
+
+  tidy(...handed: unknown[]): Written | Refused {
+    return this.call("tidy", handed, call => call.answer("tidy", written));
+  }
+
+  folder(...handed: unknown[]): Report {
+    const { files, mode } = folderIn(handed);
+    return reportOf(entriesOf([...files.keys()]), ({ name }, does) => this.keeper.use(calls => {
+      const fileOf = (role: EntryRole): Place => put(calls, files.get(`${name}${ENDINGS[role]}`)!());
+      const election = fileOf("election");
+      return does(role => {
+        const certificate = role === "election" ? {} : { certificate: fileOf(role) };
+        return answered(calls.answer(ASKED[role], { files: { election, ...certificate }, names: {}, mode }));
+      });
+    }));
   }
 }
 

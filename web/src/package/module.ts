@@ -2,4 +2,8 @@
 
 import { MODULE } from "./generated.js";
 
-export const moduleBytes = (): Uint8Array => Uint8Array.from(atob(MODULE), letter => letter.charCodeAt(0));
+export function moduleBytes(): Uint8Array {
+  const text = atob(MODULE), bytes = new Uint8Array(text.length);
+  for (let at = 0; at < text.length; at++) bytes[at] = text.charCodeAt(at);
+  return bytes;
+}

@@ -3,6 +3,7 @@
 import { closeSync, fstatSync, openSync, readSync, statSync } from "node:fs";
 import { getSystemErrorMap } from "node:util";
 import { LONGEST_FILE } from "../auditor/statuses.js";
+import { awaited } from "./waiting.js";
 import type { Auditor } from "../auditor/auditor.js";
 import type { Place } from "../auditor/commands.js";
 
@@ -29,7 +30,7 @@ export function reasonOf(error: unknown): string {
 function fill(file: number, room: Uint8Array): number {
   let done = 0;
   while (done < room.length) {
-    const count = readSync(file, room, done, Math.min(PIECE, room.length - done), null);
+    const at = done, count = awaited(() => readSync(file, room, at, Math.min(PIECE, room.length - at), null));
     if (count === 0) break;
     done += count;
   }

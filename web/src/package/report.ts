@@ -8,10 +8,15 @@ import type { Facts } from "../auditor/facts.js";
 import type { Entry, EntryRole } from "./entries.js";
 import type { Report, Reported } from "./facts.js";
 
-/** Asks a command of the files of an entry: of the election, or of a certificate beside it. */
-export type AskEntry = (command: "read" | "prices" | "violation", entry: Entry, role: EntryRole) => Reply;
+/** Asks about the election of an entry, or about a certificate beside it. */
+export type AskEntry = (role: EntryRole) => Reply;
+/** Does something that asks about the files of an entry. */
+export type OnEntry = (entry: Entry, does: (ask: AskEntry) => Row[]) => Row[];
 
-interface Row {
+/** The command that is asked of each. */
+export const ASKED = { election: "read", prices: "prices", violation: "violation" } as const;
+
+export interface Row {
   readonly file: string;
   readonly role: EntryRole;
   readonly status: number;
@@ -20,17 +25,18 @@ interface Row {
 }
 
 /** What is said of the files of an entry. If its election is refused, nothing is said of the others. */
-function* rowsOf(entry: Entry, ask: AskEntry): Generator<Row> {
+function rowsOf(entry: Entry, ask: AskEntry): Row[] {
+  const rows: Row[] = [];
   for (const role of entry.roles) {
-    const { status, bytes, facts } = ask(role === "election" ? "read" : role, entry, role);
-    const [line] = linesOf(new TextDecoder().decode(bytes));
-    yield { file: `${entry.name}${ENDINGS[role]}`, role, status, facts, line };
-    if (role === "election" && status === REFUSED) return;
+    const { status, bytes, facts } = ask(role), [line] = linesOf(new TextDecoder().decode(bytes));
+    rows.push({ file: `${entry.name}${ENDINGS[role]}`, role, status, facts, line });
+    if (role === "election" && status === REFUSED) break;
   }
+  return rows;
 }
 
-export function reportOf(entries: readonly Entry[], ask: AskEntry): Report {
-  const rows = entries.flatMap(entry => [...rowsOf(entry, ask)]);
+export function reportOf(entries: readonly Entry[], on: OnEntry): Report {
+  const rows = entries.flatMap(entry => on(entry, ask => rowsOf(entry, ask)));
   const count = (status: number): number =>
     rows.filter(row => row.status === status && (row.role !== "election" || status === REFUSED)).length;
   const [yes, no, refused] = [YES, NO, REFUSED].map(count);

@@ -2,8 +2,8 @@
 
 import { Auditor } from "../auditor/auditor.js";
 import { COMMANDS } from "../auditor/commands.js";
-import { UNREAD } from "../auditor/facts.js";
-import { linesOf, recordSentence, sentenceOf, yesOf } from "../auditor/lines.js";
+import { NO_OUTCOME, UNREAD } from "../auditor/facts.js";
+import { linesOf, recordSentence, sentenceOf } from "../auditor/lines.js";
 import { hintOn, refusedRole } from "../auditor/refusals.js";
 import { NO_MEMORY, OutOfMemory, REFUSED } from "../auditor/statuses.js";
 import { shownPath } from "../files/names.js";
@@ -136,13 +136,13 @@ export class Task {
     return `${name}: record ${fault.record}: ${recordSentence(sentence)}\n`;
   }
 
-  /** The notes beside an answer, each after the path of the election. */
-  private notes({ bytes: answer, facts }: Reply): string {
-    const { election, certificate } = this.files;
-    if (!election || facts.fault?.input === "election") return "";
+  /** The notes beside an answer, each after the path of the election. There are none of one that isn't read. */
+  private notes({ facts }: Reply): string {
+    const { election, certificate } = this.files, { fault } = facts;
+    if (!election || (fault?.input === "election" && fault.number !== NO_OUTCOME)) return "";
     const { beside = [] }: Row = COMMANDS[this.command];
     const told = beside.includes("election") ? linesOf(text(this.ask("read", { election }).bytes)).slice(1) : [];
-    const hasMore = beside.includes("yes") && yesOf(linesOf(text(answer))[0] ?? "")?.says === "supported";
+    const hasMore = beside.includes("yes") && facts.saysOfGroups === "little";
     const more = hasMore && certificate ? linesOf(text(this.ask("note", { election, certificate }).bytes)) : [];
     return [...told, ...more].map(note => `${this.shown("election")}: ${note}\n`).join("");
   }

@@ -3,6 +3,7 @@
 import { lineOf, linesOf, sentenceIn } from "../auditor/lines.js";
 import { isSameMode, LONGEST_FILE, NO, REFUSED, USUAL_MODE, YES } from "../auditor/statuses.js";
 import type { Command } from "../auditor/commands.js";
+import type { OnGroups } from "../auditor/facts.js";
 import type { Line } from "../auditor/lines.js";
 import type { Mode } from "../auditor/statuses.js";
 import type { Piece, Task } from "../files/pieces.js";
@@ -19,8 +20,9 @@ export interface Problem {
 
 /**
  * An audit and how far it is. `mode` is how prices were asked, `line` what the program prints first, `said` what that
- * says of an answer, `notes` what it remarks on the election; `page` is the answer for people, once it was asked for,
- * and `sentence` its head. All that is told is of one look at the files, whose bytes have these sums.
+ * says of an answer, `notes` what it remarks on the election, `groups` what a yes to prices says of groups; `page` is
+ * the answer for people, once it was asked for, and `sentence` its head. All that is told is of one look at the files,
+ * whose bytes have these sums.
  */
 export interface Audit {
   readonly task: Task;
@@ -31,6 +33,7 @@ export interface Audit {
   readonly line?: string;
   readonly said?: Line;
   readonly notes?: readonly string[];
+  readonly groups?: OnGroups | null;
   readonly page?: string;
   readonly sentence?: string;
   readonly refused?: Refused;
@@ -106,7 +109,7 @@ export function answered(
   if (told.tells !== "answer") throw new Error(`an audit is told ${told.tells}`);
   const { status, sums } = told;
   const isSame = `${before.sums}` === `${sums}` && isSameMode(before.mode, mode);
-  const kept = isSame ? { line: before.line, said: before.said, notes: before.notes } : {};
-  const notes = told.notes ? { notes: told.notes } : {};
+  const kept = isSame ? { line: before.line, said: before.said, notes: before.notes, groups: before.groups } : {};
+  const notes = told.notes ? { notes: told.notes, groups: told.groups } : {};
   return { task, mode, state: "done", status, sums, ...kept, ...foundBy(command, told), ...notes };
 }

@@ -2,10 +2,12 @@
    searches. Nothing is shown of a file that the auditor doesn't accept, or of which it reads other numbers. */
 
 import { readOf } from "../auditor/lines.js";
-import { numberIn, shortened, toldName, visible } from "../files/names.js";
-import { isCertificate, pathOf } from "../files/pieces.js";
+import { isSameMode } from "../auditor/statuses.js";
+import { shortened, toldName, visible } from "../files/names.js";
+import { isCertificate, isSamePath, pathOf } from "../files/pieces.js";
+import { grouped } from "../words/formats.js";
 import { fill } from "../words/words.js";
-import { moneyIn } from "./desk.js";
+import { failureIn, moneyIn } from "./desk.js";
 import { element, elementOf, make, makeChoice } from "./elements.js";
 import { Finder } from "./finder.js";
 import { GroupPanel } from "./group.js";
@@ -13,8 +15,10 @@ import { Looking } from "./looking.js";
 import { ProjectList } from "./projects.js";
 import { noteLine } from "./told.js";
 import { hideWork, showWork } from "./work.js";
+import type { Mode } from "../auditor/statuses.js";
 import type { Summary } from "../elections/election.js";
 import type { Piece } from "../files/pieces.js";
+import type { Words } from "../words/words.js";
 import type { Desk } from "./desk.js";
 import type { FindEnding } from "./finder.js";
 import type { Page } from "./page.js";
@@ -41,15 +45,21 @@ function isAlike(summary: Summary, line: string, hasOutcomeFile: boolean): boole
   return hasOutcomeFile || read.funded === funded;
 }
 
+/** Whether a file is one that was given again. */
+const isAgain = (one: Piece | null, other: Piece | null): boolean => !!one && !!other && isSamePath(one, other);
+
 export class ElectionView {
   private election: Piece | null = null;
   private outcome: Piece | null = null;
-  /** The election that somebody chose, and the outcome. */
-  private chosen: Piece | null = null;
+  /** The election that somebody chose, and the outcome; null is a choice as well. */
+  private chosen: Piece | null | undefined;
   private chosenOutcome: Piece | null | undefined;
   private finder: Finder | undefined;
   private shown: Shown | undefined;
   private language = "";
+  private mode: Mode | undefined;
+  /** What became of a search that didn't come to its end. */
+  private remarked: ((words: Words) => string) | undefined;
 
   constructor(private readonly page: Page) {
     this.details.addEventListener("toggle", () => this.draw());
@@ -61,18 +71,33 @@ export class ElectionView {
 
   /** Draws what is to be seen by the files that are there now. */
   draw(): void {
-    const elections = this.page.pieces.filter(({ kind }) => kind === "election");
-    const election = elections.length === 1 ? elections[0] : elections.find(each => each === this.chosen) ?? null;
-    const outcome = this.outcomeOf(election);
-    if (election !== this.election) this.details.open = !this.page.pieces.some(isCertificate);
-    if (election !== this.election || outcome !== this.outcome || !this.details.open) this.close();
+    const { pieces, language, mode } = this.page, elections = pieces.filter(({ kind }) => kind === "election");
+    const election = this.electionAmong(elections), outcome = this.outcomeOf(election);
+    const isOther = election !== this.election && !isAgain(election, this.election);
+    if (isOther && this.chosen === undefined) this.details.open = !pieces.some(isCertificate);
+    if (election !== this.election || outcome !== this.outcome) this.close();
+    if (elections.length === 0) this.remark(undefined);
     [this.election, this.outcome] = [election, outcome];
     element("election").hidden = elections.length === 0;
     this.drawChoices(elections);
     if (election && this.details.open && !this.finder && this.isDue(election)) this.begin(election, outcome);
-    if (this.language === this.page.language) return;
-    this.language = this.page.language;
-    if (this.shown) this.drawShown(this.shown);
+    const isNew = this.language !== language, isAskedAnew = !isSameMode(this.mode, mode);
+    [this.language, this.mode] = [language, mode];
+    if (isNew) this.remark(this.remarked);
+    if (isNew && this.shown) this.drawShown(this.shown);
+    else if (isAskedAnew) this.shown?.looking.draw();
+  }
+
+  /**
+   * The election that is looked at: the only one, or the one that was chosen; one that is looked at already stays when
+   * others come. A file that was given anew takes the place of the one before.
+   */
+  private electionAmong(elections: readonly Piece[]): Piece | null {
+    const now = (old: Piece | null): Piece | null =>
+      elections.find(each => each === old) ?? elections.find(each => isAgain(each, old)) ?? null;
+    if (this.chosen) this.chosen = now(this.chosen) ?? undefined;
+    if (elections.length === 1) return elections[0];
+    return this.chosen === undefined ? now(this.election) : this.chosen;
   }
 
   /** Whether an election can be read now: the only one after its audits. */
@@ -86,11 +111,32 @@ export class ElectionView {
     return this.election !== null && this.outcome === outcome;
   }
 
-  /** The outcome file that is looked at: the one that was chosen, or that of the election's certificates. */
+  /**
+   * The outcome file that is looked at: the one that was chosen, or that of the election's certificates. Where an
+   * outcome is looked at already, it stays when other files come.
+   */
   private outcomeOf(election: Piece | null): Piece | null {
-    const its = this.page.audits.find(({ task }) => task.election === election && task.outcome)?.task.outcome ?? null;
-    const chosen = this.chosenOutcome === undefined ? its : this.chosenOutcome;
-    return chosen && this.page.pieces.includes(chosen) ? chosen : null;
+    const { audits, pieces } = this.page, isThere = (piece: Piece): boolean => pieces.includes(piece);
+    const its = audits.find(({ task }) => task.election === election && task.outcome)?.task.outcome ?? null;
+    const isKept = election === this.election && this.shown?.desk.summary.hasOutcome === true
+      && (this.outcome === null || isThere(this.outcome));
+    const chosen = this.chosenOutcome === undefined ? isKept ? this.outcome : its : this.chosenOutcome;
+    return chosen && isThere(chosen) ? chosen : null;
+  }
+
+  /** Says what became of a search. */
+  remark(remarked: ((words: Words) => string) | undefined): void {
+    this.remarked = remarked;
+    element("election-remark").hidden = !remarked;
+    element("election-remark").textContent = remarked ? remarked(this.page.words) : "";
+  }
+
+  /** Where a file was changed, says so, and has the election and all that is about it read again. */
+  readAnew(desk: Desk, told: FindEnding): void {
+    const { election } = desk;
+    this.close();
+    this.remark(words => failureIn(words, told, election));
+    this.page.againFor(election);
   }
 
   /** Which election and which outcome is looked at, where there are several. */
@@ -101,14 +147,15 @@ export class ElectionView {
       make("label", {}, make("span", {}, `${label} `), makeChoice(
         label, [none, ...among.map(piece => toldName(pathOf(piece)))], chosen ? among.indexOf(chosen) + 1 : 0,
         at => choose(among[at - 1] ?? null)));
-    const lookAt = (election: Piece | null): void => {
-      [this.chosen, this.chosenOutcome] = [election, undefined];
+    const look = (election: Piece | null | undefined, outcome: Piece | null | undefined): void => {
+      [this.chosen, this.chosenOutcome] = [election, outcome];
+      this.details.open = true;
+      this.close();
+      this.remark(undefined);
       this.page.draw();
     };
-    const lookBy = (outcome: Piece | null): void => {
-      this.chosenOutcome = outcome;
-      this.page.draw();
-    };
+    const lookAt = (election: Piece | null): void => look(election, undefined);
+    const lookBy = (outcome: Piece | null): void => look(this.chosen, outcome);
     const hasOutcomes = outcomes.length > 0 && this.election !== null;
     const items = [
       ...elections.length > 1 ? [choice(words.lookAt, words.noElection, elections, this.election, lookAt)] : [],
@@ -118,8 +165,9 @@ export class ElectionView {
     element("election-choice").replaceChildren(...items);
   }
 
-  /** Ends what is going on, and shows nothing. */
+  /** Ends what is going on, of a search not without a word, and shows nothing. */
   private close(): void {
+    if (this.shown?.looking.isLooking) this.remark(words => words.searchEnded);
     this.finder?.close();
     this.finder = this.shown = undefined;
     for (const id of ["election-told", "election-problem"]) element(id).hidden = true;
@@ -137,10 +185,12 @@ export class ElectionView {
       const told = await finder.ask({ asks: "read", election: election.file, outcome: outcome?.file ?? null });
       hideWork();
       if (this.finder !== finder) return;
-      if (told.tells !== "summary") return this.fail(told, election);
+      if (told.tells !== "summary") return this.tellProblem(failureIn(this.page.words, told, election));
       if (!isAlike(told.summary, lines[0], outcome !== null)) return this.tellProblem(this.page.words.readsOtherwise);
-      const { summary, addable } = told;
-      this.show({ page: this.page, finder, election, outcome, summary, addable }, lines.slice(1));
+      const { summary, addable, isFeasible } = told, isOpen = !isFeasible || addable !== undefined;
+      const failed = summary.hasOutcome && isOpen ? await this.page.failedAnyway(election, outcome) : undefined;
+      if (this.finder !== finder) return;
+      this.show({ page: this.page, finder, election, outcome, summary, addable, failed }, lines.slice(1));
     });
   }
 
@@ -148,15 +198,6 @@ export class ElectionView {
   private fold(): void {
     this.details.open = false;
     this.close();
-  }
-
-  private fail(told: FindEnding, election: Piece): void {
-    const { words } = this.page, why = told.tells === "failed" ? told.why : "trap";
-    const file = toldName(election.file.name);
-    this.tellProblem({
-      unlike: words.readsOtherwise, unreadable: fill(words.unreadable, { file }), memory: words.outOfMemory,
-      trap: words.trap,
-    }[why]);
   }
 
   private tellProblem(text: string): void {
@@ -181,20 +222,19 @@ export class ElectionView {
   }
 
   private factItems(desk: Desk, notes: readonly string[]): HTMLElement[] {
-    const { words, language } = this.page, { facts, limit, voters, projects, hasOutcome } = desk.summary;
+    const { words } = this.page, { facts, limit, voters, projects, hasOutcome } = desk.summary;
     const fact = (key: string, most: number): string => textOf(facts.get(key) ?? "", most);
     const title = fact("description", LONGEST_TITLE), comment = fact("comment", LONGEST_COMMENT);
     const place = ["district", "unit", "country"].map(key => fact(key, LONGEST_TITLE)).filter(Boolean).join(", ");
     const funded = projects.filter(({ isFunded }) => isFunded);
-    const told = (count: number): string => numberIn(count, language);
     const pair = (term: string, value: string): HTMLElement[] =>
       [make("dt", {}, term), make("dd", {}, make("bdi", {}, value))];
     return [
       ...title ? [make("p", { class: "title" }, make("bdi", {}, title))] : [],
       ...place ? [make("p", { class: "soft" }, make("bdi", {}, place))] : [],
-      make("dl", {}, ...pair(words.voters, told(voters)), ...pair(words.limit, moneyIn(desk, limit)),
-           ...pair(words.projects, told(projects.length)), ...hasOutcome ? [
-             ...pair(words.outcome, told(funded.length)),
+      make("dl", {}, ...pair(words.voters, grouped(voters)), ...pair(words.limit, moneyIn(desk, limit)),
+           ...pair(words.projects, grouped(projects.length)), ...hasOutcome ? [
+             ...pair(words.outcome, grouped(funded.length)),
              ...pair(words.costOfFunded, moneyIn(desk, funded.reduce((sum, { cost }) => sum + cost, 0n))),
            ] : []),
       ...hasOutcome ? [] : [make("p", {}, words.saysNoOutcome)],

@@ -144,4 +144,4 @@ export class Runners {
 
 /** An answer with the notes that came after it. */
 const wholeOf = (ending: Ending, answer: Answer | undefined): Ending =>
-  ending.tells === "notes" && answer ? { ...answer, notes: ending.notes } : ending;
+  ending.tells === "notes" && answer ? { ...answer, notes: ending.notes, groups: ending.groups } : ending;

@@ -11,7 +11,10 @@ interface Waiting {
   readonly tell: (progress: FindProgress) => void;
 }
 
-const TRAP: FindEnding = { tells: "failed", why: "trap" };
+type Failed = Extract<FindEnding, { tells: "failed" }>;
+
+/** What is told where the worker ends without a word. */
+export const TRAP: Failed = { tells: "failed", why: "trap" };
 
 export class Finder {
   private readonly url: string;
@@ -41,6 +44,11 @@ export class Finder {
     this.worker?.postMessage({ number: 0, content: { asks: "stop" } });
   }
 
+  /** Whether nothing is being asked. */
+  get isIdle(): boolean {
+    return this.waiting.size === 0;
+  }
+
   /** Gives the worker's memory back. When something is asked again, the election is read anew. */
   rest(): void {
     this.worker?.terminate();
@@ -67,6 +75,8 @@ export class Finder {
   private note({ number, content }: Numbered<FindTold>): void {
     const its = this.waiting.get(number);
     if (content.tells === "progress") return its?.tell(content);
+    // What is read again later has to be the same.
+    if (content.tells === "summary" && this.read) this.read = { ...this.read, sums: content.sums };
     this.waiting.delete(number);
     its?.resolve(content);
   }

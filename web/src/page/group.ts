@@ -1,9 +1,9 @@
 /* The projects that somebody ticked: who could demand them, and the certificate of that. */
 
-import { numberIn } from "../files/names.js";
 import { MEASURES } from "../finding/groups.js";
+import { grouped } from "../words/formats.js";
 import { fill } from "../words/words.js";
-import { handOver, moneyIn, namesOf, shareIn } from "./desk.js";
+import { failureItem, handOver, isOfChange, moneyIn, namesOf, shareIn } from "./desk.js";
 import { element, make, makeButton } from "./elements.js";
 import { givenItem, madeFile, refutationItem } from "./made.js";
 import type { Measure } from "../finding/groups.js";
@@ -16,7 +16,8 @@ const ENDINGS: Record<Measure, string> = { count: "violation.csv", cost: "cost.v
 /** Makes the certificate of a group, gives it to the auditor, and answers what is said of it. */
 export async function makeViolation(desk: Desk, measure: Measure, projects: readonly number[]): Promise<HTMLElement[]> {
   const told = await desk.finder.ask({ asks: "violation", measure, projects });
-  if (told.tells !== "violation") return [make("p", { class: "problem" }, desk.page.words.trap)];
+  if (isOfChange(told)) desk.page.election.readAnew(desk, told);
+  if (told.tells !== "violation") return [failureItem(desk, told)];
   const { words } = desk.page, { file, refutation } = told;
   const given = givenItem(words, handOver(desk, file, ENDINGS[measure]));
   if (!refutation) return [given];
@@ -52,7 +53,7 @@ export class GroupPanel {
     panel.replaceChildren(
       make("p", { class: "ticked" }, make("strong", {}, fill(words.ticked, { names })), untick),
       make("p", {}, fill(words.tickedFigures, {
-        cost: moneyIn(this.desk, figures.cost), voters: this.told(figures.approving),
+        cost: moneyIn(this.desk, figures.cost), voters: grouped(figures.approving),
         share: shareIn(this.desk, figures.share),
       })),
       ...figures.approving ? MEASURES.map(measure => this.claimOf(figures, measure)) : [],
@@ -60,28 +61,24 @@ export class GroupPanel {
     );
   }
 
-  private told(count: number): string {
-    return numberIn(count, this.desk.page.language);
-  }
-
-  /** What the group can claim by one measure, in a sentence. */
-  private sentenceOf({ members, most, share }: ShownClaim, measure: Measure): string {
-    const { words } = this.desk.page, values = { voters: this.told(members), share: shareIn(this.desk, share) };
-    if (!members) return measure === "count" ? words.claimCountNone : words.claimCostNone;
-    return measure === "count" ? fill(words.claimCount, { ...values, most: this.told(Number(most)) })
+  /** What the group can claim by one measure, and whether that proves anything. */
+  private told({ members, most, share, isViolation }: ShownClaim, measure: Measure): (Node | string)[] {
+    const { words } = this.desk.page, values = { voters: grouped(members), share: shareIn(this.desk, share) };
+    if (!members) return [measure === "count" ? words.claimCountNone : words.claimCostNone];
+    const told = measure === "count" ? fill(words.claimCount, { ...values, most: grouped(most) })
       : fill(words.claimCost, { ...values, most: moneyIn(this.desk, most) });
+    const verdict = isViolation ? words.provesUnfair : words.shareTooSmall;
+    return [`${told} `, make("strong", { class: isViolation ? "bad" : "soft" }, verdict)];
   }
 
   /** What the group can claim by one measure, with the button that has it checked, also where it isn't enough. */
   private claimOf({ claims, projects }: ShownFigures, measure: Measure): HTMLElement {
     const { words } = this.desk.page, claim = claims[measure], { isViolation } = claim;
-    const colour = isViolation ? "bad" : "soft";
-    const verdict = make("strong", { class: colour }, isViolation ? words.isEnough : words.isTooLittle);
     const word = isViolation ? words.makeViolation : words.checkAnyway;
     const button = makeButton(word, `${word}: ${measure === "count" ? words.byCount : words.byCost}`, async () => {
       this.made = await makeViolation(this.desk, measure, projects);
       this.draw();
     });
-    return make("div", { class: "claim" }, make("p", {}, `${this.sentenceOf(claim, measure)} `, verdict), button);
+    return make("div", { class: "claim" }, make("p", {}, ...this.told(claim, measure)), button);
   }
 }

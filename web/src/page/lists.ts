@@ -3,11 +3,12 @@
 import { shownName, toldName } from "../files/names.js";
 import { pathOf } from "../files/pieces.js";
 import { fill } from "../words/words.js";
+import { askedIn } from "./asked.js";
 import { fileOf } from "./audits.js";
 import { choicesOf } from "./choices.js";
 import { make, makeButton, makeChoice, sizeOf } from "./elements.js";
 import { sumItems } from "./sums.js";
-import { badgeOf, noteLine, sentenceOf } from "./told.js";
+import { badgeOf, groupsIn, noteLine, ofWhat, sentenceOf } from "./told.js";
 import type { Kind } from "../auditor/kinds.js";
 import type { Piece } from "../files/pieces.js";
 import type { Words } from "../words/words.js";
@@ -47,16 +48,25 @@ export function pieceItem(page: Page, piece: Piece): HTMLElement {
   );
 }
 
+/** Whether there is one audit alone. */
+export const isAlone = ({ audits }: Page): boolean => audits.length < 2;
+
 /**
- * What is below an answer: the election and the outcome that a certificate is checked with, and what is remarked on the
- * election.
+ * What is below an answer: the election and the outcome that a certificate is checked with, what was asked of prices,
+ * what their yes says of groups (in a list that it says little, since all else stands on the answer's page), and what
+ * is remarked on the election.
  */
-function belowOf(page: Page, { task, notes }: Audit): HTMLElement[] {
-  const { words } = page, { certificate, election, outcome } = task, below: HTMLElement[] = [];
+function belowOf(page: Page, audit: Audit): HTMLElement[] {
+  const { words } = page, { task, notes, mode, groups } = audit, { certificate, election, outcome } = task;
+  const below: HTMLElement[] = [];
   if (certificate && election) {
     const whose = task.asks ? "?" : outcome ? toldName(outcome.file.name) : words.ownOutcome;
     const told = fill(words.checkedWith, { election: toldName(election.file.name), outcome: whose });
     below.push(make("span", { class: "soft with" }, told));
+  }
+  if (mode && ofWhat(words, audit)) below.push(make("span", { class: "soft with asked" }, askedIn(words, mode)));
+  if (groups && (isAlone(page) || groups === "little")) {
+    below.push(make("span", { class: "groups" }, groupsIn(words, audit)));
   }
   return [...below, ...(notes ?? []).map(note => make("span", { class: "note" }, noteLine(page, note)))];
 }

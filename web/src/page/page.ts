@@ -1,11 +1,12 @@
 /* The page: takes files, has them audited, and shows the answers. */
 
 import { linesOf } from "../auditor/lines.js";
-import { isSameMode, YES } from "../auditor/statuses.js";
+import { isSameMode, USUAL_MODE, YES } from "../auditor/statuses.js";
 import { toldName } from "../files/names.js";
 import {
   choicesAmong, isCertificateKind, isSamePath, pathOf, pieceOf, tasksOf, withPieces,
 } from "../files/pieces.js";
+import { grouped } from "../words/formats.js";
 import { fill } from "../words/words.js";
 import { LANGUAGES, preferred, wordsOf } from "../words/languages.js";
 import { savedName, showAnswer } from "./answer.js";
@@ -13,7 +14,7 @@ import { answered, newAudit, orderOf, tooLong } from "./audits.js";
 import { ElectionView } from "./election.js";
 import { element, elementOf, input, Items, refill, saveAs } from "./elements.js";
 import { makeEngine, Runners } from "./engine.js";
-import { auditItem, pieceItem } from "./lists.js";
+import { auditItem, isAlone, pieceItem } from "./lists.js";
 import { notesOf } from "./notes.js";
 import { sumListOf } from "./sums.js";
 import { problemSentence, saidOf } from "./told.js";
@@ -44,6 +45,12 @@ const PHONE = "(max-width: 30rem)";
 export const isPhone = (): boolean => matchMedia(PHONE).matches;
 
 type Told = Ending | NoAnswer | undefined;
+
+/** A condition on the outcome alone that fails, and the line that says so: no payments would change it. */
+export interface FailedAnyway {
+  readonly name: "Feasible" | "Exhaustive";
+  readonly line: string;
+}
 
 export class Page {
   pieces: readonly Piece[] = [];
@@ -126,12 +133,21 @@ export class Page {
     this.tell();
   }
 
-  /** Takes a certificate that this page made for an election, in the place of one that it made before. */
-  takeMade(file: File, election: Piece, outcome: Piece | null): void {
+  /** How a certificate's prices are asked: as the boxes say, and those that this page made as they were looked for. */
+  private modeOf({ certificate }: Task): Mode {
+    return certificate?.mode ?? this.mode;
+  }
+
+  /**
+   * Takes a certificate that this page made for an election, in the place of one that it made before. `mode` is what
+   * prices were made for.
+   */
+  takeMade(file: File, election: Piece, outcome: Piece | null, mode?: Mode): void {
     this.taking = this.taking.then(async () => {
       const found = { file, folder: election.folder }, [kind] = await this.kindsOf([found]);
       if (!this.pieces.includes(election)) return;
-      const piece: Piece = { ...pieceOf(found, kind), ...election.isExample ? { isExample: true } : {} };
+      const own = { ...election.isExample ? { isExample: true } : {}, ...mode ? { mode } : {} };
+      const piece: Piece = { ...pieceOf(found, kind), ...own };
       this.choices = new Map([...this.choices, [piece, { election, outcome }]]);
       this.set(withPieces(this.pieces, [piece]));
     });
@@ -214,10 +230,10 @@ export class Page {
     this.pair();
   }
 
-  /** Asks prices anew that were asked otherwise than the boxes say, which is nothing to a violation. */
+  /** Asks prices anew that were asked otherwise than the boxes say, which is nothing to other certificates. */
   askAnew(): void {
-    const isOther = (audit: Audit): boolean => audit.mode !== undefined && !isSameMode(audit.mode, this.mode);
-    if (!this.audits.some(isOther)) return;
+    const isOther = ({ mode, task }: Audit): boolean => mode !== undefined && !isSameMode(mode, this.modeOf(task));
+    if (!this.audits.some(isOther)) return this.election.draw();
     if (this.audits.some(audit => audit.task === this.working && isOther(audit))) this.runner?.stop();
     if (this.shown && isOther(this.shown)) this.shown = null;
     this.audits = this.audits.map(audit => isOther(audit) ? newAudit(audit.task) : audit);
@@ -235,6 +251,14 @@ export class Page {
   again(audit: Audit): void {
     if (this.shown === audit) this.shown = null;
     this.put(audit, newAudit(audit.task));
+    this.draw();
+    this.work();
+  }
+
+  /** Checks again what is about an election, whose file was changed. */
+  againFor(election: Piece): void {
+    if (this.shown?.task.election === election) this.shown = null;
+    this.audits = this.audits.map(audit => audit.task.election === election ? newAudit(audit.task) : audit);
     this.draw();
     this.work();
   }
@@ -265,9 +289,22 @@ export class Page {
     if (told?.tells !== "answer" || told.status !== YES) return undefined;
     const lines = linesOf(new TextDecoder().decode(told.bytes));
     if (!outcome) return lines;
+    return await this.withoutPayments(election, outcome, USUAL_MODE) ? lines : undefined;
+  }
+
+  /** The answer to prices by which nobody pays anything. */
+  private async withoutPayments(election: Piece, outcome: Piece | null, mode: Mode): Promise<Answer | undefined> {
     const certificate = pieceOf({ file: new File([NO_PAYMENTS], "no.prices.csv"), folder: "" });
-    const audited = await this.order({ election, outcome, certificate }, "prices", outcome.file.name);
-    return audited?.tells === "answer" ? lines : undefined;
+    const { name } = (outcome ?? election).file;
+    const told = await this.order({ election, outcome, certificate }, "prices", name, undefined, mode);
+    return told?.tells === "answer" ? told : undefined;
+  }
+
+  /** The no of an outcome to any prices, by what it costs or leaves in the limit, as the auditor answers it. */
+  async failedAnyway(election: Piece, outcome: Piece | null): Promise<FailedAnyway | undefined> {
+    const told = await this.withoutPayments(election, outcome, USUAL_MODE), name = told?.facts.condition?.name;
+    const [line = ""] = told ? linesOf(new TextDecoder().decode(told.bytes)) : [];
+    return name === "Feasible" || name === "Exhaustive" ? { name, line } : undefined;
   }
 
   /** Has something done ahead of the audits that wait, once the one that runs is done. */
@@ -315,7 +352,7 @@ export class Page {
       this.note(audit, { ...audit, state: "done", problem: { why: "tooLong", file: long.file.name } });
       return;
     }
-    const mode = certificate?.kind === "prices" ? this.mode : undefined;
+    const mode = certificate?.kind === "prices" ? this.modeOf(task) : undefined;
     let now = this.put(audit, { ...audit, state: "running", mode });
     const note = (told: Told): void => {
       const isFirst = now.state === "running", done = this.note(now, answered(now, told, asked, audit));
@@ -336,12 +373,14 @@ export class Page {
   }
 
   /** Has the worker do a command, and shows how far it is. `note` is called with an answer after which notes come. */
-  private async order(task: Task, command: Command, name: string, note?: (answer: Answer) => void): Promise<Told> {
+  private async order(
+    task: Task, command: Command, name: string, note?: (answer: Answer) => void, mode = this.modeOf(task),
+  ): Promise<Told> {
     this.doing = fill(this.words.checking, { file: toldName(name) });
     if (!this.isLong || element("work").hidden) this.drawWork();
     this.working = task;
     const next = this.audits.find(({ state }) => state === "waiting")?.task;
-    const asked = orderOf(task, command, this.mode, this.language, next);
+    const asked = orderOf(task, command, mode, this.language, next);
     const order = { ...asked, notes: !!note && command !== "read" };
     const told = await this.runner?.run(order, step =>
       step.tells === "answer" ? note?.(step) : this.isLong || showStep(this.words, step, toldName(name)));
@@ -452,19 +491,19 @@ export class Page {
     const { words, pieces, audits } = this, notes = notesOf(this), shown = listed(audits);
     const isAsking = audits.some(({ task }) => task.asks === "election");
     refill(element("file-list"), this.pieceItems.of(pieces, [words, this.checksums]));
-    refill(element("audit-list"), this.auditItems.of(shown, [words, pieces, this.shown, isAsking]));
+    refill(element("audit-list"), this.auditItems.of(shown, [words, pieces, this.shown, isAsking, isAlone(this)]));
     drawTools(this, shown.length);
     element("notes").replaceChildren(...notes);
     document.body.classList.toggle("has-audits", audits.length > 0);
-    element("files-head").textContent = `${words.files} (${pieces.length})`;
+    element("files-head").textContent = `${words.files} (${grouped(pieces.length)})`;
     element("files").hidden = pieces.length === 0;
-    element("options").hidden = !pieces.some(piece => piece.kind === "prices");
+    element("options").hidden = !pieces.some(({ kind }) => kind === "prices" || kind === "election");
     element("example").hidden = pieces.some(piece => !piece.isExample);
     element("is-example").hidden = !pieces.some(piece => piece.isExample);
     element("audits").hidden = audits.length === 0 && notes.length === 0;
     element("answer").hidden = this.shown === null;
     element("totals").hidden = audits.length < 2;
-    element("totals").textContent = totalsOf(words, this.language, audits);
+    element("totals").textContent = totalsOf(words, audits);
     if (this.runner && this.isLong) this.drawWork();
     this.election.draw();
   }

@@ -1,7 +1,8 @@
 /* The list of an election's projects: sorted by any column, searched, and ticked. */
 
 import { amountIn } from "../elections/amounts.js";
-import { numberIn, shownName, toldName } from "../files/names.js";
+import { shownName, toldName } from "../files/names.js";
+import { grouped } from "../words/formats.js";
 import { fill } from "../words/words.js";
 import { element, input, make, makeButton } from "./elements.js";
 import type { Project, Summary } from "../elections/election.js";
@@ -97,7 +98,7 @@ export class ProjectList {
     element("none-like-it").hidden = places.length > 0;
     element("projects").hidden = places.length === 0;
     more.hidden = rest <= 0;
-    const word = fill(words.showMore, { count: numberIn(rest, language) });
+    const word = fill(words.showMore, { count: grouped(rest) });
     more.replaceChildren(makeButton(word, word, () => {
       this.most += AT_ONCE;
       this.drawRows();
@@ -116,7 +117,7 @@ export class ProjectList {
     return make(
       "tr", { role: "row" },
       cell("project", ...hasOutcome ? [make("label", {}, this.boxOf(at), title)] : [title]),
-      cell("cost", amountIn(cost, language)), cell("supporters", numberIn(supporters, language)),
+      cell("cost", amountIn(cost, language)), cell("supporters", grouped(supporters)),
       ...hasOutcome ? [cell("funded", state)] : [],
     );
   }

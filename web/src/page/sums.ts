@@ -3,6 +3,7 @@
 import { absentOf, isListName, LONGEST_LIST, matchOf, sumsIn } from "../files/checksums.js";
 import { toldName } from "../files/names.js";
 import { pathOf } from "../files/pieces.js";
+import { grouped } from "../words/formats.js";
 import { fill } from "../words/words.js";
 import { make } from "./elements.js";
 import { someOf } from "./some.js";
@@ -48,7 +49,7 @@ export function sumNotes(words: Words, checksums: Checksums | null, pieces: read
   const are = (match: Match): Piece[] => pieces.filter(piece => matchIn(checksums, piece) === match);
   const differing = are("differs").map(pathOf), count = are("matches").length;
   const missing = absent.length > 0 ? ` ${fill(words.sumsAbsent, { file, names: someOf(words, absent) })}` : "";
-  const told = make("p", {}, fill(words.sumsTotal, { file, count }) + missing);
+  const told = make("p", {}, fill(words.sumsTotal, { file, count: grouped(count) }) + missing);
   if (differing.length === 0) return [told];
   const names = someOf(words, differing);
   return [make("p", { class: "problem" }, fill(words.sumsDiffer, { file, names })), told];

@@ -1,8 +1,9 @@
 /* What the page says of an audit, in its language: the word on it, the sentence, and what is remarked. */
 
 import { noteOf } from "../auditor/lines.js";
-import { REFUSED, YES } from "../auditor/statuses.js";
-import { numberIn, shownLine, toldName } from "../files/names.js";
+import { LONGEST_FILE, NO, REFUSED, YES } from "../auditor/statuses.js";
+import { shownLine, toldName } from "../files/names.js";
+import { grouped } from "../words/formats.js";
 import { fill } from "../words/words.js";
 import { fileOf, isRead } from "./audits.js";
 import { make } from "./elements.js";
@@ -33,19 +34,19 @@ export function badgeOf(words: Words, audit: Audit): HTMLElement {
 }
 
 /** What the program prints of an election, in the page's language. */
-function readLine({ words, language }: Page, { line, said }: Audit): string {
-  const told = (count: number): string => numberIn(count, language);
+function readLine({ words }: Page, { line, said }: Audit): string {
   if (said?.says !== "read") return shownLine(line ?? "");
-  const funded = said.funded === undefined ? words.noneSaid : told(said.funded);
-  return fill(words.readLine, { voters: told(said.voters), projects: told(said.projects), funded });
+  const funded = said.funded === undefined ? words.noneSaid : grouped(said.funded);
+  return fill(words.readLine, { voters: grouped(said.voters), projects: grouped(said.projects), funded });
 }
 
 /** What the program remarks on an election, in the page's language. */
-export function noteLine({ words, language }: Page, line: string): string {
-  const told = (count: string): string => numberIn(count, language), note = noteOf(line);
+export function noteLine({ words }: Page, line: string): string {
+  const note = noteOf(line);
   if (!note) return shownLine(line);
-  if (note.says === "oddSelected") return fill(words.oddSelected, { count: told(note.projects) });
-  const counts = { said: told(note.said), counted: told(note.counted) };
+  if (note.says === "oddSelected") return fill(words.oddSelected, { count: grouped(note.projects) });
+  if (note.says === "unusedColumn") return fill(words.unusedColumn, { column: note.column });
+  const counts = { said: grouped(note.said), counted: grouped(note.counted) };
   return fill(note.of === "votes" ? words.otherVotes : words.otherProjects, counts);
 }
 
@@ -57,9 +58,27 @@ function failureIn(words: Words, { condition, voter, project }: Failed): string 
     V2: words.nameV2, V3: words.nameV3, V4: words.nameV4, U1: words.nameU1, U2: words.nameU2, U3: words.nameU3,
   };
   const name = names[condition] ?? condition, its = project === undefined ? undefined : toldName(project);
-  if (voter !== undefined && its !== undefined) return fill(words.atBoth, { condition: name, voter, project: its });
-  if (voter !== undefined) return fill(words.atVoter, { condition: name, voter });
-  return its === undefined ? fill(words.atAll, { condition: name }) : fill(words.atProject, { condition: name, project: its });
+  const row = voter === undefined ? "" : grouped(voter);
+  if (row && its !== undefined) return fill(words.atBoth, { condition: name, voter: row, project: its });
+  if (row) return fill(words.atVoter, { condition: name, voter: row });
+  if (its !== undefined) return fill(words.atProject, { condition: name, project: its });
+  return fill(words.atAll, { condition: name });
+}
+
+/** Of what an answer is a yes or a no. */
+export function ofWhat(words: Words, { state, status, task, problem }: Audit): string {
+  const kind = task.certificate?.kind;
+  if (state !== "done" || problem || (status !== YES && status !== NO)) return "";
+  if (kind === "prices") return status === YES ? words.ofPricesYes : words.ofPricesNo;
+  if (kind === "violation") return status === YES ? words.ofViolationYes : words.ofViolationNo;
+  return kind === "refutation" ? status === YES ? words.ofRefutationYes : words.ofRefutationNo : "";
+}
+
+/** What a yes to prices says of groups, and what it leaves open. */
+export function groupsIn(words: Words, { groups }: Audit): string {
+  if (!groups) return "";
+  if (groups === "little") return words.saysLittle;
+  return `${groups === "strict" ? words.groupsBelowReach : words.groupsWithinReach} ${words.notSaidDeserved}`;
 }
 
 /** What a line says of a certificate, in a sentence. */
@@ -87,23 +106,24 @@ export function sentenceOf(page: Page, audit: Audit): HTMLElement {
     const wants = page.audits.some(each => each.task.asks === "election") ? "" : ` ${words.noCertificate}`;
     return make("span", {}, readLine(page, audit), make("span", { class: "soft" }, wants));
   }
-  const printed = line ? [make("code", { lang: "en" }, shownLine(line))] : [];
-  return make("span", {}, answerIn(page, audit), ...printed);
+  const printed = line ? [make("code", { lang: "en" }, shownLine(line))] : [], what = ofWhat(words, audit);
+  const head = what ? [make("strong", { class: "of" }, what), ". "] : [];
+  return make("span", {}, ...head, answerIn(page, audit), ...printed);
 }
 
 /** What is read out of an audit. */
 export function saidOf(page: Page, audit: Audit): string {
   const { words } = page, badge = audit.state === "incomplete" ? null : badgeOf(words, audit).textContent;
   const notes = (audit.notes ?? []).map(note => noteLine(page, note));
-  const told = [badge, sentenceOf(page, audit).textContent?.trim(), ...notes];
+  const told = [badge, sentenceOf(page, audit).textContent?.trim(), groupsIn(words, audit), ...notes];
   return fill(words.said, { file: toldName(fileOf(audit).name), answer: told.filter(Boolean).join(". ") });
 }
 
 export function problemSentence(words: Words, { why, file = "" }: Problem): string {
   const name = { file: toldName(file) };
   return {
-    memory: words.outOfMemory, unreadable: fill(words.unreadable, name), tooLong: fill(words.tooLong, name),
-    trap: words.trap, engine: words.broken,
+    memory: words.outOfMemory, unreadable: fill(words.unreadable, name), trap: words.trap, engine: words.broken,
+    tooLong: fill(words.tooLong, { ...name, count: grouped(LONGEST_FILE) }),
   }[why];
 }
 

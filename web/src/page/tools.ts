@@ -3,11 +3,12 @@
 import { NO, REFUSED, YES } from "../auditor/statuses.js";
 import { csvOf } from "../files/csv.js";
 import { pathOf } from "../files/pieces.js";
+import { grouped } from "../words/formats.js";
 import { fill } from "../words/words.js";
+import { optionsIn } from "./asked.js";
 import { inOrder } from "./audits.js";
 import { element, elementOf, input } from "./elements.js";
-import { badgeOf, sentenceOf } from "./told.js";
-import type { Piece } from "../files/pieces.js";
+import { badgeOf, groupsIn, ofWhat, sentenceOf } from "./told.js";
 import type { Audit } from "./audits.js";
 import type { Page } from "./page.js";
 
@@ -32,7 +33,7 @@ export function listed(audits: readonly Audit[]): Audit[] {
 /** Shows the tools of a list, and how much of it is shown. */
 export function drawTools({ words, audits }: Page, shown: number): void {
   element("tools").hidden = audits.length < 2;
-  const count = { count: shown, all: audits.length };
+  const count = { count: grouped(shown), all: grouped(audits.length) };
   element("shown-of").textContent = shown < audits.length ? fill(words.shownOf, count) : "";
 }
 
@@ -45,13 +46,17 @@ export function listenToTools(page: Page): void {
 
 /** The list as a table, which has names and lines as they are. */
 export function tableOf(page: Page): string {
-  const nameOf = (piece: Piece | null): string => piece ? pathOf(piece) : "";
-  const head = ["certificate", "election", "outcome", "answer", "sentence", "line"];
-  const rows = listed(page.audits).map(audit => {
-    const { certificate, election, outcome } = audit.task, said = sentenceOf(page, audit);
-    for (const code of said.querySelectorAll("code")) code.remove();
-    const answer = badgeOf(page.words, audit).textContent ?? "", sentence = said.textContent?.trim() ?? "";
-    return [nameOf(certificate), nameOf(election), nameOf(outcome), answer, sentence, audit.line ?? ""];
-  });
-  return csvOf([head, ...rows]);
+  const head = ["certificate", "election", "outcome", "answer", "of", "asked", "sentence", "groups", "line"];
+  return csvOf([head, ...listed(page.audits).map(audit => rowOf(page, audit))]);
+}
+
+/** An audit as a row of the table. Of what its answer is, and what was asked, have columns of their own. */
+function rowOf(page: Page, audit: Audit): string[] {
+  const { words } = page, { task, mode, line = "" } = audit, said = sentenceOf(page, audit);
+  const names = [task.certificate, task.election, task.outcome].map(piece => piece ? pathOf(piece) : "");
+  const answer = badgeOf(words, audit).textContent ?? "", what = ofWhat(words, audit);
+  for (const code of said.querySelectorAll("code")) code.remove();
+  const sentence = (said.textContent ?? "").slice(what ? `${what}. `.length : 0).trim();
+  const asked = mode && what ? optionsIn(words, mode) : "";
+  return [...names, answer, what, asked, sentence, groupsIn(words, audit), line];
 }

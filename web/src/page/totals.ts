@@ -1,36 +1,53 @@
 /* How many audits ended in which way. */
 
 import { NO, REFUSED, YES } from "../auditor/statuses.js";
-import { numberIn } from "../files/names.js";
+import { grouped } from "../words/formats.js";
 import { fill } from "../words/words.js";
+import { optionsIn } from "./asked.js";
 import { isRead } from "./audits.js";
 import type { Kind } from "../auditor/kinds.js";
 import type { Words } from "../words/words.js";
 import type { Audit } from "./audits.js";
 
+/** How many answers are a yes and a no. */
+interface Count {
+  yes: number;
+  no: number;
+}
+
+const told = ({ yes, no }: Count): { yes: string; no: string } => ({ yes: grouped(yes), no: grouped(no) });
+
+/** How many of these answers are which. */
+const countOf = (audits: readonly Audit[]): Count => ({
+  yes: audits.filter(({ status }) => status === YES).length, no: audits.filter(({ status }) => status === NO).length,
+});
+
+/** The totals of prices, of each way in which they were asked. */
+function pricesTotals(words: Words, prices: readonly Audit[]): string[] {
+  const optionsOf = ({ mode }: Audit): string => mode ? optionsIn(words, mode) : "";
+  const little = prices.filter(({ groups }) => groups === "little").length;
+  const totals = [...new Set(prices.map(optionsOf))].map(options =>
+    fill(words.pricesTotals, { ...told(countOf(prices.filter(audit => optionsOf(audit) === options))), options }));
+  return [...totals, little > 0 ? fill(words.littleTotal, { count: grouped(little) }) : ""];
+}
+
 /**
  * The totals in sentences. Those of each kind of certificate are told apart, since of these a Yes is no good news. All
  * together are as many as the audits.
  */
-export function totalsOf(words: Words, language: string, audits: readonly Audit[]): string {
+export function totalsOf(words: Words, audits: readonly Audit[]): string {
   const done = audits.filter(audit => audit.state === "done" && !audit.problem);
-  const count = (kind: Kind, status: number): number =>
-    done.filter(audit => audit.status === status && audit.task.certificate?.kind === kind).length;
-  const prices = { yes: count("prices", YES), no: count("prices", NO) };
-  const violations = { yes: count("violation", YES), no: count("violation", NO) };
-  const refutations = { yes: count("refutation", YES), no: count("refutation", NO) };
+  const answered = done.filter(({ status, task }) => task.certificate && (status === YES || status === NO));
+  const ofKind = (kind: Kind): Audit[] => answered.filter(({ task }) => task.certificate?.kind === kind);
+  const [violations, refutations] = [ofKind("violation"), ofKind("refutation")];
   const refused = done.filter(audit => audit.status === REFUSED).length, read = done.filter(isRead).length;
-  const answered = [prices, violations, refutations].reduce((sum, { yes, no }) => sum + yes + no, 0);
-  const open = audits.length - answered - refused - read;
-  const told = (number: number): string => numberIn(number, language);
-  const both = ({ yes, no }: { yes: number; no: number }): { yes: string; no: string } =>
-    ({ yes: told(yes), no: told(no) });
+  const open = audits.length - answered.length - refused - read;
   return [
-    prices.yes + prices.no > 0 ? fill(words.pricesTotals, both(prices)) : "",
-    violations.yes + violations.no > 0 ? fill(words.violationTotals, both(violations)) : "",
-    refutations.yes + refutations.no > 0 ? fill(words.refutationTotals, both(refutations)) : "",
-    refused > 0 ? fill(words.refusedTotal, { count: told(refused) }) : "",
-    read > 0 ? fill(words.readTotal, { count: told(read) }) : "",
-    open > 0 ? fill(words.openTotal, { count: told(open) }) : "",
+    ...pricesTotals(words, ofKind("prices")),
+    violations.length > 0 ? fill(words.violationTotals, told(countOf(violations))) : "",
+    refutations.length > 0 ? fill(words.refutationTotals, told(countOf(refutations))) : "",
+    refused > 0 ? fill(words.refusedTotal, { count: grouped(refused) }) : "",
+    read > 0 ? fill(words.readTotal, { count: grouped(read) }) : "",
+    open > 0 ? fill(words.openTotal, { count: grouped(open) }) : "",
   ].filter(Boolean).join(" ");
 }

@@ -4,10 +4,11 @@
 import { readElection, Unlike, withOutcome } from "../elections/election.js";
 import { refutationText, violationText } from "../finding/certificates.js";
 import { cohortsOf } from "../finding/cohorts.js";
-import { claimantsOf, figuresOf, MEASURES, refutationOf, roomOf } from "../finding/groups.js";
+import { claimantsOf, figuresOf, MEASURES, refutationOf, roomOf, unpaidRefutation } from "../finding/groups.js";
 import { findPrices } from "../finding/prices.js";
 import { Search } from "../finding/search.js";
 import { townOf } from "../finding/town.js";
+import { sumOf } from "./bytes.js";
 import type { Cohorts } from "../finding/cohorts.js";
 import type { Claim, Measure } from "../finding/groups.js";
 import type { Town } from "../finding/town.js";
@@ -16,6 +17,7 @@ import type {
   FindOrder, FindProgress, FindTold, FoundGroups, Numbered, PricesTold, ReadOrder, SearchedGroups, ShownClaim,
   ShownFigures, ViolationOrder,
 } from "./finds.js";
+import type { Sums } from "./orders.js";
 
 /** A search goes on for so many milliseconds until it looks whether something else is asked. */
 const SLICE = 50;
@@ -25,8 +27,22 @@ type Tell = (progress: FindProgress) => void;
 /** A file can't be read. */
 class Unreadable extends Error {}
 
+/** A file isn't any more what was read of it. */
+class Changed extends Error {}
+
 const bytesOf = async (file: File): Promise<Uint8Array> =>
   new Uint8Array(await file.arrayBuffer().catch(() => { throw new Unreadable(file.name); }));
+
+const filesOf = ({ election, outcome }: ReadOrder): File[] => outcome ? [election, outcome] : [election];
+
+/** The bytes of the election, and of the outcome file where there is one. */
+const contentsOf = (order: ReadOrder): Promise<Uint8Array[]> => Promise.all(filesOf(order).map(bytesOf));
+
+/** Refuses other sums than those of what was read before. */
+function requireSums(order: ReadOrder, sums: Sums): void {
+  const other = filesOf(order).find((_, at) => order.sums && order.sums[at] !== sums[at]);
+  if (other) throw new Changed(other.name);
+}
 
 const shownClaim = ({ voters, share, most, isViolation }: Claim): ShownClaim =>
   ({ members: voters.length, share, most, isViolation });
@@ -35,14 +51,17 @@ class Finder {
   private town: Town | undefined;
   private cohorts: Cohorts | undefined;
   private isStopped = false;
+  /** The files that were read, with the sums of what was read. */
+  private given: ReadOrder | undefined;
   private reading: Promise<FindTold> | undefined;
 
   async answer(order: Exclude<FindOrder, { asks: "stop" }>, tell: Tell): Promise<FindTold> {
     if (order.asks === "read") return this.reading = this.read(order);
     // What else is asked may come before the election is read.
     await this.reading;
+    if (order.asks === "figures") return this.figures(order.projects);
+    await this.requireSame();
     switch (order.asks) {
-      case "figures": return this.figures(order.projects);
       case "violation": return this.violation(order);
       case "groups": return this.groups(tell);
       case "prices": return this.prices(order.need, tell);
@@ -53,11 +72,18 @@ class Finder {
     this.isStopped = true;
   }
 
-  private async read({ election, outcome }: ReadOrder): Promise<FindTold> {
-    const bare = readElection(await bytesOf(election));
-    const whole = outcome ? withOutcome(bare, await bytesOf(outcome)) : bare;
+  private async read(order: ReadOrder): Promise<FindTold> {
+    const contents = await contentsOf(order), [election, outcome] = contents, sums = contents.map(sumOf);
+    requireSums(order, sums);
+    this.given = { ...order, sums };
+    const bare = readElection(election), whole = outcome ? withOutcome(bare, outcome) : bare;
     this.town = townOf(whole);
-    return { tells: "summary", summary: whole.summary, addable: roomOf(this.town).addable };
+    return { tells: "summary", summary: whole.summary, ...roomOf(this.town), sums };
+  }
+
+  /** Refuses where files aren't any more what was read: a certificate is of them, and not of what is kept of them. */
+  private async requireSame(): Promise<void> {
+    if (this.given) requireSums(this.given, (await contentsOf(this.given)).map(sumOf));
   }
 
   private known(): { town: Town; cohorts: Cohorts } {
@@ -107,7 +133,9 @@ class Finder {
       tell({ tells: "progress", of: "prices", ...step }));
     if (!done) return { tells: "prices", says: "stopped" };
     if (done.value.says === "found") return { tells: "prices", says: "found", file: new Blob([...done.value.pieces]) };
-    return { tells: "prices", ...done.value };
+    if (done.value.says !== "unpaid") return { tells: "prices", ...done.value };
+    const { cover, weights } = unpaidRefutation(done.value.project);
+    return { tells: "prices", ...done.value, refutation: new Blob([refutationText(town, cover, weights)]) };
   }
 
   /** Lets a search go on to its end, and answers what it comes to; undefined where it was stopped. */
@@ -129,7 +157,8 @@ class Finder {
 /** Why there is no answer. */
 function failedBy(error: unknown): FindTold {
   if (error instanceof Unlike) return { tells: "failed", why: "unlike" };
-  if (error instanceof Unreadable) return { tells: "failed", why: "unreadable" };
+  if (error instanceof Unreadable) return { tells: "failed", why: "unreadable", file: error.message };
+  if (error instanceof Changed) return { tells: "failed", why: "changed", file: error.message };
   return { tells: "failed", why: error instanceof RangeError ? "memory" : "trap" };
 }
 

@@ -4,12 +4,15 @@ import type { Summary } from "../elections/election.js";
 import type { Measure } from "../finding/groups.js";
 import type { Progress } from "../finding/prices.js";
 import type { Need } from "../finding/water.js";
+import type { Sums } from "./orders.js";
 
 /** Asks to read an election, and the outcome file where that says which projects are funded. It has to be the first. */
 export interface ReadOrder {
   readonly asks: "read";
   readonly election: File;
   readonly outcome: File | null;
+  /** Sums of their bytes, where they were read before: others are refused. */
+  readonly sums?: Sums;
 }
 
 /** Asks for the figures of some projects. */
@@ -69,20 +72,26 @@ export interface FoundGroups {
 export type PricesTold =
   | { readonly tells: "prices"; readonly says: "found"; readonly file: Blob }
   | { readonly tells: "prices"; readonly says: "infeasible" | "none" | "rounding" | "stopped" }
-  | { readonly tells: "prices"; readonly says: "unpaid"; readonly project: number };
+  | { readonly tells: "prices"; readonly says: "unpaid"; readonly project: number; readonly refutation: Blob };
 
 export type FindProgress =
   | { readonly tells: "progress"; readonly of: "groups"; readonly measure: Measure; readonly size: number }
   | { readonly tells: "progress"; readonly of: "prices" } & Progress;
 
 export type FindTold =
-  | { readonly tells: "summary"; readonly summary: Summary; readonly addable: number | undefined }
+  | {
+    readonly tells: "summary"; readonly summary: Summary; readonly isFeasible: boolean;
+    readonly addable: number | undefined; readonly sums: Sums;
+  }
   | ShownFigures
   | { readonly tells: "violation"; readonly file: Blob; readonly refutation?: Blob }
   | FoundGroups
   | PricesTold
   | FindProgress
-  | { readonly tells: "failed"; readonly why: "unlike" | "unreadable" | "memory" | "trap" };
+  | {
+    readonly tells: "failed"; readonly why: "unlike" | "unreadable" | "changed" | "memory" | "trap";
+    readonly file?: string;
+  };
 
 /** An order, and what is told of it, has a number. */
 export interface Numbered<Content> {

@@ -1,6 +1,6 @@
 /* What the page and its worker say to each other. */
 
-import type { Facts, Fault } from "../auditor/facts.js";
+import type { Facts, Fault, OnGroups } from "../auditor/facts.js";
 import type { Kind } from "../auditor/kinds.js";
 import type { Mode } from "../auditor/statuses.js";
 import type { Command } from "../auditor/commands.js";
@@ -25,7 +25,7 @@ export interface Order<Named = File> {
   readonly ahead?: Files<Named>;
   readonly mode: Mode;
   readonly language: string;
-  /** Whether what the program remarks on the election is told after the answer. */
+  /** Whether what the program remarks on the election is told after the answer, and what a yes says of groups. */
   readonly notes?: boolean;
   /** How often it is done; only the last time is told. */
   readonly rounds?: number;
@@ -54,7 +54,7 @@ export interface Sent {
 /** Sums of the bytes that were read, by which a file is known that was changed since. */
 export type Sums = readonly string[];
 
-/** An answer. `kind` is what the auditor takes the certificate for. */
+/** An answer. `kind` is what the auditor takes the certificate for, `groups` what a yes to prices says of groups. */
 export interface Answer {
   readonly tells: "answer";
   readonly status: number;
@@ -63,6 +63,7 @@ export interface Answer {
   readonly kind: Kind;
   readonly sums: Sums;
   readonly notes?: readonly string[];
+  readonly groups?: OnGroups | null;
 }
 
 /** Why there is no answer. */
@@ -97,7 +98,7 @@ export type Step =
 /** What ends an order. */
 export type Ending =
   | Answer
-  | { readonly tells: "notes"; readonly notes: readonly string[] }
+  | { readonly tells: "notes"; readonly notes: readonly string[]; readonly groups: OnGroups | null }
   | Refused
   | { readonly tells: "kinds"; readonly kinds: readonly Kind[] }
   | { readonly tells: "sums"; readonly sums: readonly string[] }

@@ -93,7 +93,7 @@ async function audit(auditor: Auditor, order: Order): Promise<Ending> {
   const answer: Ending = { tells: "answer", status, bytes, facts, kind, sums };
   if (!order.notes) return answer;
   tell(answer);
-  return { tells: "notes", notes: notesBy(auditor, asked) };
+  return { tells: "notes", notes: notesBy(auditor, asked), groups: facts.saysOfGroups ?? null };
 }
 
 /** What each file is. One that can't be read is of no kind, and so is one that is too long to be any. */
