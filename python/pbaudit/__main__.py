@@ -55,7 +55,7 @@ class _Parser(argparse.ArgumentParser):
 
     def error(self, message: str) -> NoReturn:
         self.print_usage(sys.stderr)
-        self.exit(USAGE, f"{self.prog}: {message}\n")
+        self.exit(USAGE, f"{self.prog}: {visible(message)}\n")
 
 
 def _parser(by_folder: bool) -> _Parser:
@@ -140,7 +140,7 @@ def _audit(given: argparse.Namespace) -> int:
     except Refusal as refusal:
         return _refused(refusal.printed, "\n".join(refusal.sentences()))
     except OSError as unread:
-        return _refused(f"refused {_role(given, unread.filename)} 18 Read record 0", _reason(unread))
+        return _refused(f"refused {_role(given, unread)} 18 Read record 0", _reason(unread))
     for note in notes:
         _tell(note)
     return _told_bytes(text, status)
@@ -167,7 +167,7 @@ def _page(given: argparse.Namespace) -> int:
     except Refusal as refusal:
         return _refused(refusal.printed, "\n".join(refusal.sentences()))
     except OSError as unread:
-        return _refused(f"refused {_role(given, unread.filename)} 18 Read record 0", _reason(unread))
+        return _refused(f"refused {_role(given, unread)} 18 Read record 0", _reason(unread))
     try:
         with open(given.output, "wb") as file:
             file.write(page)
@@ -203,7 +203,7 @@ def _folder_pages(given: argparse.Namespace) -> int:
         given.end_by_usage(str(why))
     except OSError as why:
         if why.errno == errno.EILSEQ:
-            return _refused("refused folder 18 Read record 0", str(why))
+            return _refused("refused folder 18 Read record 0", _reason(why))
         return _fault(f"fault write: {_reason(why)}")
     return _told([report.text.rstrip("\n")], report.status)
 
@@ -212,7 +212,7 @@ def _equal_shares(given: argparse.Namespace) -> int:
     from .certified_shares import certify, clear_progress, outcome_path, write_files
     for path in [] if given.output is None else [given.output, outcome_path(given.output)]:
         if replaced(path, {"ELECTION": given.election}):
-            given.end_by_usage(f"-o has {path} written, which is the election")
+            given.end_by_usage(f"-o has {shown(path)} written, which is the election")
     try:
         made = certify(given.election, given.by, given.completion, given.increment)
     except Refusal as refusal:
@@ -240,7 +240,7 @@ def _find(given: argparse.Namespace) -> int:
     except Refusal as refusal:
         return _refused(refusal.printed, "\n".join(refusal.sentences()))
     except OSError as unread:
-        return _refused(f"refused {_role(given, unread.filename)} 18 Read record 0", _reason(unread))
+        return _refused(f"refused {_role(given, unread)} 18 Read record 0", _reason(unread))
     return _found(found)
 
 
@@ -275,15 +275,21 @@ def _told_bytes(text: bytes, status: int) -> int:
     return _told([text.decode("utf-8", "surrogateescape").removesuffix("\n")], status)
 
 
-def _role(given: argparse.Namespace, path: Optional[str]) -> str:
-    """Which of the files that the words name this is."""
+def _role(given: argparse.Namespace, error: OSError) -> str:
+    """Which of the files that the words name couldn't be read."""
     roles = ("election", "outcome", "prices", "violation")
-    return next((role for role in roles if vars(given).get(role) == path), "certificate")
+    return next((role for role in roles if vars(given).get(role) == _of_path(error).filename), "certificate")
+
+
+def _of_path(error: OSError) -> OSError:
+    """The error of a path, also where its line ends would make it contents if it weren't a word of a command."""
+    return error.__cause__ if isinstance(error.__cause__, OSError) else error
 
 
 def _reason(error: OSError) -> str:
     """What went wrong with which file, as the program says it."""
-    return f"{error.filename}: {error.strerror}" if error.filename and error.strerror else str(error)
+    error = _of_path(error)
+    return visible(f"{os.fsdecode(error.filename)}: {error.strerror}" if error.filename and error.strerror else str(error))
 
 
 def _refused(line: str, more: str) -> int:
@@ -299,9 +305,9 @@ def _fault(line: str) -> int:
     return FAULT
 
 
-def _tell(line: str) -> None:
+def _tell(lines: str) -> None:
     try:
-        print(line, file=sys.stderr, flush=True)
+        print(*map(visible, lines.split("\n")), sep="\n", file=sys.stderr, flush=True)
     except OSError:
         _give_up(sys.stderr)
 

@@ -8,8 +8,8 @@ import pathlib
 import re
 import subprocess
 import tempfile
-from dataclasses import dataclass
-from typing import Any, List, Optional, Protocol, Tuple, Union
+from dataclasses import dataclass, replace
+from typing import Any, List, Literal, Optional, Protocol, Tuple, Union
 
 from . import _places
 from .election_files import ids_of
@@ -23,7 +23,7 @@ _HOW_TO_BUILD = (
 def switch(name: str, value: object) -> bool:
     """A switch, which is True or False, and anything else a TypeError."""
     # A true one of numpy equals 1, and a text doesn't.
-    if not any(value is each or type(value).__name__ == "bool_" and value == each for each in (False, True)):
+    if not any(value is each or type(value).__name__ in ("bool_", "bool") and value == each for each in (False, True)):
         raise TypeError(f"{name} is {value!r}, not True or False")
     return bool(value)
 
@@ -122,6 +122,9 @@ class Hint:
     sentences: str
 
 
+OnGroups = Literal["strict", "weak", "little"]
+
+
 class Auditor(Protocol):
     """What the library and the program have in common."""
 
@@ -131,8 +134,8 @@ class Auditor(Protocol):
     def has(self, command: str) -> bool:
         """Whether it has this command, which an older program may lack."""
 
-    def says_little(self, question: Question) -> bool:
-        """Whether the voter budgets of prices, to which the answer is yes, are together less than the limit."""
+    def says_of_groups(self, question: Question) -> OnGroups:
+        """What a yes to prices says of groups, where the answer is a yes."""
 
     def hint(self, question: Question, facts: Facts) -> Optional[Hint]:
         """What is told of a refusal, or None where this auditor has no hints."""
@@ -151,8 +154,15 @@ _INPUTS = {"election": 0, "outcome": 1, "prices": 2, "violation": 3}
 _KINDS = {"prices": 2, "violation": 3, "refutation": 5, "margins": 2, "tidy": 2, "explain": _ANY_CERTIFICATE,
           "page": _ANY_CERTIFICATE}
 _OUT_OF_MEMORY = "pbaudit: fault memory"
-# How the program's note ends that stands beside a yes to prices with small voter budgets.
-_SAYS_LITTLE = b"so this yes says little"
+# What is said of groups, by its numbers, of which 0 tells that a file is refused.
+_ON_GROUPS: Tuple[Optional[OnGroups], ...] = (None, "little", "weak", "strict")
+_MEMORY = 4
+# The lines by which the program explains that.
+_ANY_VOTERS = b"take any voters who all approve an unfunded project: their equal part of the limit is "
+_GROUP_LINES: List[Tuple[bytes, OnGroups]] = [
+    (_ANY_VOTERS + b"less than ", "strict"), (_ANY_VOTERS + b"no more than ", "weak"),
+    (b"of groups of voters this says little: ", "little"),
+]
 
 
 class _CulpritOfC(ctypes.Structure):
@@ -188,21 +198,22 @@ class _Library:
     _OUT = [ctypes.c_char_p, _SIZE, ctypes.POINTER(_SIZE)]
     _ANSWER: List[Any] = [ctypes.c_uint8, *_FILE, *_OUTCOME, *_FILE, *_FILE, *_MODE, _FACTS]
     _PAGE: List[Any] = [*_FILE, *_FILE, *_FILE, *_OUTCOME, *_FILE, *_FILE, *_MODE, *_FILE, _FACTS]
-    _NOTE: List[Any] = [*_FILE, *_FILE]
+    _GROUPS: List[Any] = [*_FILE, *_FILE, ctypes.c_bool]
     _HINT: List[Any] = [ctypes.c_uint8, ctypes.c_uint32, ctypes.c_uint64, *_FILE, *_OUTCOME,
                         ctypes.POINTER(ctypes.c_uint64)]
 
     def __init__(self, path: Union[str, pathlib.Path]):
         library = ctypes.CDLL(str(path))
-        self._answer = self._function(library, "answer", self._ANSWER)
-        self._page = self._function(library, "answer_page", self._PAGE)
-        self._note = self._function(library, "note", self._NOTE)
-        self._hint = self._function(library, "hint", self._HINT)
+        self._answer = self._function(library, "answer", self._ANSWER + self._OUT)
+        self._page = self._function(library, "answer_page", self._PAGE + self._OUT)
+        self._groups = self._function(library, "groups", self._GROUPS)
+        self._hint = self._function(library, "hint", self._HINT + self._OUT)
 
-    def _function(self, library: ctypes.CDLL, name: str, types: List[Any]) -> Any:
+    @staticmethod
+    def _function(library: ctypes.CDLL, name: str, types: List[Any]) -> Any:
         function = getattr(library, f"pbaudit_{name}")
         function.restype = ctypes.c_uint8
-        function.argtypes = types + self._OUT
+        function.argtypes = types
         return function
 
     def ask(self, question: Question) -> Answer:
@@ -214,11 +225,17 @@ class _Library:
     def has(self, command: str) -> bool:
         return command in (*_QUESTIONS, "page")
 
-    def says_little(self, question: Question) -> bool:
+    def says_of_groups(self, question: Question) -> OnGroups:
         words: List[Any] = []
         for file in (question.election, question.certificate or b""):
             words += [file, len(file)]
-        return self._call(self._note, words, 4096)[1] != b""
+        number: int = self._groups(*words, question.mode.exhaustive)
+        if number == _MEMORY:
+            raise MemoryError(_OUT_OF_MEMORY)
+        said = _ON_GROUPS[number]
+        if said is None:
+            raise RuntimeError("pbaudit tells nothing of groups after a yes to prices")
+        return said
 
     def hint(self, question: Question, facts: Facts) -> Optional[Hint]:
         line = ctypes.c_uint64()
@@ -235,7 +252,7 @@ class _Library:
         while True:
             out, needed = ctypes.create_string_buffer(room), self._SIZE()
             status = function(*words, out, room, ctypes.byref(needed))
-            if status == 4:
+            if status == _MEMORY:
                 raise MemoryError(_OUT_OF_MEMORY)
             if needed.value <= room:
                 return status, ctypes.string_at(out, needed.value)
@@ -278,9 +295,14 @@ class _Program:
         words = [self._path, command, "--help"]
         return subprocess.run(words, stdin=subprocess.DEVNULL, capture_output=True, check=False).returncode == 0
 
-    def says_little(self, question: Question) -> bool:
-        _, _, told, _ = self._answer(question)
-        return any(line.endswith(_SAYS_LITTLE) for line in told.split(b"\n"))
+    def says_of_groups(self, question: Question) -> OnGroups:
+        _, text, _, _ = self._answer(replace(question, command="explain", violation=None))
+        # A verdict, a table, and what is said of groups, with an empty line between them.
+        _, _, *told = text.split(b"\n\n")
+        said = [name for begin, name in _GROUP_LINES if told and told[0].startswith(begin)]
+        if not said:
+            raise RuntimeError(f"{self._path} is older than this package, and doesn't tell what a yes says of groups")
+        return said[0]
 
     def hint(self, question: Question, facts: Facts) -> Optional[Hint]:
         _, _, told, folder = self._answer(question)
@@ -432,7 +454,6 @@ def hint(question: Question, facts: Facts) -> Optional[Hint]:
     return auditor().hint(question, facts)
 
 
-def says_little(question: Question) -> bool:
-    """Of a question on prices that was answered by a yes, whether the voter budgets together are less than the limit.
-    Raises as `ask`."""
-    return auditor().says_little(question)
+def says_of_groups(question: Question) -> OnGroups:
+    """Of a question on prices that was answered by a yes, what that says of groups. Raises as `ask`."""
+    return auditor().says_of_groups(question)

@@ -14,10 +14,11 @@ from dataclasses import dataclass, replace
 from fractions import Fraction
 from typing import Any, ClassVar, Dict, List, Literal, Optional, Tuple
 
-from ._auditor import Answer, Culprit, Facts, Mode, PageWords, Question, ask, facts_in, hint, says_little
+from ._auditor import Answer, Culprit, Facts, Mode, OnGroups, PageWords, Question, ask, facts_in, hint, says_of_groups
 from .files import MOST_BYTES, File, bytes_of, path_of
 from .kept import Kept, keep, source_of, stamp_of
 from .records import records
+from .shown import visible
 
 __all__ = [
     "MOST_BYTES", "Explanation", "File", "Finding", "ProjectMargins", "Refusal", "Summary", "Verdict", "answered",
@@ -62,12 +63,12 @@ class Refusal(ValueError):
         return "\n".join([self.printed, *self.sentences()])
 
     def sentences(self) -> List[str]:
-        """The reason, sentence by sentence, each behind the file and the line that it is about."""
+        """The reason, sentence by sentence, each behind the file, in a visible form, and the line that it is about."""
         sentences, line = [], self.line
         for sentence in self.reason.split("\n") if self.reason else ():
             other = re.match(r"line (\d+): ", sentence)
             at = other[1] if other else line
-            sentences.append(f"{self.file}{'' if at is None else f':{at}'}: {sentence[other.end() if other else 0:]}")
+            sentences.append(f"{visible(self.file)}{'' if at is None else f':{at}'}: {sentence[other.end() if other else 0:]}")
             # The first sentence is about the record, and others about the file.
             line = None
         return sentences
@@ -82,12 +83,15 @@ class Verdict:
     `validate_price_system` was asked for prices near the given ones: then it is how far the payment that moved farthest
     did, in the currency of the costs. A notebook shows a verdict as the page about its certificate.
 
-    A yes to prices has one of two consequences. Where the voter budgets together reach the limit,
-    `no_group_passed_over` is true: the share of the limit of each group is no more than the cost of an unfunded project
-    that all of it approve and of all that was funded for it together, and under Cover less, which is PJR+ up to any
-    project, by cost (Brill and Peters 2023). Where they don't, `says_little` is true: then nearly any outcome that costs
-    little is supported. Of a yes to a refutation `refutes` says which prices can't support the outcome: "all", or "with
-    Cover", those whose voter budgets together are more than the limit; it is None of any other verdict.
+    A yes to prices says one of three things of any voters who all approve an unfunded project, which `says_of_groups`
+    names. "strict": their equal part of the limit is less than that project's cost plus the cost of all funded projects
+    that at least one of them approves, which is PJR+ up to any project, by cost (Brill and Peters 2023). So it is where
+    the voter budgets together are more than the limit, or are the limit and Exhaustive was asked for. "weak": it is no
+    more than that, where they are the limit and Exhaustive was left out. "little": nothing, where they are less; then
+    nearly any outcome that costs little is supported, and `says_little` is true. Of any other verdict it is None.
+
+    Of a yes to a refutation `refutes` says which prices can't support the outcome: "all", or "with Cover", those whose
+    voter budgets together are more than the limit; it is None of any other verdict.
 
     >>> verdict = audit_prices("town.pb", write_prices(4, [{"a": 2, "b": 2}, {"a": 4}, {"b": 1}]))
     >>> bool(verdict), verdict.condition, verdict.project
@@ -102,12 +106,17 @@ class Verdict:
     voter: Optional[int] = None
     project: Optional[str] = None
     moved: Optional[Fraction] = None
-    says_little: bool = False
-    no_group_passed_over: bool = False
+    raised: Optional[Fraction] = None
+    says_of_groups: Optional[OnGroups] = None
     refutes: Optional[Refutes] = None
     # What was asked; and of a verdict that was pickled the page. They are no fields, and so no part of it.
     _kept: ClassVar[Optional[Kept]] = None
     _page: ClassVar[Optional[str]] = None
+
+    @property
+    def says_little(self) -> bool:
+        """Whether it is a yes to prices that says nothing of groups."""
+        return self.says_of_groups == "little"
 
     def explain(self) -> "Explanation":
         """What each condition comes to that was audited. Raises ValueError where the files aren't there any more: large
@@ -171,7 +180,7 @@ class Finding:
 class Explanation:
     r"""What each condition comes to, in their order, with the answer to the audit itself, and true where that is.
     `groups` has, of a yes to prices, a sentence on what it says of every group, and one on the unfunded project whose
-    supporters come nearest to being passed over. `str` is the text that the program prints.
+    supporters come nearest to what that compares. `str` is the text that the program prints.
 
     >>> str(explain("town.pb", "town.prices.csv")).split("\n")[0]
     'supported priceable'
@@ -271,8 +280,8 @@ def audit_refutation(election: File, certificate: File, outcome: Optional[File] 
 def audit_both(election: File, prices: File, violation: File, outcome: Optional[File] = None, *, stable: bool = False,
                exhaustive: bool = True, cover: bool = False) -> Tuple[Verdict, Verdict]:
     """The verdict on a price certificate and then that on a violation certificate, for one outcome. The switches are
-    those of `audit_prices`. In the stable form with Cover, prices that support the outcome never stand beside a
-    violation by counting. Raises Refusal, OSError and MemoryError.
+    those of `audit_prices`. In the stable form, prices that support the outcome and say "strict" of groups never stand
+    beside a violation by counting. Raises Refusal, OSError and MemoryError.
 
     >>> prices, violation = audit_both("town.pb", "town.prices.csv", write_violation([1, 2], ["a"]))
     >>> bool(prices), violation.condition
@@ -352,7 +361,7 @@ def printed(command: str, election: File, outcome: Optional[File], mode: Mode, *
     asked = _judged(command, election, outcome, mode, PageWords(), **certificates)
     answer = asked.answer()
     line = answer.text.split(b"\n", 1)[0].decode("utf-8")
-    return answer.status, answer.text, line in _OF_PRICES and says_little(asked.question)
+    return answer.status, answer.text, line in _OF_PRICES and says_of_groups(asked.question) == "little"
 
 
 def _judged(command: str, election: File, outcome: Optional[File], mode: Mode, page: PageWords,
@@ -418,19 +427,17 @@ def _verdict(line: str, failing: Optional[Culprit], question: Question, kept: Op
     if failing:
         found = Verdict(False, line, failing.name, failing.voter, failing.project_in(line))
     elif line in _YES:
-        is_of_prices = line in _OF_PRICES
-        is_little = is_of_prices and says_little(question)
-        found = Verdict(True, line, says_little=is_little, no_group_passed_over=is_of_prices and not is_little,
-                        refutes=_REFUTES.get(line))
+        said = says_of_groups(question) if line in _OF_PRICES else None
+        found = Verdict(True, line, says_of_groups=said, refutes=_REFUTES.get(line))
     else:
         raise RuntimeError(f"pbaudit answers {line!r}")
     object.__setattr__(found, "_kept", kept)
     return found
 
 
-def with_moved(found: Verdict, moved: Fraction) -> Verdict:
-    """The same verdict, of prices that moved so far."""
-    other = replace(found, moved=moved)
+def with_moved(found: Verdict, moved: Fraction, raised: Fraction) -> Verdict:
+    """The same verdict, of prices whose payments moved so far, and whose voter budget was raised by so much."""
+    other = replace(found, moved=moved, raised=raised)
     object.__setattr__(other, "_kept", found._kept)
     return other
 

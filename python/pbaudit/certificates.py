@@ -5,14 +5,17 @@ from fractions import Fraction
 from functools import cached_property
 from typing import Any, Dict, Iterable, Iterator, List, Optional, Sequence, Set, Tuple
 
+from ._auditor import Mode
 from .amounts import (
-    MOST_DENOMINATOR, MOST_NUMERATOR, NearAmount, common_denominator, least_multiple, near, own, ratio,
+    MILLION, MOST_COST, MOST_DENOMINATOR, MOST_NUMERATOR, NearAmount, common_denominator, is_float, least_multiple, near,
+    own, ratio,
 )
 from .auditing import audit_prices
 from .files import Path, checked_path, write_to
 from .matrices import AT_ONCE, check_rows
+from .noise import NOISE, SURE, Conditions, check_moves, left_out_told, spent_by
 from .records import records
-from .rounding import CannotKeep, Given, Rounding
+from .rounding import CannotKeep, Given, LeftOut, Rounding
 from .town import Town
 from .values import (
     AnyInstance, AnyProject, NearPaymentFunction, Payments, Profile, Projects, ballots_of, check_count, funded_of,
@@ -20,9 +23,11 @@ from .values import (
 )
 from .writing import Payers, election_file, price_file
 
-# A payment of at most this part of the largest cost is taken for noise, where there should be none.
-NOISE = Fraction(1, 10**6)
 DENOMINATORS = (100, 10**4, 10**6, MOST_DENOMINATOR)
+# How many times as much as noise is, at least, rounding should be finer.
+FINE = 100
+# How many times as much as the largest cost payments can be, at least, in the files.
+HEADROOM = 1000
 
 
 @dataclass(frozen=True)
@@ -65,10 +70,14 @@ def price_certificate(instance: AnyInstance, profile: Profile, budget_allocation
     The arguments are those of `validate_price_system`, but payments and the voter budget may be floats too, which count
     as the decimals that they print as, and costs and the limit are those of an election file, with at most six decimals
     (`validate_price_system` takes others too); a voter budget of None is the most that a voter spends, which is the
-    best for C5 and S5. Up to a millionth of the largest cost counts as a solver's noise. `denominator` asks for this
-    one; without it the exact one is tried where it is at most 10^9, and then 100, 10^4, 10^6 and 10^9 (or multiples
-    near them where costs have other parts); where none does, payments are moved among supporters and all are tried
-    again.
+    best for C5 and S5.
+
+    Exact numbers have to keep all conditions as they are: nothing is repaired, and they stay as they are where their
+    common denominator is at most 10^9. Floats may be off by a solver's noise: a millionth of the voter budget for each
+    voter, and of its cost for each project; what a voter pays for a project that it doesn't approve is never left out.
+    Their voter budget may be lowered for C5 and S5, and payments may be moved among supporters. `moved` and `raised`
+    say how far. `denominator` asks for this one; without it the exact one is tried where it is at most 10^9, and then
+    100, 10^4, 10^6 and 10^9 (or multiples near them where costs have other parts).
 
     What comes out was audited. That CannotKeep is raised doesn't say that there is no such certificate. Raises
     ValueError, TypeError and MemoryError too.
@@ -78,30 +87,52 @@ def price_certificate(instance: AnyInstance, profile: Profile, budget_allocation
     >>> made.rows
     [(1, 'a', 1), (2, 'a', 1), (3, 'a', 1)]
     """
+    mode = Mode(stable, exhaustive)
     check_rows(profile, payment_functions)
     projects, costs, limit = projects_of(instance)
     funded = funded_of(budget_allocation, projects)
     ballots, payments = ballots_of(profile, projects), Payments(payment_functions, projects)
     town = Town(projects.ids, costs, limit, set(funded), ballots)
     wanted = None if denominator is None else _whole(denominator)
-    return certified(town, projects, voter_budget, payments, stable, exhaustive, wanted)
+    return certified(town, projects, voter_budget, payments, mode.stable, mode.exhaustive, wanted)
 
 
 def certified(town: Town, projects: Projects, voter_budget: Optional[NearAmount], payments: Payments, stable: bool,
               exhaustive: bool, wanted: Optional[int] = None, is_near: bool = False) -> PriceCertificate:
-    """The certificate that `price_certificate` answers; or, as near as can be, one whose voter budget isn't lowered to
-    what voters spend."""
+    """The certificate that `price_certificate` answers; or, where `is_near`, one of the election by `scale_of` whose
+    payments and voter budget are off by no more than noise."""
+    scale = scale_of(town, payable(voter_budget, "the voter budget")) if is_near else 1
     # This also refuses what no election has.
-    election = election_file(projects, town.costs, town.limit, town.ballots, town.funded)
+    election = scaled_election(town, projects, scale)
     _check_outcome(town, exhaustive)
-    given = _given(town, projects, voter_budget, payments)
-    _check_unfunded(town, given, stable, is_near)
-    certificate = _certificate(_rounded(town, given, stable, wanted, is_near), given, projects)
+    given = _given(town, projects, voter_budget, payments, is_near)
+    _check_given(town, given, stable, is_near)
+    certificate = _certificate(_rounded(town, given, stable, wanted, is_near, scale), given, projects, scale)
     verdict = audit_prices(election, certificate.file, stable=stable, exhaustive=exhaustive)
     if not verdict:
         told = f"the rounded payments are answered '{verdict}'"
         raise CannotKeep(str(verdict.condition), told, verdict.voter, verdict.project)
     return certificate
+
+
+def scaled_election(town: Town, projects: Projects, scale: int) -> bytes:
+    """The election as a file whose unit is so many times smaller. No condition depends on the unit."""
+    costs = [cost * scale for cost in town.costs]
+    return election_file(projects, costs, town.limit * scale, town.ballots, town.funded)
+
+
+def scale_of(town: Town, budget: Fraction) -> int:
+    """How many times smaller the unit of files is for prices near given ones, so that they can state the costs, and
+    that rounding moves payments by less than noise, as far as the largest cost allows."""
+    amounts = [*town.costs, town.limit]
+    scale, most = common_denominator(amount * MILLION for amount in amounts), max(amounts) or Fraction(1)
+    if most * scale > MOST_COST:
+        return 1
+    parts = [budget, *(town.costs[project] / (len(town.slots[project]) + 1) for project in town.funded)]
+    least = min((part for part in parts if part > 0), default=Fraction(1))
+    while least * NOISE * MOST_DENOMINATOR * scale < FINE and most * scale * 10 * HEADROOM <= MOST_COST:
+        scale *= 10
+    return scale
 
 
 def _whole(denominator: object) -> int:
@@ -122,35 +153,34 @@ def _check_outcome(town: Town, exhaustive: bool) -> None:
             raise CannotKeep("Exhaustive", told, project=name)
 
 
-def _given(town: Town, projects: Projects, voter_budget: Optional[NearAmount], payments: Payments) -> Given:
-    """The payments by slot, without noise. What is more than noise in a wrong place is told."""
+def _given(town: Town, projects: Projects, voter_budget: Optional[NearAmount], payments: Payments,
+           is_near: bool) -> Given:
+    """The payments by slot, without those that are none where there should be none."""
     check_count(len(town.ballots), len(payments.functions))
-    noise = max(town.costs, default=Fraction(0)) * NOISE
-    amounts, floats, dropped = _amounts_by_slot(town, projects, payments, noise)
-    # Whether something is off by more than noise is told from rounded sums, since exact ones take long.
-    spent = _spent(town, floats)
-    budget = _most(town, amounts, spent) if voter_budget is None else payable(voter_budget, "the voter budget")
-    if budget < -noise:
+    amounts, floats, left_out = _amounts_by_slot(town, projects, payments)
+    budget = _most(town, amounts, floats) if voter_budget is None else payable(voter_budget, "the voter budget")
+    is_exact = not (is_near or payments.has_floats or is_float(voter_budget))
+    below = max(-budget, Fraction(0))
+    if below > (0 if is_exact else town.limit / max(1, len(town.ballots)) * NOISE):
         raise ValueError("the voter budget is below 0")
-    given = Given(amounts, floats, budget, noise, payments.kinds == {float}, dropped)
-    has, off = float(budget), float(noise)
-    for voter, total in enumerate(spent):
-        if total > has + off * max(1, len(town.slots_of(voter))):
-            raise CannotKeep("C2", f"voter {voter + 1} spends {total:.9g} of {has:.9g}", voter + 1)
-    for project in sorted(town.funded):
-        mine = list(map(floats.__getitem__, town.slots[project]))
-        name, cost, paid = town.names[project], float(town.costs[project]), sum(mine)
-        if abs(paid - cost) > off * max(1, len(mine) - mine.count(0)):
-            raise CannotKeep("C3", f"{paid:.9g} is paid for {name}, which costs {cost:.9g}", project=name)
-    return given
+    noise = Fraction(0) if is_exact else (budget + below) * NOISE
+    return Given(amounts, floats, budget + below, noise, below, payments.kinds == {float}, is_exact, left_out)
 
 
-def _amounts_by_slot(town: Town, projects: Projects, payments: Payments,
-                     noise: Fraction) -> Tuple[List[Any], "array[float]", Fraction]:
-    """What is paid in each slot, as it was given and as a float; and the most that is left out as noise. More than
-    noise in a wrong place is a CannotKeep."""
+def _check_given(town: Town, given: Given, stable: bool, is_near: bool) -> None:
+    """Raises CannotKeep where the payments as they were given fail a condition: that isn't a matter of rounding. C5 and
+    S5 are those by the given budget; but where floats are made a certificate of, by the lowest that they allow."""
+    conditions = Conditions(town, given, stable, float(given.budget))
+    if not (is_near or given.is_exact):
+        conditions.budget = min(conditions.budget, max(conditions.spent, default=0.0))
+    conditions.check()
+
+
+def _amounts_by_slot(town: Town, projects: Projects,
+                     payments: Payments) -> Tuple[List[Any], "array[float]", List[LeftOut]]:
+    """What is paid in each slot, as it was given and as a float; and the payments that are left out."""
     amounts: List[Any] = []
-    floats, dropped = array("d"), Fraction(0)
+    floats, left_out = array("d"), []
     for voter, function in enumerate(payments.functions):
         what = f"voter {voter + 1} pays for"
         places = projects.once(projects.places(function, what), what)
@@ -158,12 +188,13 @@ def _amounts_by_slot(town: Town, projects: Projects, payments: Payments,
         slots = town.slots_of(voter)
         expected = town.project_of[slots.start:slots.stop]
         if not _is_in_place(mine, expected):
-            kept = _without_noise(town, voter, mine, noise)
-            dropped = max([dropped, *(abs(near(mine[at], "a payment")) for at in mine.keys() - kept.keys())])
-            mine = kept
+            odd = [LeftOut(voter, *each) for each in _misplaced(town, voter, mine)]
+            left_out += odd
+            for each in odd:
+                del mine[each.project]
         amounts += [mine.get(project, 0) for project in expected]
         floats.extend(map(float, amounts[slots.start:]))
-    return amounts, floats, dropped
+    return amounts, floats, left_out
 
 
 def _is_in_place(mine: Dict[int, Any], expected: Sequence[int]) -> bool:
@@ -178,27 +209,18 @@ def _is_in_place(mine: Dict[int, Any], expected: Sequence[int]) -> bool:
     return is_amount and mine.keys() <= set(expected)
 
 
-def _without_noise(town: Town, voter: int, mine: Dict[int, Any], noise: Fraction) -> Dict[int, Any]:
-    """What a voter pays, one by one. More than noise in a wrong place is a CannotKeep."""
-    payments: Dict[int, Any] = {}
+def _misplaced(town: Town, voter: int, mine: Dict[int, Any]) -> Iterator[Tuple[int, Fraction, str]]:
+    """What a voter (from 0) pays where a certificate has nothing: the projects, the amounts, and the conditions that
+    these break where they are more than noise. Raises CannotKeep for what isn't approved, however little it is."""
     ballot = set(town.ballots[voter])
     for at, given in mine.items():
-        name = town.names[at]
-        amount = payable(given, f"what voter {voter + 1} pays for {name}")
-        told = f"voter {voter + 1} pays {float(amount):.9g} for {name}"
+        amount = payable(given, f"what voter {voter + 1} pays for {town.names[at]}")
         if amount < 0:
-            if amount < -noise:
-                raise CannotKeep("C2", f"{told}, and payments are at least 0", voter + 1, name)
-        elif at not in ballot:
-            if amount > noise:
-                why = "which it doesn't approve; are ballots and payments in one order?"
-                raise CannotKeep("C1", f"{told}, {why}", voter + 1, name)
-        elif at not in town.funded:
-            if amount > noise:
-                raise CannotKeep("C4", f"{told}, which isn't funded", voter + 1, name)
-        else:
-            payments[at] = given
-    return payments
+            yield at, amount, "C2"
+        elif amount and at not in ballot:
+            raise left_out_told(town, LeftOut(voter, at, amount, "C1"))
+        elif amount and at not in town.funded:
+            yield at, amount, "C4"
 
 
 def payable(amount: object, what: str) -> Fraction:
@@ -209,40 +231,20 @@ def payable(amount: object, what: str) -> Fraction:
     return exact
 
 
-def _spent(town: Town, floats: "array[float]") -> List[float]:
-    return [sum(floats[start:end]) for start, end in zip(town.starts, town.starts[1:])]
-
-
-def _most(town: Town, amounts: Sequence[Any], spent: List[float]) -> Fraction:
+def _most(town: Town, amounts: Sequence[Any], floats: "array[float]") -> Fraction:
     """The most that a voter spends, exactly."""
-    near_most = max(spent, default=0.0) * (1 - 1e-9)
+    spent = spent_by(town, floats)
+    near_most = max(spent, default=0.0) * (1 - SURE)
     sums = (sum((near(amounts[slot], "a payment") for slot in town.slots_of(voter)), Fraction(0))
             for voter, rounded in enumerate(spent) if rounded >= near_most)
     return max(sums, default=Fraction(0))
 
 
-def _check_unfunded(town: Town, given: Given, stable: bool, is_near: bool) -> None:
-    """C5 or S5 of the given payments, by the lowest voter budget that they allow, or near the given one. What fails by
-    more than noise isn't a matter of rounding."""
-    spent = _spent(town, given.floats)
-    budget = float(given.budget) if is_near else min(float(given.budget), max(spent, default=0.0))
-    shares = [budget - each for each in spent]
-    if stable:
-        shares = [max(left, max(given.floats[start:end], default=0.0))
-                  for left, start, end in zip(shares, town.starts, town.starts[1:])]
-    for project in town.unfunded:
-        total, cost = sum(map(shares.__getitem__, town.supporters[project])), float(town.costs[project])
-        if total > cost + float(given.noise) * max(1, len(town.supporters[project])):
-            name, condition, can = town.names[project], "S5" if stable else "C5", "can offer" if stable else "have left"
-            told = f"the supporters of {name} {can} {total:.9g} together, and it costs {cost:.9g}"
-            raise CannotKeep(condition, told, project=name)
-
-
-def _rounded(town: Town, given: Given, stable: bool, denominator: Optional[int], is_near: bool) -> Rounding:
+def _rounded(town: Town, given: Given, stable: bool, denominator: Optional[int], is_near: bool, scale: int) -> Rounding:
     """The first denominator by which all conditions can be kept, with numerators over it; the finest first where they
-    are to be as near as can be."""
+    are to be as near as can be. Numerators are in a unit that is so many times smaller."""
     # Funded projects are paid for exactly, so their costs are whole numbers over each denominator.
-    unit = common_denominator(town.costs[project] for project in town.funded)
+    unit = common_denominator(town.costs[project] * scale for project in town.funded)
     if denominator is not None:
         _check_denominator(denominator, unit)
     exact = _exact_denominator(given)
@@ -254,7 +256,7 @@ def _rounded(town: Town, given: Given, stable: bool, denominator: Optional[int],
     for repairs in (False, True):
         for tried in denominators:
             try:
-                return _settled(Rounding(town, given, tried, stable, is_near), repairs)
+                return _settled(Rounding(town, given, tried * scale, stable, is_near), repairs, given, scale)
             except CannotKeep as why:
                 failed = failed or why
     if denominator is None and exact is None:
@@ -264,7 +266,7 @@ def _rounded(town: Town, given: Given, stable: bool, denominator: Optional[int],
         tried = MOST_DENOMINATOR + 1 if part is None else least_multiple((unit, part, simple.budget.denominator))
         if tried <= MOST_DENOMINATOR:
             try:
-                return _settled(Rounding(town, simple, tried, stable, is_near), True)
+                return _settled(Rounding(town, simple, tried * scale, stable, is_near), True, given, scale)
             except CannotKeep:
                 pass
     assert failed is not None
@@ -277,8 +279,10 @@ def _check_denominator(denominator: int, unit: int) -> None:
         raise ValueError(f"the denominator has to be from 1 to 10^9{multiple}")
 
 
-def _settled(rounding: Rounding, repairs: bool) -> Rounding:
+def _settled(rounding: Rounding, repairs: bool, given: Given, scale: int) -> Rounding:
     rounding.settle(repairs)
+    if rounding.keeps_budget:
+        check_moves(rounding, given, Fraction(1, MOST_DENOMINATOR * scale))
     return rounding
 
 
@@ -328,9 +332,9 @@ def _simple(amount: Fraction, noise: Fraction) -> Fraction:
     return amount
 
 
-def _certificate(rounding: Rounding, given: Given, projects: Projects) -> PriceCertificate:
-    denominator = rounding.denominator
-    moved, raised = _farthest(rounding, given), Fraction(rounding.budget, denominator) - given.budget
+def _certificate(rounding: Rounding, given: Given, projects: Projects, scale: int) -> PriceCertificate:
+    moved, raised = _farthest(rounding, given), Fraction(rounding.budget, rounding.denominator) - given.budget + given.below
+    denominator = rounding.denominator // scale
     file = price_file(denominator, rounding.budget, projects, _payers(rounding))
     return PriceCertificate(denominator, rounding.budget, moved, raised, file)
 
@@ -350,7 +354,7 @@ def _farthest(rounding: Rounding, given: Given) -> Fraction:
             moved = abs(numerator * part - whole * denominator)
             if moved * part_away > away * part:
                 away, part_away = moved, part
-    return max(Fraction(away, part_away * denominator), given.dropped)
+    return max([Fraction(away, part_away * denominator), *(abs(each.amount) for each in given.left_out)])
 
 
 def _payers(rounding: Rounding) -> Payers:

@@ -67,7 +67,9 @@ def _projects_of(rows: Iterator[Row]) -> Tuple[Dict[str, Fraction], Optional[Set
 
 
 def _amount(text: bytes) -> Fraction:
-    return Fraction(text.decode("ascii").replace(",", "."))
+    """The amount that a text states. It may have more zeros ahead and behind than Python takes in a number."""
+    whole, _, decimals = text.decode("ascii").replace(",", ".").partition(".")
+    return Fraction(f"{whole.lstrip('0') or '0'}.{decimals.rstrip('0') or '0'}")
 
 
 def _rows(election: bytes) -> Iterator[Tuple[bytes, Dict[bytes, int], List[bytes]]]:

@@ -5,7 +5,6 @@ import reprlib
 from typing import Any, List, Optional, Protocol, Union
 
 
-
 class Opened(Protocol):
     """A binary file that is open for reading."""
 
@@ -54,6 +53,12 @@ def checked_path(path: Any) -> Path:
     return path
 
 
+def checked_call(name: str, value: object) -> None:
+    """Raises TypeError where an argument of this name, that is called later, can't be called, and isn't None."""
+    if value is not None and not callable(value):
+        raise TypeError(f"{name} is {value!r}, which can't be called")
+
+
 def _bytes_at(path: str) -> bytes:
     try:
         with open(path, "rb") as opened:
@@ -63,7 +68,7 @@ def _bytes_at(path: str) -> bytes:
         why.filename = path
         if "\n" in path:
             told = f"{why.strerror} (a str is taken for a path: give a file's contents as bytes)"
-            raise OSError(why.errno, told, reprlib.repr(path)) from None
+            raise OSError(why.errno, told, reprlib.repr(path)) from why
         raise
     except ValueError as why:
         # No file has such a path: one with a zero byte.

@@ -8,9 +8,10 @@ from typing import Dict, List
 from urllib.parse import quote
 
 from ._auditor import Mode, PageWords, Question, ask
-from .folders import Entry, FolderReport, Line, audit_read, bytes_of_entry, entries_of, report_on
 from .files import Path
+from .folders import Entry, FolderReport, Line, audit_read, bytes_of_entry, entries_of, folder_path, report_on
 from .pages import Language, checked_language
+from .shown import visible
 
 INDEX = "index.html"
 # What stands in each page that the auditor makes, and in the index, near the begin.
@@ -73,7 +74,7 @@ def write_folder_pages(folder: Path, path: Path, *, stable: bool = False, exhaus
     """
     mode = Mode(stable, exhaustive, cover)
     checked_language(language)
-    entries = entries_of(folder, mode)
+    entries, path = entries_of(folder, mode), folder_path(path)
     _check_free(path, [INDEX, *(_page_name(entry, ending) for entry in entries for ending in entry.certificates)])
     os.makedirs(path, exist_ok=True)
     found: Dict[Entry, List[Line]] = {}
@@ -112,7 +113,7 @@ def _check_free(path: Path, names: List[str]) -> None:
     for name in names:
         place = os.path.join(path, name)
         if os.path.lexists(place) and not _is_own(place):
-            raise NotReplaced(f"{place} is there, and isn't a page that pbaudit made")
+            raise NotReplaced(f"{visible(place)} is there, and isn't a page that pbaudit made")
 
 
 def _is_own(place: str) -> bool:

@@ -1,27 +1,27 @@
 """Audits a folder of elections, by any executor of `concurrent.futures`."""
 import errno
 import html
-import json
 import logging
 import os
+import queue
 import re
-import subprocess
-import sys
+import threading
 import uuid
-from concurrent.futures import BrokenExecutor, Executor, Future, ThreadPoolExecutor
-from dataclasses import asdict, dataclass, field
+from concurrent.futures import BrokenExecutor, Executor, Future
+from dataclasses import dataclass, field
 from functools import partial
 from typing import Callable, Dict, Iterator, List, NamedTuple, Optional, Sequence, Tuple
 
 from ._auditor import Answer, Mode, Question, ask
-from .files import MOST_BYTES, Path
+from .files import MOST_BYTES, Path, checked_call
+from .helpers import Helper
 from .shown import visible
 
 # Gives the bytes of the file with an ending, or none where it can't be read.
 Read = Callable[[str], Optional[bytes]]
 LOG = logging.getLogger("pbaudit")
-# An election whose worker was lost so often is given up.
-MOST_LOSSES = 3
+# A task whose worker was lost so often is cut into its elections, and one of a single election is given up.
+MOST_LOSSES = 2
 LOST = "fault worker"
 UNREAD = "refused {} 18 Read record 0"
 # What a task has at most: elections, and bytes of their files. A cluster takes about 20 ms for a task, and an audit of
@@ -65,8 +65,8 @@ class FileResult(NamedTuple):
 @dataclass(frozen=True)
 class FolderReport:
     """The report on a folder: its text, and a status as that of `pbaudit folder`: 2 where a file is refused, else 1
-    where a certificate is answered no, else 0. It is true where the status is 0. Where the workers on an election were
-    lost three times, the line on it ends in `fault worker`, its name (without `.pb`) is in `lost`, and the status is
+    where a certificate is answered no, else 0. It is true where the status is 0. Where an election by itself had its
+    worker lost twice, the line on it ends in `fault worker`, its name (without `.pb`) is in `lost`, and the status is
     4. `results` has a row for each file in the order of the text, as `pandas.DataFrame(report.results)` takes them.
 
     >>> audit_folder("elections").status
@@ -105,9 +105,30 @@ class Entry:
     mode: Mode
 
 
+@dataclass(frozen=True)
+class Task:
+    """Elections that are audited together, and how often the worker on them was lost."""
+
+    entries: Tuple[Entry, ...]
+    losses: int = 0
+
+    def lost(self) -> "Task":
+        """The task after one more loss."""
+        return Task(self.entries, self.losses + 1)
+
+    def parts(self) -> List["Task"]:
+        """What is tried of it: all together, or each election by itself where the worker was lost too often. Nothing of
+        a single one then, since it is known which it was."""
+        if self.losses < MOST_LOSSES:
+            return [self]
+        return [Task((entry,)) for entry in self.entries] if len(self.entries) > 1 else []
+
+
 Found = Dict[Entry, List[Line]]
 # Is told what was found of an entry, or none where its workers were lost.
 Tell = Callable[[Entry, Optional[List[Line]]], None]
+# Takes what was found of the entries of a task.
+Take = Callable[[Task, List[List[Line]]], None]
 OnResult = Callable[[FileResult], object]
 
 
@@ -115,14 +136,16 @@ def audit_folder(path: Path, executor: Optional[Executor] = None, *, stable: boo
                  exhaustive: bool = True, cover: bool = False, on_result: Optional[OnResult] = None) -> FolderReport:
     """Audits the elections `NAME.pb` of a folder with `NAME.prices.csv` and `NAME.violation.csv` where these lie beside
     them, and answers the text and the status of `pbaudit folder`, without what that says on standard error of files
-    that it passes over. `on_result` is called with each FileResult as soon as it is known here.
+    that it leaves out. `on_result` is called with each FileResult as soon as it is known here.
 
     Without an executor the elections are audited here, one after the other. With one they are its tasks, small
     elections many to a task: processes of a `ProcessPoolExecutor`, or a Dask cluster by `client.get_executor()`, whose
-    workers have to see the folder under the same path and need this package. An election whose worker is lost is tried
-    again by itself, by the same executor where that still works and else in a process of its own, three times in all;
-    then its line says so, and it is never left out. Raises OSError where the folder can't be listed, or lists a name
-    that isn't UTF-8 (errno.EILSEQ): `pbaudit folder` refuses it then, as `refused folder 18 Read record 0`.
+    workers have to see the folder under the same path and need this package. A task whose worker is lost is tried again
+    whole; where the executor is broken by that, or takes no more, all that is left is done in as many processes that are
+    started here. Only a task whose worker was lost twice is cut into its elections, each of which is tried twice by
+    itself, in these processes; then its line says that its worker was lost, and it is never left out. Raises OSError
+    where the folder can't be listed, or lists a name that isn't UTF-8 (errno.EILSEQ): `pbaudit folder` refuses it then,
+    as `refused folder 18 Read record 0`.
 
     >>> print(audit_folder("elections"), end="")
     town.pb: read 3 voters 3 projects 2 funded
@@ -130,6 +153,7 @@ def audit_folder(path: Path, executor: Optional[Executor] = None, *, stable: boo
     total 1 elections 1 yes 0 no 0 refused
     """
     check_executor(executor)
+    checked_call("on_result", on_result)
     entries = entries_of(path, Mode(stable, exhaustive, cover))
 
     def tell(entry: Entry, lines: Optional[List[Line]]) -> None:
@@ -152,7 +176,8 @@ def check_executor(executor: Optional[Executor]) -> None:
                         "ProcessPoolExecutor")
 
 
-def _text_of(path: Path) -> str:
+def folder_path(path: Path) -> str:
+    """The path of a folder as a str. Raises TypeError for bytes."""
     text = os.fspath(path)
     if not isinstance(text, str):
         raise TypeError(f"the path of the folder is {text!r}, not a str")
@@ -205,7 +230,7 @@ def bytes_of_entry(entry: Entry, ending: str) -> Optional[bytes]:
 
 def entries_of(path: Path, mode: Mode) -> List[Entry]:
     """The elections of a folder, by the bytes of their names. Raises OSError as `audit_folder`."""
-    folder = os.path.abspath(_text_of(path))
+    folder = os.path.abspath(folder_path(path))
     sizes: Dict[str, int] = {}
     with os.scandir(folder) as listing:
         for file in listing:
@@ -235,16 +260,21 @@ def _check_name(folder: str, name: str) -> None:
 
 
 def _spread(executor: Executor, entries: List[Entry], found: Found, tell: Tell) -> None:
-    """Adds what is found of each entry by an executor. What is lost thrice isn't added."""
+    """Adds what is found of each entry by an executor, and by processes that are started here where it loses workers.
+    What is lost isn't added."""
+    def take(task: Task, made: List[List[Line]]) -> None:
+        for entry, lines in zip(task.entries, made):
+            found[entry] = lines
+            tell(entry, lines)
     call = uuid.uuid4().hex
-    is_broken = _by_executor(executor, list(_tasks(entries)), f"{call}/1", found, tell)
-    for attempt in range(2, MOST_LOSSES + 1):
-        left = [entry for entry in entries if entry not in found]
-        if left and is_broken:
-            # Where the executor doesn't say how many it has work at a time, as many as there are processors.
-            _alone(left, getattr(executor, "_max_workers", None) or os.cpu_count() or 1, found, tell)
-        elif left:
-            is_broken = _by_executor(executor, [[entry] for entry in left], f"{call}/{attempt}", found, tell)
+    waiting, is_usable = [Task(tuple(task)) for task in _tasks(entries)], True
+    for attempt in range(MOST_LOSSES):
+        if waiting and is_usable:
+            waiting, is_usable = _by_executor(executor, waiting, f"{call}/{attempt}", take)
+    # An election that the executor lost is tried here, where no other takes its process along.
+    waiting = [part for task in waiting for part in (task.parts() or [Task(task.entries)])]
+    # Where the executor doesn't say how many it has work at a time, as many as there are processors.
+    _Pool(waiting, take).run(getattr(executor, "_max_workers", None) or len(os.sched_getaffinity(0)))
     for entry in entries:
         if entry not in found:
             tell(entry, None)
@@ -263,54 +293,90 @@ def _tasks(entries: List[Entry]) -> Iterator[List[Entry]]:
         yield task
 
 
-def _by_executor(executor: Executor, tasks: List[List[Entry]], attempt: str, found: Found, tell: Tell) -> bool:
-    """Audits entries by an executor. Whether it was broken by that."""
-    futures: "List[Tuple[List[Entry], Future[List[List[Line]]]]]" = []
-    is_broken = False
+def _by_executor(executor: Executor, tasks: List[Task], attempt: str, take: Take) -> Tuple[List[Task], bool]:
+    """Audits tasks by an executor. What is left of them, and whether the executor can still be used."""
+    futures: "List[Tuple[Task, Future[List[List[Line]]]]]" = []
+    is_usable = True
     for task in tasks:
         try:
-            futures.append((task, executor.submit(audit_entries, task, attempt)))
-        except BrokenExecutor:
-            is_broken = True
+            futures.append((task, executor.submit(audit_entries, list(task.entries), attempt)))
+        except RuntimeError as why:
+            LOG.warning("the executor takes no more: %r", why)
+            is_usable = False
             break
+    left = tasks[len(futures):]
     for task, future in futures:
         try:
             made = future.result()
         except BrokenExecutor:
-            is_broken = True
+            # On which task its worker was lost isn't known.
+            is_usable = False
+            left.append(task)
         except (ImportError, MemoryError):
             raise
         except Exception as error:  # Each library has its own class for a worker that was lost.
             LOG.warning("the worker on %s was lost: %r", _named(task), error)
+            left.append(task.lost())
         else:
-            for entry, lines in zip(task, made):
-                found[entry] = lines
-                tell(entry, lines)
-    return is_broken
+            take(task, made)
+    return left, is_usable
 
 
-def _named(task: List[Entry]) -> str:
-    more = f" and {len(task) - 1} elections after it" if len(task) > 1 else ""
-    return f"{visible(task[0].name)}.pb{more}"
+def _named(task: Task) -> str:
+    more = f" and {len(task.entries) - 1} elections after it" if len(task.entries) > 1 else ""
+    return f"{visible(task.entries[0].name)}.pb{more}"
 
 
-def _alone(entries: List[Entry], workers: int, found: Found, tell: Tell) -> None:
-    """Audits each entry in a process of its own, so many at a time, so that the one that ends its process takes no
-    other along."""
-    with ThreadPoolExecutor(workers) as threads:
-        for entry, lines in zip(entries, threads.map(_in_a_process, entries)):
-            if lines is not None:
-                found[entry] = lines
-                tell(entry, lines)
+class _Pool:
+    """Processes that audit tasks, each one after the other, so that it is known on which task one was lost."""
 
+    def __init__(self, tasks: List[Task], take: Take):
+        self._tasks, self._take = tasks, take
+        self._waiting: "queue.Queue[Optional[Task]]" = queue.Queue()
+        self._done: "queue.Queue[Tuple[Task, List[List[Line]], Optional[Exception]]]" = queue.Queue()
 
-def _in_a_process(entry: Entry) -> Optional[List[Line]]:
-    words = [sys.executable, "-c", f"from {__name__} import answer; answer()"]
-    done = subprocess.run(words, input=json.dumps(asdict(entry)).encode(), stdout=subprocess.PIPE, check=False,
-                          env={**os.environ, "PYTHONPATH": os.pathsep.join(filter(None, sys.path))})
-    if done.returncode:
-        return None
-    return [Line(*fields) for fields in json.loads(done.stdout)]
+    def run(self, workers: int) -> None:
+        """Audits them in so many processes."""
+        helpers = [Helper() for _ in range(min(workers, len(self._tasks)))]
+        threads = [threading.Thread(target=self._work, args=(helper,), daemon=True) for helper in helpers]
+        for task in self._tasks:
+            self._waiting.put(task)
+        try:
+            for thread in threads:
+                thread.start()
+            left = len(self._tasks)
+            while left:
+                left += self._taken() - 1
+        finally:
+            for helper in helpers:
+                helper.stop()
+                self._waiting.put(None)
+            for thread in threads:
+                if thread.ident is not None:
+                    thread.join()
+
+    def _taken(self) -> int:
+        """Waits for a task, and takes what was found. Where its worker was lost, what is tried again of it waits: how
+        many tasks that is."""
+        task, made, error = self._done.get()
+        if error is None:
+            self._take(task, made)
+            return 0
+        if isinstance(error, (ImportError, MemoryError, OSError)):
+            raise error
+        LOG.warning("the worker on %s was lost: %r", _named(task), error)
+        parts = task.lost().parts()
+        for part in parts:
+            self._waiting.put(part)
+        return len(parts)
+
+    def _work(self, helper: Helper) -> None:
+        with helper:
+            for task in iter(self._waiting.get, None):
+                try:
+                    self._done.put((task, helper.call(audit_entries, list(task.entries), ""), None))
+                except Exception as error:  # Whatever it is, it is told where it is waited for.
+                    self._done.put((task, [], error))
 
 
 def report_on(entries: List[Entry], found: Found) -> FolderReport:
@@ -343,11 +409,3 @@ def results_of(entry: Entry, lines: Optional[List[Line]]) -> List[FileResult]:
         results.append(FileResult(entry.name, entry.name + each.ending, kind, found, each.condition, each.voter,
                                   each.project, each.line))
     return results
-
-
-def answer() -> None:
-    """Audits the entry that standard input states, in a process of its own."""
-    given = json.load(sys.stdin)
-    given.update(certificates=tuple(given["certificates"]), mode=Mode(**given["mode"]))
-    entry = Entry(**given)
-    json.dump(audit_entry(entry), sys.stdout)

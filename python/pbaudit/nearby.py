@@ -1,8 +1,7 @@
 """The check of prices near the given ones: where they are floats, or have denominators that no certificate has.
 
-A yes is the auditor's to exact prices that keep all conditions, as `price_certificate` makes them. A no is its answer
-to prices that are only rounded, and counts where the given ones fail at that place by more than rounding, or a solver's
-noise, can do.
+A yes is the auditor's to exact prices that keep all conditions, and that are off by no more than noise (noise.py). A no
+is its answer to prices that are only rounded, and counts where the given ones fail at that place by more than noise.
 """
 from dataclasses import dataclass, field
 from fractions import Fraction
@@ -11,11 +10,12 @@ from typing import Dict, List, Optional, Set, Tuple
 from ._auditor import Mode, Question
 from .amounts import MOST_DENOMINATOR, common_denominator
 from .auditing import Verdict, verdict, with_moved
-from .certificates import NOISE, certified, payable
-from .rounding import CannotKeep
+from .certificates import certified, payable, scale_of, scaled_election
+from .noise import NOISE, beyond_noise
+from .rounding import CannotKeep, LeftOut
 from .town import Town
 from .values import Payments, Projects, check_count
-from .writing import Payers, election_file, price_file
+from .writing import Payers, price_file
 
 # A condition, and the voter (from 1) and the place of the project where it fails, as far as it names them.
 Place = Tuple[str, Optional[int], Optional[int]]
@@ -25,117 +25,130 @@ def verdict_near(town: Town, projects: Projects, voter_budget: object, payments:
     """The verdict on prices near these. Raises CannotKeep where neither a yes nor a no is found."""
     check_count(len(town.ballots), len(payments.functions))
     budget = payable(voter_budget, "the voter budget")
-    election = election_file(projects, town.costs, town.limit, town.ballots, town.funded)
+    scale = scale_of(town, budget)
+    election = scaled_election(town, projects, scale)
     try:
         made = certified(town, projects, budget, payments, mode.stable, mode.exhaustive, is_near=True)
     except CannotKeep:
-        found = _plain_no(town, projects, budget, payments, mode, election)
-        if found is None:
+        # One below 0 is so by no more than noise.
+        rounded = _rounded(town, projects, max(budget, Fraction(0)), payments, scale)
+        found = verdict(Question("prices", election, rounded.file(projects), mode=mode))
+        if not rounded.is_plain_no(found, projects, mode.stable):
             raise
-        return found
-    return with_moved(verdict(Question("prices", election, made.file, mode=mode)), made.moved)
+        return with_moved(found, rounded.moved, rounded.certificate_budget - budget)
+    return with_moved(verdict(Question("prices", election, made.file, mode=mode)), made.moved, made.raised)
 
 
-def _noise(town: Town) -> Fraction:
-    return max(town.costs, default=Fraction(0)) * NOISE
-
-
-def _plain_no(town: Town, projects: Projects, budget: Fraction, payments: Payments, mode: Mode,
-              election: bytes) -> Optional[Verdict]:
-    """The auditor's no to the rounded payments, where the given ones fail plainly at that place; else None."""
-    rounded = _Rounded(town, budget)
+def _rounded(town: Town, projects: Projects, budget: Fraction, payments: Payments, scale: int) -> "_Rounded":
+    """The payments, each rounded by itself. Raises ValueError where one is below 0 by more than noise."""
+    rounded = _Rounded(town, budget, scale)
     for voter, function in enumerate(payments.functions, 1):
         what = f"voter {voter} pays for"
         places = projects.once(projects.places(function, what), what)
         rounded.add(voter, dict(zip(places, payments.own(voter, function))))
-    file = price_file(rounded.denominator, rounded.settled_budget(), projects, rounded.payers())
-    found = verdict(Question("prices", election, file, mode=mode))
-    place = None if found.project is None else projects.place[found.project]
-    if found or found.condition not in ("Feasible", "Exhaustive") and not rounded.is_plain(found, place, mode.stable):
-        return None
-    return with_moved(found, rounded.moved)
+    rounded.leave_noise_out()
+    return rounded
 
 
 @dataclass
 class _Rounded:
-    """Payments rounded to numerators over one fine denominator, each by itself. What is noise where nothing should be
-    is left out."""
+    """Payments rounded to numerators over one fine denominator, in a unit that is so many times smaller. What is noise
+    where nothing should be is left out."""
 
     town: Town
     budget: Fraction
+    scale: int
     denominator: int = field(init=False)
-    noise: int = field(init=False)
+    noise: Fraction = field(init=False)
     moved: Fraction = Fraction(0)
+    certificate_budget: Fraction = Fraction(0)
     paid: List[Dict[int, int]] = field(default_factory=list)
-    # Where payments stand that are more than noise, and should be none.
+    # Payments where nothing should be; and where those stand that are more than noise.
+    odd: List[LeftOut] = field(default_factory=list)
     misplaced: Set[Place] = field(default_factory=set)
-    # What each funded project is paid, and by how many, before it is paid for exactly.
+    # What each funded project is paid before it is paid for exactly, and what each voter spends.
     totals: Dict[int, int] = field(default_factory=dict)
-    counts: Dict[int, int] = field(default_factory=dict)
     spent: List[int] = field(default_factory=list)
 
     def __post_init__(self) -> None:
-        unit = common_denominator(self.town.costs)
-        self.denominator = MOST_DENOMINATOR // unit * unit
-        self.noise = int(_noise(self.town) * self.denominator) + 1
+        unit = common_denominator(cost * self.scale for cost in self.town.costs)
+        self.denominator = MOST_DENOMINATOR // unit * unit * self.scale
+        self.noise = self.budget * NOISE
 
     def add(self, voter: int, given: Dict[int, object]) -> None:
-        """Takes what a voter pays. Raises ValueError where a payment is below 0 by more than noise."""
+        """Takes what a voter pays."""
         ballot, mine = set(self.town.ballots[voter - 1]), {}
         for place, amount in given.items():
-            name = self.town.names[place]
-            exact = payable(amount, f"what voter {voter} pays for {name}")
+            exact = payable(amount, f"what voter {voter} pays for {self.town.names[place]}")
             numerator = exact.numerator * self.denominator // exact.denominator
-            if numerator < -self.noise:
-                raise ValueError(f"voter {voter} pays {exact} for {name}, and a certificate has no payments below 0")
-            is_placed = place in ballot and place in self.town.funded
-            if numerator <= (0 if is_placed else self.noise):
-                numerator = 0
-            elif place not in ballot:
-                self.misplaced.add(("C1", voter, place))
-            if numerator and place not in self.town.funded:
-                self.misplaced.add(("C4", None, place))
-            if numerator:
+            if exact > 0 and place in ballot and place in self.town.funded:
                 mine[place] = numerator
-                self.totals[place] = self.totals.get(place, 0) + numerator
-                self.counts[place] = self.counts.get(place, 0) + 1
-            self.moved = max(self.moved, abs(Fraction(numerator, self.denominator) - exact))
+                self.moved = max(self.moved, exact - Fraction(numerator, self.denominator))
+            elif exact:
+                condition = "C2" if exact < 0 else "C1" if place not in ballot else "C4"
+                self.odd.append(LeftOut(voter - 1, place, exact, condition))
         self.paid.append(mine)
-        self.spent.append(sum(mine.values()))
+
+    def leave_noise_out(self) -> None:
+        """Takes what is more than noise for payments, and leaves out the rest. Raises ValueError where more than noise
+        is below 0."""
+        beyond = set(beyond_noise(self.town, self.odd, self.noise))
+        for one in self.odd:
+            if one not in beyond:
+                self.moved = max(self.moved, abs(one.amount))
+                continue
+            if one.amount < 0:
+                raise ValueError(f"voter {one.voter + 1} pays {one.amount} for {self.town.names[one.project]}, and a "
+                                 "certificate has no payments below 0")
+            # No payment is rounded to none.
+            numerator = max(1, one.amount.numerator * self.denominator // one.amount.denominator)
+            self.paid[one.voter][one.project] = numerator
+            if one.condition == "C1":
+                self.misplaced.add(("C1", one.voter + 1, one.project))
+            if one.project not in self.town.funded:
+                self.misplaced.add(("C4", None, one.project))
+        for mine in self.paid:
+            self.spent.append(sum(mine.values()))
+            for place, numerator in mine.items():
+                self.totals[place] = self.totals.get(place, 0) + numerator
 
     def _missing(self, place: int) -> int:
         return int(self.town.costs[place] * self.denominator) - self.totals.get(place, 0)
 
     def _fails_by_much(self, place: int) -> bool:
-        """Whether a funded project isn't paid for, by more than rounding and noise of all payments for it."""
-        return abs(self._missing(place)) > (self.noise + 1) * max(1, self.counts.get(place, 0))
+        """Whether a funded project isn't paid for, by more than rounding and noise."""
+        noise = self.town.costs[place] * NOISE * self.denominator
+        return abs(self._missing(place)) > noise + len(self.town.slots[place])
 
     def _is_over(self, voter: int) -> bool:
-        """Whether a voter (from 1) spends more than the budget by more than rounding and noise."""
-        over = self.spent[voter - 1] - self.budget * self.denominator
-        return over > (self.noise + 1) * max(1, len(self.paid[voter - 1]))
+        """Whether a voter (from 1) spends more than the budget by more than noise."""
+        return self.spent[voter - 1] > (self.budget + self.noise) * self.denominator
 
-    def settled_budget(self) -> int:
-        """Pays for projects exactly where no more than noise is missing, and answers the budget by which nobody is over
-        it by noise alone."""
+    def file(self, projects: Projects) -> bytes:
+        """The certificate, in which projects are paid for exactly where no more than noise is missing, and the budget is
+        one by which nobody is over it by noise alone."""
         missing = {place: self._missing(place) for place in self.town.funded if not self._fails_by_much(place)}
+        totals, settled = dict(self.totals), []
         for mine in self.paid:
+            kept = dict(mine)
             for place, numerator in mine.items():
-                more = max(missing.get(place, 0), -numerator)
-                if more:
-                    mine[place] += more
-                    missing[place] -= more
-        budget = self.budget * self.denominator
-        return max([-(-budget.numerator // budget.denominator),
-                    *(sum(mine.values()) for voter, mine in enumerate(self.paid, 1) if not self._is_over(voter))])
+                # Each payment has its part of what is missing, and the last one the rest.
+                more = missing[place] * numerator // totals[place] if missing.get(place) and numerator else 0
+                kept[place] += more
+                missing[place] = missing.get(place, 0) - more
+                totals[place] -= numerator
+            settled.append(kept)
+        exact = self.budget * self.denominator
+        budget = max([-(-exact.numerator // exact.denominator),
+                      *(sum(kept.values()) for voter, kept in enumerate(settled, 1) if not self._is_over(voter))])
+        self.certificate_budget = Fraction(budget, self.denominator)
+        return price_file(self.denominator // self.scale, budget, projects, _payers(settled))
 
-    def payers(self) -> Payers:
-        """The payments as a certificate has them."""
-        for voter, mine in enumerate(self.paid, 1):
-            yield [voter] * len(mine), list(mine), list(mine.values())
-
-    def is_plain(self, found: Verdict, place: Optional[int], stable: bool) -> bool:
-        """Whether the given prices fail by more than noise where the auditor found that the rounded ones do."""
+    def is_plain_no(self, found: Verdict, projects: Projects, stable: bool) -> bool:
+        """Whether the auditor found that the rounded prices fail where the given ones do by more than noise."""
+        place = None if found.project is None else projects.place[found.project]
+        if found or found.condition in ("Feasible", "Exhaustive"):
+            return not found
         if found.condition == "C2":
             return found.voter is not None and self._is_over(found.voter)
         assert place is not None, "all other conditions name a project"
@@ -154,5 +167,11 @@ class _Rounded:
             if stable:
                 offer = max(offer, Fraction(max(self.paid[voter].values(), default=0)))
             total += offer
-        payments = sum(len(self.paid[voter]) + 1 for voter in supporters)
-        return total > self.town.costs[place] * self.denominator + (self.noise + 1) * payments
+        payments = sum(len(self.paid[voter]) for voter in supporters)
+        return total > self.town.costs[place] * (1 + NOISE) * self.denominator + payments
+
+
+def _payers(paid: List[Dict[int, int]]) -> Payers:
+    """The payments of voters as a certificate has them."""
+    for voter, mine in enumerate(paid, 1):
+        yield [voter] * len(mine), list(mine), list(mine.values())

@@ -26,7 +26,7 @@ TOO_MANY = ("the amounts have too large a common denominator for a certificate (
 
 def validate_price_system(instance: AnyInstance, profile: Profile, budget_allocation: Iterable[AnyProject],
                           voter_budget: NearAmount, payment_functions: Iterable[NearPaymentFunction],
-                          stable: bool = False, exhaustive: bool = True, *, relaxation: None = None,
+                          stable: bool = False, exhaustive: bool = True, relaxation: None = None, *,
                           verbose: bool = False, near: bool = False) -> Verdict:
     """Whether the payments support the budget allocation: a Verdict, which is true or false, and names what fails
     first.
@@ -41,10 +41,17 @@ def validate_price_system(instance: AnyInstance, profile: Profile, budget_alloca
 
     Amounts whose common denominator is too large for a certificate get a no where that is seen without their size:
     Feasible, Exhaustive, C1, C3 of a project that nobody pays for, and C4, of which the last two need not be the first
-    that fail. Else they are TooManyDenominators, a ValueError. With `near` such amounts, and floats, are answered by
-    exact prices near them: yes where such prices keep all conditions, and no where the given ones fail by more than a
-    millionth of the largest cost for each payment, as a solver may be off; what lies between is a CannotKeep, which is
-    no answer. `moved` of the verdict is how far a payment moved.
+    that fail. Else they are TooManyDenominators, a ValueError.
+
+    With `near` such amounts, and floats, are answered by exact prices near them. Noise is a millionth: of the voter
+    budget for each voter, and of its cost for each project. It is yes where prices keep all conditions that are off by
+    no more: all payments of one voter together, all payments for one project together, and the voter budget. What is
+    below 0, or paid for an unfunded project, may be left out so, and what a voter pays for a project that it doesn't
+    approve never is. It is no where the given prices fail by more than that: a voter spends more than the budget and
+    a millionth of it (C2); what is paid for a project is off by more than a millionth of its cost (C3), or the
+    supporters of an unfunded project have left, or can offer, more than its cost and a millionth of it (C5 and S5); or
+    more than noise is paid where nothing should be (C1 and C4). What lies between is a CannotKeep, which is no answer.
+    `moved` of the verdict is how far a payment moved, and `raised` how far the voter budget.
 
     `relaxation` is there for callers of pabutools, and has to be None: relaxed forms aren't audited, so another is a
     ValueError. `verbose` prints what each condition comes to, as `explain` of the verdict has it.

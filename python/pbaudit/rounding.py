@@ -12,6 +12,7 @@ from functools import lru_cache, partial
 from typing import Any, Callable, Dict, Iterable, List, Optional, Sequence, Tuple, Union
 
 from .amounts import ratio, ratio_of_float
+from .shown import visible
 from .town import Town
 
 
@@ -31,7 +32,7 @@ class CannotKeep(ValueError):
         self.condition, self.voter, self.project = condition, voter, project
 
     def __str__(self) -> str:
-        return f"{self.args[0]}: {self.args[1]}"
+        return f"{self.args[0]}: {visible(self.args[1])}"
 
 
 # Many numbers. Where they are small an array has them, which takes a fourth of the memory.
@@ -39,17 +40,31 @@ Numbers = Union[List[int], "array[int]"]
 SMALL = 2**62
 
 
+@dataclass(frozen=True)
+class LeftOut:
+    """A payment that was left out, since it is below 0, or for a project that isn't funded: the voter, the project, the
+    amount, and the condition that it breaks where it is more than noise."""
+
+    voter: int
+    project: int
+    amount: Fraction
+    condition: str
+
+
 @dataclass
 class Given:
-    """Payments as they were given, by slot, 0 where there is none, and as floats; the voter budget; the noise of a
-    solver; whether all payments were given as floats; and the most of a payment that was left out as noise."""
+    """Payments as they were given, by slot, 0 where there is none, and as floats; the voter budget, how much of it may
+    be noise, and by how much it was given below 0; whether all payments were given as floats, or all that was given is
+    exact; and the payments that were left out."""
 
     amounts: Sequence[Any]
     floats: "array[float]"
     budget: Fraction
     noise: Fraction
+    below: Fraction = Fraction(0)
     is_float: bool = False
-    dropped: Fraction = Fraction(0)
+    is_exact: bool = False
+    left_out: Sequence[LeftOut] = ()
 
 
 @dataclass
@@ -74,7 +89,7 @@ class Rounding:
 
     def __init__(self, town: Town, given: Given, denominator: int, stable: bool, keeps_budget: bool = False):
         self.town, self.given, self.denominator, self.stable = town, given, denominator, stable
-        self._keeps_budget = keeps_budget
+        self.keeps_budget = keeps_budget
         self.budget = 0
         self.paid: Numbers = []
         self.spent: Numbers = []
@@ -89,7 +104,7 @@ class Rounding:
         repairs, payments are moved among supporters where C5 or S5 fails."""
         low, noise = self._floor(self.given.budget), self._floor(self.given.noise)
         failed: Optional[CannotKeep] = None
-        for budget in dict.fromkeys((low, low + 1, low + 2, low - 1, low - 2, low + 1 + noise, low - noise)):
+        for budget in dict.fromkeys((low, low + 1, low + 2, low - 1, low - 2, low + noise, low - noise)):
             if budget < 0:
                 continue
             try:
@@ -106,7 +121,7 @@ class Rounding:
         self._share_costs(budget)
         if self._failing():
             # A lower budget breaks nothing that a higher one keeps.
-            if not self._keeps_budget:
+            if not self.keeps_budget:
                 self.budget = max(self.spent, default=0)
             if repairs:
                 self._shift_payments()

@@ -10,6 +10,8 @@ _HIDDEN = ("Cc", "Cf", "Cs", "Co", "Cn", "Zl", "Zp", "Zs")
 _EMPTY = ((0x034F, 0x034F), (0x115F, 0x1160), (0x17B4, 0x17B5), (0x180B, 0x180F), (0x2800, 0x2800), (0x3164, 0x3164),
           (0xFE00, 0xFE0F), (0xFFA0, 0xFFA0), (0xFFFC, 0xFFFC), (0x16FE4, 0x16FE4), (0x1D159, 0x1D159), (0x1D173, 0x1D17A),
           (0xE0000, 0xE0FFF))
+# What has a name of its own.
+_SHORT = {"\n": "\\n", "\t": "\\t", "\r": "\\r"}
 
 
 def shown(name: str) -> str:
@@ -18,8 +20,12 @@ def shown(name: str) -> str:
 
 
 def visible(text: str) -> str:
-    """A text with the hidden letters in a visible form, as `a\\u{202e}b`."""
-    return "".join(f"\\u{{{ord(letter):x}}}" if is_hidden(letter) else letter for letter in text)
+    """A text with the hidden letters in a visible form, as `a\\u{202e}b`, which is that of the program."""
+    return "".join(_form(letter) if is_hidden(letter) else letter for letter in text)
+
+
+def _form(letter: str) -> str:
+    return _SHORT.get(letter) or f"\\u{{{ord(letter):x}}}"
 
 
 def is_hidden(letter: str) -> bool:

@@ -436,17 +436,18 @@ def check_count(ballots: int, functions: int) -> None:
 
 def funded_of(budget_allocation: Iterable[AnyProject], projects: Projects) -> List[int]:
     """The places of the funded projects."""
-    funded = listed(budget_allocation, "the budget allocation is", PROJECTS)
+    funded = listed(budget_allocation, "the budget allocation is", PROJECTS, AnyMapping)
     return projects.once(projects.places(list(funded), "the outcome names"), "the outcome names")
 
 
 def ids_of(projects: Iterable[AnyProject], what: str, names: str) -> List[str]:
     """The ids of projects, none of them twice. Errors tell what they are, or what names one that isn't right."""
-    return once([id_of(project, names) for project in listed(projects, what, PROJECTS)], names)
+    return once([id_of(project, names) for project in listed(projects, what, PROJECTS, AnyMapping)], names)
 
 
 def listed(values: Any, what: str, wanted: str, *unwanted: type) -> Iterable[Any]:
-    """Values that are an iterable. A text isn't what is wanted, since it would be taken letter by letter."""
+    """Values that are an iterable. A text isn't what is wanted, since it would be taken letter by letter, nor are others
+    of which only a part would be taken, as the keys of a mapping."""
     if isinstance(values, (str, bytes, *unwanted)) or not hasattr(values, "__iter__"):
         raise TypeError(f"{what} {reprlib.repr(values)}, not a list of {wanted}")
     return values  # type: ignore[no-any-return]
@@ -466,7 +467,7 @@ def id_of(project: AnyProject, names: str = "the instance has") -> str:
     """The id of a project, which is its name or itself. A TypeError says what names it."""
     if isinstance(project, str):
         return _checked_id(project)
-    if not hasattr(project, "name"):
+    if getattr(project, "name", None) is None:
         raise TypeError(f"{names} {reprlib.repr(project)}, which isn't a project: one has a name, or is given by its "
                         "id, a str")
     return _checked_id(str(project.name))

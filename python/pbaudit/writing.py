@@ -95,7 +95,7 @@ def write_violation(voters: Iterable[int], projects: Iterable[AnyProject],
     head = [["pb-violation", "1"]] if satisfaction is None else [["pb-violation", "2"], ["satisfaction", satisfaction]]
     ids = ids_of(projects, "the demand is", "the demand names")
     group = [_whole(voter, f"the group names voter {voter!r}, which")
-             for voter in listed(voters, "the group is", "numbers of voters")]
+             for voter in listed(voters, "the group is", "numbers of voters", AnyMapping)]
     for voter in once(group, "the group names voter"):
         if not 1 <= voter <= MOST_VOTERS:
             raise ValueError(f"the group names voter {voter}, and voters are numbered from 1 to {MOST_VOTERS}")

@@ -107,7 +107,7 @@ def odd_cases(seed):
     ballots = [range(len(costs)) if voter < group else [0, 1] + chance.sample(range(2, len(costs)), 1)
                for voter in range(10)]
     ballots = [[at for at in ballot if at != 1] if voter < group else ballot for voter, ballot in enumerate(ballots)]
-    yield Case(f"passed over {seed}", costs, 20, ballots, [0, 1])
+    yield Case(f"enough {seed}", costs, 20, ballots, [0, 1])
 
 
 def best_margin(case, stable=False, covered=True):

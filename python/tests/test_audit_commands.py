@@ -58,6 +58,32 @@ class Commands(unittest.TestCase):
                         self.assertEqual(done.stderr, wanted.stderr)
         self.assertGreater(len(lines()), 40)
 
+    def test_names_are_shown_as_by_the_program(self):
+        """What can't be seen, or moves what stands beside it, is told by its number, by commands of the package too."""
+        name = "a\x1b[31m\u202e\nb\u3164"
+        shown_name = "a\\u{1b}[31m\\u{202e}\\nb\\u{3164}"
+        with tempfile.TemporaryDirectory() as room:
+            shutil.copytree(pathlib.Path(pbaudit.__file__).parent, f"{room}/pbaudit")
+            shutil.copy(_places.library(), f"{room}/pbaudit/libpbaudit.so")
+            given = {"PATH": "/usr/bin:/bin", "PYTHONPATH": room, "PYTHONDONTWRITEBYTECODE": "1"}
+            shutil.copy(EXAMPLES / "sample.prices.csv", f"{room}/{name}")
+            shutil.copy(EXAMPLES / "sample.pb", f"{room}/good{name}")
+            for words in (["read", name], ["prices", name, name], ["read", f"no {name}"], ["folder", f"no {name}"],
+                          ["page", name, name, "-o", "x"], ["equal-shares", name], ["equal-shares", f"no {name}"],
+                          ["equal-shares", f"good{name}", "-o", f"good{name}"], ["find", name], ["read", name, name],
+                          ["find", f"good{name}", "--prices", "--output", f"no/{name}/x"],
+                          ["equal-shares", f"good{name}", "-o", f"no/{name}"]):
+                with self.subTest(words=words):
+                    done = subprocess.run([sys.executable, "-m", "pbaudit", *words], cwd=room, capture_output=True,
+                                          check=False, env=given)
+                    told = (done.stdout + done.stderr).decode()
+                    self.assertIn(shown_name, told)
+                    self.assertFalse(set("\x1b\u202e\u3164") & set(told), told)
+                    self.assertNotIn("\nb", told)
+                    if words[0] in ("read", "prices", "folder") and len(words) < 4 and words != ["read", name, name]:
+                        wanted = subprocess.run([PROGRAM, *words], cwd=room, capture_output=True, check=False)
+                        self.assertEqual((done.stdout, done.stderr), (wanted.stdout, wanted.stderr))
+
     def test_the_program_runs_them(self):
         with mock.patch.object(audit_commands, "program", lambda: pathlib.Path("/a/pbaudit")), \
                 mock.patch.object(os, "execv", side_effect=KeyboardInterrupt) as called:

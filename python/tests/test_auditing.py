@@ -1,6 +1,7 @@
 """The audits of files, by the library and by the program."""
 import ctypes
 import errno
+import inspect
 import os
 import pathlib
 import pickle
@@ -60,31 +61,59 @@ class Answers(unittest.TestCase):
         self.assertLess({_auditor.Facts("violation", 21, 1), _auditor.Facts(test=_auditor.Culprit("V4", 9)),
                          _auditor.Facts(condition=_auditor.Culprit("S5", project=2))}, told)
 
-    def test_a_yes_that_says_little(self):
+    def test_what_a_yes_says_of_groups(self):
+        """The budgets of the school come to less than the limit, and those of the district to more."""
         school = [EXAMPLES / f"school.{end}" for end in ("pb", "prices.csv", "violation.csv")]
         district = [EXAMPLES / f"district.{end}" for end in ("pb", "prices.csv")]
         for auditor in (_auditor._find(), _auditor._Program(str(PROGRAM))):
             with self.subTest(auditor=auditor), mock.patch.object(_auditor, "_found", auditor):
-                self.assertTrue(pbaudit.audit_prices(*school[:2], exhaustive=False).says_little)
-                self.assertEqual([self.of_groups(*files, exhaustive=False) for files in (school[:2], district)],
-                                 [False, True])
-                self.assertFalse(self.of_groups(*school[:2]), "a no")
-                self.assertFalse(pbaudit.audit_violation(school[0], school[2]).no_group_passed_over)
-                self.assertFalse(pbaudit.audit_prices(*school[:2]).says_little, "a no")
-                self.assertFalse(pbaudit.audit_prices(*district).says_little)
-                of_prices, of_violation = pbaudit.audit_both(*school, exhaustive=False)
-                self.assertEqual((of_prices.says_little, of_violation.says_little), (True, False))
-                self.assertTrue(pbaudit.explain(*school[:2], exhaustive=False).verdict.says_little)
-        bench, voters = pbaudit.Project("bench", 1), [{"bench"}] * 3
-        for budget, limit, little in ((Fraction(1, 3), 1, False), (Fraction(1, 3), 2, True), (Fraction(2, 3), 2, False)):
-            verdict = pbaudit.validate_price_system(
-                pbaudit.Instance([bench], limit), voters, ["bench"], budget, [{"bench": Fraction(1, 3)}] * 3)
-            self.assertEqual((bool(verdict), verdict.says_little), (True, little), (budget, limit))
-            self.assertEqual(verdict.no_group_passed_over, not little)
+                self.assertEqual(self.of_groups(*school[:2], exhaustive=False), (True, "little", True))
+                self.assertEqual(self.of_groups(*district, exhaustive=False), (True, "strict", False))
+                self.assertEqual(self.of_groups(*district), (True, "strict", False))
+                self.assertEqual(self.of_groups(*school[:2]), (False, None, False))
+                of_group = pbaudit.audit_violation(school[0], school[2])
+                self.assertEqual((bool(of_group), of_group.says_of_groups, of_group.says_little), (True, None, False))
+                both = pbaudit.audit_both(*school, exhaustive=False)
+                self.assertEqual([each.says_of_groups for each in both], ["little", None])
+                self.assertEqual(pbaudit.explain(*school[:2], exhaustive=False).verdict.says_of_groups, "little")
+
+    def test_what_a_yes_says_of_groups_at_the_limit(self):
+        """Three voters with budgets of 1 each, and limits beside 3; the bench that they pay for is all there is."""
+        bench, voters = pbaudit.Project("bench", 3), [{"bench"}] * 3
+        millionth = Fraction(1, 10**6)
+        for auditor in (_auditor._find(), _auditor._Program(str(PROGRAM))):
+            for limit, exhaustive, wanted in (
+                (3, False, "weak"), (3, True, "strict"), (3 + millionth, False, "little"), (3 + millionth, True, "little"),
+            ):
+                with self.subTest(limit=limit, exhaustive=exhaustive), mock.patch.object(_auditor, "_found", auditor):
+                    verdict = pbaudit.validate_price_system(
+                        pbaudit.Instance([bench], limit), voters, ["bench"], 1, [{"bench": 1}] * 3, exhaustive=exhaustive)
+                    self.assertEqual((bool(verdict), verdict.says_of_groups), (True, wanted))
+            for exhaustive in (False, True):
+                with self.subTest(exhaustive=exhaustive), mock.patch.object(_auditor, "_found", auditor):
+                    verdict = pbaudit.validate_price_system(
+                        pbaudit.Instance([bench], 3), voters, ["bench"], 1 + millionth, [{"bench": 1}] * 3,
+                        exhaustive=exhaustive)
+                    self.assertEqual((bool(verdict), verdict.says_of_groups), (True, "strict"))
 
     @staticmethod
     def of_groups(*files, **switches):
-        return pbaudit.audit_prices(*files, **switches).no_group_passed_over
+        verdict = pbaudit.audit_prices(*files, **switches)
+        return bool(verdict), verdict.says_of_groups, verdict.says_little
+
+    def test_an_older_program_tells_nothing_of_groups(self):
+        text = b"supported priceable\n\nC1          holds      x\n\nno group: y\n"
+        program = _auditor._Program("pbaudit")
+        with mock.patch.object(program, "_answer", lambda question: (0, text, b"", "")):
+            with self.assertRaisesRegex(RuntimeError, "older"):
+                program.says_of_groups(_auditor.Question("prices", b"", b""))
+
+    def test_a_library_that_runs_out_of_memory_or_refuses(self):
+        library = object.__new__(_auditor._Library)
+        for number, error in ((4, MemoryError), (0, RuntimeError)):
+            library._groups = lambda *words, number=number: number
+            with self.assertRaises(error):
+                library.says_of_groups(_auditor.Question("prices", b"", b""))
 
     def test_library_is_asked_once(self):
         """Answers of tidy and margins are about as long as the files."""
@@ -149,6 +178,8 @@ class Audits(unittest.TestCase):
         sample = (EXAMPLES / "sample.pb").read_bytes().replace(b"selected", b"chosen")
         summary = pbaudit.read(sample.replace(b"num_votes;3", b"num_votes;4"))
         self.assertEqual((summary.funded, summary.notes), (None, ("num_votes says 4, counted 3",)))
+        summary = pbaudit.read((EXAMPLES / "sample.pb").read_bytes().replace(b"voter_id;vote", b"SIGN;vote;weight"))
+        self.assertEqual(summary.notes, ("column weight of VOTES is not used", "column sign of VOTES is not used"))
 
     def test_paths_and_bytes(self):
         for file in (str(EXAMPLES / "sample.pb"), EXAMPLES / "sample.pb", (EXAMPLES / "sample.pb").read_bytes(),
@@ -240,12 +271,13 @@ class Audits(unittest.TestCase):
 
     def test_what_is_explained_of_groups(self):
         """Behind the table of a yes, and apart from it."""
-        text = b"supported priceable\n\nC1          holds      x\n\nno group is passed over: y\nnearest to that comes z\n"
-        library = mock.Mock(ask=lambda question: _auditor.Answer(0, text), says_little=lambda question: False)
+        text = b"supported priceable\n\nC1          holds      x\n\ntake any voters: y\nnearest to that comes z\n"
+        library = mock.Mock(ask=lambda question: _auditor.Answer(0, text), says_of_groups=lambda question: "weak")
         with mock.patch.object(_auditor, "_found", library):
             told = pbaudit.explain(b"", b"")
         self.assertEqual([(found.name, found.state, found.sentence) for found in told.findings], [("C1", "holds", "x")])
-        self.assertEqual(told.groups, ("no group is passed over: y", "nearest to that comes z"))
+        self.assertEqual(told.groups, ("take any voters: y", "nearest to that comes z"))
+        self.assertEqual(told.verdict.says_of_groups, "weak")
         self.assertEqual(str(told), text.decode())
 
     def test_tidy(self):
@@ -374,10 +406,41 @@ class Audits(unittest.TestCase):
             self.assertLess(len(str(caught.exception)), 250)
 
     def test_switches_are_true_or_false(self):
-        for name in ("stable", "exhaustive", "cover"):
-            for value in ("no", 0, 1, None):
-                with self.assertRaisesRegex(TypeError, f"^{name} is {value!r}, not True or False$"):
-                    pbaudit.audit_prices(EXAMPLES / "sample.pb", EXAMPLES / "sample.prices.csv", **{name: value})
+        """In each function that has some: another value would be guessed."""
+        files = EXAMPLES / "sample.pb", EXAMPLES / "sample.prices.csv"
+        town = pbaudit.Instance([pbaudit.Project("a", 1)], 1)
+        values = town, [["a"]], ["a"], 1, [{"a": 1}]
+        with tempfile.TemporaryDirectory() as room:
+            given = {
+                pbaudit.audit_prices: files, pbaudit.explain: files, pbaudit.page: files, pbaudit.write_page: files,
+                pbaudit.audit_both: (*files, files[1]), pbaudit.audit_folder: (room,),
+                pbaudit.write_folder_pages: (room, room), pbaudit.validate_price_system: values,
+                pbaudit.price_certificate: values, pbaudit.find: files[:1], pbaudit.find_folder: (room,),
+            }
+            told = set()
+            for function, words in given.items():
+                for name, parameter in inspect.signature(function).parameters.items():
+                    if isinstance(parameter.default, bool):
+                        told.add(name)
+                        for value in ("no", "true", 0, 1, 1.0, None, [], {}):
+                            with self.subTest(function=function.__name__, name=name, value=value):
+                                with self.assertRaises(TypeError) as caught:
+                                    function(*words, **{name: value})
+                                self.assertEqual(str(caught.exception), f"{name} is {value!r}, not True or False")
+            self.assertEqual(os.listdir(room), [])
+        self.assertEqual(told, {"stable", "exhaustive", "cover", "near", "verbose", "prices", "refutation", "violation",
+                                "replace"})
+        others = {name for name in pbaudit.__all__ if inspect.isfunction(getattr(pbaudit, name))} - {
+            function.__name__ for function in given}
+        for name in others:
+            defaults = [each.default for each in inspect.signature(getattr(pbaudit, name)).parameters.values()]
+            self.assertFalse([value for value in defaults if isinstance(value, bool)], name)
+
+    def test_a_language_that_there_is_not(self):
+        for language in ("DE", "de-AT", "xx", "", None, True, 1, ["de"]):
+            for function in (pbaudit.page, pbaudit.write_page):
+                with self.assertRaisesRegex(ValueError, "^the language is .*, not one of en, pl, de, fr$"):
+                    function(EXAMPLES / "sample.pb", EXAMPLES / "sample.prices.csv", language=language)
 
     def test_too_long(self):
         with tempfile.TemporaryDirectory() as room:

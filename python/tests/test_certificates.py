@@ -149,6 +149,46 @@ class Roundings(unittest.TestCase):
                 self.assertEqual((why.condition, why.voter, why.project), (condition, voter, project))
                 self.assertTrue(str(why).startswith(f"{condition}: "))
 
+    def test_exact_prices_are_not_repaired(self):
+        """What fails by however little fails, and a budget isn't lowered; floats may be off by a solver's noise."""
+        little = Fraction(1, 10**12)
+        for condition, budget, payments in (
+            ("C2", 4 - little, [{A: 2, B: 2}, {A: 4}, {B: 2}]),
+            ("C3", 4, [{A: 2 - little, B: 2}, {A: 4}, {B: 2}]),
+            ("C3", 4, [{A: 2, B: 2}, {A: 4}, {B: 2 - Fraction(1, 10**7)}]),
+            ("C4", 4, [{A: 2, B: 2}, {A: 4}, {B: 2, C: little}]),
+            ("C1", 4, [{A: 2, B: 2}, {A: 4, B: little}, {B: 2}]),
+            ("C2", 4, [{A: 2, B: 2}, {A: 4, B: -little}, {B: 2}]),
+            ("C5", 11 + little, [{A: 2, B: 2}, {A: 4}, {B: 2}]),
+            ("C5", 99, [{A: 2, B: 2}, {A: 4}, {B: 2}]),
+        ):
+            with self.subTest(condition=condition, budget=budget), self.assertRaises(CannotKeep) as caught:
+                price_certificate(SAMPLE, PROFILE, [A, B], budget, payments)
+            self.assertEqual(caught.exception.condition, condition)
+            floats = [{name: float(amount) for name, amount in mine.items()} for mine in payments]
+            if condition != "C1":
+                price_certificate(SAMPLE, PROFILE, [A, B], float(budget), floats)
+        made = price_certificate(SAMPLE, PROFILE, [A, B], 11, [{A: 2, B: 2}, {A: 4}, {B: 2}])
+        self.assertEqual((made.voter_budget, made.moved, made.raised), (11, 0, 0))
+
+    def test_stable_prices_exactly(self):
+        """The one voter can offer the 6 that it pays, for what costs a little less, or as much."""
+        for cost, holds in ((Fraction("5.999999"), False), (6, True)):
+            words = Instance([A, Project("z", cost)], 10), [{"a", "z"}], ["a"], 6, [{"a": 6}], True
+            if holds:
+                self.assertEqual(price_certificate(*words).raised, 0)
+                continue
+            with self.assertRaisesRegex(CannotKeep, "^S5: the supporters of z can offer 6 together, and it costs 5.99"):
+                price_certificate(*words)
+
+    def test_names_in_what_cannot_be_kept(self):
+        """They are told as they can be seen, and are what they are."""
+        name = "a\u202eb\u3164"
+        with self.assertRaises(CannotKeep) as caught:
+            price_certificate(Instance([Project(name, 6)], 6), [[name]], [name], 6, [{name: 5}])
+        self.assertEqual(str(caught.exception), "C3: 5 is paid for a\\u{202e}b\\u{3164}, which costs 6")
+        self.assertEqual(caught.exception.project, name)
+
     def test_amounts_that_are_none(self):
         for amount in (float("nan"), float("inf")):
             with self.assertRaises(ValueError):

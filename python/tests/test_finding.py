@@ -86,6 +86,46 @@ class Invented(unittest.TestCase):
             if margin is not None and abs(margin) > SPARE:
                 self.assertEqual(is_found, margin > 0, margin)
 
+    def test_what_is_found_is_asked_with_cover(self):
+        """The one budget that there is has Cover."""
+        town = Case("cover", [10, 10], 15, [[0], [1]], [0])
+        for cover in (False, True):
+            found = pbaudit.find(town.file(), cover=cover, violation=False)
+            self.assertTrue(found.prices.cover)
+            self.assertIn("The voter budgets together are more than the limit.", found.sentences[0])
+            self.assertTrue(pbaudit.audit_prices(town.file(), found.prices.file, cover=True))
+
+    def test_cover_is_the_auditors(self):
+        """However prices were found, it is what the auditor says of them."""
+        for case in (case for seed in range(FEWER // 4) for case in cases(seed, ((10, 5), (20, 10)))):
+            def budgets(problem, shares, need):
+                return iter(() if need.cover else (None, problem.town.limit / len(problem.town.ballots)))
+            with mock.patch("pbaudit.finding.prices._voter_budgets", budgets):
+                found = pbaudit.find(case.file(), violation=False).prices
+            if found:
+                self.assertEqual(found.cover, bool(pbaudit.audit_prices(
+                    case.file(), found.file, cover=True, exhaustive=found.exhaustive)), case.name)
+
+    def test_arguments_that_are_none(self):
+        town = Case("none", [1], 1, [[0]], [0]).file()
+        for name in ("stable", "cover", "prices", "refutation", "violation"):
+            for value in ("no", "true", 0, 1, None):
+                with self.assertRaisesRegex(TypeError, f"^{name} is {value!r}, not True or False$"):
+                    pbaudit.find(town, **{name: value})
+                with self.assertRaisesRegex(TypeError, f"^{name} is {value!r}, not True or False$"):
+                    pbaudit.find_folder(".", **{name: value})
+        with self.assertRaisesRegex(TypeError, "^replace is 'no', not True or False$"):
+            pbaudit.find_folder(".", replace="no")
+        for call in (pbaudit.find, pbaudit.find_folder):
+            for value, error in (("60", TypeError), (None, TypeError), (True, TypeError), (-1, ValueError),
+                                 (float("nan"), ValueError)):
+                with self.assertRaisesRegex(error, "^seconds is "):
+                    call(town if call is pbaudit.find else ".", seconds=value)
+            with self.assertRaisesRegex(TypeError, "^on_progress is 1, which can't be called$"):
+                call(town if call is pbaudit.find else ".", on_progress=1)
+        with self.assertRaisesRegex(TypeError, "^the path of the folder is b'x', not a str$"):
+            pbaudit.find_folder(b"x")
+
     def test_a_thousand_voters(self):
         """Prices or a refutation, and never both."""
         refuted = 0

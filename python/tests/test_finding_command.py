@@ -18,13 +18,15 @@ import tempfile
 import time
 import unittest
 from concurrent.futures import Future, ProcessPoolExecutor, ThreadPoolExecutor
+from fractions import Fraction
 from multiprocessing import get_context
 from unittest import mock
 
 import pbaudit
 from finding_cases import Case, cases
+from pbaudit import helpers, shown
 from pbaudit._auditor import Mode
-from pbaudit.finding import command, helpers, telling, writing
+from pbaudit.finding import command, telling, writing
 from pbaudit.finding.results import Wanted
 from pbaudit.folders import entries_of
 from test_documents import block, put_on_the_path, without_pbaudit
@@ -37,8 +39,8 @@ folders = importlib.import_module("pbaudit.finding.folders") if importlib.util.f
 HAS_SCIPY = unittest.skipUnless(folders, "scipy isn't installed")
 # Half of the voters can just pay for what is funded, and the others could just pay for what isn't.
 TIE = Case("tie", [5, 5], 10, [[0]] * 5 + [[1]] * 5, [1])
-# A group is passed over, so that there are no prices.
-PASSED_OVER = Case("passed over", [4, 5], 10, [[0]] * 5 + [[1]] * 5, [1])
+# The share of a group is enough for what it wants, so that there are no prices.
+ENOUGH = Case("enough", [4, 5], 10, [[0]] * 5 + [[1]] * 5, [1])
 # Prices by the first sight, and no violation; and too many demands to try.
 ENDLESS = Case("endless", [1] * 60, 50, [[(7 * voter + at) % 60 for at in range(30)] for voter in range(60)], range(50))
 
@@ -148,7 +150,7 @@ class Found(Commands):
 
     def test_a_refutation(self):
         """Of all prices, and where these are asked for, of those with Cover."""
-        for case, words, line in ((PASSED_OVER, [], "unpriceable"), (PASSED_OVER, ["--cover"], "unpriceable"),
+        for case, words, line in ((ENOUGH, [], "unpriceable"), (ENOUGH, ["--cover"], "unpriceable"),
                                   (TIE, ["--cover"], "unpriceable cover")):
             town = self.put("town.pb", case)
             done = self.run_find(town, *words, "--output", "out")
@@ -189,7 +191,7 @@ class Found(Commands):
         self.assertEqual(list(self.files()), ["stdin.prices.csv"])
 
     def test_nothing_found(self):
-        done = self.run_find(self.put("town.pb", PASSED_OVER), "--prices", status=1)
+        done = self.run_find(self.put("town.pb", ENOUGH), "--prices", status=1)
         self.assertIn("No prices were found: ", done.stdout)
         self.assertEqual(list(self.files()), ["town.pb"])
 
@@ -209,6 +211,23 @@ class Found(Commands):
         self.assertTrue(self.files()["town.violation.csv"].startswith(b"pb-violation,2\n"))
         os.symlink("elsewhere", self.room / "out.pb.prices.csv")
         self.run_find(self.put("out.pb.pb", TIE), status=3)
+
+    def test_what_no_longer_belongs(self):
+        """Beside what is found it is named, and removed where files are replaced; but not where the outcome isn't the
+        election's own."""
+        town = self.put("town.pb", ENOUGH)
+        prices = self.put("town.prices.csv", pbaudit.find(TIE.file(), violation=False).prices.file)
+        done = self.run_find(town, "--refutation")
+        self.assertIn(f"{prices} doesn't belong to this outcome: failed ", done.stdout)
+        outcome = self.put("outcome.csv", pbaudit.write_outcome(["p1"]))
+        done = self.run_find(town, "--outcome", outcome, "--replace")
+        self.assertIn(f"{prices} doesn't belong to this outcome: failed ", done.stdout)
+        self.assertIn("town.prices.csv", self.files())
+        done = self.run_find(town, "--replace")
+        self.assertIn(f"{prices} doesn't belong to this outcome, and was removed: failed ", done.stdout)
+        self.assertNotIn("town.prices.csv", self.files())
+        done = self.run_find(town, "--violation", "--replace")
+        self.assertIn("town.refutation.csv was there before: unpriceable", done.stdout)
 
     def test_a_file_that_comes_meanwhile(self):
         path = self.put("town.prices.csv", b"theirs")
@@ -396,10 +415,13 @@ class Helpers(unittest.TestCase):
 
 
 class Telling(unittest.TestCase):
-    def test_what_is_shown(self):
-        for text, wanted in (("Zażółć 'x'", "Zażółć 'x'"), ("a\x1b[31m\n\x9b", "a\\x1b[31m\\n\\x9b"),
-                             ("\u202e\u2028", "\\u202e\\u2028"), ("\udcff", "\\udcff")):
-            self.assertEqual(telling.shown(text), wanted)
+    def test_words_for_a_shell(self):
+        """bash takes each for what it is, and no letter is hidden."""
+        for word in ("Za\u017c\u00f3\u0142\u0107 'x'", "a\x1b[31m\n\x9b", "\u202e\u2028'", "\u3164\ufe0f", "\udcff", "$(x) `y`"):
+            told = telling.quoted([word])
+            self.assertFalse([letter for letter in told if shown.is_hidden(letter)], told)
+            done = subprocess.run(["bash", "-c", f"printf %s {told}"], capture_output=True, check=True)
+            self.assertEqual(os.fsdecode(done.stdout), word)
 
 
 @HAS_SCIPY
@@ -443,35 +465,122 @@ class Folders(Commands):
         self.assertIn("fair.prices.csv", self.files("out"))
 
     def test_nothing_is_overwritten(self):
-        self.put("fair.prices.csv", b"mine")
-        self.put("none.violation.csv", b"mine")
-        self.put("a tie.cost.violation.csv", b"mine")
+        """A file that is no certificate of the outcome is no answer either: it is named, and stays."""
+        mine = {"fair.prices.csv": b"mine", "none.violation.csv": b"mine", "a tie.cost.violation.csv": b"mine"}
+        for name, data in mine.items():
+            self.put(name, data)
         self.run_find("--folder", self.room, "--output", "elsewhere")
         self.assertEqual(len(self.files("elsewhere")), 8)
-        self.run_find("--folder", self.room, "--prices", status=1)
-        rows = {row[0]: row[2:6] for row in self.rows()[1:]}
-        self.assertEqual(rows["fair.pb"], ["there already", "", "", ""])
-        self.assertEqual([rows[name][3] for name in ("a tie.pb", "none.pb")], ["there already"] * 2)
-        self.assertEqual({data for name, data in self.files().items() if name in (
-            "fair.prices.csv", "none.violation.csv", "a tie.cost.violation.csv")}, {b"mine"})
+        self.run_find("--folder", self.room, status=1)
+        rows = {row[0]: row[2:6] + row[7:] for row in self.rows()[1:]}
+        told = "no longer belongs to the outcome: refused certificate"
+        self.assertEqual(rows["fair.pb"], ["a file is in the way", "", "none found", "none found",
+                                           f"fair.prices.csv {told} 21 BadHead record 1"])
+        self.assertEqual([rows[name][3] for name in ("a tie.pb", "none.pb")], ["a file is in the way"] * 2)
+        self.assertIn(f"none.violation.csv {told} 21 BadHead record 1", rows["none.pb"][4])
+        self.assertEqual({name: self.files()[name] for name in mine}, mine)
         self.assertNotIn("a tie.violation.csv", self.files())
         done = self.run_find("--folder", self.room, status=3)
         self.assertIn("found.csv is there already", done.stderr)
         self.run_find("--folder", self.room, "--replace")
-        self.assertNotEqual(self.files()["fair.prices.csv"], b"mine")
-        self.assertNotEqual(self.files()["none.violation.csv"], b"mine")
+        self.assertFalse([name for name in mine if self.files()[name] == b"mine"])
+
+    def test_a_second_run_finds_what_is_there(self):
+        """The table has the same facts again, and each file is as it was."""
+        self.run_find("--folder", self.room)
+        files, rows = self.files(), [row[:6] + row[7:] for row in self.rows()]
+        (self.room / "found.csv").unlink()
+        with mock.patch.object(folders.Seeker, "_look_for_prices_or_a_refutation", side_effect=AssertionError), \
+                mock.patch.object(folders.Seeker, "_look_for_violation") as looked:
+            for name in ("a tie", "none"):
+                result = folders.searched(folders.Asked(str(self.room), name, Wanted(), str(self.room)))
+                self.assertEqual((result.files, result.removed, result.status), ((), (), 0))
+        self.assertEqual(looked.call_count, 0)
+        self.run_find("--folder", self.room)
+        self.assertEqual([row[:6] + row[7:] for row in self.rows()], rows)
+        again = self.files()
+        self.assertEqual({name: again[name] for name in files if name != "found.csv"},
+                         {name: files[name] for name in files if name != "found.csv"})
+
+    def test_what_no_longer_belongs(self):
+        """Certificates of another outcome beside what is found now: named, and removed where files are replaced."""
+        stale = {"none.prices.csv": pbaudit.find(TIE.file(), violation=False).prices.file,
+                 "fair.refutation.csv": pbaudit.write_refutation(least={"p0": 1}, left={"p1": 1}),
+                 "fair.cost.violation.csv": pbaudit.write_violation([6], ["p1"], "cost")}
+        for name, data in stale.items():
+            self.put(name, data)
+        done = self.run_find("--folder", self.room)
+        self.assertEqual({name: self.files()[name] for name in stale}, stale)
+        for name, data in stale.items():
+            self.assertRegex(done.stdout, f"{name} no longer belongs to the outcome: (failed|refused certificate) ")
+        rows = {row[0]: row for row in self.rows()[1:]}
+        self.assertEqual((rows["none.pb"][2], rows["none.pb"][4]), ("a file is in the way", "yes"))
+        self.assertEqual((rows["fair.pb"][2], rows["fair.pb"][5]), ("with Cover", "a file is in the way"))
+        self.assertTrue(pbaudit.audit_refutation(self.room / "none.pb", self.room / "none.refutation.csv"))
+        self.put("fair.violation.csv", b"")
+        self.run_find("--folder", self.room, "--replace")
+        rows = {row[0]: row for row in self.rows()[1:]}
+        for name in (*stale, "fair.violation.csv"):
+            self.assertNotIn(name, self.files())
+            self.assertIn(f"{name} is removed: ", rows[name.partition(".")[0] + ".pb"][7])
+        self.assertEqual([rows[name][2:6] for name in ("fair.pb", "none.pb")], [
+            ["with Cover", "yes", "", "none found"], ["none found", "", "yes", "by counting and by cost"]])
+
+    def test_what_belongs_stays(self):
+        """Though files are replaced, and nothing was found this time."""
+        self.run_find("--folder", self.room)
+        files = self.files()
+        self.run_find("--folder", self.room, "--replace", "--time", "1e-9")
+        again = self.files()
+        self.assertEqual({name for name in files if again.get(name, b"") == b""}, set())
+        rows = {row[0]: row for row in self.rows()[1:]}
+        self.assertEqual([rows[name][4] for name in ("none.pb", "fair.pb")], ["yes", ""])
+
+    def test_what_cant_be_read_stays(self):
+        os.mkdir(self.room / "fair.prices.csv")
+        self.run_find("--folder", self.room, "--replace", status=4)
+        self.assertTrue((self.room / "fair.prices.csv").is_dir())
+
+    def test_prices_of_another_form(self):
+        """They are no answer where stable ones are looked for, and stay."""
+        town = pbaudit.Instance([pbaudit.Project("a", 6), pbaudit.Project("z", Fraction("5.999999"))], 10)
+        self.put("fair.pb", pbaudit.write_election(town, [["a", "z"]], ["a"]))
+        prices = pbaudit.write_prices(6, [{"a": 6}])
+        self.put("fair.prices.csv", prices)
+        self.run_find("--folder", self.room, "--prices", "--stable", status=1)
+        row, = [row for row in self.rows() if row[0] == "fair.pb"]
+        self.assertEqual(row[2:4] + row[7:], ["without Cover", "not these", "fair.prices.csv is there, in another form "
+                                              "than is looked for"])
+        self.assertEqual(self.files()["fair.prices.csv"], prices)
+        for wanted in (Wanted(prices=False, refutation=False), Wanted(stable=True, prices=False, refutation=False), Wanted()):
+            result = folders.searched(folders.Asked(str(self.room), "fair", wanted, str(self.room)))
+            self.assertEqual((result.row.prices, result.row.note), ("without Cover", ""))
 
     def test_no_prices_are_looked_for_beside_a_refutation(self):
         """Nor a refutation beside prices, unless it is asked for alone."""
-        self.put("none.refutation.csv", b"mine")
-        self.put("fair.prices.csv", b"mine")
-        self.run_find("--folder", self.room, status=1)
+        self.put("none.refutation.csv", pbaudit.find(self.room / "none.pb", violation=False).refutation.file)
+        self.put("fair.prices.csv", pbaudit.find(self.room / "fair.pb", violation=False).prices.file)
+        self.run_find("--folder", self.room)
         rows = {row[0]: row[2:5] for row in self.rows()[1:]}
-        self.assertEqual(rows["none.pb"], ["", "", "there already"])
-        self.assertEqual(rows["fair.pb"], ["there already", "", ""])
+        self.assertEqual(rows["none.pb"], ["none found", "", "yes"])
+        self.assertEqual(rows["fair.pb"], ["with Cover", "yes", ""])
         (self.room / "found.csv").unlink()
         self.run_find("--folder", self.room, "--refutation", status=1)
-        self.assertEqual([row[4] for row in self.rows()[1:]], ["none found", "none found", "there already"])
+        self.assertEqual([row[4] for row in self.rows()[1:]], ["none found", "none found", "yes"])
+
+    def test_no_cell_is_a_formula(self):
+        """What a spreadsheet might run has an apostrophe ahead, which is taken away again."""
+        names = ["=1+1.pb", "+1.pb", "-x.pb", "@a.pb", "'q.pb", "a;=1.pb", "  =1.pb"]
+        for name in names:
+            self.put(name, TIE.file().replace(b"META\nkey;value\n", b"META\nkey;value\nrule;=cmd|' /C calc'!A0\n"))
+        done = self.run_find("--folder", self.room, "--prices", "--output", "out", status=1)
+        rows = self.rows("out")[1:]
+        for cell in (cell for row in rows for part in row for cell in re.split("[;,|\t\"]", part)):
+            self.assertNotRegex(cell, "^\\s*[=+@-]")
+        plain = {re.sub("(^|[;,|\t\"])'", r"\1", row[0]): re.sub("(^|[;,|\t\"])'", r"\1", row[1]) for row in rows}
+        self.assertLessEqual(set(names), set(plain))
+        self.assertEqual(plain["=1+1.pb"], "=cmd|' /C calc'!A0")
+        self.assertRegex(done.stdout, "\n=1\\+1.pb +=cmd[|]")
 
     def test_no_folder(self):
         done = self.run_find("--folder", self.room / "missing", status=2)
@@ -543,7 +652,7 @@ class Folders(Commands):
 
     def test_an_election_that_fails(self):
         with mock.patch.object(folders, "Seeker", mock.Mock(side_effect=ZeroDivisionError("x"))):
-            result = folders.searched(folders.Asked(str(self.room), "fair", Wanted()))
+            result = folders.searched(folders.Asked(str(self.room), "fair", Wanted(), str(self.room)))
         self.assertEqual((result.row.note, result.status), ("fault: ZeroDivisionError('x')", 4))
 
 
@@ -580,7 +689,7 @@ class Wheel(unittest.TestCase):
         sys.path.append(str(REPOSITORY / "python" / "backend"))
         import wheel_writer
         files = wheel_writer.files_of(b"", b"", ["py3-none-any"])
-        here = pathlib.Path(helpers.__file__).parent
+        here = pathlib.Path(command.__file__).parent
         self.assertEqual({name for name in files if name.startswith("pbaudit/finding/")},
                          {f"pbaudit/finding/{path.name}" for path in here.glob("*.py")})
         self.assertIn("Provides-Extra: find\nRequires-Dist: scipy>=1.7; extra == 'find'\n", wheel_writer.metadata())

@@ -126,7 +126,7 @@ class Audits(unittest.TestCase):
 
     GROUP = Case("a group", [2, 3], 10, [[0, 1]] * 3 + [[0], []], [0])
 
-    def test_a_group_that_was_passed_over(self):
+    def test_a_group_whose_share_was_enough(self):
         for limit, line in ((10, "unpriceable cover"), (Fraction("8.333334"), "unpriceable cover"),
                             (Fraction("8.333333"), "failed U3")):
             case = Case("a group", self.GROUP.costs, limit, self.GROUP.ballots, self.GROUP.funded)
@@ -135,7 +135,7 @@ class Audits(unittest.TestCase):
             self.assertEqual((verdict.line, bool(verdict)), (line, line != "failed U3"))
             self.assertEqual(verdict.refutes, "with Cover" if verdict else None)
             self.assertEqual(verdict.condition, None if verdict else "U3")
-            self.assertEqual((verdict.says_little, verdict.no_group_passed_over), (False, False))
+            self.assertEqual((verdict.says_little, verdict.says_of_groups), (False, None))
 
     def test_a_verdict_is_pickled(self):
         """Whether or not there is a page about it."""

@@ -122,6 +122,11 @@ class FolderPages(unittest.TestCase):
             self.write(language="xx")
         self.assertFalse(self.out.exists())
 
+    def test_paths_of_bytes(self):
+        for words in ((b"folder", "out"), (EXAMPLES, b"out")):
+            with self.assertRaisesRegex(TypeError, "^the path of the folder is b'.*', not a str$"):
+                pbaudit.write_folder_pages(*words)
+
     def test_each_file_is_read_once(self):
         with mock.patch.object(folder_pages, "bytes_of_entry", side_effect=folders.bytes_of_entry) as read:
             self.write()

@@ -19,28 +19,42 @@ from concurrent.futures import Executor, Future, ProcessPoolExecutor, ThreadPool
 from unittest import mock
 
 import pbaudit
-from pbaudit import folders
+from pbaudit import folders, helpers
 
 REPOSITORY = pathlib.Path(__file__).resolve().parents[2]
 EXAMPLES = REPOSITORY / "examples"
 PROGRAM = REPOSITORY / "crates" / "pbaudit" / "out" / "pbaudit"
 HAS_DASK = unittest.skipUnless(importlib.util.find_spec("distributed"), "Dask isn't installed")
-audit_entry = folders.audit_entry
+audit_entries = folders.audit_entries
+# The folder of marks by which workers are killed. A worker is killed once for each mark of an election, before or after it
+# has audited the task, and always for one that stays.
+MARKS = "PBAUDIT_TEST_MARKS"
 
 
-def killed_at_b(entry):
-    """What a worker does whose process is killed at the election b."""
-    if entry.name == "b":
-        os.kill(os.getpid(), signal.SIGKILL)
-    return audit_entry(entry)
+def killed_by_marks(entries, attempt):
+    """What a worker does that may be killed."""
+    made = None
+    for when in ("before", "after"):
+        for entry in entries:
+            if os.path.exists(os.path.join(os.environ[MARKS], f"{entry.name} always")):
+                os.kill(os.getpid(), signal.SIGKILL)
+            for number in range(9):
+                try:
+                    os.unlink(os.path.join(os.environ[MARKS], f"{entry.name} {when} {number}"))
+                except FileNotFoundError:
+                    continue
+                os.kill(os.getpid(), signal.SIGKILL)
+        made = made or audit_entries(entries, attempt)
+    return made
 
 
 class LosingExecutor(ThreadPoolExecutor):
     """Loses the election b so often, as a cluster does: the executor goes on."""
 
-    losses = 0
+    losses, submitted = 0, 0
 
     def submit(self, work, entries, attempt):
+        self.submitted += 1
         if self.losses == 0 or "b" not in [entry.name for entry in entries]:
             return super().submit(work, entries, attempt)
         self.losses -= 1
@@ -212,44 +226,88 @@ class Folders(unittest.TestCase):
                               timeout=300, check=False)
         self.assertEqual((done.stdout.decode(), done.stderr.decode()), (self.wanted().text, ""))
 
-    def test_a_worker_that_is_killed(self):
-        forks = multiprocessing.get_context("fork")
+    @contextlib.contextmanager
+    def killing(self, *marks, in_a_task=3):
+        """Workers that are killed by these marks, and small tasks. Gives how many processes were started here."""
+        with tempfile.TemporaryDirectory() as room, mock.patch.dict(os.environ, {MARKS: room}), \
+                mock.patch.multiple(folders, audit_entries=killed_by_marks, MOST_OF_A_TASK=in_a_task), \
+                mock.patch.object(helpers.subprocess, "Popen", side_effect=subprocess.Popen) as started, \
+                mock.patch.object(folders.LOG, "warning"):
+            for mark in marks:
+                pathlib.Path(room, mark).touch()
+            yield started
+            left = set(os.listdir(room))
+            self.assertEqual(left, {mark for mark in marks if mark.endswith("always")})
+
+    def by_processes(self, workers=2):
+        """The report by processes of an executor, and what was told of it."""
         told = []
-        with mock.patch.object(folders, "audit_entry", killed_at_b), ProcessPoolExecutor(2, forks) as executor, \
-                mock.patch.object(folders.os, "cpu_count", lambda: 64), \
-                mock.patch.object(folders, "ThreadPoolExecutor", side_effect=ThreadPoolExecutor) as threads:
+        with ProcessPoolExecutor(workers, multiprocessing.get_context("fork")) as executor:
             report = pbaudit.audit_folder(self.room, executor, on_result=told.append)
-        self.assertEqual(report, self.wanted())
         self.assertEqual(sorted(told, key=repr), sorted(report.results, key=repr))
-        self.assertEqual([call.args for call in threads.call_args_list], [(2,)])
+        return report
+
+    def test_a_worker_that_is_killed(self):
+        """At the first, a middle or the last election, before or after it has answered, once or more often."""
+        wanted = self.wanted()
+        names = [name[:-3] for name in sorted(os.listdir(self.room), key=os.fsencode) if name.endswith(".pb")]
+        for name in ("-x", "b", "c d", "\u00fcber"):
+            self.assertIn(name, names)
+            for kills in (1, 2, 3):
+                marks = [f"{name} {('before', 'after')[kill % 2]} {kill}" for kill in range(kills)]
+                with self.subTest(name=name, kills=kills), self.killing(*marks) as started:
+                    self.assertEqual(self.by_processes(), wanted)
+                    self.assertLessEqual(started.call_count, 2 + kills)
+
+    def test_workers_that_are_killed_together(self):
+        with self.killing("-x before 0", "b before 0", "torn after 0", "\u00fcber before 1", in_a_task=2):
+            self.assertEqual(self.by_processes(3), self.wanted())
+
+    def test_a_lost_worker_starts_few_processes(self):
+        """Whole tasks are tried again, by as many processes as the executor had."""
+        for at in range(60):
+            shutil.copy(os.path.join(self.room, "a.pb"), os.path.join(self.room, f"more{at}.pb"))
+        wanted = self.wanted()
+        with self.killing("-x before 0", in_a_task=2) as started:
+            self.assertEqual(self.by_processes(), wanted)
+            self.assertEqual(started.call_count, 2)
 
     def test_an_election_that_is_lost(self):
-        alone = folders._in_a_process
-
-        def lost(entry):
-            return None if entry.name == "b" else alone(entry)
-        forks = multiprocessing.get_context("fork")
-        with mock.patch.multiple(folders, audit_entry=killed_at_b, _in_a_process=lost):
-            with ProcessPoolExecutor(2, forks) as executor:
-                told = []
-                report = pbaudit.audit_folder(self.room, executor, on_result=told.append)
-        self.assertEqual((report.status, report.lost), (4, ("b",)))
-        lost = [result for result in report.results if result.answer == "lost"]
-        self.assertEqual([result[:2] + result[-1:] for result in lost], [("b", "b.pb", "fault worker")])
-        self.assertEqual(sorted(told, key=repr), sorted(report.results, key=repr))
-        lines = self.wanted().text.splitlines(keepends=True)
-        kept = [line for line in lines if not line.startswith(("b.pb", "b.prices", "total"))]
-        self.assertEqual([line for line in report.text.splitlines(keepends=True) if line in kept], kept)
-        self.assertIn("b.pb: fault worker\n", report.text)
-        self.assertIn("total 9 elections 5 yes 1 no 4 refused\n", report.text)
+        """Its task is tried twice, and then it alone; all others are found."""
+        for name in ("b", "\u00fcber", "-x"):
+            with self.subTest(name=name), self.killing(f"{name} always") as started:
+                report = self.by_processes()
+                self.assertLessEqual(started.call_count, 2 + 4)
+                warnings = [call.args[1] for call in folders.LOG.warning.call_args_list]
+            self.assertEqual((report.status, report.lost), (4, (name,)))
+            self.assertEqual(warnings.count(f"{name}.pb"), 2)
+            lost = [result for result in report.results if result.answer == "lost"]
+            self.assertEqual([result[:2] + result[-1:] for result in lost], [(name, f"{name}.pb", "fault worker")])
+            lines = self.wanted().text.splitlines(keepends=True)
+            kept = [line for line in lines if not line.startswith((f"{name}.pb", f"{name}.prices", "total"))]
+            self.assertEqual([line for line in report.text.splitlines(keepends=True) if line in kept], kept)
+            self.assertIn(f"{name}.pb: fault worker\n", report.text)
+            self.assertIn("total 9 elections 5 yes 1 no 4 refused\n", report.text)
 
     def test_an_executor_that_goes_on(self):
-        for losses, is_lost in ((1, False), (2, False), (3, True)):
-            with LosingExecutor(2) as executor, self.assertLogs("pbaudit", "WARNING"):
+        """It gets a task again whole. What it loses twice is audited here."""
+        for losses, submitted in ((1, 3 + 1), (2, 3 + 1), (9, 3 + 1)):
+            with LosingExecutor(2) as executor, self.assertLogs("pbaudit", "WARNING"), \
+                    mock.patch.object(folders, "MOST_OF_A_TASK", 3):
                 executor.losses = losses
-                report = pbaudit.audit_folder(self.room, executor)
-            self.assertEqual(report.lost, ("b",) if is_lost else ())
-            self.assertEqual(report == self.wanted(), not is_lost)
+                self.assertEqual(pbaudit.audit_folder(self.room, executor), self.wanted())
+            self.assertEqual(executor.submitted, submitted)
+
+    def test_an_executor_that_takes_no_more(self):
+        executor = ThreadPoolExecutor(2)
+        executor.shutdown()
+        with self.assertLogs("pbaudit", "WARNING"):
+            self.assertEqual(pbaudit.audit_folder(self.room, executor), self.wanted())
+
+    def test_what_is_called_later(self):
+        for wrong in (1, "print"):
+            with self.assertRaisesRegex(TypeError, f"^on_result is {wrong!r}, which can't be called$"):
+                pbaudit.audit_folder(self.room, on_result=wrong)
 
     @HAS_DASK
     def test_by_a_dask_cluster(self):
@@ -288,6 +346,13 @@ class Folders(unittest.TestCase):
             self.assertTrue(executor.has_killed)
 
     @HAS_DASK
+    def test_by_a_dask_cluster_that_loses_workers_at_any_moment(self):
+        """Which also take tasks along that they weren't killed at. What is lost twice is audited here."""
+        with self.killing("-x before 0", "b after 0", "b before 1", "b after 2", "\u00fcber before 0", "\u00fcber after 1"), \
+                cluster(**{"distributed.scheduler.allowed-failures": 0}) as client:
+            self.assertEqual(pbaudit.audit_folder(self.room, client.get_executor()), self.wanted())
+
+    @HAS_DASK
     def test_by_a_dask_cluster_whose_worker_is_killed_at_a_task(self):
         """However fast it is, it has begun the task and not answered. Only where Dask gives it to no other is it
         lost."""
@@ -303,8 +368,8 @@ class Folders(unittest.TestCase):
                 self.assertEqual([call.args[1] for call in warning.call_args_list].count("b.pb"), losses)
 
     def test_a_name_forges_no_line_of_a_log(self):
-        entries = [folders.Entry("", "a\u2028WARNING\u009bb", (), 1, folders.Mode())] * 2
-        self.assertEqual(folders._named(entries), "a\\u{2028}WARNING\\u{9b}b.pb and 1 elections after it")
+        entry = folders.Entry("", "a\u2028WARNING\u009bb", (), 1, folders.Mode())
+        self.assertEqual(folders._named(folders.Task((entry, entry))), "a\\u{2028}WARNING\\u{9b}b.pb and 1 elections after it")
 
     def test_small_elections_share_a_task(self):
         """In their order, and a large one has a task to itself."""

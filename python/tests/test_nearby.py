@@ -1,11 +1,13 @@
 """The check of prices near the given ones, beside that of the exact ones that they are near."""
 import contextlib
+import importlib.util
 import io
 import random
 import unittest
 from fractions import Fraction
 
 import pbaudit
+from finding_cases import cases
 from pbaudit import CannotKeep, Instance, Project, validate_price_system
 
 A, B, C = Project("a", 6), Project("b", 4), Project("c", 9)
@@ -101,8 +103,8 @@ class Near(unittest.TestCase):
             self.assertTrue(verdict)
 
     def test_noise_is_none(self):
-        """Of a solver: a little for what isn't approved or not funded, and a little below 0."""
-        floats = [{A: 2.0, B: 2.0, C: 1e-9}, {A: 4.0000000001, B: -1e-9}, {B: 1.9999999999, C: 1e-8, A: 1e-12}]
+        """Of a solver: a little for what isn't funded, and a little below 0."""
+        floats = [{A: 2.0, B: 2.0}, {A: 4.0000000001, B: -1e-9}, {B: 1.9999999999, C: 1e-8, A: -1e-12}]
         verdict = validate_price_system(SAMPLE, PROFILE, [A, B], 4.0, floats, near=True)
         self.assertEqual(str(verdict), "supported priceable")
         self.assertEqual(verdict.moved, Fraction(1, 10**8))
@@ -112,6 +114,86 @@ class Near(unittest.TestCase):
         floats[0][A] = 1.5
         verdict = validate_price_system(SAMPLE, PROFILE, [A, B], 4.0, floats, near=True)
         self.assertEqual(str(verdict), "failed C3 project a")
+
+    def test_a_costly_project_makes_no_noise(self):
+        """What fails plainly fails beside a project that costs much more than all the others."""
+        x, z, costly = Project("x", 50_000), Project("z", 1), Project("costly", 10_000_000)
+        town, voters = Instance([x, z, costly], 50_000), [["x"]] * 10_000
+        for budget, paid, line in (
+            (1000.0, [{"x": 0.0001}] * 10_000, "failed C3 project x"),
+            (0.5, [{"x": 5.0}] * 10_000, "failed C2 voter 1"),
+            (5.0, [{"x": 5.0}] * 9_999 + [{"x": 4.0}], "failed C3 project x"),
+            (5.0, [{"x": 5.0}] * 10_000, "supported priceable"),
+        ):
+            with self.subTest(line=line, budget=budget):
+                self.assertEqual(str(validate_price_system(town, voters, ["x"], budget, paid, near=True)), line)
+        for paid, line in (([{"z": 0.5}, {"z": 0.5}], "failed C1 voter 2 project z"),
+                           ([{"z": 1.0}, {"costly": 0.5}], "failed C4 project costly"),
+                           ([{"z": 1.0}, {}], "supported priceable")):
+            found = validate_price_system(Instance([z, costly], 50_000), [["z"], ["costly"]], ["z"], 1.0, paid, near=True)
+            self.assertEqual(str(found), line)
+
+    def test_nothing_is_paid_without_approval(self):
+        """Not even a little that all voters pay together; that is no answer, and what is more is a no."""
+        for much in (1e-12, 1e-9, 3.9e-6):
+            with self.assertRaisesRegex(CannotKeep, "^C1: voter 2 pays .* for b, which it doesn't approve, and no part"):
+                validate_price_system(SAMPLE, PROFILE, [A, B], 4.0, [{A: 2.0, B: 2.0}, {A: 4.0, B: much}, {B: 2.0}],
+                                      near=True)
+        paid = [{A: 2.0, B: 2.0}, {A: 4.0, B: 5e-6}, {B: 2.0}]
+        found = validate_price_system(SAMPLE, PROFILE, [A, B], 4.0, paid, near=True)
+        self.assertEqual(str(found), "failed C1 voter 2 project b")
+
+    def test_noise_of_many_voters_is_capped(self):
+        """Each payment is off by less than a millionth of a voter's budget, and all together by much more of a cost."""
+        cheap, other = Project("cheap", 1), Project("other", 1000)
+        town, voters = Instance([cheap, other], 1000), [["cheap", "other"]] * 1000
+        for paid, line in (({"other": 1.0, "cheap": 5e-8}, "failed C4 project cheap"),
+                           ({"other": 1.0, "cheap": 5e-11}, "supported priceable")):
+            found = validate_price_system(town, voters, ["other"], 1.0, [paid] * 1000, near=True)
+            self.assertEqual(str(found), line)
+        with self.assertRaisesRegex(ValueError, "voter .* pays -.* for cheap"):
+            validate_price_system(town, voters, ["other"], 1.0, [{"other": 1.0, "cheap": -5e-8}] * 1000, near=True)
+        # With so many supporters, a budget lower by little would leave C5 to a project that costs little.
+        found = validate_price_system(town, voters, ["other"], 1.001_000_1, [{"other": 1.0}] * 1000, near=True)
+        self.assertEqual(str(found), "failed C5 project cheap")
+
+    def test_how_far_they_moved(self):
+        """The verdict says how far payments and the voter budget moved, exactly, and these are no more than noise."""
+        paid = [{A: 2.000001, B: 2.0}, {A: 4.0}, {B: 2.0}]
+        found = validate_price_system(SAMPLE, PROFILE, [A, B], 4.000002, paid, near=True)
+        self.assertEqual(str(found), "supported priceable")
+        self.assertTrue(0 < found.moved <= Fraction(1, 10**6), found.moved)
+        self.assertLessEqual(abs(found.raised), Fraction("0.000004000002"))
+        found = validate_price_system(SAMPLE, PROFILE, [A, B], 3.999999, [{A: 2.0, B: 2.0}, {A: 4.0}, {B: 2.0}], near=True)
+        self.assertTrue(found)
+        self.assertTrue(0 < max(found.moved, found.raised) <= Fraction("0.000003999999"), (found.moved, found.raised))
+        found = validate_price_system(SAMPLE, PROFILE, [A, B], 4, [{A: 2, B: 2}, {A: 4}, {B: 2}])
+        self.assertEqual((found.moved, found.raised), (None, None))
+        for budget, paid in ((3.99999, [{A: 2.0, B: 2.0}, {A: 4.0}, {B: 2.0}]),
+                             (4.0, [{A: 2.00001, B: 2.0}, {A: 4.0}, {B: 2.0}])):
+            self.assertFalse(validate_price_system(SAMPLE, PROFILE, [A, B], budget, paid, near=True))
+
+    def test_any_currency(self):
+        """The answers are the same where all amounts are so many times larger or smaller."""
+        for unit in (Fraction(1, 10**6), Fraction(1, 1000), Fraction(1, 3), Fraction(2, 10**9 + 7), 1, 10**9):
+            town = Instance([Project(each.name, each.cost * unit) for each in (A, B, C)], 10 * unit)
+            for third, line in ((Fraction(2), "supported priceable"), (Fraction("1.9999999"), "supported priceable"),
+                                (Fraction("1.9999"), "failed C3 project b")):
+                paid = [{"a": float(2 * unit), "b": float(2 * unit)}, {"a": float(4 * unit)}, {"b": float(third * unit)}]
+                found = validate_price_system(town, [["a", "b"], ["a"], ["b", "c"]], ["a", "b"], float(4 * unit), paid,
+                                              near=True)
+                self.assertEqual(str(found), line, unit)
+
+    def test_much_is_paid_in_a_small_currency(self):
+        for unit in (Fraction(1, 10**6), Fraction(1, 1000), 1):
+            town = Instance([Project("a", 6 * unit), Project("c", 9 * unit)], 10 * unit)
+            for much in (7, 100, 5000):
+                found = validate_price_system(town, [["a"], ["c"]], ["a"], float(6 * unit), [{"a": float(much * unit)}, {}],
+                                              near=True)
+                self.assertEqual(str(found), "failed C2 voter 1")
+            found = validate_price_system(town, [["a"], ["c"]], ["a"], float(unit) / 10**6, [{"a": float(6 * unit)}, {}],
+                                          near=True)
+            self.assertEqual(str(found), "failed C2 voter 1")
 
     def test_what_fails_by_less_than_noise_is_no_answer(self):
         """The one voter who pays 6 can offer 6 for what costs a millionth less."""
@@ -139,8 +221,11 @@ class Near(unittest.TestCase):
                                             relaxation=None, verbose=True, near=True)
         self.assertEqual(out.getvalue(), str(verdict.explain()))
         self.assertIn("failed C3 project a", out.getvalue())
-        with self.assertRaisesRegex(ValueError, "^the relaxation is 'min_add', and only None is audited"):
-            validate_price_system(SAMPLE, PROFILE, [A, B], 4, floats, relaxation="min_add")
+        whole = [{A: 2, B: 2}, {A: 4}, {B: 2}]
+        self.assertTrue(validate_price_system(SAMPLE, PROFILE, [A, B], 4, whole, False, True, None))
+        for words, names in (((False, True, "min_add"), {}), ((), {"relaxation": "min_add"})):
+            with self.assertRaisesRegex(ValueError, "^the relaxation is 'min_add', and only None is audited"):
+                validate_price_system(SAMPLE, PROFILE, [A, B], 4, whole, *words, **names)
         with self.assertRaisesRegex(TypeError, "^verbose is 1, not True or False"):
             validate_price_system(SAMPLE, PROFILE, [A, B], 4, floats, verbose=1)
 
@@ -151,3 +236,65 @@ class Near(unittest.TestCase):
             self.assertEqual((str(verdict), verdict.moved), (line, 0))
             with self.assertRaisesRegex(TypeError, "price_certificate"):
                 validate_price_system(SAMPLE, PROFILE, [A, B], budget, [{A: 2, B: 2}, {A: 4}, {B: 2}])
+
+
+@unittest.skipUnless(importlib.util.find_spec("scipy"), "scipy isn't installed")
+class OfASolver(unittest.TestCase):
+    """Corners of linear programmes, where as many conditions as can be are just kept."""
+
+    def solved(self, case, stable, goal, method):
+        """A voter budget and payments by HiGHS, or None where there are none."""
+        import numpy
+        from scipy.optimize import linprog
+        slots = [(voter, at) for voter, ballot in enumerate(case.ballots) for at in ballot if at in case.funded]
+        count, voters = len(slots), len(case.ballots)
+        rows, most = [], []
+
+        def row(entries, limit):
+            rows.append(numpy.zeros(count + 1 + voters))
+            for at, value in entries:
+                rows[-1][at] += value
+            most.append(float(limit))
+        for voter in range(voters):
+            mine = [at for at, slot in enumerate(slots) if slot[0] == voter]
+            row([*((at, 1) for at in mine), (count, -1)], 0)
+            row([(count, 1), *((at, -1) for at in mine), (count + 1 + voter, -1)], 0)
+            for at in mine if stable else ():
+                row([(at, 1), (count + 1 + voter, -1)], 0)
+        for project in case.unfunded:
+            row([(count + 1 + voter, 1) for voter, ballot in enumerate(case.ballots) if project in ballot],
+                case.costs[project])
+        funded = sorted(case.funded)
+        equal = numpy.array([[float(slot[1] == project) for slot in slots] + [0] * (1 + voters) for project in funded])
+        costs = [float(case.costs[project]) for project in funded]
+        weights = numpy.zeros(count + 1 + voters)
+        weights[:count + 1] = {"least": [0] * count + [1], "most": [0] * count + [-1]}.get(
+            goal, numpy.random.RandomState(count).rand(count + 1))
+        found = linprog(weights, A_ub=rows, b_ub=most, A_eq=equal if funded else None, b_eq=costs if funded else None,
+                        method=method)
+        if found.status:
+            return None
+        payments = [{} for _ in case.ballots]
+        for (voter, project), amount in zip(slots, found.x):
+            payments[voter][f"p{project}"] = amount
+        return found.x[count], payments
+
+    def test_corners_are_accepted(self):
+        """Each of some hundred, and it moves by no more than noise."""
+        told = 0
+        for seed in range(12):
+            for case in cases(seed, ((5, 4), (10, 6), (20, 8))):
+                instance = Instance([Project(f"p{at}", cost) for at, cost in enumerate(case.costs)], case.limit)
+                profile = [[f"p{at}" for at in ballot] for ballot in case.ballots]
+                for stable, goal, method in ((False, "least", "highs-ds"), (False, "most", "highs-ipm"),
+                                             (True, "least", "highs-ipm"), (True, "any", "highs-ds")):
+                    solved = self.solved(case, stable, goal, method)
+                    if solved is None:
+                        continue
+                    with self.subTest(case=case.name, stable=stable, goal=goal, method=method):
+                        found = validate_price_system(instance, profile, [f"p{at}" for at in case.funded], *solved,
+                                                      stable, exhaustive=False, near=True)
+                        self.assertTrue(found, str(found))
+                        self.assertLessEqual(max(found.moved, abs(found.raised)), solved[0] * 1e-6 + 1e-9)
+                        told += 1
+        self.assertGreater(told, 100)

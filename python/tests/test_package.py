@@ -170,7 +170,7 @@ class Kept(unittest.TestCase):
         verdict = pbaudit.audit_prices(*(file.read_bytes() for file in self.FILES))
         self.assertEqual(dataclasses.asdict(verdict), {
             "holds": True, "line": "supported priceable", "condition": None, "voter": None, "project": None, "moved": None,
-            "says_little": False, "no_group_passed_over": True, "refutes": None})
+            "raised": None, "says_of_groups": "strict", "refutes": None})
         self.assertNotIn("META", repr(vars(pickle.loads(pickle.dumps(verdict)))).replace("&lt;META", ""))
 
     def test_files_that_have_changed(self):

@@ -202,6 +202,19 @@ class Files(unittest.TestCase):
         self.assertEqual([list(ballot) for ballot in election.ballots], [[0, 1], [], [1]])
         self.assertIsNone(election_of((EXAMPLES / "sample.pb").read_bytes().replace(b"selected", b"chosen")).funded)
 
+    def test_zeros_around_an_amount_do_not_matter(self):
+        """However many there are: Python refuses numbers of more than 4,300 digits, or takes long over them."""
+        zeros = b"0" * 10_000
+        amounts = {b"budget;10": b"budget;" + zeros + b"10,5" + zeros, b"a;6;": b"a;" + zeros + b"6." + zeros + b";",
+                   b"b;4;": b"b;" + zeros + b";"}
+        data = (EXAMPLES / "sample.pb").read_bytes()
+        for short, long in amounts.items():
+            self.assertIn(short, data)
+            data = data.replace(short, long, 1)
+        self.assertEqual(str(pbaudit.read(data)), "read 3 voters 3 projects 2 funded")
+        election = election_of(data)
+        self.assertEqual((election.limit, election.costs), (Fraction("10.5"), [6, 0, 9]))
+
 
 class Told(unittest.TestCase):
     def test_progress_on_a_terminal(self):

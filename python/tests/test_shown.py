@@ -16,5 +16,6 @@ class Names(unittest.TestCase):
 
     def test_how_it_is_shown(self):
         self.assertEqual(visible("a\u202edetroppus\u2028b \u00fc"), "a\\u{202e}detroppus\\u{2028}b \u00fc")
+        self.assertEqual(visible("a\nb\tc\rd\ve\\n"), "a\\nb\\tc\\rd\\u{b}e\\n")
         self.assertEqual(visible("x" * 3 * MOST), "x" * 3 * MOST)
         self.assertEqual((shown("x" * MOST), shown("x" * MOST + "y")), ("x" * MOST, "x" * MOST + "\u2026"))

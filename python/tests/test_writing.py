@@ -415,6 +415,30 @@ class Files(unittest.TestCase):
             with self.assertRaisesRegex(TypeError, "^the budget allocation is None, not a list of projects or "):
                 make()
 
+    def test_a_project_without_a_name(self):
+        for make in (lambda: pbaudit.write_election(Instance([Project(None, 1)], 1), []),
+                     lambda: pbaudit.write_outcome([Project(None, 1)])):
+            with self.assertRaisesRegex(TypeError, "^the (instance has|outcome names) Project.*, which isn't a project"):
+                make()
+
+    def test_a_mapping_is_no_list(self):
+        """Its keys would be taken, whatever it says of them."""
+        mark = {"a": True, "b": False}
+        for make in (
+            lambda: validate_price_system(SAMPLE, PROFILE, mark, 4, PAYMENTS),
+            lambda: pbaudit.price_certificate(SAMPLE, PROFILE, mark, 4, PAYMENTS),
+            lambda: pbaudit.write_election(SAMPLE, PROFILE, mark),
+            lambda: pbaudit.write_election(SAMPLE, PROFILE, Counter(["a"])),
+            lambda: pbaudit.write_outcome(mark),
+        ):
+            with self.assertRaisesRegex(TypeError, "^the budget allocation is .*, not a list of projects or their ids$"):
+                make()
+        with self.assertRaisesRegex(TypeError, "^the demand is {.*}, not a list of projects"):
+            pbaudit.write_violation([1], mark)
+        with self.assertRaisesRegex(TypeError, "^the group is {.*}, not a list of numbers of voters$"):
+            pbaudit.write_violation({1: True, 2: False}, ["a"])
+        self.assertEqual(pbaudit.write_outcome({"a": 1}.keys()), pbaudit.write_outcome(["a"]))
+
     def test_ballots_of_other_kinds(self):
         """Cardinal ballots are no approvals, and merged ones have no order."""
         checks = (validate_price_system, pbaudit.price_certificate)

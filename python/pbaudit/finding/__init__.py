@@ -7,9 +7,11 @@ proved. That nothing is found proves nothing.
 import errno
 import os
 from concurrent.futures import Executor
+from numbers import Real
 from typing import Callable, Optional
 
-from ..files import File, Path
+from .._auditor import switch
+from ..files import File, Path, checked_call
 from .results import SECONDS, Found, FoundFolder, Wanted
 
 
@@ -32,6 +34,7 @@ def find(election: File, outcome: Optional[File] = None, *, stable: bool = False
     There are prices that support this outcome. The voter budgets together are more than the limit.
     """
     wanted = _wanted(stable, cover, prices, refutation, violation, seconds)
+    checked_call("on_progress", on_progress)
     from .search import Seeker
     found = Found()
     Seeker(found, election, outcome, wanted, on_progress).run()
@@ -44,11 +47,12 @@ def find_folder(path: Path, executor: Optional[Executor] = None, *, output: Opti
                 on_progress: Optional[Callable[[str], None]] = None) -> FoundFolder:
     """Looks for certificates of all elections of a folder, as `find --folder`: writes them and the table `found.csv`
     beside the elections, or to the folder `output`, and nothing over a file that is there unless `replace`. A certificate
-    that is there isn't looked for again.
+    that is there is audited, and isn't looked for again where it is of the form that is asked for. One that no longer
+    belongs to the outcome is named in the row, and with `replace` removed.
 
     Without an executor it works in processes of its own, one for each processor. With one each election is a task of it:
-    a `ProcessPoolExecutor`, or a Dask cluster by `client.get_executor()`, whose workers have to see the folder under the
-    same path and need this package and scipy. Where a worker is lost its election is looked at here. The switches and
+    a `ProcessPoolExecutor`, or a Dask cluster by `client.get_executor()`, whose workers have to see both folders under the
+    same paths and need this package and scipy. Where a worker is lost its election is looked at here. The switches and
     `seconds`, which are for each election, are as for `find`.
 
     Raises OSError where the folder can't be listed or the table can't be written, FileExistsError where that is there,
@@ -58,23 +62,30 @@ def find_folder(path: Path, executor: Optional[Executor] = None, *, output: Opti
     with Cover
     """
     wanted = _wanted(stable, cover, prices, refutation, violation, seconds)
-    from ..folders import check_executor
+    from ..folders import check_executor, folder_path
     from .folders import TABLE, Folder, entries_in, table_file
     from .writing import write_new
     check_executor(executor)
-    folder = os.fspath(path)
-    target = folder if output is None else os.fspath(output)
+    checked_call("on_progress", on_progress)
+    is_replaced, folder = switch("replace", replace), folder_path(path)
+    target = folder if output is None else folder_path(output)
     table = os.path.join(target, TABLE)
-    if os.path.lexists(table) and not replace:
+    if os.path.lexists(table) and not is_replaced:
         raise FileExistsError(errno.EEXIST, os.strerror(errno.EEXIST), table)
-    search = Folder(entries_in(folder), target, wanted, replace, executor)
+    search = Folder(entries_in(folder), target, wanted, is_replaced, executor)
     search.run(on_progress or (lambda _: None))
-    write_new(table, table_file(search.rows()), replace)
+    write_new(table, table_file(search.rows()), is_replaced)
     return FoundFolder(tuple(search.rows()), search.status())
 
 
 def _wanted(stable: bool, cover: bool, prices: bool, refutation: bool, violation: bool, seconds: float) -> Wanted:
-    """What is looked for. Raises ValueError where that is nothing."""
-    if not (prices or refutation or violation):
+    """What is looked for. Raises ValueError where that is nothing, and TypeError for what isn't of its kind."""
+    given = {"stable": stable, "cover": cover, "prices": prices, "refutation": refutation, "violation": violation}
+    switches = {name: switch(name, value) for name, value in given.items()}
+    if not any(switches[name] for name in ("prices", "refutation", "violation")):
         raise ValueError("neither prices nor a refutation nor violations are looked for")
-    return Wanted(stable, cover, prices, refutation, violation, seconds)
+    if isinstance(seconds, bool) or not isinstance(seconds, Real):
+        raise TypeError(f"seconds is {seconds!r}, not a number")
+    if not seconds >= 0:
+        raise ValueError(f"seconds is {seconds!r}, and a search takes at least 0")
+    return Wanted(**switches, seconds=float(seconds))

@@ -1,13 +1,17 @@
 """The command `find`: looks for certificates of an outcome, writes them, and tells what was found."""
 import argparse
 import os
-from typing import Any, List, NamedTuple, Optional, Tuple
+from typing import TYPE_CHECKING, Any, List, NamedTuple, Optional, Tuple
 
 from .._places import command
 from ..pages import replaced
+from ..shown import visible
 from .results import SECONDS, Found, Wanted
-from .telling import Teller, quoted, shown
+from .telling import Teller, quoted
 from .writing import COMMANDS, endings, files_of, stem_of, write_new
+
+if TYPE_CHECKING:
+    from .there import There
 
 USAGE = (
     "python -m pbaudit find ELECTION [--outcome FILE] [OPTIONS]\n"
@@ -25,8 +29,8 @@ HOW_IT_ENDS = (
     "Exit statuses: 0 if a certificate was found; 1 if none was, which proves nothing; 2 if a file is refused; 3 if "
     "the arguments aren't understood, or a file is there already that could be written; 4 if memory runs out, a file "
     "or the answer can't be written, scipy isn't installed, or the auditor isn't found or can't be used. With --folder "
-    "it is 4, 2 or 1 where that is so of any election, in this order. Stopped by Ctrl+C, it writes what it has found, "
-    "and ends as if there were no more to find."
+    "it is 4, 2 or 1 where that is so of any election, in this order; a certificate that was there counts as found. "
+    "Stopped by Ctrl+C, it writes what it has found, and ends as if there were no more to find."
 )
 
 
@@ -63,7 +67,8 @@ def _add_options(find: Any) -> None:
     find.add_argument("--time", metavar="SECONDS", type=_seconds, default=SECONDS, help="how long to look, for each "
                       "election: 60 unless it is given")
     find.add_argument("--output", metavar="FOLDER", help="write to this folder, which is made if it isn't there")
-    find.add_argument("--replace", action="store_true", help="write over files that are there")
+    find.add_argument("--replace", action="store_true", help="write over files that are there, and remove "
+                      "certificates beside them that no longer belong to the election's own outcome")
 
 
 def _seconds(text: str) -> float:
@@ -79,9 +84,12 @@ def answer(given: argparse.Namespace) -> Answer:
     stem = stem_of(given.election, given.output)
     _check_paths(given, stem)
     found = Found()
-    is_stopped = _search(found, given)
+    there, is_stopped = _search(found, given, stem)
     lines, fault = _write(found, given, stem)
-    lines += map(shown, found.sentences)
+    if fault is None:
+        beside, fault = _beside(there, [ending for ending, _, _ in files_of(found)], given, stem)
+        lines += beside
+    lines += map(visible, found.sentences)
     if is_stopped:
         lines.append(f"This was stopped while {found.unfinished or 'the files'} was looked for.")
     return Answer(lines, 4 if fault else 0 if found else 1, fault)
@@ -92,23 +100,27 @@ def _check_paths(given: argparse.Namespace, stem: str) -> None:
     for path in [stem + ending for ending in endings(wanted_by(given))]:
         over = replaced(path, {"ELECTION": given.election, "--outcome": given.outcome})
         if over:
-            given.end_by_usage(f"{shown(path)} would be written, which is {over}")
+            given.end_by_usage(f"{visible(path)} would be written, which is {over}")
         if os.path.lexists(path) and not given.replace:
-            given.end_by_usage(f"{shown(path)} is there already: --replace writes over it, --output elsewhere")
+            given.end_by_usage(f"{visible(path)} is there already: --replace writes over it, --output elsewhere")
 
 
-def _search(found: Found, given: argparse.Namespace) -> bool:
-    """Looks for what is asked for. Whether it was stopped by the keyboard."""
+def _search(found: Found, given: argparse.Namespace, stem: str) -> "Tuple[List[There], bool]":
+    """Looks for what is asked for. The certificates that are there already, and whether it was stopped by the
+    keyboard."""
     # What needs scipy is loaded here, so that other commands don't need it.
     from .search import Seeker
-    teller = Teller()
+    from .there import there_at
+    teller, there = Teller(), []
     try:
-        Seeker(found, given.election, given.outcome, wanted_by(given), teller).run()
+        seeker = Seeker(found, given.election, given.outcome, wanted_by(given), teller)
+        there = there_at(stem, seeker.given, seeker.wanted)
+        seeker.run()
     except KeyboardInterrupt:
-        return True
+        return there, True
     finally:
         teller.clear()
-    return False
+    return there, False
 
 
 def wanted_by(given: argparse.Namespace) -> Wanted:
@@ -126,11 +138,31 @@ def _write(found: Found, given: argparse.Namespace, stem: str) -> Tuple[List[str
         try:
             write_new(path, data, given.replace)
         except OSError as unwritten:
-            return lines, f"fault write: {shown(path)}: {unwritten.strerror or unwritten}"
+            return lines, f"fault write: {visible(path)}: {unwritten.strerror or unwritten}"
         outcome = [] if given.outcome is None else ["--outcome", given.outcome]
         options = found.prices.options if found.prices and verdict is found.prices.verdict else []
         words = [*command(), COMMANDS[ending], given.election, path, *outcome, *options]
-        lines += [f"{shown(path)}: {shown(verdict.line)}", f"  check it by: {quoted(words)}"]
+        lines += [f"{visible(path)}: {visible(verdict.line)}", f"  check it by: {quoted(words)}"]
+    return lines, None
+
+
+def _beside(there: "List[There]", written: List[str], given: argparse.Namespace,
+            stem: str) -> Tuple[List[str], Optional[str]]:
+    """Removes of what is there what no longer belongs to the election's own outcome, where files are replaced. The lines
+    on what is there, and what went wrong."""
+    lines: List[str] = []
+    for each in there:
+        path = stem + each.ending
+        if each.ending in written:
+            continue
+        told = "was there before" if each.holds else "doesn't belong to this outcome"
+        if not each.holds and each.was_read and given.replace and given.outcome is None:
+            try:
+                os.unlink(path)
+            except OSError as why:
+                return lines, f"fault write: {visible(path)}: {why.strerror or why}"
+            told = "doesn't belong to this outcome, and was removed"
+        lines.append(f"{visible(path)} {told}: {visible(each.line)}")
     return lines, None
 
 
@@ -142,7 +174,7 @@ def folder_answer(given: argparse.Namespace) -> Answer:
     output = given.output or given.folder
     table = os.path.join(output, TABLE)
     if os.path.lexists(table) and not given.replace:
-        given.end_by_usage(f"{shown(table)} is there already: --replace writes over it, --output elsewhere")
+        given.end_by_usage(f"{visible(table)} is there already: --replace writes over it, --output elsewhere")
     folder, teller = Folder(entries_in(given.folder), output, wanted_by(given), given.replace), Teller()
     is_stopped = False
     try:
@@ -155,6 +187,6 @@ def folder_answer(given: argparse.Namespace) -> Answer:
     try:
         write_new(table, table_file(rows), given.replace)
     except OSError as unwritten:
-        fault = f"fault write: {shown(table)}: {unwritten.strerror or unwritten}"
+        fault = f"fault write: {visible(table)}: {unwritten.strerror or unwritten}"
     lines = table_lines(rows) + (["This was stopped before all elections were looked at."] if is_stopped else [])
     return Answer(lines, 4 if fault else folder.status(), fault)

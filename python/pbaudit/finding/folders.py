@@ -1,6 +1,4 @@
 """Searches for all elections of a folder, on all processors or by an executor, with a table of what was found."""
-import csv
-import io
 import os
 import queue
 import threading
@@ -10,66 +8,50 @@ from collections import deque
 from concurrent.futures import CancelledError, Executor, Future
 from dataclasses import astuple, dataclass, fields, replace
 from functools import partial
-from typing import Callable, Deque, Dict, List, Optional, Tuple
+from typing import Callable, Deque, Dict, Iterator, List, Optional, Set, Tuple
 
 from .._auditor import Mode
 from ..auditing import Refusal, audit_prices
 from ..files import bytes_of
 from ..folders import LOG, LOST, UNREAD, Entry, entries_of
+from ..helpers import TICK, Helper, Lost
 from ..records import records
 from ..shown import visible
-from .helpers import TICK, Helper, Lost
+from ..spreadsheets import table
 from .results import Found, FoundRow as Row, Wanted
-from .search import NAMES, Seeker
-from .telling import shown
+from .search import Seeker
+from .there import NAMES, There, kept_and_stale, left_beside, there_at
 from .writing import BY_COST, PRICES, REFUTATION, VIOLATION, files_of, write_new
 
 TABLE = "found.csv"
-THERE, NOT_FOUND, NOT_ASKED = "there already", "none found", ""
+NOT_FOUND, IN_THE_WAY, NOT_ASKED = "none found", "a file is in the way", ""
+# How often an election is tried by helpers, where these are lost.
+MOST_TRIES = 2
 # Tells what is tried.
 Tell = Callable[[str], None]
 
 
 @dataclass(frozen=True)
 class Result:
-    """A row, the files that were found, each with the ending of its name, and a status as that of the command."""
+    """A row, the files that were found, each with the ending of its name, the endings of those to remove, and a status
+    as that of the command."""
 
     row: Row
     files: Tuple[Tuple[str, bytes], ...] = ()
+    removed: Tuple[str, ...] = ()
     status: int = 1
 
 
 @dataclass(frozen=True)
 class Asked:
-    """An election of a folder, what is looked for, and the files that are there already and aren't replaced."""
+    """An election of a folder, what is looked for, and the folder of its certificates, where files may be written over
+    and removed or not."""
 
     folder: str
     name: str
     wanted: Wanted
-    there: Tuple[str, ...] = ()
-
-    @property
-    def has_prices(self) -> bool:
-        """Whether prices are there already."""
-        return PRICES in self.there
-
-    @property
-    def has_refutation(self) -> bool:
-        """Whether a refutation is there already."""
-        return REFUTATION in self.there
-
-    @property
-    def has_violation(self) -> bool:
-        """Whether a violation by any measure is there already."""
-        return VIOLATION in self.there or BY_COST in self.there
-
-    @property
-    def left(self) -> Wanted:
-        """What is still to be looked for. Beside prices there is no refutation, and beside that there are no prices."""
-        wanted = self.wanted
-        return replace(wanted, prices=wanted.prices and not (self.has_prices or self.has_refutation),
-                       refutation=wanted.refutation and not (self.has_refutation or wanted.prices and self.has_prices),
-                       violation=wanted.violation and not self.has_violation)
+    output: str
+    is_replaced: bool = False
 
 
 def entries_in(path: str) -> List[Entry]:
@@ -85,24 +67,40 @@ def searched_by_worker(asked: Asked, call: str) -> Result:
 
 def searched(asked: Asked) -> Result:
     """What is found for an election. This is what a helper does."""
-    began, path, wanted = time.monotonic(), os.path.join(asked.folder, asked.name + ".pb"), asked.left
-    row = Row(f"{asked.name}.pb", prices=THERE if asked.has_prices else NOT_ASKED,
-              refuted=THERE if asked.has_refutation else NOT_ASKED,
-              violation=THERE if asked.has_violation else NOT_ASKED)
+    began, path = time.monotonic(), os.path.join(asked.folder, asked.name + ".pb")
+    row, found = Row(f"{asked.name}.pb"), Found()
     try:
         data = bytes_of(path)
         row = replace(row, rule=rule_of(data))
-        found = Found()
-        Seeker(found, data, None, wanted, None).run()
+        seeker = Seeker(found, data, None, asked.wanted, None)
+        there = there_at(os.path.join(asked.output, asked.name), seeker.given, asked.wanted)
+        if not asked.is_replaced:
+            seeker.wanted = left_beside(there, asked.wanted)
+        seeker.run()
     except Refusal as refusal:
         return Result(replace(row, note=refusal.printed), status=2)
     except OSError:
         return Result(replace(row, note=UNREAD.format("election")), status=2)
     except Exception as error:  # Whatever is wrong with one election, the others are looked at.
         return Result(replace(row, note=f"fault: {error!r}"), status=4)
-    row = _told(row, data, found, wanted, time.monotonic() - began)
-    is_there = found or asked.there and not (wanted.prices or wanted.refutation or wanted.violation)
-    return Result(row, tuple((ending, file) for ending, _, file in files_of(found)), 0 if is_there else 1)
+    files = tuple((ending, file) for ending, _, file in files_of(found))
+    kept, stale = kept_and_stale(there, [ending for ending, _ in files])
+    removed = tuple(each.ending for each in stale if asked.is_replaced and each.was_read)
+    row = _told(row, data, found, kept, asked, seeker.wanted)
+    blocked = {each.ending for each in stale} - set(removed)
+    row = _told_beside(row, asked.wanted, blocked)
+    row = replace(row, note="; ".join(_notes(asked, kept, stale, removed)), seconds=f"{time.monotonic() - began:.1f}")
+    return Result(row, files, removed, 0 if found or any(each.answers for each in kept) else 1)
+
+
+def _notes(asked: Asked, kept: List[There], stale: List[There], removed: Tuple[str, ...]) -> Iterator[str]:
+    """What there is to say of files that were there."""
+    for each in kept:
+        if each.ending == PRICES and asked.wanted.prices and not each.answers:
+            yield f"{asked.name}{each.ending} is there, in another form than is looked for"
+    for each in stale:
+        does = "is removed" if each.ending in removed else "no longer belongs to the outcome"
+        yield f"{asked.name}{each.ending} {does}: {each.line}"
 
 
 def rule_of(data: bytes) -> str:
@@ -115,22 +113,35 @@ def rule_of(data: bytes) -> str:
     return ""
 
 
-def _told(row: Row, data: bytes, found: Found, wanted: Wanted, seconds: float) -> Row:
-    prices, stable, refuted, violation = row.prices, row.stable, row.refuted, row.violation
-    if wanted.prices:
-        prices = NOT_FOUND
+def _told(row: Row, data: bytes, found: Found, kept: List[There], asked: Asked, wanted: Wanted) -> Row:
+    """The row with what was found, of what was looked for, and with what is kept of each kind of which nothing was."""
+    facts = {each.ending: each.fact for each in kept}
+    is_refuted = any(each.ending == REFUTATION and each.answers for each in kept)
+    prices = facts.get(PRICES, NOT_FOUND if wanted.prices or asked.wanted.prices and is_refuted else NOT_ASKED)
+    stable = next((each.stable for each in kept if each.ending == PRICES), NOT_ASKED)
+    refuted = facts.get(REFUTATION, NOT_FOUND if wanted.refutation and not found.prices else NOT_ASKED)
     if found.prices:
         prices = "with Cover" if found.prices.cover else "without Cover"
         is_stable = found.prices.stable or audit_prices(data, found.prices.file, stable=True, cover=found.prices.cover,
                                                         exhaustive=found.prices.exhaustive)
         stable = "yes" if is_stable else "not these"
-    if wanted.refutation and not found.prices:
-        refuted = NOT_FOUND
     if found.refutation:
         refuted = "with Cover" if found.refutation.cover else "yes"
-    if wanted.violation:
-        violation = " and ".join(f"by {NAMES[each.by]}" for each in found.violations) or NOT_FOUND
-    return replace(row, prices=prices, stable=stable, refuted=refuted, violation=violation, seconds=f"{seconds:.1f}")
+    violations = [f"by {NAMES[each.by]}" for each in found.violations]
+    violations += [facts[ending] for ending in (VIOLATION, BY_COST) if ending in facts and facts[ending] not in violations]
+    violation = " and ".join(violations) or (NOT_FOUND if wanted.violation else NOT_ASKED)
+    return replace(row, prices=prices, stable=stable, refuted=refuted, violation=violation)
+
+
+def _told_beside(row: Row, wanted: Wanted, blocked: Set[str]) -> Row:
+    """The row where files that no longer belong are in the way of what is looked for."""
+    if wanted.prices and PRICES in blocked and not row.prices:
+        row = replace(row, prices=IN_THE_WAY)
+    if wanted.refutation and REFUTATION in blocked and not (row.refuted or row.prices not in (NOT_FOUND, IN_THE_WAY)):
+        row = replace(row, refuted=IN_THE_WAY)
+    if wanted.violation and blocked & {VIOLATION, BY_COST} and not row.violation:
+        row = replace(row, violation=IN_THE_WAY)
+    return row
 
 
 class Folder:
@@ -139,12 +150,10 @@ class Folder:
 
     def __init__(self, entries: List[Entry], output: str, wanted: Wanted, is_replaced: bool,
                  executor: Optional[Executor] = None):
-        self._waiting: Deque[Tuple[int, Asked]] = deque()
         self.entries, self._output, self._is_replaced, self._executor = entries, output, is_replaced, executor
-        for number, entry in enumerate(entries):
-            there = [] if is_replaced else [ending for ending in (PRICES, REFUTATION, VIOLATION, BY_COST)
-                                            if os.path.lexists(self._path(entry.name, ending))]
-            self._waiting.append((number, Asked(entry.folder, entry.name, wanted, tuple(there))))
+        self._waiting: Deque[Tuple[int, Asked]] = deque(
+            (number, Asked(entry.folder, entry.name, wanted, os.path.abspath(output), is_replaced))
+            for number, entry in enumerate(entries))
         self.results: Dict[int, Result] = {}
         self.fault: Optional[str] = None
         self._done: "queue.Queue[Tuple[int, Result]]" = queue.Queue()
@@ -221,28 +230,34 @@ class Folder:
 
     @staticmethod
     def _searched(helper: Helper, asked: Asked) -> Result:
-        try:
-            result: Result = helper.call(searched, asked)
-            return result
-        except Lost:
-            return Result(Row(f"{asked.name}.pb", note=LOST), status=4)
-        except Exception as error:
-            return Result(Row(f"{asked.name}.pb", note=f"fault: {error!r}"), status=4)
+        for _ in range(MOST_TRIES):
+            try:
+                result: Result = helper.call(searched, asked)
+                return result
+            except Lost:
+                LOG.warning("the worker on %s.pb was lost", visible(asked.name))
+            except Exception as error:
+                return Result(Row(f"{asked.name}.pb", note=f"fault: {error!r}"), status=4)
+        return Result(Row(f"{asked.name}.pb", note=LOST), status=4)
 
     def _take(self, tell: Tell) -> None:
-        """Waits for a result, writes its files, and tells how many there are."""
+        """Waits for a result, writes its files, removes others, and tells how many results there are."""
         tell(f"{len(self.results)} of {len(self.entries)} elections")
         try:
             number, result = self._done.get(timeout=TICK)
         except queue.Empty:
             return
-        for ending, data in result.files:
-            path = self._path(self.entries[number].name, ending)
-            try:
+        path = ""
+        try:
+            for ending, data in result.files:
+                path = self._path(self.entries[number].name, ending)
                 write_new(path, data, self._is_replaced)
-            except OSError as unwritten:
-                self.fault = f"fault write: {shown(path)}: {unwritten.strerror or unwritten}"
-                result = Result(replace(result.row, note=self.fault), status=4)
+            for ending in result.removed:
+                path = self._path(self.entries[number].name, ending)
+                os.unlink(path)
+        except OSError as unwritten:
+            self.fault = f"fault write: {visible(path)}: {unwritten.strerror or unwritten}"
+            result = Result(replace(result.row, note=self.fault), status=4)
         self.results[number] = result
 
     def rows(self) -> List[Row]:
@@ -262,13 +277,11 @@ def _head() -> Tuple[str, ...]:
 
 def table_file(rows: List[Row]) -> bytes:
     """The table as a CSV file."""
-    text = io.StringIO()
-    csv.writer(text, lineterminator="\n").writerows([_head(), *map(astuple, rows)])
-    return text.getvalue().encode("utf-8")
+    return table([_head(), *map(astuple, rows)])
 
 
 def table_lines(rows: List[Row]) -> List[str]:
     """The table as it is shown on a terminal."""
-    cells = [[shown(cell) for cell in row] for row in (_head(), *map(astuple, rows))]
+    cells = [[visible(cell) for cell in row] for row in (_head(), *map(astuple, rows))]
     widths = [max(len(row[at]) for row in cells) for at in range(len(cells[0]))]
     return ["  ".join(cell.ljust(width) for cell, width in zip(row, widths)).rstrip() for row in cells]

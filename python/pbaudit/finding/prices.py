@@ -3,17 +3,17 @@
 Of many prices those are looked for that keep C5 or S5 with room, since only these stay prices when they are rounded.
 They are made exact by `price_certificate`'s own rounding, and audited.
 """
-from dataclasses import dataclass
+from dataclasses import dataclass, replace
 from fractions import Fraction
 from typing import Iterator, Optional, Tuple
 
 from ..amounts import common_denominator
 from ..auditing import audit_prices
 from ..certificates import DENOMINATORS, certified
+from ..helpers import Helper
 from ..rounding import CannotKeep
 from ..values import Payments, Projects
 from .clock import Clock
-from .helpers import Helper
 from .programme import NoPrices, OutOfTime, Unsolved, by_programme
 from .results import FoundPrices
 from .shares import Need, Problem, Shares, budgets, payments_of, unpaid
@@ -41,7 +41,8 @@ def find_prices(given: Given, stable: bool, covered: bool, solver: Helper,
     if unpaid(given.problem) is not None:
         return None, UNPAID
     try:
-        return _found(given, stable, covered, solver, clock)
+        found, why = _found(given, stable, covered, solver, clock)
+        return found and _with_cover(given, found), why
     except NoPrices:
         return None, NONE
     except OutOfTime:
@@ -61,6 +62,8 @@ def _found(given: Given, stable: bool, covered: bool, solver: Helper,
     # Where there are none without Cover there are none with it.
     shares, failed = by_water(problem, without, clock)
     spare = shares and _exact(given, shares, without, clock)
+    if spare and _with_cover(given, spare).cover:
+        return spare, ""
     if not spare:
         shares = by_programme(problem, without, failed, solver, clock)
         found = _exact(given, shares, with_cover, clock)
@@ -98,16 +101,22 @@ def _rounded(given: Given, payments: Payments, budget: Optional[Fraction], denom
     return FoundPrices(made, verdict, need.stable, given.exhaustive, need.cover) if verdict else None
 
 
+def _with_cover(given: Given, found: FoundPrices) -> FoundPrices:
+    """The same prices, as those that were asked for with Cover where they have it, however they were found."""
+    verdict = found.verdict if found.cover else audit_prices(given.election, found.file, given.outcome, stable=found.stable,
+                                                             exhaustive=found.exhaustive, cover=True)
+    return replace(found, verdict=verdict, cover=True) if verdict else found
+
+
 def _voter_budgets(problem: Problem, shares: Shares, need: Need) -> Iterator[Optional[Fraction]]:
     """Budgets of a voter to try, in the currency: a short one that leaves room on both sides, then the ends."""
     low, high = budgets(problem, shares, need.stable)
     low = max(low, problem.share) if need.cover else low
     if low < high:
         yield _short(low * problem.unit, min(high, 1.25 * low + 1e-3) * problem.unit)
-    if not need.cover:
-        yield None
-        if problem.town.limit:
-            yield problem.town.limit / len(problem.town.ballots)
+    yield None
+    if not need.cover and problem.town.limit:
+        yield problem.town.limit / len(problem.town.ballots)
 
 
 def _short(low: float, high: float) -> Fraction:

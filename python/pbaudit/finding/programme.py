@@ -7,9 +7,9 @@ nothing: it computes in floats.
 from dataclasses import dataclass
 from typing import Any, List, Tuple
 
+from ..helpers import Helper, Late, Lost
 from .clock import Clock
 from .groups import Groups
-from .helpers import Helper, Late, Lost
 from .needs import needed
 from .shares import Need, Problem, Shares, excesses
 

@@ -12,12 +12,12 @@ from math import gcd
 from typing import Any, Dict, Optional, Tuple
 
 from ..auditing import audit_refutation
+from ..helpers import Helper, Late, Lost
 from ..town import Town
 from ..values import Ballots
 from ..writing import write_refutation
 from .clock import Clock
 from .groups import groups_of
-from .helpers import Helper, Late, Lost
 from .needs import needed
 from .prices import NONE, ROUNDING, TIME, UNSOLVED, Given
 from .programme import (

@@ -106,8 +106,9 @@ class Found:
 @dataclass(frozen=True)
 class FoundRow:
     """What the table of a folder says of an election: its rule, by its file; whether prices were found, and whether
-    these are stable; whether all prices are refuted; by which measures violations were found; how long that took; and
-    what went wrong. What wasn't looked for is empty.
+    these are stable; whether all prices are refuted; by which measures violations were found, all of these now or
+    before; how long that took; and what went wrong, with the files that no longer belong to the outcome. What wasn't
+    looked for, and isn't there, is empty.
 
     >>> row, = find_folder("elections", output="mine", violation=False).rows
     >>> row.election, row.prices, row.refuted

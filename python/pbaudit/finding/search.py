@@ -5,21 +5,22 @@ from .. import auditing
 from .._auditor import Question, auditor
 from ..election_files import election_of
 from ..files import File, bytes_of
+from ..helpers import Helper
 from ..records import records
+from ..shown import visible
 from ..town import Town
 from ..writing import Satisfaction, write_violation
 from .clock import Clock, Tell
 from .groups import groups_of
-from .helpers import Helper
 from .prices import NONE, ROUNDING, TIME, UNSOLVED, Given, find_prices
 from .refutations import by_sample, find_refutation
 from .results import Found, FoundPrices, FoundRefutation, FoundViolation, Wanted
 from .shares import problem_of, unpaid
+from .there import NAMES
 from .violations import MEASURES, Search, Searched
 
 # How many projects a sentence names.
 SHOWN = 12
-NAMES = {"count": "counting", "cost": "cost"}
 NO_PROOF = "That proves nothing: there may be some."
 REASONS = {
     NONE: "the linear programme has none. It computes in rounded numbers, so that this is no proof.",
@@ -117,7 +118,7 @@ class Seeker:
         told = _told(found.prices) if found.prices else self._no_prices(why)
         if self.given.exhaustive:
             return [told]
-        return [f"{self.bare.project} could be added within the limit, so that Exhaustive is left out.", told]
+        return [f"{visible(str(self.bare.project))} could be added within the limit, so that Exhaustive is left out.", told]
 
     def _no_prices(self, why: str) -> str:
         """What is said where no prices were found."""
@@ -130,7 +131,7 @@ class Seeker:
         project = unpaid(self.given.problem)
         if project is None:
             return ""
-        return f"{self.given.projects.ids[project]} is funded, it costs something, and nobody approves it."
+        return f"{visible(self.given.projects.ids[project])} is funded, it costs something, and nobody approves it."
 
     def _look_for_a_refutation(self, solver: Helper) -> List[str]:
         """Looks for a refutation of all prices, and where those with Cover alone are asked for, of these. What there is
@@ -185,7 +186,7 @@ def _refuted(refutation: FoundRefutation) -> str:
 def _told_violation(by: str, voters: int, names: List[str]) -> str:
     """What is said of a violation that was found."""
     group, each = ("one voter", "it gets") if voters == 1 else (f"{voters} voters", "each of them gets")
-    shown = ", ".join(names[:SHOWN]) + (f" and {len(names) - SHOWN} others" if len(names) > SHOWN else "")
+    shown = ", ".join(map(visible, names[:SHOWN])) + (f" and {len(names) - SHOWN} others" if len(names) > SHOWN else "")
     return (f"By {NAMES[by]}, the outcome treats a group worse than it deserves: {group} could demand {shown}, and "
             f"{each} less.")
 

@@ -109,10 +109,13 @@ def _greatest_stable(problem: Problem, shares: Shares, least: float) -> float:
 
 
 def payments_of(problem: Problem, shares: Shares) -> List[Dict[str, float]]:
-    """The payments of each voter by the ids of projects, in the currency."""
+    """The payments of each voter by the ids of projects, in the currency. Those for one project are scaled to what it
+    costs, since what is a rounding beside a large payment may be much of a small one."""
     names = problem.town.names
     by_group: List[Dict[str, float]] = [{} for _ in range(len(shares.groups))]
-    amounts = (shares.amount * problem.unit).tolist()
+    paid = np.bincount(shares.project, shares.groups.sizes[shares.group] * shares.amount, len(problem.costs))
+    scales = np.divide(problem.costs, paid, out=np.ones(len(paid)), where=paid > 0)
+    amounts = (shares.amount * scales[shares.project] * problem.unit).tolist()
     for group, project, amount in zip(shares.group.tolist(), shares.project.tolist(), amounts):
         if amount > 0:
             by_group[group][names[project]] = amount

@@ -1,31 +1,28 @@
-"""How a search is told: names that can't do harm on a terminal or in a shell, and progress."""
+"""How a search is told: names that can't do harm in a shell, and progress."""
 import shlex
 import sys
 import time
 from typing import Iterable, Optional
 
+from ..shown import is_hidden, visible
+
 # How long nothing is told on a terminal.
 PAUSE = 0.5
 
 
-def shown(text: str) -> str:
-    """A text as it can be shown: what doesn't print, such as control letters, stands as its escape."""
-    return text if text.isprintable() else "".join(_escaped(letter) for letter in text)
-
-
 def quoted(words: Iterable[str]) -> str:
     """A command that can be copied into a shell."""
-    return " ".join(shlex.quote(word) if word.isprintable() else "$'" + "".join(map(_in_quotes, word)) + "'"
+    return " ".join("$'" + "".join(map(_in_quotes, word)) + "'" if any(map(_is_odd, word)) else shlex.quote(word)
                     for word in words)
 
 
-def _escaped(letter: str) -> str:
-    return letter if letter.isprintable() else letter.encode("unicode_escape").decode("ascii")
+def _is_odd(letter: str) -> bool:
+    return is_hidden(letter) or not letter.isprintable()
 
 
 def _in_quotes(letter: str) -> str:
-    """A letter within bash's $'..', byte by byte where it doesn't print."""
-    if letter.isprintable():
+    """A letter within bash's $'..', byte by byte where it isn't seen."""
+    if not _is_odd(letter):
         return "\\" + letter if letter in "'\\" else letter
     return "".join(f"\\x{byte:02x}" for byte in letter.encode("utf-8", "surrogateescape"))
 
@@ -41,7 +38,7 @@ class Teller:
         if self._is_terminal and now - self._told >= PAUSE:
             self._told = now
             left = "" if seconds is None else f", {seconds:.0f} s left"
-            self._write(f"\r{shown(what)}{left}\033[K")
+            self._write(f"\r{visible(what)}{left}\033[K")
 
     def clear(self) -> None:
         """Takes the line away."""

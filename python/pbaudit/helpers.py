@@ -42,10 +42,11 @@ class Helper:
             self.close()
             raise Lost
         assert process.stdin and process.stdout
-        ends = time.monotonic() + seconds
+        ends, waiting = time.monotonic() + seconds, select.poll()
+        waiting.register(process.stdout, select.POLLIN)
         try:
             _send(process.stdin, (function.__module__, function.__qualname__, given))
-            while not select.select([process.stdout], [], [], TICK)[0]:
+            while not waiting.poll(TICK * 1000):
                 tick()
                 if time.monotonic() > ends:
                     raise Late
@@ -64,7 +65,7 @@ class Helper:
         if self._process is None:
             # In a session of its own it isn't stopped by the keyboard, but by this process, or once this one is gone.
             path = os.pathsep.join(filter(None, sys.path))
-            self._process = subprocess.Popen([sys.executable, "-m", "pbaudit.finding.helpers"], stdin=subprocess.PIPE,
+            self._process = subprocess.Popen([sys.executable, "-m", "pbaudit.helpers"], stdin=subprocess.PIPE,
                                              stdout=subprocess.PIPE, stderr=subprocess.DEVNULL,
                                              start_new_session=self._leads, env={**os.environ, "PYTHONPATH": path})
         return self._process
@@ -144,7 +145,7 @@ def main() -> None:
     # What a function prints has no place in the answers.
     os.dup2(2, 1)
     # This module as others import it, which isn't this one as a program.
-    import_module("pbaudit.finding.helpers")._is_helper = True  # type: ignore[attr-defined]
+    import_module("pbaudit.helpers")._is_helper = True  # type: ignore[attr-defined]
     while True:
         try:
             call = _received(came)
