@@ -1,21 +1,53 @@
 #!/usr/bin/env python3
 """Measures what hostile files cost, each beside a plain file of the same size: the time, best of three, and the memory.
 
-    python3 bench/hostile.py PROGRAM
+    python3 bench/hostile.py [--program PROGRAM] [--library FOLDER] [--page PAGE] [--package TGZ] [--small] [--only SHAPE]
 
-PROGRAM is release/pbaudit, or crates/pbaudit/out/pbaudit. The files have up to 2^28 bytes and are written one at a time
-into the folder for temporary files (TMPDIR). The last column is how many times as long the hostile file takes as the
-plain one.
+Each that is given is measured: PROGRAM, as release/pbaudit; the Python package by libpbaudit.so in FOLDER; the worker of
+PAGE, the pbaudit.html that ./pbaudit-web made, in Chromium, from its start on; and TGZ, the package for JavaScript, by
+Node. The memory of the page is that of its process; less than that of Python itself, about 12 MB, isn't told apart.
+
+It prints a table in Markdown, in which what the plain file takes stands in brackets. The files have up to 2^28 bytes and
+are written one at a time into the folder for temporary files (TMPDIR). What takes longer than five seconds is run once.
+--small makes small files, by which all is tried. --only may be given more than once. It ends with status 1 and lines on
+standard error if a file isn't answered as it has to be.
 """
+import bisect
+import collections
+import importlib.util
+import itertools
 import os
+import pathlib
+import shutil
+import sys
+import tarfile
 import tempfile
 
-from bench import arguments, in_child, run
+from bench import a_program, arguments, in_child, run
 
 MOST_BYTES = 2**28
+SECONDS_TO_REPEAT = 5
 HEAD = b"META\nkey;value\nbudget;1\nvote_type;approval\nPROJECTS\nproject_id;cost;selected\n"
 VOTES = b"VOTES\nvoter_id;vote\n"
-PRICES = b"pb-prices,1\ndenominator,1\nvoter_budget,0\nvoter,project,payment\n"
+PRICES = b"pb-prices,1\ndenominator,1\nvoter_budget,%d\nvoter,project,payment\n"
+PAGE = "<!DOCTYPE html>"
+# The files of each command. A third one is an outcome.
+FILES = {
+    "read": ["e.pb"], "prices": ["e.pb", "p.csv"], "violation": ["e.pb", "v.csv", "o.csv"], "page": ["e.pb", "p.csv"],
+    "tidy": ["e.pb", "p.csv"],
+}  # fmt: skip
+
+Shape = collections.namedtuple("Shape", "work large small answers")
+SHAPES = {}
+
+
+def shape(large, small, **answers):
+    """Keeps what writes the files of a shape: its sizes, and by commands the first line of each answer, in which {size}
+    stands for the size. The answers are the same for the plain files."""
+    def keep(work):
+        SHAPES[work.__name__.replace("_", "-")] = Shape(work, large, small, answers)
+        return work
+    return keep
 
 
 def write(path, *parts):
@@ -24,14 +56,8 @@ def write(path, *parts):
             out.write(part)
 
 
-def projects(ids):
-    return b"".join(project_id + b";0;0\n" for project_id in ids)
-
-
-def padded(head, line, end=b""):
-    """The bytes of an election of 2^28 bytes, whose META has that line as often as it fits."""
-    room = MOST_BYTES - len(head) - len(end)
-    return [head, line * (room // len(line)), b"\n" * (room % len(line)), end]
+def projects(ids, row=b";0;0\n"):
+    return b"".join(project_id + row for project_id in ids)
 
 
 def rest_of_election(ids=(b"a", b"b")):
@@ -40,110 +66,325 @@ def rest_of_election(ids=(b"a", b"b")):
 
 BUDGET = b"META\nkey;value\nbudget;1\n"
 PLAIN_ROW = b"comment;some words of a note\n"
+REST = rest_of_election()
+READ = "read 0 voters 2 projects 0 funded"
 
 
-def plain_rows(size):
-    return PLAIN_ROW * (size // len(PLAIN_ROW))
+def plain_rows(size, row=PLAIN_ROW):
+    """So many bytes of rows of META, a piece at a time. The last ones are empty lines."""
+    piece = row * (2**20 // len(row))
+    yield from itertools.repeat(piece, size // len(piece))
+    rest = size % len(piece)
+    yield row * (rest // len(row)) + b"\n" * (rest % len(row))
 
 
-# Each writes an election e.pb, for 'read', and where it writes a certificate c.csv as well, for 'tidy'.
+def write_meta(room, hostile, *parts):
+    """An election with these parts in META, or with as many bytes of plain rows."""
+    write(f"{room}/e.pb", BUDGET, *(parts if hostile else plain_rows(sum(map(len, parts)))), REST)
 
 
-def long_ids(room, hostile):
-    """20,000 ids of 1,008 bytes that differ in their last ones, or in their first ones, and ballots that name them."""
+# By what FoldHasher of the kit begins, and by what it and the guesses of pb_election multiply.
+SEED, MULTIPLIER = 0x243F_6A88_85A3_08D3, 0x9E37_79B9_7F4A_7C15
+DIGITS = b"0123456789"
+LETTERS = DIGITS + b"abcdefghijklmnopqrstuvwxyz"
+# The letters in which the ends of colliding ids are looked for.
+HALF = 4
+
+
+def word(data):
+    return int.from_bytes(data, "little")
+
+
+def halves(letters):
+    return map(bytes, itertools.product(letters, repeat=HALF))
+
+
+def ends_guessed_alike(first):
+    """Texts of eight bytes such that pb_election guesses one place for all ids that begin with these eight and end with
+    such a text: the highest 15 bits of a product are 0, to which each half of the text adds its part."""
+    low, high = divmod(word(first) * MULTIPLIER % 2**64, 2**32)[::-1]
+    parts = sorted((((word(half) ^ high) * MULTIPLIER) % 2**32, half) for half in halves(DIGITS))
+    for half in halves(LETTERS):
+        wanted = -((word(half) ^ low) * MULTIPLIER >> 32) % 2**32
+        found = parts[bisect.bisect_left(parts, (wanted,)):bisect.bisect_left(parts, (wanted + 2**17,))]
+        yield from (half + other for _, other in found)
+
+
+def colliding(count):
+    """Ids of 32 bytes that have one hash. The hasher multiplies what it has made of the first 16, changed by the eight
+    behind them, by the last eight. Where both are the same, the one changed by the other is 0, and so is any product."""
+    for number in itertools.count():
+        front = b"project-%08d" % number
+        product = (word(front[:8]) ^ SEED + 32) * (word(front[8:]) ^ MULTIPLIER)
+        middle = (product % 2**64 ^ product >> 64).to_bytes(8, "little")
+        if middle.isalnum():
+            return [front + middle + end for end in itertools.islice(ends_guessed_alike(front[:8]), count)]
+
+
+VOTERS = 50
+
+
+@shape(20_000, 300, read="read 50 voters {size} projects {size} funded", prices="supported priceable",
+       violation="violation", page=PAGE)
+def colliding_ids(room, size, hostile):
+    """Ids of 32 bytes with one hash, in 50 ballots, prices and a violation; plain: other ids.
+
+    All projects are funded, all voters approve them, and each pays for some. By the outcome file none is funded."""
+    ids = colliding(size) if hostile else [b"project-%024d" % number for number in range(size)]
+    voters = range(1, VOTERS + 1)
+    write(f"{room}/e.pb", HEAD.replace(b"budget;1", b"budget;%d" % size), projects(ids, b";1;1\n"), VOTES,
+          *(b"v;" + b",".join(ids) + b"\n" for _ in voters))
+    paid = (b"%d,%s,1\n" % (voter, project_id) for voter in voters for project_id in ids[voter - 1::VOTERS])
+    write(f"{room}/p.csv", PRICES % size, *paid)
+    write(f"{room}/v.csv", b"pb-violation,1\n", *(b"project,%s\n" % project_id for project_id in ids),
+          *(b"voter,%d\n" % voter for voter in voters))
+    write(f"{room}/o.csv", b"pb-outcome,1\n")
+
+
+@shape(20_000, 100, read="read {size} voters {size} projects 0 funded")
+def long_ids(room, size, hostile):
+    """Ids of 1,008 bytes that differ in their last eight, and a ballot of each; plain: in their first eight."""
     pad = b"x" * 1000
-    ids = [pad + b"%08d" % number if hostile else b"%08d" % number + pad for number in range(20_000)]
-    write(f"{room}/e.pb", HEAD, projects(ids), VOTES, *(b"v;" + project_id + b"\n" for project_id in ids * 5))
+    ids = [pad + b"%08d" % number if hostile else b"%08d" % number + pad for number in range(size)]
+    write(f"{room}/e.pb", HEAD, projects(ids), VOTES, *(b"v;" + project_id + b"\n" for project_id in ids))
 
 
-def one_record(room, hostile):
-    """One record of 2^28 bytes but for the head, or as many bytes in rows."""
-    end = rest_of_election()
-    size = MOST_BYTES - len(BUDGET) - len(end) - len(b"comment;\n")
-    parts = [BUDGET, b"comment;", b"x" * size, b"\n", end] if hostile else padded(BUDGET, PLAIN_ROW, end)
-    write(f"{room}/e.pb", *parts)
+@shape(10**6, 1000, read="read 0 voters 200 projects 0 funded", page=PAGE)
+def huge_ids(room, size, hostile):
+    """200 ids of 1 MB; plain: as many bytes in a column that isn't read."""
+    long = b"x" * size
+    rows = (b"%03d%s;2;0;%s\n" % ((number, long, b"") if hostile else (number, b"", long)) for number in range(200))
+    write(f"{room}/e.pb", HEAD.replace(b"selected", b"selected;note"), *rows, VOTES)
+    write(f"{room}/p.csv", PRICES % 1)
 
 
-def separators(room, hostile):
-    """One record of 10^8 separators, or as many bytes in rows."""
-    rows = b"comment" + b";" * 10**8 + b"\n" if hostile else plain_rows(10**8)
-    write(f"{room}/e.pb", BUDGET, rows, rest_of_election())
+@shape(10_000, 100, page=PAGE)
+def hidden_names(room, size, hostile):
+    """10,000 names of 1,000 characters that can't be seen; plain: names of as many bytes."""
+    row = b";2;0;" + ("\u202e".encode() if hostile else b"xxx") * 1000 + b"\n"
+    ids = [b"%05d" % number for number in range(size)]
+    write(f"{room}/e.pb", HEAD.replace(b"selected", b"selected;name"), projects(ids, row), VOTES)
+    write(f"{room}/p.csv", PRICES % 1)
 
 
-def blank_records(room, hostile):
-    """5 * 10^7 records that hold a separator alone, or as many bytes in rows."""
-    write(f"{room}/e.pb", BUDGET, b";\n" * (5 * 10**7) if hostile else plain_rows(10**8), rest_of_election())
+@shape(10_000_000, 1000, read=READ, page=PAGE)
+def repeated_keys(room, size, hostile):
+    """10 million rows of META of one key; plain: each of its own."""
+    rows = (b"%08d;\n" % (0 if hostile else number) for number in range(size))
+    write(f"{room}/e.pb", BUDGET, *rows, REST)
+    write(f"{room}/p.csv", PRICES % 1)
 
 
-def quotes(room, hostile):
-    """Quotes that open and close at every byte, or as many bytes in rows."""
-    end = rest_of_election()
-    write(f"{room}/e.pb", *padded(BUDGET, b'"";' * 300 + b'"x"\n' if hostile else PLAIN_ROW, end))
+@shape(20_000_000, 10_000, read=READ, page=PAGE)
+def short_rows(room, size, hostile):
+    """10 million rows of META of one byte; plain: as many bytes in longer ones."""
+    write_meta(room, hostile, *plain_rows(size - len(BUDGET + REST), b"k\n"))
+    write(f"{room}/p.csv", PRICES % 1)
 
 
-def doubled_quotes(room, hostile):
-    """One field of doubled quotes, or as many bytes in rows."""
-    end = rest_of_election()
-    size = (MOST_BYTES - len(BUDGET) - len(end) - len(b'comment;""\n')) // 2
-    parts = [BUDGET, b'comment;"', b'""' * size, b'"\n', end] if hostile else padded(BUDGET, PLAIN_ROW, end)
-    write(f"{room}/e.pb", *parts)
+@shape(100_000_000, 1000, read="read 1 voters 2 projects 0 funded")
+def many_columns(room, size, hostile):
+    """100 MB of columns that aren't read, in the header of VOTES; plain: as many bytes in rows of META."""
+    columns = b"weight;" * (size // 7) if hostile else b""
+    notes = [] if hostile else plain_rows(size // 7 * 8)
+    write(f"{room}/e.pb", BUDGET, *notes, REST.replace(b"voter_id;", columns), b";" * columns.count(b";"), b"a\n")
 
 
-def one_name(room, hostile):
-    """A ballot that names one project a million times, or ballots that name a million projects in all."""
-    ids = [b"p%05d" % number for number in range(100)]
-    ballots = b"v;" + b",".join(ids[:1] * 10**6) + b"\n" if hostile else (b"v;" + b",".join(ids) + b"\n") * 10**4
-    write(f"{room}/e.pb", HEAD, projects(ids), VOTES, ballots)
+@shape(MOST_BYTES, 10_000, read=READ)
+def one_field(room, size, hostile):
+    """One field of 2^28 bytes; plain: as many bytes in rows."""
+    write_meta(room, hostile, b"comment;", b"x" * (size - len(BUDGET + b"comment;\n" + REST)), b"\n")
 
 
-def falling_ballots(room, hostile):
-    """500 ballots of 20,000 projects each, named in falling order or in rising order."""
-    ids = [b"p%05d" % number for number in range(20_000)]
-    write(f"{room}/e.pb", HEAD, projects(ids), VOTES, (b"v;" + b",".join(ids[::-1] if hostile else ids) + b"\n") * 500)
+@shape(MOST_BYTES, 10_000, read=READ)
+def quoted_field(room, size, hostile):
+    """One field of 2^28 bytes of doubled quotes; plain: as many bytes in rows."""
+    write_meta(room, hostile, b'comment;"', b'""' * ((size - len(BUDGET + b'comment;""\n' + REST)) // 2), b'"\n')
 
 
-def falling_rows(room, hostile):
-    """50 voters who pay for 20,000 projects each, in falling order of projects or in rising order."""
-    ids = [b"p%05d" % number for number in range(20_000)]
-    write(f"{room}/e.pb", HEAD, projects(ids), VOTES, b"v;\n" * 50)
-    rows = [b",%s,1\n" % project_id for project_id in (ids[::-1] if hostile else ids)]
-    write(f"{room}/c.csv", PRICES, *(b"%d" % voter + (b"%d" % voter).join(rows) for voter in range(1, 51)))
+@shape(MOST_BYTES, 10_000, read=READ)
+def short_fields(room, size, hostile):
+    """2^28 bytes of fields of quotes that open and close; plain: as many bytes in rows."""
+    write_meta(room, hostile, *plain_rows(size - len(BUDGET + REST), b'"";' * 300 + b'"x"\n'))
 
 
-def zeros_in_front(room, hostile):
-    """A number of 10^8 zeros in front of a 1, or as many bytes in rows."""
-    rows, zeros = (b"", b"0" * 10**8) if hostile else (plain_rows(10**8), b"")
-    write(f"{room}/e.pb", b"META\nkey;value\n", rows, b"budget;" + zeros + b"1\n", rest_of_election())
+@shape(200_000_000, 1000, read=READ)
+def separators(room, size, hostile):
+    """One record of 200 MB of separators; plain: as many bytes in rows."""
+    write_meta(room, hostile, b"comment", b";" * size, b"\n")
 
 
-PAIRS = [
-    long_ids, one_record, separators, blank_records, quotes, doubled_quotes, one_name, falling_ballots, falling_rows,
-    zeros_in_front,
-]  # fmt: skip
+@shape(100_000_000, 1000, read=READ)
+def blank_records(room, size, hostile):
+    """100 million blank records; plain: as many bytes in rows."""
+    write_meta(room, hostile, b";\n" * size)
 
 
-def measure(program, work, hostile):
-    """The seconds, the megabytes, the size of the files and the first line of the answer."""
+@shape(200_000_000, 1000, read=READ)
+def zeros_in_front(room, size, hostile):
+    """200 MB of zeros in front of a 1; plain: as many bytes in rows."""
+    write_meta(room, hostile, b"num_votes;", b"0" * size, b"\n")
+
+
+@shape(1_000_000, 1000, violation="violation")
+def many_voters(room, size, hostile):
+    """A million voters of a violation, the last first; plain: the first first."""
+    voters = range(size, 0, -1) if hostile else range(1, size + 1)
+    write(f"{room}/e.pb", HEAD, b"a;1;0\n", VOTES, b"v;a\n" * size)
+    write(f"{room}/v.csv", b"pb-violation,1\nproject,a\n", *(b"voter,%d\n" % voter for voter in voters))
+    write(f"{room}/o.csv", b"pb-outcome,1\n")
+
+
+def names(size):
+    return [b"p%05d" % number for number in range(size)]
+
+
+@shape(20_000, 300, read="read 50 voters {size} projects 0 funded")
+def long_ballot(room, size, hostile):
+    """A ballot of a million names, of each project 50 times; plain: 50 ballots of all projects."""
+    each = b",".join(names(size))
+    ballots = [b"v;", (each + b",") * 50, b"\n", b"v;\n" * 49] if hostile else [b"v;" + each + b"\n"] * 50
+    write(f"{room}/e.pb", HEAD, projects(names(size)), VOTES, *ballots)
+
+
+@shape(20_000, 50, read="read 500 voters {size} projects 0 funded")
+def falling_ballots(room, size, hostile):
+    """500 ballots of 20,000 projects, the last first; plain: the first first."""
+    ballot = b"v;" + b",".join(sorted(names(size), reverse=hostile)) + b"\n"
+    write(f"{room}/e.pb", HEAD, projects(names(size)), VOTES, ballot * 500)
+
+
+@shape(20_000, 50, tidy="pb-prices,1")
+def falling_rows(room, size, hostile):
+    """50 voters who pay for 20,000 projects, the last first; plain: the first first."""
+    write(f"{room}/e.pb", HEAD, projects(names(size)), VOTES, b"v;\n" * 50)
+    rows = (b"%d,%s,1\n" % (voter, name) for voter in range(1, 51) for name in sorted(names(size), reverse=hostile))
+    write(f"{room}/p.csv", PRICES % 0, *rows)
+
+
+# Each way to ask takes a command and the paths of its files, and gives the seconds, the kilobytes, and the first line.
+
+
+def by_command(words, room):
+    def ask(command, *files):
+        outcome = ["--outcome", files[2]] if files[2:] else []
+        first, *others = [*words, command, *files[:2], *outcome]
+        return run(first, others, f"{room}/out")
+    return ask
+
+
+CALLS = """
+import sys
+sys.path.insert(0, sys.argv[1])
+import pbaudit
+calls = {"read": pbaudit.read, "prices": pbaudit.audit_prices, "violation": pbaudit.audit_violation,
+         "page": pbaudit.page, "tidy": lambda *files: pbaudit.tidy(*files).decode()}
+print(calls[sys.argv[2]](*sys.argv[3:]))
+"""
+
+
+def by_python(library, room):
+    """The package of this repository with that library, as a wheel would install it."""
+    package = pathlib.Path(__file__).resolve().parent.parent / "python/pbaudit"
+    shutil.copytree(package, f"{room}/python/pbaudit", ignore=shutil.ignore_patterns("__pycache__"))
+    shutil.copy(pathlib.Path(library) / "libpbaudit.so", f"{room}/python/pbaudit")
+    return lambda *words: run(sys.executable, ["-c", CALLS, f"{room}/python", *words], f"{room}/out")
+
+
+def by_node(package, room):
+    with tarfile.open(package) as packed:
+        packed.extractall(room)
+    return by_command([shutil.which("node"), f"{room}/package/command.js"], room)
+
+
+def by_page(page, room):
+    """A browser for each question, since its memory is the most that it has had."""
+    import web
+
+    def ask(command, *files):
+        with tempfile.TemporaryDirectory(dir=room) as folder:
+            return web.ask_once(page, pathlib.Path(folder), command, files)
+    return ask
+
+
+def best_of(most, ask, words):
+    """The seconds, the megabytes, and the first lines that aren't alike, of at most so many runs."""
+    tries = [ask(*words)]
+    while len(tries) < most and tries[0][0] < SECONDS_TO_REPEAT:
+        tries.append(ask(*words))
+    seconds, memory, lines = zip(*tries)
+    return min(seconds), max(memory) / 1000, set(lines)
+
+
+def measure(name, is_small, ways, hostile):
+    """The bytes of the files of a shape, and of each command and way what `best_of` gives."""
+    work, large, small, answers = SHAPES[name]
     with tempfile.TemporaryDirectory() as room:
         # What is written in another process isn't counted as memory of the program.
-        in_child(work, room, hostile)
-        names = sorted(os.listdir(room), reverse=True)
-        words = ["read" if names == ["e.pb"] else "tidy", *(f"{room}/{name}" for name in names)]
-        size = sum(os.path.getsize(path) for path in words[1:])
-        runs = [run(program, words, f"{room}/out") for _ in range(3)]
-    return min(it[0] for it in runs), max(it[1] for it in runs) / 1000, size / 1e6, runs[0][2]
+        in_child(work, room, small if is_small else large, hostile)
+        paths = {command: [f"{room}/{file}" for file in FILES[command]] for command in answers}
+        bytes_of = {command: sum(map(os.path.getsize, files)) for command, files in paths.items()}
+        told = {(command, way): best_of(1 if is_small else 3, ask, [command, *files])
+                for command, files in paths.items() for way, ask in ways.items()}  # fmt: skip
+    return bytes_of, told
 
 
-def main(program):
-    for work in PAIRS:
-        print(work.__doc__)
-        seconds = []
-        for hostile in (True, False):
-            took, memory, size, line = measure(program, work, hostile)
-            seconds.append(took)
-            name, times = ("hostile", "") if hostile else ("plain", f"{seconds[0] / max(seconds[1], 0.001):6.1f} x")
-            print(f"  {name:8}{size:7.1f} MB {took:7.2f} s {memory:7.1f} MB  {line[:50]:50} {times}", flush=True)
+def tell(name, is_small, ways):
+    """Prints the rows of a shape, and returns what was answered wrongly."""
+    wrong, wanted = [], SHAPES[name]
+    bytes_of, hostile = measure(name, is_small, ways, True)
+    _, plain = measure(name, is_small, ways, False)
+    for command, answer in wanted.answers.items():
+        cells = []
+        for way in ways:
+            (seconds, memory, lines), (others, less, plain_lines) = (told[command, way] for told in (hostile, plain))
+            cells.append(f"{seconds:.2f} s, {memory:.0f} MB ({others:.2f} s, {less:.0f} MB)")
+            if lines | plain_lines != {answer.format(size=wanted.small if is_small else wanted.large)}:
+                wrong.append(f"{name}, {command}, {way}: {sorted(lines)}, plain {sorted(plain_lines)}")
+        print(f"| {name}, {bytes_of[command] / 1e6:.1f} MB | `{command}` | {' | '.join(cells)} |", flush=True)
+    return wrong
+
+
+WAYS = {"program": by_command, "library": by_python, "page": by_page, "package": by_node}
+TITLES = {"program": "Program", "library": "Python", "page": "Page", "package": "JavaScript"}
+
+
+def words_given():
+    """What the words of the command ask for. Ends with a line on what is wrong."""
+    words = arguments(__doc__)
+    for way in WAYS:
+        words.add_argument(f"--{way}", type=a_program if way == "program" else str)
+    words.add_argument("--small", action="store_true")
+    words.add_argument("--only", action="append", choices=[*SHAPES], metavar="SHAPE", help=", ".join(SHAPES))
+    given = words.parse_args()
+    library = given.library and f"{given.library}/libpbaudit.so"
+    for path in filter(None, (library, given.page, given.package)):
+        if not os.path.isfile(path):
+            words.error(f"there is no file {path}")
+    if not any(getattr(given, way) for way in WAYS):
+        words.error("nothing is given to measure")
+    if given.package and not shutil.which("node"):
+        words.error("node is not installed")
+    if given.page and not importlib.util.find_spec("pytest"):
+        words.error("pytest is not installed for this Python")
+    return given
+
+
+def main():
+    given, wrong = words_given(), []
+    with tempfile.TemporaryDirectory() as room:
+        ways = {}
+        for way, begin in WAYS.items():
+            path = getattr(given, way)
+            if path:
+                os.mkdir(f"{room}/{way}")
+                ways[TITLES[way]] = begin([path] if way == "program" else path, f"{room}/{way}")
+        print(f"| Shape, size | Command | {' | '.join(ways)} |\n|---|---|{'---|' * len(ways)}")
+        for name in given.only or SHAPES:
+            wrong += tell(name, given.small, ways)
+    if wrong:
+        sys.exit("\n".join(["answered wrongly:", *wrong]))
 
 
 if __name__ == "__main__":
-    main(arguments(__doc__, "program").parse_args().program)
+    main()

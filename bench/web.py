@@ -4,15 +4,19 @@ files, best of three in turns, and the greatest memory of the page's process. Th
 Chromium and Firefox.
 
     python3 bench/web.py PAGE PROGRAM [VOTERS PROJECTS]
+    python3 bench/web.py PAGE PROGRAM --folder ELECTIONS
 
 PAGE is the pbaudit.html that ./pbaudit-web made. The elections are those of bench.py. What is timed of the page is its
 worker: to start it, to read the files into the module's memory, and to check them. The program reads the files as well.
-With a size the districts are left out.
+With a size the districts are left out. With --folder it measures instead, without a browser, what a folder of so many
+small elections takes by the program and by the command of the package for JavaScript that is made of the page's module,
+each with its start, best of three in turns.
 """
 import os
 import pathlib
 import subprocess
 import sys
+import tarfile
 import tempfile
 import time
 
@@ -30,35 +34,53 @@ SCREEN = (1000, 800)
 SECONDS_TO_WARM_UP = 4
 SIZES = [(10_000, 100), (100_000, 100), (1_000_000, 1_000)]
 COMMANDS = ("prices", "page")
-# Does one audit by a worker of the page's own script: the status, and the milliseconds until the files are read, and until
-# the answer is there.
+# The voters and projects of an election of a folder.
+SMALL = (60, 20)
+# Does one audit by a worker of the page's own script: the status, the milliseconds until the files are read, and until the
+# answer is there, and its first line.
 AUDIT = """
-const [election, certificate] = [...document.querySelector('#files-input').files], command = arguments[0];
+const sent = [...document.querySelector('#files-input').files], command = arguments[0];
 const bytes = Uint8Array.from(atob(document.querySelector('#module').textContent.trim()), letter => letter.charCodeAt(0));
 const script = new Blob([document.querySelector('#worker').textContent], {type: 'text/javascript'});
 return (async () => {
   const module = window.compiled ??= await WebAssembly.compile(bytes), began = performance.now();
   const worker = new Worker(URL.createObjectURL(script));
-  const mode = {stable: false, exhaustive: true, cover: false}, files = {election: 0, certificate: 1, outcome: null};
+  const mode = {stable: false, exhaustive: true, cover: false};
+  const files = {election: 0, certificate: sent[1] ? 1 : null, outcome: sent[2] ? 2 : null};
   const order = {command, files, mode, language: 'en'};
   let read = 0;
   const ended = await new Promise((resolve, reject) => {
     worker.onerror = reject;
     worker.onmessage = ({data}) => {
-      if (data.tells === 'ready') worker.postMessage({order, files: [election, certificate]});
+      if (data.tells === 'ready') worker.postMessage({order, files: sent});
       if (data.tells === 'checking') read = performance.now() - began;
       if (data.tells === 'done') resolve(data.ending);
     };
     worker.postMessage({module});
   });
   worker.terminate();
-  return [ended.status, read, performance.now() - began];
+  const took = performance.now() - began;
+  const text = ended.bytes ? new TextDecoder().decode(ended.bytes) : ended.text ?? `no answer: ${ended.why}`;
+  return [ended.status, read, took, text.slice(0, 1000).split('\\n')[0]];
 })();
 """
 # Leaves the files that are chosen to the script above.
 IGNORE = """
 document.querySelector('#files-input').addEventListener('change', event => event.stopImmediatePropagation(), true);
 """
+
+
+def ask_once(page, room, command, files):
+    """The seconds that one audit takes in a new browser, the kilobytes of the page's process, and the first line."""
+    browser = browsers.Chromium(room / "profile", room)
+    try:
+        browser.go(pathlib.Path(page).resolve().as_uri())
+        browser.ask(IGNORE)
+        browser.give("#files-input", *map(pathlib.Path, files))
+        _, _, took, line = browser.ask(AUDIT, command)
+        return took / 1000, costs.highest_memory(browser) * 1000, line
+    finally:
+        browser.close()
 
 
 def time_of_program(program, command, files):
@@ -83,7 +105,7 @@ def measure(page, program, voters, projects):
                 own, tries = [], []
                 for _ in range(ROUNDS):
                     own.append(time_of_program(program, command, files[:2]))
-                    tries.append([milliseconds / 1000 for milliseconds in browser.ask(AUDIT, command)[1:]])
+                    tries.append([milliseconds / 1000 for milliseconds in browser.ask(AUDIT, command)[1:3]])
                 read, whole = min(tries, key=lambda each: each[1])
                 print(f"{size}, {command}: the program {min(own):.2f} s, the page {whole:.2f} s ({read:.2f} s of it "
                       f"reading; {tries[0][1]:.2f} s the first time), {whole / min(own):.2f} times")
@@ -114,10 +136,50 @@ def measure_districts(page, engine):
           f"(load {load:.1f})")  # fmt: skip
 
 
+def fill(folder, elections):
+    """Writes so many elections of the same voters, each with its prices."""
+    folder.mkdir()
+    with tempfile.TemporaryDirectory() as room:
+        files = [pathlib.Path(room) / f"e.{ending}" for ending in bench.ENDINGS]
+        bench.write_files(*map(str, files), *SMALL)
+        read = {path.name[1:]: path.read_bytes() for path in files[:2]}
+    for number in range(elections):
+        for ending, data in read.items():
+            (folder / f"e{number}{ending}").write_bytes(data)
+
+
+def javascript(page, program, room):
+    """The command of the package for JavaScript."""
+    words = [HERE.parent / "packaging/javascript", page, program, room]
+    subprocess.run(words, stdout=subprocess.DEVNULL, check=True)
+    with tarfile.open(next(room.glob("*.tgz"))) as package:
+        package.extractall(room)
+    return room / "package/command.js"
+
+
+def measure_folder(page, program, elections):
+    with tempfile.TemporaryDirectory() as room:
+        room = pathlib.Path(room)
+        command, folder = javascript(page, program, room), room / "folder"
+        fill(folder, elections)
+        own, other = [], []
+        for _ in range(ROUNDS):
+            own.append(time_of_program(program, "folder", [folder]))
+            other.append(time_of_program("node", command, ["folder", folder]))
+        print(f"{elections} elections in a folder: the program {min(own):.2f} s, JavaScript {min(other):.2f} s, "
+              f"{min(other) / min(own):.1f} times (load {os.getloadavg()[0]:.1f})")  # fmt: skip
+
+
 def main():
     words = bench.arguments(__doc__, "page", "program")
     words.add_argument("size", nargs="*", type=int, metavar="VOTERS PROJECTS")
+    words.add_argument("--folder", type=int, metavar="ELECTIONS")
     given = words.parse_args()
+    if given.folder is not None:
+        if given.folder < 1 or given.size:
+            words.error("--folder takes how many elections there are, and no size beside it")
+        measure_folder(given.page, given.program, given.folder)
+        return
     for voters, projects in bench.sizes_of(words, given.size, SIZES):
         measure(given.page, given.program, voters, projects)
     if not given.size:

@@ -61,13 +61,16 @@ if [ "$status" != 0 ] || ! grep -q '^total 0 ' "$work/out"; then
     exit $?
 fi
 
-# The elections, in the byte order of their names without .pb, and empty files of the names of all files that are named as
-# elections and certificates are, in small or capital letters: what is told beside the report depends on these alone.
+# The elections, in the byte order of their names without .pb, and, of all names like those of elections and certificates, in
+# small or capital letters, empty files, or links where there is no regular file: what is told beside the report depends on
+# these alone.
 elections=()
 mkdir "$work/empty"
 for name in "${names[@]}"; do
-    ! is_file "$folder/$name" || case ${name,,} in
-        *.pb|*.prices.csv|*.violation.csv|*.refutation.csv) : > "$work/empty/$name" ;;
+    case ${name,,} in
+        *.pb|*.prices.csv|*.violation.csv|*.refutation.csv|prices.csv|violation.csv|refutation.csv)
+            if is_file "$folder/$name"; then : > "$work/empty/$name"; else ln -s nothing "$work/empty/$name"; fi
+            ;;
     esac
     case $name in
         *[$'\001'-$'\037\177']*) ;;

@@ -28,6 +28,12 @@ class Entry:
     def words(self):
         return [word for word in (self.short, self.long) if word]
 
+    @property
+    def choices(self):
+        """The words of which an option takes one: its text ends with them, as in "in this language: en, pl or de"."""
+        listed = re.search(r": (\w+(?:, \w+)* or \w+)$", self.about) if self.value else None
+        return re.split(", | or ", listed[1]) if listed else []
+
 
 @dataclass
 class Help:
@@ -253,6 +259,7 @@ _pbaudit() {
     fi
     case $kind in
         command) mapfile -t COMPREPLY < <(compgen -W '@COMMANDS@' -- "$word") ;;
+        'words '*) mapfile -t COMPREPLY < <(compgen -W "${kind#words }" -- "$word") ;;
         folder) compopt -o filenames 2> /dev/null || true; mapfile -t COMPREPLY < <(compgen -d -- "$word") ;;
         *) compopt -o filenames 2> /dev/null || true; mapfile -t COMPREPLY < <(compgen -f -- "$word") ;;
     esac
@@ -271,7 +278,8 @@ def bash_completion(top, commands):
         for entry in command.options:
             for word in entry.words if entry.value else []:
                 valued.append(f"{name}:{word}")
-                kinds.append((f"{name} {word}", kind_of(entry.value)))
+                kind = in_quotes(f"words {' '.join(entry.choices)}") if entry.choices else kind_of(entry.value)
+                kinds.append((f"{name} {word}", kind))
         if command.arguments:
             kinds.append((f"{name} ", kind_of(command.arguments[0].long)))
     lines = [f"        '{case}') printf {kind} ;;" for case, kind in kinds if kind != "file"]
@@ -285,6 +293,11 @@ def zsh_text(text):
     return re.sub(r"([\[\]\\])", r"\\\1", text)
 
 
+def zsh_value(option):
+    """What stands for the value of an option."""
+    return f"({' '.join(option.choices)})" if option.choices else zsh_action(kind_of(option.value))
+
+
 def zsh_action(kind):
     return {"command": "_pbaudit_commands", "folder": "_files -/", "file": "_files"}[kind]
 
@@ -294,7 +307,7 @@ def zsh_options(options):
     for option in options:
         # A value stands behind '=' or is the next word.
         sign = "=" if option.value else ""
-        value = f":{option.value}:{zsh_action(kind_of(option.value))}" if option.value else ""
+        value = f":{option.value}:{zsh_value(option)}" if option.value else ""
         text = in_quotes(f"{sign}[{zsh_text(option.about)}]{value}")
         # Help and the version stand alone.
         alone = "'(- *)'" if option.short else ""
@@ -357,7 +370,8 @@ def fish_option(condition, option, commands):
     if option.long:
         words += f" -l {option.long[2:]}"
     if option.value:
-        words += f" -r {fish_takes(kind_of(option.value), commands)}"
+        takes = f"-f -a {fish_quotes(' '.join(option.choices))}" if option.choices else fish_takes(kind_of(option.value), commands)
+        words += f" -r {takes}"
     return f"{words} -d {fish_quotes(option.about)}"
 
 

@@ -132,6 +132,10 @@ class Chromium(Browser):
         told = (json.loads(entry["message"])["message"] for entry in self.driver.get_log("performance"))
         return [each["params"]["request"]["url"] for each in told if each["method"] == "Network.requestWillBeSent"]
 
+    def messages(self):
+        """What the console was told since this was asked last."""
+        return [entry["message"] for entry in self.driver.get_log("browser")]
+
     def drop(self, selector, *paths):
         """Drops files or folders, as from the desktop."""
         place = self.ask("const target = document.querySelector(arguments[0]);"
@@ -215,6 +219,15 @@ class Firefox(Browser):
   window.wrappedJSObject.given = Components.utils.cloneInto(given, window, {{wrapReflectors: true}});
 }})();"""
         self.command("ExecuteScript", {"script": script, "args": [words], "sandbox": "system"})
+
+    def messages(self):
+        """What the console was told of pages, and not by the browser of itself."""
+        script = """
+const all = Components.classes['@mozilla.org/consoleservice;1'].getService(Components.interfaces.nsIConsoleService);
+return all.getMessageArray().filter(each => each instanceof Components.interfaces.nsIScriptError)
+  .filter(each => /^(file|https?|blob):/.test(each.sourceName)).map(each => each.errorMessage);
+"""
+        return self.command("ExecuteScript", {"script": script, "args": [], "sandbox": "system"})
 
     def give_folder(self, selector, path):
         """Marionette types no folder into an input, so a script puts in what Firefox finds in the folder."""

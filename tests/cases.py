@@ -212,6 +212,7 @@ def fixed_cases():
                     files = dict(good, huge=Sparse(2**28 + 1)) if put == "huge" else good
                     yield Case([word.format(**names) for word in ask], files, name=f"{put} as {bad[1:-1]} of {ask[0]}")
     yield from refutations()
+    yield from explained_on_groups()
     for name, old, news in LIMITS:
         for new in news:
             files = dict(good, **{name: good[name].replace(old, new)})
@@ -232,6 +233,15 @@ def fixed_cases():
     yield Case(["folder", "room"], files, name="a name that isn't text")
     files = {"room/town.pb": ELECTION, "room/town.prices.csv": Sparse(2**28 + 1)}
     yield Case(["folder", "room"], files, name="too long in a folder")
+
+
+def explained_on_groups():
+    """Budgets above the limit and just of it, with Exhaustive and without."""
+    files = tables.Table("answers.txt").files
+    for town, claim in (("hut.pb", "hut.prices.csv"), ("sample.pb", "tight.prices.csv"), ("court.pb", "court.prices.csv")):
+        for options in ([], ["--no-exhaustive"]):
+            named = {"town.pb": files[town], "claim.csv": files[claim]}
+            yield Case(["explain", "town.pb", "claim.csv", *options], named, name=f"explain {town} {options}")
 
 
 def refutations():

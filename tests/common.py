@@ -1,4 +1,5 @@
 """Where the tests and the repository are, what a test needs that may be missing, and what several do with files and commands."""
+import os
 import pathlib
 import shutil
 import subprocess
@@ -35,3 +36,15 @@ def turned(data):
     """The bytes of a file with one in the middle turned."""
     middle = len(data) // 2
     return data[:middle] + bytes([data[middle] ^ 1]) + data[middle + 1:]
+
+
+def cloned(source, clone, *options):
+    """Commits a folder as a repository of git, and clones it by these options of git; no other configuration counts."""
+    needs("git")
+    alone = os.environ | {"GIT_CONFIG_GLOBAL": "/dev/null", "GIT_CONFIG_NOSYSTEM": "1"}
+    me = ("-c", "user.name=a", "-c", "user.email=a@example.org")
+    for words in (["init", "-q", source], ["-C", source, "add", "-A", "-f"], ["-C", source, *me, "commit", "-q", "-m", "all"],
+                  ["clone", "-q", *options, source, clone]):  # fmt: skip
+        done = ran("git", *words, env=alone)
+        assert done.returncode == 0, done.stderr
+    return clone

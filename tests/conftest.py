@@ -17,11 +17,12 @@ import tempfile
 import pytest
 
 from common import HERE, TOP, needs
+from helps import Helps
 
 # For what a test may be skipped in the gate as well: want of a command; a release that other tools made, want of leave to make a
-# namespace, and an rt that can't be hidden.
+# namespace or to mount a disk, and an rt that can't be hidden.
 NOT_INSTALLED = re.compile(r"(\S+) is not installed")
-ALLOWED = re.compile(r"it is older, of another state of |nothing runs in the root folder|rt is in /usr/bin")
+ALLOWED = re.compile(r"it is older, of another state of |nothing runs in the root folder|no disk can be mounted here|rt is in /usr/bin")
 sys.path.append(str(TOP / "python"))
 sys.path.append(str(TOP / "python/backend"))
 sys.path.append(str(TOP / "web"))
@@ -182,6 +183,12 @@ def run(program):
     def by(*words, cwd=TOP / "examples", stdin=b"", **more):
         return subprocess.run([program, *words], cwd=cwd, input=stdin, capture_output=True, timeout=120, check=False, **more)
     return by
+
+
+@pytest.fixture(scope="session")
+def commands(program):
+    """What the help of the program says of its commands, so that a test sees whether it tries each."""
+    return Helps(program)
 
 
 @pytest.fixture(scope="session")

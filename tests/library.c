@@ -3,6 +3,7 @@
    library once COMMAND SWITCHES ELECTION [CERTIFICATE [OUTCOME]]
    library once both SWITCHES ELECTION PRICES VIOLATION [OUTCOME]
    library once note SWITCHES ELECTION CERTIFICATE
+   library once groups SWITCHES ELECTION CERTIFICATE
    library once hint INPUT:NUMBER:RECORD FILE [ELECTION]
                      prints the text, and ends with the status; each buffer is as large as it has to be, and no larger.
                      It calls the functions of the header that have names of commands
@@ -79,6 +80,8 @@ static void call(void) {
         call_hint();
     else if (!strcmp(command, "note"))
         status = pbaudit_note(IN(0), IN(1), OUT);
+    else if (!strcmp(command, "groups"))
+        status = pbaudit_groups(IN(0), IN(1), strchr(switches, 'e') != 0), needed = 0;
     else if (by_number)
         status = pbaudit_answer(question, IN(0), IN(outcome), has_outcome, IN(1), IN(2), MODE, &facts, OUT);
     else switch (question) {
@@ -117,8 +120,10 @@ static void load(int at, const char *path) {
 
 static int has_told(pbaudit_facts wanted) { return !memcmp(&facts, &wanted, sizeof facts); }
 
+static int tells_facts(void) { return strcmp(command, "note") && strcmp(command, "hint") && strcmp(command, "groups"); }
+
 static void fail_each(void) {
-    pbaudit_facts told = facts, untold = strcmp(command, "note") && strcmp(command, "hint") ? (pbaudit_facts){0} : told;
+    pbaudit_facts told = facts, untold = tells_facts() ? (pbaudit_facts){0} : told;
     uint8_t wanted_status = status, *wanted = out, *spare = __real_malloc(room + 1);
     out = spare;
     for (long all = 0; all < 2; all++) {

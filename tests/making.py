@@ -217,13 +217,13 @@ def a_violation(chance):
 
 def a_refutation(chance):
     """A town, and weights that often refute its outcome, with nothing to spare."""
-    town, weights = (passed_over if chance.random() < 0.3 else balanced)(chance)
+    town, weights = (share_that_is_enough if chance.random() < 0.3 else balanced)(chance)
     for _ in range(chance.choice([0, 0, 1, 1, 2])):
         nudge_weights(chance, town, weights)
     return town, weights
 
 
-def passed_over(chance):
+def share_that_is_enough(chance):
     """A group that agrees on an unfunded project, and whose share just covers that and what was funded for it: the
     weight of Cover is its size, and the others are the number of voters."""
     voters, projects = chance.randint(1, 9), chance.randint(1, 7)
@@ -386,7 +386,7 @@ def election_file(chance, town, plain):
     meta = [[b"budget", amount(chance, town.limit, plain)], [b"vote_type", any_case(chance, b"approval", plain)]]
     if not plain:
         columns += [b"name", b"category", b"votes", b"name", b""][: chance.randint(0, 5)]
-        vote_columns += [b"age", b"sex", b"", b"voter_id"][: chance.randint(0, 4)]
+        vote_columns += [b"age", b"sign", b"weight", b"", b"points", b"voter_id", b"weight"][: chance.randint(0, 7)]
         chance.shuffle(columns)
         chance.shuffle(vote_columns)
         others = [[b"description", b"A; b\nc"], [b"unit"], [b"", b"x"], [b"comment", b'say "so"', b"x"]]

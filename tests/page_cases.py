@@ -27,6 +27,8 @@ FACTS = {
     "currency": ["PLN", "EUR", "zł", "$", "<b>", "z" * 12, "z" * 13, "\u202ex"], "turnout": ["4711", "12 %"],
     "date_begin": ["2026", "02.03.2026", "z" * 81], "date_end": ["2026", "22.03.2026"], "num_votes": ["999"],
 }  # fmt: skip
+# What may stand where an id of 2,000 letters is cut: how a joiner is shown depends on what stands on both its sides.
+AT_THE_CUT = ["\u202e", "a\u200db", "\U0001f469\u200d\U0001f467", "क\u094d\u200dष"]
 COLUMNS = [b"project_id", b"cost", b"selected", b"name"]
 # Names of files: some need quotes in a command, and some can't stand in one.
 TOWNS = [
@@ -253,6 +255,12 @@ REACHED = {
 IN_ONE_LANGUAGE = {"1003 funded": "pl", "1000 unfunded": "en"}
 
 
+def of_id(named, name):
+    """A page about a project of this id, for which nothing is paid."""
+    town = HEAD % 10 + named + b";6;1\nVOTES\nvoter_id;vote\n1;" + named + b"\n"
+    return Case(["page", "town.pb", "claim.csv"], {"town.pb": town, "claim.csv": PRICES}, name=name)
+
+
 def fixed_cases():
     """What chance doesn't meet: tables that are cut, numbers of projects of which Polish speaks in its own way, the
     examples, and files that aren't there or say nothing."""
@@ -272,15 +280,22 @@ def fixed_cases():
     for name, (town, claim) in REACHED.items():
         yield Case(["page", "--no-exhaustive", "town.pb", "claim.csv"], {"town.pb": town, "claim.csv": claim}, name=name)
     for count in (102, 200_000):
-        named = b"i" * count
-        town = HEAD % 10 + named + b";6;1\nVOTES\nvoter_id;vote\n1;" + named + b"\n"
-        yield Case(["page", "town.pb", "claim.csv"], {"town.pb": town, "claim.csv": PRICES}, name=f"an id of {count} letters")
+        yield of_id(b"i" * count, f"an id of {count} letters")
+    for number, letters in enumerate(AT_THE_CUT):
+        for count in (1991, 1992, 1993, 1997, 1998, 1999, 2000, 2001):
+            for behind in (0, 9):
+                named = b"i" * count + letters.encode() + b"i" * behind
+                yield of_id(named, f"hidden letters {number} in an id behind {count}, and {behind} more")
     files = {"town.pb": (EXAMPLES / "sample.pb").read_bytes().replace(b"Pool", b"n" * 500)}
     files["claim.csv"] = (EXAMPLES / "sample.prices.csv").read_bytes()
     yield Case(["page", "town.pb", "claim.csv"], files, name="a name of 500 letters")
     for number, (row, words, files) in enumerate(tables.asked("pages.txt")):
-        yield Case(words, files, name=f"table {number} {row.group}")
+        # A case is asked in each language.
+        if "--language" not in words:
+            yield Case(words, files, name=f"table {number} {row.group}")
     for number, case in enumerate(refutations()):
-        yield renamed(random.Random(f"refutation {number}"), case, case.name)
+        # No page is about two certificates.
+        if case.words[0] != "both":
+            yield renamed(random.Random(f"refutation {number}"), case, case.name)
     for name, case in LARGE.items():
         yield renamed(random.Random(name), case(), name)

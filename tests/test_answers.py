@@ -22,6 +22,14 @@ def test_all_examples_are_read():
     assert len(ON_EXAMPLES) == len(re.findall("^pbaudit ", EXAMPLES, re.M)) == len(re.findall("^status ", EXAMPLES, re.M))
 
 
+def test_each_command_has_examples(commands):
+    """Of each exit status but for words and failures: on these the C library is tried as well, with each allocation failing. A page
+    is no text for a table, and no folder of examples is without a no."""
+    shown = {(words.split(" ")[0], int(status)) for words, _, status, _ in ON_EXAMPLES}
+    ends = {(command, status) for command, statuses in commands.statuses.items() for status in statuses if status < 3}
+    assert {end for end in ends if end[0] != "page"} - shown == {("folder", 0)}
+
+
 @pytest.mark.parametrize("row, words", tables.cases(TABLE))
 def test_answer(run, room, row, words):
     row.write(room, TABLE.files)

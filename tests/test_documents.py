@@ -1,21 +1,24 @@
 """The pages lead somewhere: each link of a page to a file or a heading, and each path in backticks; they keep to their lengths, which
-docs/TRUST.md tells; what docs/COUNCILS.md quotes and docs/CONDITIONS.md names is said by the page about a certificate, and the sums of
-docs/CAMPAIGNS.md are right; each file that docs/files.py prints begins with a comment on what it is for; and each command that the
-pages show writes what stands under it."""
+docs/TRUST.md tells; what docs/COUNCILS.md quotes and docs/CONDITIONS.md names is said by the page about a certificate; the sums of
+docs/CAMPAIGNS.md are right, and so is its refutation; the build that docs/LIBRARY.md shows fails where it has to; each file that
+docs/files.py prints begins with a comment on what it is for; and each command that the pages show writes what stands under it."""
 import csv
 import math
 import re
+import shlex
+import shutil
 import subprocess
 from fractions import Fraction
 
 import pytest
 
+import tables
 from common import TOP
 
 LENGTHS = {"README.md": 140, "docs/STATEMENT.md": 500}
 SAID = {"docs/COUNCILS.md": ["crates/pb_words/src/wording/en.rt", "crates/pb_words/src/headlines.rt"]}
 LETTERS = ("Feasible", "Exhaustive", "Cover", *"C1 C2 C3 C4 C5 S5 V1 V2 V3 V4 U1 U2 U3".split())
-PAGES = [*("README.md", "CONTRIBUTING.md", "CHANGELOG.md", "examples/README.md", "tests/README.md", "tests/reference/README.md"),
+PAGES = [*("README.md", "CONTRIBUTING.md", "CHANGELOG.md", "SECURITY.md", "examples/README.md", "tests/README.md", "tests/reference/README.md"),
          *sorted(f"docs/{path.name}" for path in (TOP / "docs").glob("*.md"))]  # fmt: skip
 FOLDERS = r"\.ci|bench|crates|docs|examples|include|packaging|python|release|tests|web"
 
@@ -86,6 +89,18 @@ def test_names_are_those_of_the_page():
     assert {letter: names.get(letter) for letter in LETTERS} == {letter: said.get(letter) for letter in LETTERS}
 
 
+@pytest.mark.parametrize("name", ["README.md", "CONTRIBUTING.md"])
+def test_security_is_linked(name):
+    assert "](SECURITY.md)" in (TOP / name).read_text(encoding="utf-8")
+
+
+def test_limits_that_a_service_is_told():
+    """The most bytes of a file, as the sources have it, in both ways of writing."""
+    told = re.search(r"a file may have 2\^(\d+) \(([\d,]+)\)", (TOP / "SECURITY.md").read_text(encoding="utf-8"))
+    stated = re.search(r"\bconst MOST_BYTES: usize = ([\d_]+);", (TOP / "crates/pb_reply/src/loaded.rt").read_text("utf-8"))
+    assert 2 ** int(told[1]) == int(told[2].replace(",", "")) == int(stated[1])
+
+
 @pytest.mark.parametrize("name", LENGTHS)
 def test_length(name):
     assert len((TOP / name).read_text(encoding="utf-8").splitlines()) <= LENGTHS[name]
@@ -94,7 +109,7 @@ def test_length(name):
 def test_all_pages_together():
     """Those for readers; CONTRIBUTING is for who changes the sources."""
     pages = [TOP / "README.md", *(TOP / "docs").glob("*.md")]
-    assert sum(len(page.read_text(encoding="utf-8").splitlines()) for page in pages) <= 2300
+    assert sum(len(page.read_text(encoding="utf-8").splitlines()) for page in pages) <= 2500
 
 
 def test_sums_of_the_district():
@@ -110,6 +125,27 @@ def test_sums_of_the_district():
     needed = voters * demand / limit
     assert f"{voters} × {float(demand):.2f} / {float(limit):.2f} = {math.floor(needed * 1000) / 1000}.., so nine" in text
     assert math.ceil(needed) == 9 and f"With eight voters it would be {float(8 * limit / voters):.2f}" in text
+
+
+def test_refutation_of_the_campaigners(run, room):
+    """As docs/CAMPAIGNS.md says how to write it: for three of five voters, who agree on y and for whom x was funded."""
+    shown = (TOP / "docs/CAMPAIGNS.md").read_text(encoding="utf-8").split("\n## 4. ")[1]
+    text = re.search(r"((?: {4}.*\n)+)", shown)[1].replace("    ", "")
+    meant = {"HOW MANY VOTERS THE GROUP HAS": "3", "HOW MANY VOTERS THERE ARE IN ALL": "5", "A FUNDED PROJECT": "x", "THE PROJECT": "y"}
+    for words, stands in meant.items():
+        assert words in text
+        text = text.replace(words, stands)
+    (room / "claim.csv").write_text(text)
+    (room / "town.pb").write_bytes(tables.Table("refutations.txt").files["group.pb"])
+    told = run("refutation", "town.pb", "claim.csv", cwd=room)
+    assert (told.stdout, told.returncode) == (b"unpriceable cover\n", 0)
+
+
+@pytest.mark.parametrize("name", [page for page in PAGES if page != "CHANGELOG.md"])
+def test_nothing_is_said_that_a_violation_denies(name):
+    """A yes to prices doesn't say that all groups got what they deserve, or that none was passed over."""
+    text = " ".join((TOP / name).read_text(encoding="utf-8").split())
+    assert re.findall(r"[^.]*\b(?:[Nn]o group(?: of voters)? (?:is|was) treated|[Pp]assed over)[^.]*", text) == []
 
 
 def section_of(page, heading):
@@ -201,3 +237,29 @@ def test_shown_command(program, command, wanted):
     told = subprocess.run(["bash", "-c", called], cwd=TOP, stdin=subprocess.DEVNULL, stdout=subprocess.PIPE, text=True,
                           stderr=subprocess.STDOUT, timeout=120, check=False)  # fmt: skip
     assert told.stdout.rstrip("\n") == wanted
+
+
+@pytest.mark.parametrize("more, status", [
+    ({}, 0),
+    ({"sample.violation.csv": "sample.wrong.violation.csv", "sample.refutation.csv": "sample.wrong.refutation.csv"}, 0),
+    ({"sample.violation.csv": "school.violation.csv"}, 1),
+    ({"sample.refutation.csv": "sample.outcome.csv"}, 1),
+    ({"sample.prices.csv": "sample.wrong.prices.csv"}, 1),
+    ({"school.pb": "school.pb"}, 2),
+    ({"school.pb": "school.pb", "school.prices.csv": "school.prices.csv"}, 0),
+    ({"school.pb": "school.pb", "school.prices.csv": "school.prices.csv", "school.violation.csv": "school.violation.csv"}, 1),
+    ({"school.pb": "school.pb", "school.prices.csv": "school.prices.csv", "school.cost.violation.csv": "school.violation.csv"}, 1),
+    ({"school.pb": "school.pb", "school.prices.csv": "school.prices.csv", "school.refutation.csv": "school.refutation.csv"}, 1),
+])  # fmt: skip
+def test_build_fails_where_something_speaks_against_an_outcome(program, room, more, status):
+    """As docs/LIBRARY.md shows it, but that Exhaustive isn't asked for: the prices of the school hold then, and so do a violation and
+    a refutation."""
+    shown = (TOP / "docs/LIBRARY.md").read_text("utf-8").split("**To fail a CI build,**")[1]
+    build = re.search(r"\n\n((?: {4}.*\n)+)", shown)[1]
+    assert build.count("~/pbaudit/bin/pbaudit") == 2 and build.count("--stable\n") == 1
+    build = build.replace("~/pbaudit/bin/pbaudit", shlex.quote(str(program))).replace("--stable", "--stable --no-exhaustive")
+    (room / "elections").mkdir()
+    for name, example in ({"sample.pb": "sample.pb", "sample.prices.csv": "sample.prices.csv"} | more).items():
+        shutil.copy(TOP / "examples" / example, room / "elections" / name)
+    done = subprocess.run(["bash", "-c", build], cwd=room, stdin=subprocess.DEVNULL, capture_output=True, timeout=120, check=False)
+    assert done.returncode == status, done

@@ -1,5 +1,6 @@
 """How the program ends, and what it tells, where files can't be read or are refused, and where words aren't understood."""
 import os
+import re
 import resource
 import signal
 import subprocess
@@ -8,6 +9,7 @@ import threading
 import pytest
 
 import tables
+from common import TOP
 
 ANSWERS = tables.Table("answers.txt")
 LONG = "the file has more than 268,435,456 bytes (2^28)"
@@ -16,13 +18,25 @@ NO_META = "refused election 2 NoMeta record 1"
 ON_EACH_INPUT = {
     "read u.csv": "election", "tidy u.csv u.csv": "election", "margins u.csv u.csv --outcome u.csv": "election",
     "prices u.csv u.csv --outcome u.csv": "election", "violation u.csv u.csv --outcome u.csv": "election",
-    "both u.csv u.csv u.csv --outcome u.csv": "election", "prices e.pb u.csv --outcome u.csv": "outcome",
-    "violation e.pb u.csv --outcome u.csv": "outcome", "margins e.pb u.csv --outcome u.csv": "outcome",
+    "refutation u.csv u.csv --outcome u.csv": "election", "explain u.csv u.csv --outcome u.csv": "election",
+    "page u.csv u.csv --outcome u.csv": "election", "both u.csv u.csv u.csv --outcome u.csv": "election",
+    "prices e.pb u.csv --outcome u.csv": "outcome", "violation e.pb u.csv --outcome u.csv": "outcome",
+    "refutation e.pb u.csv --outcome u.csv": "outcome", "explain e.pb u.csv --outcome u.csv": "outcome",
+    "page e.pb u.csv --outcome u.csv": "outcome", "margins e.pb u.csv --outcome u.csv": "outcome",
     "both e.pb u.csv u.csv --outcome u.csv": "outcome", "prices e.pb u.csv": "certificate",
-    "violation e.pb u.csv": "certificate", "tidy e.pb u.csv": "certificate", "margins e.pb u.csv": "certificate",
+    "violation e.pb u.csv": "certificate", "refutation e.pb u.csv": "certificate", "explain e.pb u.csv": "certificate",
+    "page e.pb u.csv": "certificate", "tidy e.pb u.csv": "certificate", "margins e.pb u.csv": "certificate",
     "both e.pb u.csv u.csv": "prices", "both e.pb p.csv u.csv": "violation",
 }  # fmt: skip
-COMMANDS = ("prices", "violation", "explain", "margins", "page")
+# The commands that read an outcome and one certificate.
+COMMANDS = ("prices", "violation", "refutation", "explain", "margins", "page")
+# Commands, and the first five bytes that each prints.
+FIVE_BYTES = {
+    "": b"read ", "read sample.pb": b"read ", "read p.csv": b"refus", "prices e.pb p.csv": b"suppo", "tidy e.pb p.csv": b"pb-pr",
+    "violation unfair.pb unfair.violation.csv": b"viola", "refutation school.pb school.refutation.csv": b"unpri",
+    "both e.pb p.csv fair.violation.csv": b"suppo", "explain e.pb p.csv": b"suppo", "margins e.pb p.csv": b"pb-ma",
+    "page e.pb p.csv": b"<!DOC", "folder folder": b"f.pb:", "--help": b"Audit", "help read": b"Read ",
+}  # fmt: skip
 
 
 def ends(ran, status, printed, told):
@@ -138,16 +152,42 @@ def five_bytes():
     resource.setrlimit(resource.RLIMIT_FSIZE, (5, 5))
 
 
-@pytest.mark.parametrize("words, front", [
-    ([], b"read "), (["read", "sample.pb"], b"read "), (["read", "p.csv"], b"refus"), (["prices", "e.pb", "p.csv"], b"suppo"),
-    (["tidy", "e.pb", "p.csv"], b"pb-pr"), (["violation", "unfair.pb", "unfair.violation.csv"], b"viola"),
-    (["both", "e.pb", "p.csv", "fair.violation.csv"], b"suppo"), (["explain", "e.pb", "p.csv"], b"suppo"), (["--help"], b"Audit"),
-])  # fmt: skip
-def test_output_that_takes_five_bytes(program, room, words, front):
+@pytest.mark.parametrize("line", FIVE_BYTES)
+def test_output_that_takes_five_bytes(program, room, line):
+    (room / "folder").mkdir()
+    (room / "folder/f.pb").write_bytes(ANSWERS.files["sample.pb"])
+    words = line.split()
     with open(room / "out", "wb") as out, open(room / "e.pb", "rb") as given:
         told = subprocess.run([program, *words], cwd=room, stdin=given, stdout=out, stderr=subprocess.PIPE, check=False,
                               preexec_fn=five_bytes)  # fmt: skip
-    assert (told.returncode, told.stderr, (room / "out").read_bytes()) == (4, b"fault write\n", front)
+    assert (told.returncode, told.stderr, (room / "out").read_bytes()) == (4, b"fault write\n", FIVE_BYTES[line])
+
+
+def told_stack():
+    """How many KiB of stack docs/TROUBLE.md says that the program needs."""
+    return int(re.search(r"\*\*Less stack than (\d+) KiB\*\*", (TOP / "docs/TROUBLE.md").read_text("utf-8"))[1])
+
+
+def small_stack():
+    resource.setrlimit(resource.RLIMIT_STACK, (told_stack() * 1024, told_stack() * 1024))
+
+
+@pytest.mark.parametrize("line", FIVE_BYTES)
+def test_stack_that_is_told_is_enough(program, room, line):
+    (room / "folder").mkdir()
+    (room / "folder/f.pb").write_bytes(ANSWERS.files["sample.pb"])
+    told = subprocess.run([program, *line.split()], cwd=room, input=ANSWERS.files["sample.pb"], capture_output=True, check=False,
+                          env={"PATH": os.environ["PATH"]}, preexec_fn=small_stack)  # fmt: skip
+    assert told.returncode in (0, 1, 2) and told.stdout[:5] == FIVE_BYTES[line]
+
+
+def test_each_command_is_tried(commands):
+    """On each of its inputs, behind one that is refused, and where little is written: a new command can't be left out."""
+    inputs = {(command, name) for command, names in commands.inputs.items() for name in names if name != "folder"}
+    assert {(line.split(" ")[0], name) for line, name in ON_EACH_INPUT.items()} == inputs
+    assert {*COMMANDS, "both"} == {command for command, names in commands.inputs.items() if "outcome" in names}
+    assert {*COMMANDS, "both", "tidy"} == {command for command, names in commands.inputs.items() if len(names) > 1}
+    assert {line.split(" ")[0] for line in FIVE_BYTES} - {"", "--help"} == {*commands.names}
 
 
 @pytest.mark.parametrize("number", range(len(ANSWERS.files["sample.pb"]) + 1))
@@ -236,6 +276,7 @@ def test_note_on_a_yes_that_says_little(run, town, line, status, printed, told):
 @pytest.mark.parametrize("old, new, note", [
     ("num_votes;3", "num_votes;4", "num_votes says 4, counted 3"),
     ("c;9;Pool;0", "c;9;Pool;0.5", "selected is neither 0 nor 1 in 1 projects"),
+    ("voter_id;vote", "voter_id;vote;WEIGHT", "column weight of VOTES is not used"),
 ])  # fmt: skip
 def test_notes_on_the_election_are_told_beside_explanations(run, room, line, status, old, new, note):
     (room / "e.pb").write_bytes(ANSWERS.files["sample.pb"].replace(old.encode(), new.encode()))

@@ -33,7 +33,7 @@ from tables import EXAMPLES
 from test_limits import UNFAIR, UNFAIR_VIOLATION
 
 SAMPLE = "sample.pb"
-# The sample, with counts that aren't those of its rows: notes say so beside an answer.
+# The sample, with counts that aren't those of its rows, and with votes that weigh: notes say so beside an answer.
 NOTED = "noted.pb"
 COMMANDS = [line.split() for line in (HERE / "tables/failing.txt").read_text("utf-8").splitlines() if line[:1] != "#"]
 WAYS = [
@@ -72,15 +72,21 @@ def refused(name):
 
 
 def fill(room):
-    """Fills a folder with the examples, with an unfair outcome, with a folder of two elections, and with an empty one."""
+    """Fills a folder with the examples, with an unfair outcome, with a folder of two elections, with one where nothing is refused
+    and something fails, with one of names that are told, and with an empty one."""
     for path in [*EXAMPLES.glob("*.pb"), *EXAMPLES.glob("*.csv")]:
         shutil.copy(path, room)
-    two, none = os.path.join(room, "two"), os.path.join(room, "none")
-    os.mkdir(two)
-    os.mkdir(none)
-    shutil.copy(EXAMPLES / SAMPLE, os.path.join(two, "one.pb"))
+    two, failed, odd, none = (os.path.join(room, name) for name in ("two", "failed", "odd", "none"))
+    for folder in (two, failed, odd, none):
+        os.mkdir(folder)
+    for name in ("a.PB", "tab\t.pb", "b\u200b.pb"):
+        shutil.copy(EXAMPLES / SAMPLE, os.path.join(odd, name))
+    for folder in (two, failed):
+        shutil.copy(EXAMPLES / SAMPLE, os.path.join(folder, "one.pb"))
+    shutil.copy(EXAMPLES / "sample.wrong.violation.csv", os.path.join(failed, "one.violation.csv"))
     shutil.copy(EXAMPLES / "sample.prices.csv", os.path.join(two, "one.prices.csv"))
     noted = (EXAMPLES / SAMPLE).read_text().replace("num_votes;3", "num_votes;4").replace("num_projects;3", "num_projects;2")
+    noted = noted.replace("voter_id;vote", "weight;vote")
     for path, text in (
         (NOTED, noted), ("unfair.pb", UNFAIR), ("unfair.violation.csv", UNFAIR_VIOLATION), ("two/two.pb", ""),
         ("two/one.violation.csv", "pb-violation,1\nproject,b\nvoter,3\nvoter,1\n"),
@@ -147,7 +153,7 @@ def is_refused(words, how, told, said, ordinary):
         (name, path), opens = inputs[index], index + 1
     else:
         name, path, opens = "election", "standard input", 0
-    notes = b"".join(line for line in ordinary.errors.splitlines(keepends=True) if re.search(b": note: (num|sel)", line))
+    notes = b"".join(line for line in ordinary.errors.splitlines(keepends=True) if re.search(b": note: (num|sel|col)", line))
     hint = f"{path}: {os.strerror(int(how))}\n".encode()
     errors = hint if name == "election" else notes + hint
     return said == Said(refused(name).encode() + b"\n", errors, 2) and told.opens == opens
@@ -252,6 +258,16 @@ def test_each_kind_comes(shim, program, way):
     if way[0] == "list" and not is_built(program):
         pytest.skip("the program of a release has its own call that lists folders")
     assert any(shim.fail(program, words, *way, 1)[1].failed for words in COMMANDS)
+
+
+def test_each_command_is_tried(shim, program, commands):
+    """By every input that it reads, and every way to end but for words and failures: a new command can't be left out."""
+    understood = [words for words in COMMANDS if words and words[0] in commands.names and shim.run(program, words).status < 3]
+    ended = {(words[0], shim.run(program, words).status) for words in understood}
+    opened = {(words[0], name) for words in understood if words[0] not in ("folder", "help") for name, _ in inputs_of(words)}
+    inputs = {(command, name) for command, names in commands.inputs.items() for name in names if name != "folder"}
+    ends = {(command, status) for command, statuses in commands.statuses.items() for status in statuses if status < 3}
+    assert ({*commands.names} - {words[0] for words in understood}, inputs - opened, ends - ended) == (set(), set(), set())
 
 
 @pytest.mark.parametrize("words", COMMANDS, ids=" ".join)

@@ -1,9 +1,11 @@
-"""What `pbaudit folder` prints and tells, and that examples/many.sh does the same by many processes."""
+"""What `pbaudit folder` prints and tells, that examples/many.sh does the same by many processes, and the Python package with pages."""
 import contextlib
 import os
 import pathlib
 import pty
+import shutil
 import subprocess
+import sys
 import tempfile
 
 import pytest
@@ -15,6 +17,9 @@ ANSWERS = tables.Table("answers.txt").files
 SAMPLE, PRICES, FAIR = ANSWERS["sample.pb"], ANSWERS["sample.prices.csv"], ANSWERS["fair.violation.csv"]
 READ = "read 3 voters 3 projects 2 funded"
 NAMES = "an election is NAME.pb, and its certificates are NAME.prices.csv and NAME.violation.csv, with endings in lower case"
+REGULAR = "only regular files are, and no links, folders or pipes"
+CLEAN = "their names have control characters"
+AS_THEY_ARE = "the report has them as they are"
 MANY = TOP / "examples/many.sh"
 # What stands in for ssh: it notes the name of the machine, and runs the command on this one, with SHELL set as sshd sets it.
 SSH = """#!/bin/sh
@@ -65,6 +70,56 @@ def test_names_are_in_byte_order_and_come_out_as_they_are(run, room):
     reports(run("folder", room), [f"{name}.pb: {READ}" for name in names] + ["total 18 elections 0 yes 0 no 0 refused"], 0)
 
 
+def thousand():
+    """The files of a thousand elections with from no voter to six, of which some are refused, and others have prices that hold or fail
+    or a group that is empty; and the report on them."""
+    head = b"".join(line for line in SAMPLE.splitlines(keepends=True)[:14] if not line.startswith(b"num_"))
+    prices = "pb-prices,1\ndenominator,1\nvoter_budget,10\nvoter,project,payment\n1,a,6\n"
+    files, lines = {}, {}
+    for number in range(1000):
+        name, voters, told = f"e{number}", number % 7, []
+        if number % 11 == 3:
+            files[f"{name}.pb"], told = b"", [".pb: refused election 2 NoMeta record 1"]
+        else:
+            files[f"{name}.pb"] = head + b";a,b\n" * voters
+            told.append(f".pb: read {voters} voters 3 projects 2 funded")
+            if voters and number % 3 == 0:
+                pays_for_both = number % 2 == 0
+                files[f"{name}.prices.csv"] = (prices + "1,b,4\n" * pays_for_both).encode()
+                told.append(".prices.csv: " + ("supported priceable" if pays_for_both else "failed C3 project b"))
+            if number % 5 == 0:
+                files[f"{name}.violation.csv"] = b"pb-violation,1\nproject,a\n"
+                told.append(".violation.csv: failed V1")
+        lines[f"{name}.pb"] = [name + line for line in told]
+    report = [line for name in sorted(lines) for line in lines[name]]
+    counts = [sum(word in line for line in report) for word in (": supported", ": failed", ": refused")]
+    assert len(lines) == 1000 and min(counts) > 60
+    return files, [*report, "total 1000 elections {} yes {} no {} refused".format(*counts)]
+
+
+def test_thousand_elections(run, room):
+    files, report = thousand()
+    fill(room, files)
+    reports(run("folder", room), report, 2)
+
+
+def test_pages_of_a_thousand_elections(library, room):
+    """The Python package writes one for each certificate that is answered, and an index that leads to each."""
+    files, report = thousand()
+    (room / "elections").mkdir()
+    fill(room / "elections", files)
+    shutil.copytree(TOP / "python/pbaudit", room / "site/pbaudit", ignore=shutil.ignore_patterns("__pycache__"))
+    shutil.copy(library / "libpbaudit.so", room / "site/pbaudit")
+    words = [sys.executable, "-B", "-m", "pbaudit", "page", "--folder", "elections", "-o", "pages"]
+    ran = subprocess.run(words, cwd=room, env=os.environ | {"PYTHONPATH": str(room / "site")}, capture_output=True, check=False)
+    assert (ran.stdout.decode().splitlines(), ran.returncode) == (report, 2)
+    answered = [line.split(": ")[0] for line in report if ": supported" in line or ": failed" in line]
+    pages = {name.replace(".csv", ".html") for name in answered}
+    assert {*os.listdir(room / "pages")} == pages | {"index.html"}
+    index = (room / "pages/index.html").read_text("utf-8")
+    assert [page for page in pages if f'href="{page}"' not in index] == []
+
+
 def test_only_regular_files_with_clean_names_are_entries(run, room):
     names = ["a.pb", ".pb", "b.PB", "b.pb.old", "tab\t.pb", "line\n.pb", "del\x7f.pb", "c.prices.csv", "prices.csv", "violation.csv"]
     fill(room, dict.fromkeys(names, SAMPLE))
@@ -72,8 +127,53 @@ def test_only_regular_files_with_clean_names_are_entries(run, room):
         (room / name).mkdir()
     for name in ("link.pb", "a.violation.csv"):
         (room / name).symlink_to(room / "a.pb")
-    told = f"pbaudit: not audited: b.PB, c.prices.csv, prices.csv, violation.csv; {NAMES}\n"
+    told = (f"pbaudit: not audited: b.PB, c.prices.csv, prices.csv, violation.csv; {NAMES}\n"
+            f"pbaudit: not audited: a.prices.csv, a.violation.csv, folder.pb, link.pb; {REGULAR}\n"
+            f"pbaudit: not audited: del\\u{{7f}}.pb, line\\n.pb, tab\\t.pb; {CLEAN}\n")
     reports(run("folder", room), [f"a.pb: {READ}", "total 1 elections 0 yes 0 no 0 refused"], 0, told)
+
+
+def test_links_folders_and_pipes_are_told_where_a_file_of_the_name_would_be(run, room):
+    """Whatever a link leads to; and none of another name."""
+    fill(room, {"a.pb": SAMPLE, "notes.txt": b""})
+    for name in ("folder", "x.PB", "prices.csv", ".pb"):
+        (room / name).mkdir()
+    for name, target in (("link.pb", "a.pb"), ("gone.pb", "missing"), ("link.txt", "a.pb"), ("a.refutation.csv", "notes.txt")):
+        (room / name).symlink_to(room / target)
+    os.mkfifo(room / "line\n.pb")
+    listed = "a.refutation.csv, gone.pb, line\\n.pb, link.pb, prices.csv and 1 more"
+    told = f"pbaudit: not audited: {listed}; {REGULAR}\n"
+    reports(run("folder", room), [f"a.pb: {READ}", "total 1 elections 0 yes 0 no 0 refused"], 0, told)
+
+
+def test_names_with_control_characters_alone(run, room):
+    fill(room, dict.fromkeys(["\x1b[31m.pb", "a\r.prices.csv", "b\n.violation.csv", "c\t.refutation.csv", "\x01.txt"], SAMPLE))
+    told = ("pbaudit: no election was found: the folder has no file named NAME.pb\n"
+            f"pbaudit: not audited: c\\t.refutation.csv; {NAMES}; a refutation is audited by itself, with pbaudit refutation\n"
+            f"pbaudit: not audited: \\u{{1b}}[31m.pb, a\\r.prices.csv, b\\n.violation.csv; {CLEAN}\n")
+    reports(run("folder", room), ["total 0 elections 0 yes 0 no 0 refused"], 0, told)
+
+
+def test_what_cannot_be_seen_in_names_is_told_and_stays_in_the_report(run, room):
+    """Of elections, which are audited. A name that is only unusual is not told."""
+    hidden = ["a\u202e", "b\u200b", "c\u00a0", "d\u2028", "\U0001f469\u200d\U0001f467", "\U000e0041"]
+    fill(room, {f"{name}.pb": SAMPLE for name in [*hidden, "\u00e9", "a b"]})
+    fill(room, {"a\u202e.prices.csv": PRICES})
+    names = sorted([*hidden, "\u00e9", "a b"], key=str.encode)
+    lines = [f"{name}.pb: {READ}" for name in names]
+    lines.insert(names.index("a\u202e") + 1, "a\u202e.prices.csv: supported priceable")
+    listed = "a\\u{202e}.pb, b\\u{200b}.pb, c\\u{a0}.pb, d\\u{2028}.pb, \U0001f469\\u{200d}\U0001f467.pb and 1 more"
+    told = f"pbaudit: names with characters that can't be seen: {listed}; {AS_THEY_ARE}\n"
+    reports(run("folder", room), [*lines, "total 8 elections 1 yes 0 no 0 refused"], 0, told)
+
+
+def test_each_reason_has_its_line(run, room):
+    fill(room, dict.fromkeys(["a\u200b.pb", "b.PB", "c\t.pb"], SAMPLE))
+    (room / "d.pb").mkdir()
+    told = (f"pbaudit: not audited: b.PB; {NAMES}\npbaudit: not audited: d.pb; {REGULAR}\n"
+            f"pbaudit: not audited: c\\t.pb; {CLEAN}\n"
+            f"pbaudit: names with characters that can't be seen: a\\u{{200b}}.pb; {AS_THEY_ARE}\n")
+    reports(run("folder", room), [f"a\u200b.pb: {READ}", "total 1 elections 0 yes 0 no 0 refused"], 0, told)
 
 
 def test_names_that_are_near_misses_are_told_in_one_line(run, room):
@@ -118,10 +218,17 @@ def test_notes_are_left_out_and_a_no_counts(run, room):
     reports(run("folder", room), lines, 1)
 
 
-def test_name_that_is_not_utf8_is_told(run, room):
-    with open(os.path.join(os.fsencode(room), b"\xe9.pb"), "wb"):
-        told = f"{room}: it has a file whose name isn't UTF-8\n"
-        reports(run("folder", room), ["refused folder 18 Read record 0"], 2, told)
+@pytest.mark.parametrize("names, shown", [
+    ([b"\xe9.pb"], "\\xe9.pb"), ([b"a.pb", b"z\xff", b"z\xe9.txt"], "z\\xe9.txt"), ([b"\n\xe2\x80\xae\xe9"], "\\n\\u{202e}\\xe9"),
+    ([b"\xe9" + b"z" * 60], "\\xe9" + "z" * 59 + "..."),
+])  # fmt: skip
+def test_name_that_is_not_utf8_is_told(run, room, names, shown):
+    """The first in byte order, with what can't be seen of it, and cut."""
+    for name in names:
+        with open(os.path.join(os.fsencode(room), name), "wb"):
+            pass
+    told = f"{room}: it has a file whose name isn't UTF-8: '{shown}'\n"
+    reports(run("folder", room), ["refused folder 18 Read record 0"], 2, told)
 
 
 def read_all(terminal):
@@ -134,20 +241,21 @@ def read_all(terminal):
     return told
 
 
-@pytest.mark.parametrize("names, shown", [
-    (["one", "two"], ["one", "two"]),
-    (["\u00e9123456789" * 5 + "x"], ["\u00e9123456789" * 5]),
-    (["a\u202e\u2028b"], ["a\ufffd\ufffdb"]),
+@pytest.mark.parametrize("names, shown, beside", [
+    (["one", "two"], ["one", "two"], ""),
+    (["\u00e9123456789" * 5 + "x"], ["\u00e9123456789" * 5], ""),
+    (["a\u202e\u2028b"], ["a\ufffd\ufffdb"],
+     "pbaudit: names with characters that can't be seen: a\\u{202e}\\u{2028}b.pb; the report has them as they are\r\n"),
 ])  # fmt: skip
-def test_terminal_is_told_how_far_it_is(program, room, names, shown):
-    """A long name is cut, nothing hidden of a name is told, and the line is cleared at the end."""
+def test_terminal_is_told_how_far_it_is(program, room, names, shown, beside):
+    """A long name is cut, nothing hidden of a name is told, and the line is cleared at the end, before what is told beside."""
     fill(room, {f"{name}.pb": SAMPLE for name in names})
     ours, theirs = pty.openpty()
     ran = subprocess.run([program, "folder", room], stdout=subprocess.PIPE, stderr=theirs, check=False)
     os.close(theirs)
     told = read_all(ours).decode()
     lines = [f"\r\x1b[K{number} of {len(shown)}: {name}.pb" for number, name in enumerate(shown, 1)]
-    assert told == "".join(lines) + "\r\x1b[K"
+    assert told == "".join(lines) + "\r\x1b[K" + beside
     assert (ran.stdout.count(b"\n"), ran.returncode) == (len(names) + 1, 0)
 
 

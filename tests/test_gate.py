@@ -175,7 +175,7 @@ echo 'it is well'
 """
 # The parts of the gate, by what they call.
 PLACES = {"packages": ".ci/packages", "libraries": ".ci/libraries", "rt": "../tools/rt", "edits.py": "tests/edits.py",
-          "pbaudit-library": "pbaudit-library", "pbaudit-web": "pbaudit-web", "release": "packaging/release", "sources": "tests/run", "tests": "tests/run",
+          "pbaudit-library": "pbaudit-library", "pbaudit-web": "pbaudit-web", "built": "packaging/built", "release": "packaging/release", "sources": "tests/run", "tests": "tests/run",
           "fuzz": "tests/run", "released": "tests/run"}  # fmt: skip
 
 
@@ -218,7 +218,7 @@ def test_gate(room, fails):
     if fails in PLACES:
         assert status != 0 and fails in begun and "How long" not in said
     else:
-        assert (status, begun) == (0, sorted([*PLACES, "pbaudit-library", *(["pbaudit"] if fails == "object" else [])])), said
+        assert (status, begun) == (0, sorted([*PLACES, "built", "pbaudit-library", *(["pbaudit"] if fails == "object" else [])])), said
         assert {"What was left out:", "  SKIPPED [1] test_bare.py:9: lintian is not installed",
                 "stat::number_of_executed_units: 7"} <= {*said.splitlines()}  # fmt: skip
         assert {"rt ci", "edits", "built", "fuzz"} <= {*re.findall(r"(?m)^ +[0-9]+:[0-9]{2}  (.*)$", said)}

@@ -11,6 +11,7 @@ import shutil
 import pytest
 
 from common import TOP, needs, ran, turned
+from helps import Helps
 from tables import EXAMPLES
 
 pytestmark = pytest.mark.usefixtures("built_here")
@@ -24,43 +25,10 @@ FILES = {
     "share/bash-completion/completions/pbaudit": 0o644,
     "share/zsh/site-functions/_pbaudit": 0o644,
     "share/fish/vendor_completions.d/pbaudit.fish": 0o644,
+    "share/pbaudit/installed": 0o644,
 }
-MAN, BASH, ZSH, FISH = list(FILES)[5:]
-
-
-# What the program's help says, read here by other means than in packaging/man_and_completions.py: a command is the first
-# word of a line of 'Commands:', and an option a word with '-' before the text of a line of 'Options:'.
-
-
-def section(text, heading):
-    match = re.search(rf"^{heading}:\n((?:  .*\n)+)", text, re.MULTILINE)
-    return match[1].splitlines() if match else []
-
-
-def option_words(text):
-    """The options of a help text, each with the name of its value or ''."""
-    found = {}
-    for line in section(text, "Options"):
-        if re.match(r" {2,6}-", line):
-            term = re.split(r"  +", line.strip())[0]
-            value = re.search(r"<(\w+)>", term)
-            found |= {word: value[1] if value else "" for word in re.findall(r"--?\w[\w-]*", term)}
-    return found
-
-
-class Helps:
-    """By command, and by '' for the program: the help text, and its options."""
-
-    def __init__(self, program):
-        top = ran(program, "--help").stdout
-        self.names = [line.split()[0] for line in section(top, "Commands")]
-        self.texts = {"": top}
-        for name in self.names:
-            # The command `help` takes no options.
-            self.texts[name] = ran(program, *(["help", "help"] if name == "help" else [name, "--help"])).stdout
-        self.options = {name: option_words(text) for name, text in self.texts.items()}
-        self.sets = {name: set(options) for name, options in self.options.items()}
-        self.valued = [(n, o) for n, options in self.options.items() for o, value in options.items() if value]
+MAN, BASH, ZSH, FISH = list(FILES)[5:9]
+LANGUAGES = ["en", "pl", "de", "fr"]
 
 
 def man_options(text):
@@ -144,8 +112,15 @@ def test_bash_completes_options(bash, helps):
         assert [option for option in helps.sets[name] if option[:2] == "--" and option not in bash(name, "x", option[:4])] == []
 
 
+def test_bash_completes_languages(bash):
+    assert bash("page", "--language", "") == bash("page", "--language", "=", "") == LANGUAGES
+    assert bash("page", "a town.pb", "--language", "d") == ["de"]
+
+
 def test_bash_completes_values_and_files(bash, helps):
     for name, option in helps.valued:
+        if option == "--language":
+            continue
         assert set(bash(name, option, "")) == {"a town.pb", "more", "-town.pb"}
         assert bash(name, option, "=", "a ") == ["a town.pb"]
     for name, text in helps.texts.items():
@@ -179,6 +154,14 @@ def test_fish(prefix, helps):
         assert shorts == {word for word in wanted if not word.startswith("--")}
 
 
+def test_fish_completes_languages(prefix, files):
+    needs("fish")
+    script = f"source {shlex.quote(str(prefix / FISH))}; complete -C 'pbaudit page --language '"
+    done = ran("fish", "--no-config", "-c", script, cwd=files)
+    assert (done.returncode, done.stderr) == (0, "")
+    assert {line.split("\t")[0] for line in done.stdout.splitlines()} == {*LANGUAGES}
+
+
 # In the place of zsh's own functions stand some that tell what they are called with.
 ZSH_STUBS = """
     compdef() { }
@@ -200,6 +183,12 @@ def test_zsh(prefix, helps):
         part = calls[0] if not name else calls[-1] if len(calls) > 1 else ""
         assert (name, set(re.findall(r"^(?:\(.*?\))?(--?\w[\w-]*)=?\[", part, re.MULTILINE))) == (name, wanted)
         assert re.findall(r"^(?:commands )?(\w+):", told[2], re.MULTILINE) == helps.names
+
+
+def test_zsh_completes_languages(prefix):
+    """In the way that _arguments takes the words of a value."""
+    values = re.findall(r"^ *--language'=\[.*?\]:CODE:(.*)' \\$", (prefix / ZSH).read_text("utf-8"), re.MULTILINE)
+    assert values == [f"({' '.join(LANGUAGES)})"]
 
 
 def test_man(prefix, helps):
@@ -328,7 +317,7 @@ def test_refusal(room, name):
         lost = "-dac_override,-dac_read_search"
         command = ["setpriv", f"--inh-caps={lost}", f"--bounding-set={lost}", "--"]
     (room / "file").touch()
-    for folder, tools in (("tools", ("bash", "dirname", "readlink", "sed")), ("more", ("find",))):
+    for folder, tools in (("tools", ("bash", "dirname", "readlink", "sed")), ("more", ("cat", "find", "sha256sum", "sort", "xargs"))):
         (room / folder).mkdir()
         for tool in tools:
             (room / folder / tool).symlink_to(shutil.which(tool))
@@ -372,19 +361,28 @@ def test_what_is_not_built_is_built(room, copy):
     out = copy / "crates/pbaudit/out"
     out.mkdir()
     shutil.copy(TOP / "crates/pbaudit/out/pbaudit", out)
+    note(copy)
     done = install()
     assert (done.returncode, done.stdout) == (70, "") and "install: the library could not be built" in done.stderr
-    # With both there, rt isn't wanted; and it is once a source is newer than the library.
+    # With both there, rt isn't wanted; and it is once a source is another than the library's.
     shutil.copytree(TOP / "lib", copy / "lib")
     done = install()
     assert (done.returncode, len(done.stdout.splitlines())) == (0, len(FILES)), done.stderr
     for source in (copy / "include/pbaudit.h", copy / "HANDLES"):
-        times = source.stat().st_atime, source.stat().st_mtime
-        for newer in (source, out / "pbaudit"):
-            os.utime(newer, (2**32, 2**32))
+        before = source.read_bytes()
+        source.write_bytes(before + b"\n")
+        os.utime(source, (1, 1))
+        note(copy)
         done = install()
         assert done.returncode == 70 and "install: the library could not be built" in done.stderr
-        os.utime(source, times)
+        source.write_bytes(before)
+
+
+def note(copy):
+    """Notes that the program of a copy was built of its sources."""
+    sources = ran(copy / "packaging/built", "--of", "crates").stdout
+    done = ran(copy / "packaging/built", "--note", copy / "crates/pbaudit/out/pbaudit", stdin=None, input=sources)
+    assert done.returncode == 0, done.stderr
 
 
 def make_release(copy):
@@ -404,12 +402,16 @@ def make_release(copy):
     return release
 
 
+# What ./install calls where all is released.
+TOOLS = ("bash", "cat", "cp", "dirname", "find", "grep", "install", "mkdir", "mktemp", "mv", "readlink", "rm", "rmdir", "sed",
+         "sha256sum", "sort", "xargs", "xz")  # fmt: skip
+
+
 def test_release(room, copy):
     """Without rt and python3 what is released is installed, where it is of these sources; and no file with a wrong byte."""
     release, prefix, tools = make_release(copy), room / "from release", room / "tools"
     tools.mkdir()
-    for tool in ("bash", "cp", "dirname", "find", "grep", "install", "mkdir", "mktemp", "readlink", "rm", "sed",
-                 "sha256sum", "sort", "xargs", "xz"):
+    for tool in TOOLS:
         (tools / tool).symlink_to(shutil.which(tool))
     environment = os.environ | {"PATH": str(tools), "DESTDIR": ""}
     done = ran(copy / "install", prefix, env=environment)

@@ -11,9 +11,10 @@ import time
 
 import pytest
 
-from common import TOP, script, turned
+from common import TOP, cloned, script, turned
 
-PARTS = ("pbaudit", "pbaudit-library", "pbaudit-web", "include", "packaging", "HANDLES", "crates.txt", "CHANGELOG.md", "crates")
+PARTS = (".gitattributes", "pbaudit", "pbaudit-library", "pbaudit-web", "include", "packaging", "HANDLES", "crates.txt",
+         "CHANGELOG.md", "crates")  # fmt: skip
 # Of the many sources, which no script reads but for their sums, these are copied.
 KEPT = ("lib.rt", "main.rt", "version.rt", "First.antt", "Lib.antt")
 # The commands that the scripts call.
@@ -47,7 +48,7 @@ case $RT_DOES in
   nothing) exit 0 ;;
   slow | slow_fail) for _ in {1..300}; do [ -e "$RT_LOG.go" ] || sleep 0.1; done ;;&
   slow_fail) exit 1 ;;
-  meanwhile) sleep 0.1; touch ../pb_money/src/lib.rt ;;
+  meanwhile) sleep 0.1; echo >> ../pb_money/src/lib.rt ;;
 esac
 mkdir -p out
 [ "$what" != pb_c ] || { touch out/libpb_c.a; exit; }
@@ -79,6 +80,15 @@ LAST = "run -- --version"
 WAITS = "another build is running; waiting for it"
 NO_RT = "rt, the command of the Rattle kit, is not on the PATH"
 SOURCES = ("crates.txt", "HANDLES", "crates/pb_money/src/lib.rt", "crates/pb_price/specs/First.antt", "crates/pb_audit/proofs/Lib.antt")
+
+
+# What an editor leaves beside a source.
+LEFT = ("crates/pb_money/src/.lib.rt.swp", "crates/pb_money/src/lib.rt~", "crates/pb_money/src/#lib.rt#", "crates/pb_money/specs/lib.rt.orig")
+
+
+def change(path):
+    """Changes a source, and leaves it one."""
+    path.write_bytes(path.read_bytes() + b"\n")
 
 
 def heed_interrupts():
@@ -209,10 +219,10 @@ def test_first_build(built, proved):
     built.expect(7, 0, "", "x", path=["tools"])
 
 
-def test_newer_sources(built):
+def test_other_sources(built):
     built.below()
     for name in SOURCES:
-        os.utime(built.copy / name)
+        change(built.copy / name)
         built.expect(7, 1, "pbaudit: building", "x")
         built.expect(7, 0, "", "x")
     added = built.copy / "crates/pb_money/src/added.rt"
@@ -222,27 +232,46 @@ def test_newer_sources(built):
     built.expect(7, 1, "pbaudit: building", "x")
     # What was built before is left to rt, and what is no source may change.
     assert built.below() == []
-    for name in ("README.md", "crates/pb_money/notes"):
-        (built.copy / name).touch()
+    for name in ("README.md", "crates/pb_money/notes", *LEFT):
+        (built.copy / name).write_text("x")
+    for name in SOURCES:
+        os.utime(built.copy / name)
     built.expect(7, 0, "", "x")
 
 
+def test_source_that_is_older_than_the_build(built):
+    """As by `cp -p`, or out of an archive."""
+    source = built.copy / "crates/pb_money/src/lib.rt"
+    change(source)
+    os.utime(source, (1, 1))
+    built.expect(7, 1, "pbaudit: building", "x")
+
+
+def test_program_that_is_not_the_one_that_was_built(built):
+    script(built.program, "#!/bin/sh\nexit 9\n")
+    built.expect(7, 1, "pbaudit: building", "x")
+    (built.program.parent / ".pbaudit.sources").unlink()
+    built.expect(7, 1, "pbaudit: building", "x")
+
+
 def test_source_that_changes_while_it_builds(built):
-    os.utime(built.copy / "crates.txt")
+    change(built.copy / "crates.txt")
     built.expect(7, 1, "pbaudit: building", "x", does="meanwhile")
     built.expect(7, 1, "pbaudit: building", "x")
 
 
 def test_missing_tools(built):
-    os.utime(built.copy / "crates.txt")
-    built.expect(70, 0, "find, which looks for newer sources, is not on the PATH", "x", path=built.without("find"))
+    for tool in ("find", "sort", "xargs", "sha256sum"):
+        text = f"{tool}, which tells of which sources a program was built, is not on the PATH"
+        built.expect(70, 0, text, "x", path=built.without(tool))
+    change(built.copy / "crates.txt")
     built.expect(70, 0, "flock, which builds need to take turns, is not on the PATH", "x", path=built.without("flock"))
 
 
 @pytest.mark.parametrize("does, text", [("fail", "no proof of a promise"), ("leave", "no proof of a promise"),
                                         ("fail", "rt ended with status 1"), ("nothing", "the build failed")])  # fmt: skip
 def test_build_that_fails(built, does, text):
-    os.utime(built.copy / "crates.txt")
+    change(built.copy / "crates.txt")
     if does == "nothing":
         built.program.unlink()
     built.expect(70, 1, text, "read", does=does)
@@ -276,7 +305,7 @@ def test_two_calls_at_once(built, does, status, builds):
 
 def test_interrupted_build(built):
     """By a terminal, which ends all that was begun."""
-    os.utime(built.copy / "crates.txt")
+    change(built.copy / "crates.txt")
     built.log.write_text("")
     running = built.begin(does="slow")
     until(lambda: LAST in built.log.read_text(), "the build")
@@ -299,7 +328,7 @@ def test_interrupted_build(built):
 ])  # fmt: skip
 def test_one_build_waits_for_another(built, first, kill, second, builds):
     """Also where the first script is killed by itself: what it began goes on, and a source may change meanwhile."""
-    os.utime(built.copy / "crates.txt")
+    change(built.copy / "crates.txt")
     built.log.write_text("")
     path = ["rt", "linkers", "tools"]
     one = built.begin(does="slow", what=first, path=path)
@@ -308,7 +337,7 @@ def test_one_build_waits_for_another(built, first, kill, second, builds):
         one.send_signal(kill)
         one.wait(60)
         if first == "pbaudit":
-            os.utime(built.copy / "HANDLES")
+            change(built.copy / "HANDLES")
     two = built.begin("read" if second == "pbaudit" else "lib", what=second, path=path)
     assert WAITS in two.stderr.readline()
     assert len(built.log.read_text().splitlines()) == 1
@@ -346,6 +375,12 @@ def test_help_of_the_builders(place, what, word):
     assert (ended, told) == (0, "") and printed
 
 
+def is_built(place):
+    """Whether the library of a place is one of its sources."""
+    words = [place.copy / "packaging/built", place.copy / "lib/libpbaudit.so", "crates", "library", "packaging"]
+    return subprocess.run(words, check=False).returncode == 0
+
+
 def test_library(place):
     place.path = ["rt", "linkers", "tools"]
     ended, printed, told, _ = place.call("./-a lib", what="pbaudit-library")
@@ -356,9 +391,9 @@ def test_library(place):
     assert place.call(what="pbaudit-library", CC="cc -m64")[:2] == (0, f"{place.copy}/lib\n")
     assert "cc -m64" in pathlib.Path(f"{place.log}.linked").read_text().splitlines()
     assert place.call(what="pbaudit-library", does="meanwhile")[0] == 0
-    # A source that was changed meanwhile counts as newer.
-    newer, library = place.copy / "crates/pb_money/src/lib.rt", place.copy / "lib/libpbaudit.so"
-    assert newer.stat().st_mtime > library.stat().st_mtime
+    # It isn't a library of a source that was changed meanwhile.
+    assert not is_built(place)
+    assert place.call(what="pbaudit-library")[0] == 0 and is_built(place)
     assert place.left() == []
     ended, printed, told, _ = place.call(what="pbaudit-library", does="fail")
     assert (ended, printed) == (70, "") and "pbaudit-library: the library could not be built" in told
@@ -386,6 +421,7 @@ def turn(path):
     path.write_bytes(turned(path.read_bytes()))
 
 
+OTHER_FILE = "pbaudit: release/pbaudit isn't the file of release/SHA256SUMS: it is not used"
 FIRST = "pbaudit: running the program of release/, which was made of these sources; ./pbaudit --build"
 
 
@@ -402,11 +438,21 @@ def test_release_is_run_and_told_once(released):
     released.expect(8, 0, "", "read", "town.pb", what="link")
 
 
+def test_clone_where_git_turns_ends_of_lines(released):
+    """As it is set up on Windows, for a clone that Linux then works in."""
+    before = released.room / "before"
+    released.copy.rename(before)
+    cloned(before, released.copy, "-c", "core.autocrlf=true")
+    released.expect(8, 0, FIRST, "read")
+
+
 def is_not_used(place, text="release/pbaudit is not used"):
     """The release isn't run: it is told why, and all is built, or it is told what is missing for that."""
     assert text in place.expect(7, 1, "pbaudit: building", "x")
     place.clean()
-    assert text in place.expect(70, 0, NO_RT, "x", path=["tools"])
+    told = place.expect(70, 0, NO_RT, "x", path=["tools"])
+    assert text in told
+    return told
 
 
 @pytest.mark.parametrize("name", SOURCES)
@@ -423,6 +469,12 @@ def test_release_does_not_rest_on_tests(released, name):
     released.expect(8, 0, FIRST, "x")
 
 
+def test_release_beside_what_an_editor_leaves(released):
+    for name in LEFT:
+        (released.copy / name).write_text("x")
+    released.expect(8, 0, FIRST, "x")
+
+
 def test_release_of_a_source_less_or_more(released):
     added = released.copy / "crates/pb_money/src/added.rt"
     added.touch()
@@ -435,7 +487,8 @@ def test_release_of_a_source_less_or_more(released):
 @pytest.mark.parametrize("name", ["pbaudit", "MADE-OF", "SHA256SUMS"])
 def test_turned_byte_of_a_release(released, name):
     turn(released.copy / "release" / name)
-    is_not_used(released, "pbaudit: release/pbaudit isn't the file of release/SHA256SUMS: it is not used" if name == "pbaudit" else "")
+    told = is_not_used(released, OTHER_FILE if name == "pbaudit" else "")
+    assert name != "pbaudit" or "runs by itself" not in told
 
 
 @pytest.mark.parametrize("name", ["pbaudit", "MADE-OF", "SHA256SUMS", None], ids=str)
@@ -444,13 +497,18 @@ def test_release_without_a_file_or_that_may_not_be_run(released, name):
     released.expect(7, 1, "pbaudit: building", "x")
 
 
-def test_release_without_sha256sum(released):
-    released.expect(7, 1, "sha256sum is not on the PATH; it tells whether", "x", path=released.without("sha256sum"))
+def test_release_for_another_system(released):
+    told = released.expect(70, 0, NO_RT, "read", path=["tools"], OSTYPE="linux-musl")
+    assert "it is for Linux with glibc on x86-64, and this is linux-musl on x86_64" in told and "runs by itself" not in told
 
 
-@pytest.mark.parametrize("kind", [{"OSTYPE": "linux-musl"}, {"HOSTTYPE": "aarch64"}], ids=str)
-def test_release_for_another_machine(released, kind):
-    released.expect(70, 0, NO_RT, "read", path=["tools"], **kind)
+@pytest.mark.parametrize("kind", ["released", "built"])
+def test_another_processor(request, kind):
+    """Neither what is released nor what was built on another machine is run, and nothing is built."""
+    place = request.getfixturevalue(kind)
+    for word in ("read", "--build"):
+        told = place.expect(70, 0, "for processors of the kind x86-64, and this one is aarch64; README.md", word, HOSTTYPE="aarch64")
+        assert told.count("\n") == 1
 
 
 def test_build_beside_a_release(released):
@@ -458,12 +516,13 @@ def test_build_beside_a_release(released):
     released.expect(70, 0, NO_RT, "--build", path=["tools"])
     released.expect(70, 1, "no proof of a promise", "--build", does="fail")
     released.expect(8, 0, FIRST, "read")
-    released.expect(0, 1, "is built, and no source is newer", "--build")
-    released.expect(0, 0, "is built, and no source is newer", "--build")
+    released.expect(0, 1, "is built of these sources", "--build")
+    released.expect(0, 0, "is built of these sources", "--build")
     released.expect(7, 0, "", "read")
     released.expect(7, 0, "", "--build", "read")
-    os.utime(released.copy / "crates.txt")
-    released.expect(8, 0, "", "read")
+    change(released.copy / "crates.txt")
+    make_release(released)
+    released.expect(8, 0, FIRST, "read")
 
 
 def test_folder_that_can_not_be_written(released):

@@ -31,6 +31,18 @@ def commands():
 
 COMMANDS = list(commands())
 on_examples = pytest.mark.parametrize("words, text, status", COMMANDS)
+# What is said of groups, by the number of the header: school.prices.csv has budgets of 1000 for a limit of 100000,
+# district.shares.prices.csv of 111000 for one of 111000, and district.prices.csv of 156000.
+ON_GROUPS = {
+    "groups - school.pb school.prices.csv": 1,
+    "groups e school.pb school.prices.csv": 1,
+    "groups - district.pb district.shares.prices.csv": 2,
+    "groups e district.pb district.shares.prices.csv": 3,
+    "groups - district.pb district.prices.csv": 3,
+    "groups e district.pb district.prices.csv": 3,
+    "groups - school.pb school.violation.csv": 0,
+    "groups e school.prices.csv school.prices.csv": 0,
+}  # fmt: skip
 # Calls of library.c for notes and hints, each with its text, as the header says: of small voter budgets, of larger ones, and of
 # refused files; no refusal has the number 99, no kind of file the number 6, and a fault of elections no certificate.
 CALLS = {
@@ -49,6 +61,7 @@ CALLS = {
 }  # fmt: skip
 EACH_CALL = [pytest.param(calls.caller_words(each.values[0]), *each.values[1:], id=each.id) for each in COMMANDS]
 EACH_CALL += [pytest.param(call.split(" "), text.encode(), 0, id=call) for call, text in CALLS.items()]
+EACH_CALL += [pytest.param(call.split(" "), b"", number, id=call) for call, number in ON_GROUPS.items()]
 each_call = pytest.mark.parametrize("words, text, status", EACH_CALL)
 
 
@@ -64,7 +77,7 @@ def files_of(words):
 def test_symbols_are_the_functions_of_the_header(library, words):
     symbols = re.findall(r"^[0-9a-f]+ \w (\S+)$", told_by(words, library).stdout.decode(), re.MULTILINE)
     functions = re.findall(r"^uint8_t (pbaudit_\w+)\(", (library / "pbaudit.h").read_text(), re.MULTILINE)
-    assert {*symbols} == {*functions} and len(symbols) == len(functions) == 4
+    assert {*symbols} == {*functions} and len(symbols) == len(functions) == 5
 
 
 def test_numbers_of_the_header(library):
@@ -74,6 +87,7 @@ def test_numbers_of_the_header(library):
         numbers[name] = at = int(given or at + 1)
     wanted = {f"{name.upper()}_FILE": at for at, name in enumerate(_auditor._REFUSED, 1)}
     wanted |= {name.upper(): at for at, name in [*enumerate(_auditor._QUESTIONS), *_auditor._CULPRITS.items()]}
+    wanted |= {name.upper(): at for at, name in enumerate(_auditor._ON_GROUPS) if name}
     assert numbers == wanted
 
 
@@ -100,7 +114,7 @@ def test_example(run, auditor, words, text, status):
     if status == 2:
         assert auditor.hint(question, answer.facts) == calls.hint_in(errors)
     if words[0] == "prices" and status == 0:
-        assert auditor.says_little(question) == (b"note: the voter budgets" in errors)
+        assert (auditor.says_of_groups(question) == "little") == (b"note: the voter budgets" in errors)
     if words[0] == "explain":
         assert auditor.ask(dataclasses.replace(question, command="page")).facts == answer.facts
 

@@ -174,17 +174,19 @@ def reaches_the_limit(election, prices):
 
 
 @pytest.mark.parametrize("voters, projects, costs, denominator, most, step", SMALL)
-def test_no_group_is_passed_over_where_prices_are_supported(voters, projects, costs, denominator, most, step):
+def test_shares_are_within_reach_where_prices_are_supported(voters, projects, costs, denominator, most, step):
     """The share of a group is at most what an unfunded project costs with what was funded for the group, and less under
-    Cover: PJR+ up to any project, by cost, and so PJR up to any project."""
-    tally = {"tight": 0, "with Cover": 0}
+    Cover or Exhaustive: PJR+ up to any project, by cost, and so PJR up to any project."""
+    tally = {"tight": 0, "with Cover": 0, "with Exhaustive": 0}
     for election, funded in itertools.islice(small_elections(voters, projects, costs), 0, None, step):
         spare = [*spare_of_groups(election, funded), *spare_of_demands(election, funded)]
         for prices, covered in supported(election, funded, denominator):
             if reaches_the_limit(election, prices):
-                assert all(each > 0 if covered else each >= 0 for each in spare), (election, funded, prices)
+                exhausted = not conditions.exhaustive(conditions.Claim(election, funded, prices))
+                assert all(each > 0 if covered or exhausted else each >= 0 for each in spare), (election, funded, prices)
                 tally["tight"] += 0 in spare
                 tally["with Cover"] += covered
+                tally["with Exhaustive"] += exhausted and not covered
     assert min(tally.values()) > 0, tally
 
 
@@ -201,14 +203,14 @@ def test_a_share_that_is_all_that_a_yes_allows():
 
 
 def test_budgets_below_the_limit_say_nothing_of_groups():
-    """With budgets of nothing and nothing funded every election has a yes, and any group may be passed over."""
+    """With budgets of nothing and nothing funded every election has a yes, and the share of any group may be more."""
     election = election_of([{1}, {1}], [1], 10)
     claim = conditions.Claim(election, set(), Prices(1, 0, {}))
     assert conditions.first_failure(claim, {"--no-exhaustive"}) is None
     assert min(spare_of_groups(election, set())) < 0
 
 
-# Groups that were passed over, as refutations.
+# Groups whose share was enough, as refutations.
 
 
 def a_group(chance):
@@ -246,18 +248,18 @@ def refutation_file(election, group, wanted, received):
     return b"\n".join([b"pb-refutation,1", b"cover,%d" % len(group), b"role,project,weight", *rows, b""])
 
 
-def test_a_group_that_was_passed_over_is_a_refutation(ask):
+def test_a_group_whose_share_was_enough_is_a_refutation(ask):
     """Just where its share is at least what the project and what was funded for it cost together."""
     answers = set()
     for seed in range(300):
         election, funded, group, wanted, received = a_group(random.Random(f"group/{seed}"))
         share, owed = len(group) * election.limit, election.costs[wanted] + cost_of(election, received)
-        is_passed_over = share >= len(election.ballots) * owed
+        is_enough = share >= len(election.ballots) * owed
         files = {"town.pb": election_file(election, funded),
                  "claim.csv": refutation_file(election, group, wanted, received)}
-        told = ("unpriceable cover\n", 0) if is_passed_over else ("failed U3\n", 1)
+        told = ("unpriceable cover\n", 0) if is_enough else ("failed U3\n", 1)
         assert ask(["refutation", "town.pb", "claim.csv"], files) == told, seed
-        answers.add((is_passed_over, share == len(election.ballots) * owed))
+        answers.add((is_enough, share == len(election.ballots) * owed))
     assert answers == {(True, True), (True, False), (False, False)}
 
 

@@ -12,7 +12,7 @@ import zipfile
 
 import pytest
 
-from common import TOP, turned
+from common import TOP, cloned, needs, turned
 
 RELEASE = TOP / "release"
 MOST = 6_000_000
@@ -97,6 +97,13 @@ def test_its_sums():
     assert wrong_sums(RELEASE) == []
 
 
+def test_its_sums_where_git_turns_ends_of_lines(room):
+    """As it is set up on Windows: what is cloned is what was committed."""
+    shutil.copytree(RELEASE, room / "all/release")
+    shutil.copy(TOP / ".gitattributes", room / "all")
+    assert wrong_sums(cloned(room / "all", room / "clone", "-c", "core.autocrlf=true") / "release") == []
+
+
 def test_nothing_more_is_built(again):
     assert [name for name in files_of(again) if name not in FILES and not why_not_compared(name, again)] == []
 
@@ -147,6 +154,42 @@ def test_glibc(again, name):
     if not (again / name).exists():
         pytest.skip("it isn't built here")
     assert glibc_of(again / name) <= GLIBC[name]
+
+
+def wants_of(file):
+    """What a program or a library lacks that makes an error harder to use: code at any address, addresses of functions that can't be
+    written once it has begun, and no memory that can be both written and run."""
+    needs("readelf")
+    told = subprocess.run(["readelf", "-hldW", file], capture_output=True, text=True, check=True).stdout
+    has = {
+        "any address": re.search(r"^ +Type: +DYN ", told, re.MULTILINE),
+        "functions bound at once": re.search(r"\(FLAGS\) .*\bBIND_NOW\b|\(BIND_NOW\)", told),
+        "read-only addresses": re.search(r"^ +GNU_RELRO ", told, re.MULTILINE),
+        "a stack that isn't run": re.search(r"^ +GNU_STACK .* RW +\w+$", told, re.MULTILINE),
+        "nothing written and run": not re.search(r"^ +LOAD .* RWE ", told, re.MULTILINE),
+        "code that isn't changed": "TEXTREL" not in told,
+    }
+    return [name for name, is_there in has.items() if not is_there]
+
+
+@pytest.mark.parametrize("name", GLIBC)
+def test_hardening(again, name):
+    assert wants_of(the(again, name)) == []
+
+
+def test_hardening_of_the_library_for_arm(again, room):
+    with lzma.open(the(again, "libpbaudit-aarch64.tar.xz")) as packed, tarfile.open(fileobj=packed) as files:
+        (room / "library").write_bytes(files.extractfile("aarch64/libpbaudit.so").read())
+    assert wants_of(room / "library") == []
+
+
+def test_want_of_hardening_is_seen(room):
+    """What a compiler makes that is told to leave it all out."""
+    needs("cc")
+    (room / "main.c").write_text("int main(void) { return 0; }\n")
+    flags = ["-no-pie", "-Wl,-z,norelro,-z,lazy,-z,execstack"]
+    subprocess.run(["cc", "-o", room / "main", room / "main.c", *flags], check=True, capture_output=True)
+    assert {"any address", "functions bound at once", "read-only addresses", "a stack that isn't run"} <= {*wants_of(room / "main")}
 
 
 def the(folder, pattern):

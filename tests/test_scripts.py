@@ -18,10 +18,12 @@ WRONG = {
     "certificates.py": [["word"], ["--voters", "0"], ["--elections", "many"]],
     "files.py": [["pb_none"]],
     "finding.py": [["missing"], ["/"], ["--unknown"]],
-    "hostile.py": [[], ["missing"], ["/"]],
+    "hostile.py": [[], ["--small"], ["--program", "missing"], ["--program", "/"], ["--library", "missing"], ["--page", "missing"],
+                   ["--package", "missing"], [sys.executable], ["--program", sys.executable, "--only", "none"]],
     "prices.py": [[], ["one"], ["--unknown"]],
     "python_values.py": [["10"], ["0", "10"], ["a", "b"], ["10", "7"], ["--unknown"]],
-    "web.py": [[], ["page"], ["page", "missing"], ["page", sys.executable, "3"]],
+    "web.py": [[], ["page"], ["page", "missing"], ["page", sys.executable, "3"], ["page", sys.executable, "--folder", "0"],
+               ["page", sys.executable, "--folder", "many"], ["page", sys.executable, "10", "10", "--folder", "1"]],
 }  # fmt: skip
 
 
@@ -67,6 +69,13 @@ def test_what_is_measured(program):
     lines = told.stdout.splitlines()[1:]
     assert len(lines) == len(answers)
     assert [line for line, answer in zip(lines, answers) if not line.endswith(f" {answer}")] == []
+
+
+def test_javascript_is_measured(page, program):
+    """On a folder beside the program, without a browser."""
+    told = run(TOP / "bench/web.py", page, program, "--folder", "2")
+    assert (told.returncode, told.stderr) == (0, "")
+    assert told.stdout.startswith("2 elections in a folder: the program ") and told.stdout.count("\n") == 1
 
 
 def test_closed_pipe():

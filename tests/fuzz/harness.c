@@ -4,7 +4,8 @@
 
    Each file and each answer ends where a page ends that nothing may touch. The same call has to say the same with just enough
    room, and write nothing with less or where it runs out of memory; what explains has to begin with the line that is explained,
-   both have to be what each is, tidied prices stay as they are, and each refusal has a hint or none, but ends.
+   both have to be what each is, what is said of groups goes with the note, tidied prices stay as they are, and each refusal has a
+   hint or none, but ends.
 
    The library has no counters for libFuzzer, so the kinds of its answers are counted in their place.
 */
@@ -137,6 +138,15 @@ static void demand_explained(Answer explained) {
     let_go(verdict.text);
 }
 
+static void demand_groups(Answer prices) {
+    Bytes election = files[ELECTION], certificate = files[CERTIFICATE];
+    uint8_t said = pbaudit_groups(election.at, election.length, certificate.at, certificate.length, exhaustive);
+    demand(said <= PBAUDIT_STRICT && (said || prices.status == 2), "what is said of groups is no case");
+    Answer note = answer('n');
+    demand((said == PBAUDIT_LITTLE) == (note.text.length > 0), "a note that doesn't go with what is said of groups");
+    let_go(note.text);
+}
+
 static void demand_tidied(Answer tidied) {
     if (tidied.status)
         return;
@@ -196,6 +206,8 @@ int LLVMFuzzerTestOneInput(const uint8_t *data, size_t size) {
         starve(command, said, starved);
     if (said.status == 2)
         hint(command, told);
+    if (command == 'p')
+        demand_groups(said);
     if (command == 'b')
         demand_both(said);
     if (command == 'e')

@@ -93,6 +93,8 @@ def notes(election):
             text += line(f"note: {key.decode()} says {declared}, counted {counted}")
     if election.other_selected():
         text += line(f"note: selected is neither 0 nor 1 in {election.other_selected()} projects")
+    for column in election.weighing:
+        text += line(f"note: column {column.decode()} of VOTES is not used")
     return text
 
 
@@ -194,7 +196,7 @@ class Commands:
             prices = take("certificate", read_prices, paths[1], election)
             text, status = self.verdict_on_prices(paths[0], election, funded, prices, mode)
             claim = conditions.Claim(election, funded, prices)
-            lines = [*price_lines(claim, mode), *(["", *group_lines(claim)] if status == YES else [])]
+            lines = [*price_lines(claim, mode), *(["", *group_lines(claim, mode)] if status == YES else [])]
         return text + b"\n" + b"".join(map(line, lines)), status
 
     def page(self, paths, mode, outcome):

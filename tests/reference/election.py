@@ -8,6 +8,8 @@ SECTIONS = [b"meta", b"projects", b"votes"]
 KEYS = [b"budget", b"vote_type", b"num_projects", b"num_votes"]
 NEEDED_KEYS = [b"budget", b"vote_type"]
 COLUMNS = {b"projects": [b"project_id", b"cost", b"selected"], b"votes": [b"vote"]}
+# Columns of VOTES that weigh votes in elections of other kinds, in the order of their notes.
+WEIGHING = [b"weight", b"points", b"sign"]
 NEEDED_COLUMNS = {b"projects": [b"project_id", b"cost"], b"votes": [b"vote"]}
 MOST_PROJECTS = 20_000
 MOST_VOTERS = 1_000_000
@@ -32,6 +34,7 @@ class Election:
     declared: dict = field(default_factory=dict)
     number_of: dict = field(default_factory=dict)
     approvals: int = 0
+    weighing: list = field(default_factory=list)
 
     @property
     def projects(self):
@@ -82,6 +85,8 @@ def read_election(data):
             refuse_lowest(faults_of_header(section, marked, header), place)
             if section == b"projects":
                 election.has_selected = b"selected" in header
+            elif section == b"votes":
+                election.weighing = [name for name in WEIGHING if name in header]
         elif marked:
             refuse_lowest(faults_of_marker(section, marked, keys), place)
             section, header = marked, None

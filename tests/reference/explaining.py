@@ -188,20 +188,24 @@ def refutation_lines(weighing):
     yield from lines_of(refutations.TESTS, failing, sentences)
 
 
-def group_lines(claim):
-    """What a yes to prices says of every group, and of which the supporters come nearest to being passed over."""
-    voters = len(claim.election.ballots)
-    budgets = voters * claim.budget
+def said_of_groups(claim, mode):
+    """What a yes to prices says of every group of supporters of an unfunded project: "strict", "weak" or "little"."""
+    budgets = len(claim.election.ballots) * claim.budget
     if budgets < claim.limit:
-        yield "whether a group is passed over isn't shown: all voter budgets together are less than the limit"
+        return "little"
+    return "strict" if budgets > claim.limit or "--no-exhaustive" not in mode else "weak"
+
+
+def group_lines(claim, mode):
+    """That, and the unfunded project whose supporters come nearest to the bound."""
+    said = said_of_groups(claim, mode)
+    if said == "little":
+        yield "of groups of voters this says little: all voter budgets together are less than the limit"
         return
-    if budgets > claim.limit:
-        yield ("no group is passed over: where a group has members, who all approve an unfunded project, its share of the "
-               "limit is less than this project and all that was funded for the group cost together")
-    else:
-        yield ("no group's share of the limit is more than an unfunded project that all its members approve and all that "
-               "was funded for the group cost together")
-    project = closest(claim.unfunded(), claim.surplus) if voters else None
+    bound = "less than" if said == "strict" else "no more than"
+    yield (f"take any voters who all approve an unfunded project: their equal part of the limit is {bound} that project's "
+           "cost plus the cost of all funded projects that at least one of them approves")
+    project = closest(claim.unfunded(), claim.surplus) if claim.election.ballots else None
     if project is not None:
         supporters = len(claim.election.supporters(project))
         yield (f"nearest to that comes project {claim.election.id(project).decode()}: the share of its {supporters} "

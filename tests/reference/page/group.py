@@ -34,7 +34,7 @@ class GroupFigures(Tested):
         return "answer.violation.no" if self.failed else "answer.violation.yes"
 
     def not_said(self):
-        return "not_said.violation.no" if self.failed else "not_said.violation.yes"
+        return ["not_said.violation.no" if self.failed else "not_said.violation.yes"]
 
     def may_be_said(self):
         """What may be said in public, as meanings: of a violation also by which measure it is one."""

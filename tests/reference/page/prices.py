@@ -1,5 +1,5 @@
 """What is found of a price certificate, and what the page says of it."""
-from .. import conditions
+from .. import conditions, explaining
 from . import amounts
 from .findings import comes_to
 from .nodes import element
@@ -96,11 +96,13 @@ class PriceFigures:
             return comes_to(case, self, self.failed)
         return [case.say("why.prices.yes_stable" if self.form() == "stable" else "why.prices.yes")]
 
+    def case_of_groups(self):
+        """What a yes says of every group: "strict", "weak" or "little"; None where the answer is a no."""
+        return None if self.failed else explaining.said_of_groups(self.claim, self.mode)
+
     def said_of_groups(self):
-        """What a yes says of every group, where the budgets of all voters together are the limit or more: a meaning."""
-        if self.failed or self.budgets < self.claim.limit:
-            return None
-        return "groups.none_passed_over" if self.budgets > self.claim.limit else "groups.within_reach"
+        """The meaning that says it, unless it is little."""
+        return {"strict": "groups.below_reach", "weak": "groups.within_reach"}.get(self.case_of_groups())
 
     def of_groups(self, case):
         """That, with the supporters of an unfunded project who come nearest to their share."""
@@ -120,8 +122,8 @@ class PriceFigures:
         return [" ", *told]
 
     def says_little(self):
-        """That a yes says little, where the budgets of all voters together are less than the limit: a meaning."""
-        if self.failed or self.budgets >= self.claim.limit:
+        """That a yes says little, where that is so: a meaning."""
+        if self.case_of_groups() != "little":
             return None
         return "caution.little" if "--no-exhaustive" in self.mode else "caution.less"
 
@@ -164,9 +166,10 @@ class PriceFigures:
         ]
 
     def not_said(self):
-        if not self.failed:
-            return "not_said.prices.yes"
-        return "not_said.prices.no_by_outcome" if self.fails_by_outcome() else "not_said.prices.no_by_payments"
+        """What the answer doesn't say, as meanings."""
+        if self.failed:
+            return ["not_said.prices.no_by_outcome" if self.fails_by_outcome() else "not_said.prices.no_by_payments"]
+        return ["not_said.prices.yes", "not_said.deserved", *(["not_said.groups"] if self.says_little() else [])]
 
     def may_be_said(self):
         """What may be said in public, as meanings."""

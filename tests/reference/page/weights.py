@@ -27,7 +27,7 @@ class WeightFigures(Tested):
         return "answer.refutation.no" if self.failed else f"answer.refutation.{self.form()}"
 
     def not_said(self):
-        return "not_said.refutation." + ("no" if self.failed else "yes")
+        return ["not_said.refutation." + ("no" if self.failed else "yes")]
 
     def may_be_said(self):
         return ["claims.refutation.no" if self.failed else f"claims.refutation.{self.form()}"]

@@ -159,9 +159,8 @@ def behind_figures(case, found):
         for word in ("certificate", *found.words)
     ]
     return [
-        element("section", element("h2", case.say("not_said.title")), element("li", case.say(found.not_said())),
-                element("li", case.say("not_said.groups")) if found.says_little() else [],
-                element("li", case.say("not_said.files"))),
+        element("section", element("h2", case.say("not_said.title")),
+                [element("li", case.say(each)) for each in (*found.not_said(), "not_said.files")]),
         element("section", element("h2", case.say("claims.title")),
                 element("p", " ".join(map(case.say, found.may_be_said())), class_="claim"),
                 element("p", case.say("claims.how"))),
