@@ -2,6 +2,9 @@
 use Rattle.std.specs.Prelude.{◌≡◌, ◌⊎◌, ⊤, ℕ}
 use Rattle.pb_audit.specs.declared.total.FolderStatus.TheVariants.{AllYes, SomeNo, SomeRefused}
 use Rattle.pb_reply.specs.declared.status.Status.TheVariants.{Yes, No, Refused}
+use Rattle.pb_command.specs.declared.task.UsageFault.{UsageFault}
+use Rattle.pb_command.specs.declared.task.UsageFault.TheVariants as usage
+use Rattle.pb_reply.specs.declared.status.Fault.TheVariants as fault
 use Rattle.pb_run.specs.declared.end.End.{End}
 use Rattle.pb_run.specs.declared.end.End.TheVariants.{Answered, Reported, Help, Usage, NotText, Faulted}
 
@@ -29,3 +32,9 @@ WritesNothingUnlessHelp (Help _) old new = ⊤
 WritesNothingUnlessHelp (Usage _) old new = new ≡ old
 WritesNothingUnlessHelp NotText old new = new ≡ old
 WritesNothingUnlessHelp (Faulted _) old new = new ≡ old
+
+-- how a run ends whose words give no task
+abbrev pub end_on : UsageFault → End
+end_on (usage.Help text) = Help text
+end_on (usage.Usage text) = Usage text
+end_on usage.Memory = Faulted fault.Memory

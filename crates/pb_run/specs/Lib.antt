@@ -1,1 +1,5 @@
+pub mod Asking
 pub mod Endings
+pub mod Folders
+pub mod Listings
+pub mod Runs

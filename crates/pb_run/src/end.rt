@@ -5,7 +5,7 @@ ghost use Rattle.pb_run.specs.Endings.{HasStatus, WritesNothingUnlessHelp};
 use crate::seen::tell_seen;
 use pb_audit::{Fault, FolderStatus, Status};
 use pb_command::UsageFault;
-use pb_election::{Output, put};
+use pb_election::{Sink, put};
 use std::io::Write;
 
 /// How a run of the program ends.
@@ -26,6 +26,11 @@ pub enum End {
 }
 
 impl From<UsageFault> for End {
+    ghost use Rattle.std.specs.Prelude.{◌≡◌};
+    ghost use Rattle.pb_run.specs.Endings.{end_on};
+
+    ghost from_gives = { λ fault end. end ≡ end_on fault };
+
     fn from(fault: UsageFault) -> End {
         match fault {
             UsageFault::Help(text) => End::Help(text),
@@ -37,7 +42,7 @@ impl From<UsageFault> for End {
 
 impl End {
     /// The exit status, once help is written on `out`, or what went wrong on `err`. What `err` does not take is lost.
-    pub fn tell<O: Write, E: Write>(&self, out: &mut O, err: &mut E) -> u8
+    pub fn tell<W: Sink, E: Write>(&self, out: &mut W, err: &mut E) -> u8
         ensures status { HasStatus self.now result }
         ensures printed { WritesNothingUnlessHelp self.now out.old out.new }
     {
@@ -48,7 +53,7 @@ impl End {
             End::Reported(FolderStatus::AllYes) => 0,
             End::Reported(FolderStatus::SomeNo) => 1,
             End::Reported(FolderStatus::SomeRefused) => 2,
-            End::Help(text) => match put(text.as_bytes(), &mut Output::new(out)) {
+            End::Help(text) => match put(text.as_bytes(), out) {
                 Ok(()) => 0,
                 Err(fault) => tell_fault(Fault::from(fault), err),
             },

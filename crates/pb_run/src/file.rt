@@ -8,12 +8,12 @@ use std::io::Read;
 #[derive(Drop)]
 pub struct FileReader<'a> {
     rt: &'a HostRuntime,
-    path: &'a str,
+    path: String,
     file: Option<File>,
 }
 
 impl<'a> FileReader<'a> {
-    pub fn new(rt: &'a HostRuntime, path: &'a str) -> FileReader<'a> {
+    pub fn new(rt: &'a HostRuntime, path: String) -> FileReader<'a> {
         FileReader {
             rt,
             path,
@@ -27,7 +27,7 @@ impl Read for FileReader<'_> {
         if let Some(file) = &mut self.file {
             return file.read(buf);
         }
-        let mut file = File::open(self.rt, self.path)?;
+        let mut file = File::open(self.rt, &self.path)?;
         let count = file.read(buf);
         self.file = Some(file);
         count

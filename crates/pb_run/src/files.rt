@@ -1,120 +1,42 @@
-//! The answers on files at paths.
-use crate::file::FileReader;
-use crate::watched::WatchedReader;
-use pb_audit::{Answer, Question, Status, answer};
-use pb_command::Inputs;
-use pb_election::Input;
-use pb_page::{Language, PageNames, page_answer};
-use pb_price::Mode;
-use std::alloc::AllocError;
-use std::cell::Cell;
+//! Files as a run has them: at paths, and in folders.
+ghost use Rattle.std.specs.Prelude.{List, ℕ, IfOk, map};
+ghost use Rattle.pb_run.specs.Listings.{Entry};
 
-/// A file at a path, whose failure is noted.
-type NamedFile<'a> = Input<WatchedReader<'a, FileReader<'a>>>;
+use crate::listed::{ListFault, Listed};
+use pb_audit::Loaded;
+use pb_reply::Given;
+use std::alloc::{AllocError, Global};
 
-/// Files that are opened for one task, with the failure of the one that couldn't be read.
-#[derive(Clone, Copy)]
-pub struct Files<'a> {
-    pub rt: &'a HostRuntime,
-    pub failure: &'a Cell<Option<i32>>,
-}
+/// Files at paths, and folders: those of the machine, or others.
+pub trait Files {
+    /// A file, which is opened when its turn comes.
+    type Input: Given<Taken = Loaded> + Drop;
 
-/// What is asked of files.
-#[derive(Clone, Copy)]
-pub enum Asked {
-    Question(Question),
-    /// The page about a certificate.
-    Page(Mode, Language),
-}
+    // That one file was handed out, of a path, by what the files were before and are after. Where none is handed out
+    // they stay as they are.
+    ghost hands: { Self → Self → List ℕ → Self.Input → Type 0 };
 
-/// The paths of the files of which something is asked.
-#[derive(Clone, Copy)]
-pub struct Paths<'a> {
-    pub election: &'a str,
-    pub outcome: Option<&'a str>,
-    pub certificate: &'a str,
-    /// The violation certificate beside prices.
-    pub violation: &'a str,
-}
+    // That a folder was listed, and what it has.
+    ghost lists: { Self → Self → List ℕ → List Entry → Type 0 };
 
-impl<'a> Paths<'a> {
-    /// An election alone.
-    pub fn of_election(election: &'a str) -> Paths<'a> {
-        Paths {
-            election,
-            outcome: None,
-            certificate: "",
-            violation: "",
-        }
-    }
+    /// The file at a path, which isn't opened yet. An error means out of memory.
+    fn at(&mut self, alloc: Global, path: &str) -> Result<Self::Input, AllocError>
+        ensures { IfOk result (hands self.old self.new path.now) };
 
-    /// The paths of a task, but for a violation certificate beside prices.
-    pub fn of(inputs: &'a Inputs) -> Paths<'a> {
-        Paths {
-            election: &inputs.election,
-            outcome: inputs.outcome.as_deref(),
-            certificate: &inputs.certificate,
-            violation: "",
-        }
-    }
-}
+    /// What a folder lists, in any order.
+    fn list(&mut self, alloc: Global, folder: &str) -> Result<Vec<Listed>, ListFault>
+        ensures { IfOk result (λ listed. lists self.old self.new folder.now listed.items) };
 
-impl<'a> Files<'a> {
-    /// The file at a path.
-    fn open(self, path: &'a str) -> NamedFile<'a> {
-        Input::new(WatchedReader::new(FileReader::new(self.rt, path), self.failure))
-    }
+    /// The operating system's number for the last failure of a read, where there was one.
+    fn failure(&self) -> Option<i32>;
 
-    /// Answers what is asked of the files at these paths, and adds the notes on the election, and on a yes that says
-    /// little, to `notes`, where the question has them. A file whose turn doesn't come isn't opened.
-    pub fn answer(
-        self,
-        paths: Paths<'a>,
-        asked: Asked,
-        notes: &mut Vec<String>,
-    ) -> Result<Answer<Status>, AllocError> {
-        let mut election = self.open(paths.election);
-        let mut outcome = match paths.outcome {
-            Some(path) => Some(self.open(path)),
-            None => None,
-        };
-        let mut certificate = self.open(paths.certificate);
-        match asked {
-            Asked::Question(question) => answer(
-                self.rt.alloc(),
-                question,
-                &mut election,
-                &mut outcome,
-                &mut certificate,
-                &mut self.open(paths.violation),
-                notes,
-            ),
-            Asked::Page(mode, language) => page_answer(
-                self.rt.alloc(),
-                names_of(paths),
-                &mut election,
-                &mut outcome,
-                &mut certificate,
-                mode,
-                language,
-            ),
-        }
-    }
-}
+    /// The bytes of a file that can be read again. An error means out of memory.
+    fn again(&mut self, alloc: Global, path: &str) -> Result<Option<Vec<u8>>, AllocError>;
 
-/// The names of the files, as a page shows them.
-fn names_of(paths: Paths<'_>) -> PageNames<'_> {
-    PageNames {
-        election: name_of(paths.election),
-        outcome: name_of(paths.outcome.unwrap_or("")),
-        certificate: name_of(paths.certificate),
-    }
-}
-
-/// The name of the file at a path, without its folders.
-fn name_of(path: &str) -> &[u8] {
-    match path.rsplit_once('/') {
-        Some((_, name)) => name.as_bytes(),
-        None => path.as_bytes(),
-    }
+    /// Of the names in a folder that aren't UTF-8, the first in byte order. An error means out of memory.
+    fn first_not_text(
+        &mut self,
+        alloc: Global,
+        folder: &str,
+    ) -> Result<Option<Vec<u8>>, AllocError>;
 }

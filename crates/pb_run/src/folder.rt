@@ -1,18 +1,28 @@
 //! The audit of a folder of elections.
+ghost use Rattle.std.specs.Prelude.{◌≡◌, IfOk, option_map, string_bytes};
+ghost use Rattle.pb_audit.specs.Inside.Folders.{files_of};
+ghost use Rattle.pb_reply.specs.Inside.Loaded.{delivery_of};
+ghost use Rattle.pb_reply.specs.Replies.{answer_of, refused};
+ghost use Rattle.pb_reply.specs.Writing.{Writes};
+ghost use Rattle.pb_run.specs.Folders.{AddsEntry, ListsFolder, Loads, LoadsBeside, LoadsEntry, ReportsOn, path_in, unlisted};
+ghost use Rattle.pb_run.specs.Runs.{EndsFolder, end_of};
+
 use crate::end::End;
-use crate::file::FileReader;
-use crate::listing::{ListFault, Listing};
+use crate::files::Files;
+use crate::listed::ListFault;
+use crate::listing::Listing;
 use crate::progress::Progress;
 use crate::refusals::tell_unlisted;
 use pb_audit::endings::{ELECTION, PRICES, VIOLATION};
 use pb_audit::{
     Answer, Entry, Fault, FolderReport, FolderStatus, InputFault, InputName, InputRefusal, Loaded,
+    Status,
 };
-use pb_election::{Input, Sink};
+use pb_election::Sink;
 use pb_hints::push_shown;
 use pb_price::Mode;
-use pb_reply::{refused, write_reply};
-use std::alloc::AllocError;
+use pb_reply::{Given, refused, write_reply};
+use std::alloc::{AllocError, Global};
 use std::io::{IsTerminal, Write};
 
 /// How many files are named in a line.
@@ -35,69 +45,100 @@ const AS_THEY_ARE: &str = "the report has them as they are";
 /// Writes the report on a folder of elections on `out`, once the whole of it is there. Where `err` is a terminal, it
 /// tells there how far it is. That the folder has no election, or can't be listed, is told on `err` as well, and so are
 /// files that may be meant to be audited and aren't.
-pub fn run_folder<W: Sink, E: Write + IsTerminal>(
-    rt: &HostRuntime,
+pub fn run_folder<F: Files, W: Sink, E: Write + IsTerminal>(
+    alloc: Global,
+    files: &mut F,
     folder: &str,
     mode: Mode,
     out: &mut W,
     err: &mut E,
-) -> Result<End, Fault> {
-    let listing = match Listing::read(rt, folder) {
+) -> Result<End, Fault>
+    ensures { EndsFolder F.lists F.hands F.Input.delivers W.Sink mode folder.now (end_of result) files.old files.new out.old out.new }
+{
+    let listing = match listing_of(alloc, files, folder) {
         Ok(listing) => listing,
         Err(ListFault::Memory) => return Err(Fault::Memory),
         Err(ListFault::Unlisted(failure)) => {
-            let unlisted = InputRefusal {
-                input: InputName::Folder,
-                fault: InputFault::Unread,
-            };
-            let reply = refused(rt.alloc(), unlisted)?;
-            let status = write_reply(rt.alloc(), &reply, out)?;
-            tell_unlisted(rt, folder, failure, err);
+            let status = refuse(alloc, out)?;
+            tell_unlisted(alloc, files, folder, failure, err);
             return Ok(End::Answered(status));
         }
     };
-    let mut progress = Progress::new(err);
-    let report = report(rt, folder, &listing, mode, &mut progress);
-    progress.clear();
-    let Ok(report) = report else {
-        return Err(Fault::Memory);
-    };
-    let status = report.write(out)?;
-    tell_beside(rt, &listing, err);
+    let status = write_report(alloc, files, folder, &listing, mode, out, err)?;
+    tell_beside(alloc, &listing, err);
     Ok(End::Reported(status))
+}
+
+/// Writes that a folder can't be listed.
+fn refuse<W: Sink>(alloc: Global, out: &mut W) -> Result<Status, Fault>
+    ensures { Writes W.Sink (λ answer. answer ≡ answer_of (refused unlisted)) result out.old out.new }
+{
+    let reply = refused(alloc, unlisted())?;
+    write_reply(alloc, &reply, out)
+}
+
+/// Writes the report on the elections and the certificates of a folder.
+fn write_report<F: Files, W: Sink, E: Write + IsTerminal>(
+    alloc: Global,
+    files: &mut F,
+    folder: &str,
+    listing: &Listing,
+    mode: Mode,
+    out: &mut W,
+    err: &mut E,
+) -> Result<FolderStatus, Fault>
+    ensures { Writes W.Sink (ReportsOn F.hands F.Input.delivers mode folder.now listing.now files.old files.new) result out.old out.new }
+{
+    let mut progress = Progress::new(err, listing.elections().len());
+    let report = report(alloc, files, folder, listing, mode, &mut progress);
+    progress.clear();
+    report?.write(out)
+}
+
+/// Why a folder is refused that can't be listed.
+fn unlisted() -> InputRefusal
+    ensures { result ≡ unlisted }
+{
+    InputRefusal {
+        input: InputName::Folder,
+        fault: InputFault::Unread,
+    }
+}
+
+/// The elections and the certificates of a folder.
+fn listing_of<F: Files>(alloc: Global, files: &mut F, folder: &str) -> Result<Listing, ListFault>
+    ensures { IfOk result (ListsFolder F.lists folder.now files.old files.new) }
+{
+    let listed = files.list(alloc, folder)?;
+    Ok(Listing::of(alloc, &listed)?)
 }
 
 /// Tells that there is no election, which files may be meant to be audited and aren't, and in which names something
 /// can't be seen. What `err` does not take is lost, and the files are not told if memory runs out.
-fn tell_beside<E: Write>(rt: &HostRuntime, listing: &Listing, err: &mut E) {
+fn tell_beside<E: Write>(alloc: Global, listing: &Listing, err: &mut E) {
     if listing.elections().is_empty() {
         let _ = writeln!(
             err,
             "pbaudit: no election was found: the folder has no file named NAME.pb"
         );
     }
-    if let Ok(lines) = lines_on_names(rt, listing) {
+    if let Ok(lines) = lines_on_names(alloc, listing) {
         let _ = err.write_all(lines.as_bytes());
     }
 }
 
 /// The lines that name files, a line for each of the reasons for which there are any.
-fn lines_on_names(rt: &HostRuntime, listing: &Listing) -> Result<String, AllocError> {
-    let mut lines = String::new(rt.alloc());
-    let overlooked = listing.overlooked(rt.alloc())?;
-    let mut rule = String::from_str(rt.alloc(), NAMES)?;
+fn lines_on_names(alloc: Global, listing: &Listing) -> Result<String, AllocError> {
+    let mut lines = String::new(alloc);
+    let overlooked = listing.overlooked(alloc)?;
+    let mut rule = String::from_str(alloc, NAMES)?;
     if listing.has_refutations() {
         rule.push_str("; a refutation is audited by itself, with pbaudit refutation")?;
     }
     push_names(&mut lines, NOT_AUDITED, &overlooked, &rule)?;
     push_names(&mut lines, NOT_AUDITED, listing.irregular(), REGULAR)?;
     push_names(&mut lines, NOT_AUDITED, listing.unclean(), CLEAN)?;
-    push_names(
-        &mut lines,
-        UNSEEN,
-        &listing.unseen(rt.alloc())?,
-        AS_THEY_ARE,
-    )?;
+    push_names(&mut lines, UNSEEN, &listing.unseen(alloc)?, AS_THEY_ARE)?;
     Ok(lines)
 }
 
@@ -124,52 +165,101 @@ fn push_names(
     writeln!(lines, "; {rule}")
 }
 
-/// The report on what a folder lists. One entry after the other is loaded, audited and let go.
-pub fn report<E: Write + IsTerminal>(
-    rt: &HostRuntime,
+/// The report on the elections and the certificates of a folder. One entry after the other is loaded, audited and let
+/// go.
+pub fn report<F: Files, E: Write + IsTerminal>(
+    alloc: Global,
+    files: &mut F,
     folder: &str,
     listing: &Listing,
     mode: Mode,
     progress: &mut Progress<'_, E>,
-) -> Result<Answer<FolderStatus>, AllocError> {
-    let names = listing.elections();
-    let mut report = FolderReport::new(rt.alloc(), mode);
-    for (done, name) in names.iter().enumerate() {
-        progress.tell(done, names.len(), name);
-        let entry = load_entry(rt, folder, listing, name)?;
-        report = report.add(rt.alloc(), &entry)?;
+) -> Result<Answer<FolderStatus>, AllocError>
+    ensures { IfOk result (ReportsOn F.hands F.Input.delivers mode folder.now listing.now files.old files.new) }
+{
+    let mut report = FolderReport::new(alloc, mode);
+    for name in listing.elections() {
+        progress.tell(name);
+        report = add_entry(alloc, files, folder, listing, name, report)?;
     }
-    report.finish()
+    Ok(report.finish()?)
+}
+
+/// The report with the files of one name more.
+fn add_entry<F: Files>(
+    alloc: Global,
+    files: &mut F,
+    folder: &str,
+    listing: &Listing,
+    name: &str,
+    report: FolderReport,
+) -> Result<FolderReport, AllocError>
+    ensures { IfOk result (AddsEntry F.hands F.Input.delivers folder.now listing.now name.now files.old files.new report) }
+{
+    let entry = load_entry(alloc, files, folder, listing, name)?;
+    Ok(report.add(alloc, &entry)?)
 }
 
 /// Loads the files of one name.
-fn load_entry(
-    rt: &HostRuntime,
+fn load_entry<F: Files>(
+    alloc: Global,
+    files: &mut F,
     folder: &str,
     listing: &Listing,
-    name: &String,
-) -> Result<Entry, AllocError> {
+    name: &str,
+) -> Result<Entry, AllocError>
+    ensures { IfOk result (λ entry. LoadsEntry F.hands F.Input.delivers folder.now listing.now name.now files.old files.new (files_of entry)) }
+{
     Ok(Entry {
-        name: name.clone()?,
-        election: load_file(rt, folder, name, ELECTION)?,
-        prices: match listing.has_prices(name) {
-            true => Some(load_file(rt, folder, name, PRICES)?),
-            false => None,
-        },
-        violation: match listing.has_violation(name) {
-            true => Some(load_file(rt, folder, name, VIOLATION)?),
-            false => None,
-        },
+        name: String::from_str(alloc, name)?,
+        election: load_file(alloc, files, folder, name, ELECTION)?,
+        prices: load_beside(alloc, files, folder, name, PRICES, listing.has_prices(name))?,
+        violation: load_beside(
+            alloc,
+            files,
+            folder,
+            name,
+            VIOLATION,
+            listing.has_violation(name),
+        )?,
     })
 }
 
-/// Loads the file of this name and ending in a folder.
-fn load_file(
-    rt: &HostRuntime,
+/// Loads a certificate, where it is there.
+fn load_beside<F: Files>(
+    alloc: Global,
+    files: &mut F,
     folder: &str,
     name: &str,
     ending: &str,
-) -> Result<Loaded, AllocError> {
-    let path = format!(in rt.alloc(); "{folder}/{name}{ending}")?;
-    Loaded::load(rt.alloc(), &mut Input::new(FileReader::new(rt, &path)))
+    is_there: bool,
+) -> Result<Option<Loaded>, AllocError>
+    ensures { IfOk result (λ loaded. LoadsBeside F.hands F.Input.delivers is_there (path_in folder.now name.now ending.now) files.old files.new (option_map delivery_of loaded)) }
+{
+    match is_there {
+        true => Ok(Some(load_file(alloc, files, folder, name, ending)?)),
+        false => Ok(None),
+    }
+}
+
+/// Loads the file of this name and ending in a folder.
+fn load_file<F: Files>(
+    alloc: Global,
+    files: &mut F,
+    folder: &str,
+    name: &str,
+    ending: &str,
+) -> Result<Loaded, AllocError>
+    ensures { IfOk result (λ loaded. Loads F.hands F.Input.delivers (path_in folder.now name.now ending.now) files.old files.new (delivery_of loaded)) }
+{
+    let path = path_in(alloc, folder, name, ending)?;
+    let mut file = files.at(alloc, &path)?;
+    Ok(file.take(alloc)?)
+}
+
+/// The path of the file of this name and ending in a folder.
+fn path_in(alloc: Global, folder: &str, name: &str, ending: &str) -> Result<String, AllocError>
+    ensures { IfOk result (λ path. string_bytes path ≡ path_in folder.now name.now ending.now) }
+{
+    format!(in alloc; "{folder}/{name}{ending}")
 }

@@ -1,18 +1,28 @@
-//! What a folder lists.
+//! The elections and the certificates of a folder.
+ghost use Rattle.std.specs.Prelude.{◌≡◌, IfOk};
+ghost use Rattle.std.specs.BTreeSet.{contains_text};
+ghost use Rattle.pb_run.specs.Listings.{IsListingOf};
+
+use crate::listed::Listed;
+use crate::names::{has_name, is_clean, names_with};
 use pb_audit::endings::{ELECTION, PRICES, VIOLATION};
 use pb_visible::is_hidden;
 use std::alloc::{AllocError, Global};
-use std::fs::{DirEntry, Files};
-use std::io::{ErrorKind, Read};
-use std::{fs, io};
+use std::collections::BTreeSet;
 
-/// The elections and the certificates of a folder, by their names without these endings, in byte order. The other names
-/// have their endings.
+/// The elections and the certificates of a folder, by their names without these endings, in byte order; and the names,
+/// with their endings, of what may be meant to be one of them and isn't.
 #[derive(Drop)]
 pub struct Listing {
-    elections: Vec<String>,
-    prices: Vec<String>,
-    violations: Vec<String>,
+    elections: BTreeSet<String>,
+    prices: BTreeSet<String>,
+    violations: BTreeSet<String>,
+    aside: Aside,
+}
+
+/// What isn't audited.
+#[derive(Drop)]
+struct Aside {
     refutations: Vec<String>,
     /// Files whose endings are right but for small and capital letters, and certificates without a name.
     misnamed: Vec<String>,
@@ -22,122 +32,69 @@ pub struct Listing {
     irregular: Vec<String>,
 }
 
-/// What a file of a folder is by its name.
+/// Why a name is set aside.
 #[derive(Clone, Copy)]
-enum Role {
-    Election,
-    Prices,
-    Violation,
+enum Why {
     Refutation,
     Misnamed,
     Unclean,
+    /// It is audited, if it is a regular file.
+    Regular,
 }
 
 /// How the name of a refutation ends, `NAME.refutation.csv`. Those of a folder aren't audited.
 const REFUTATION: &str = ".refutation.csv";
 
-/// Why a folder was not listed.
-#[derive(Clone, Copy, Debug, PartialEq, Eq)]
-pub enum ListFault {
-    /// Out of memory.
-    Memory,
-    /// It can't be listed, for which the operating system has this number; or, with none, it lists a name that is not
-    /// UTF-8.
-    Unlisted(Option<i32>),
-}
-
-/// What a file is by the ending of its name.
-const ROLES: [(&str, Role); 3] = [
-    (ELECTION, Role::Election),
-    (PRICES, Role::Prices),
-    (VIOLATION, Role::Violation),
-];
-
-impl From<AllocError> for ListFault {
-    fn from(_error: AllocError) -> ListFault {
-        ListFault::Memory
-    }
-}
-
-impl From<io::Error> for ListFault {
-    fn from(error: io::Error) -> ListFault {
-        match error.kind() {
-            ErrorKind::OutOfMemory => ListFault::Memory,
-            _ => ListFault::Unlisted(error.raw_os_error()),
-        }
-    }
-}
+/// How the names end of what is audited.
+const ENDINGS: [&str; 3] = [ELECTION, PRICES, VIOLATION];
 
 impl Listing {
-    /// Lists a folder. Links in it are not followed, and nothing but regular files is taken.
-    pub fn read(rt: &HostRuntime, folder: &str) -> Result<Listing, ListFault> {
-        let alloc = rt.alloc();
-        let mut listing = Listing {
-            elections: Vec::new(alloc),
-            prices: Vec::new(alloc),
-            violations: Vec::new(alloc),
-            refutations: Vec::new(alloc),
-            misnamed: Vec::new(alloc),
-            unclean: Vec::new(alloc),
-            irregular: Vec::new(alloc),
-        };
-        listing.take_all(rt, folder)?;
-        listing.elections.sort_unstable();
-        listing.prices.sort_unstable();
-        listing.violations.sort_unstable();
-        listing.unclean.sort_unstable();
-        listing.irregular.sort_unstable();
-        Ok(listing)
+    /// What a folder has that lists this.
+    pub fn of(alloc: Global, listed: &[Listed]) -> Result<Listing, AllocError>
+        ensures { IfOk result (IsListingOf listed.now) }
+    {
+        Ok(Listing {
+            elections: names_with(alloc, listed, ELECTION)?,
+            prices: names_with(alloc, listed, PRICES)?,
+            violations: names_with(alloc, listed, VIOLATION)?,
+            aside: aside_of(alloc, listed)?,
+        })
     }
 
-    fn take_all(&mut self, rt: &HostRuntime, folder: &str) -> Result<(), ListFault> {
-        for entry in fs::read_dir(rt, folder)? {
-            self.take(rt.alloc(), &entry?)?;
-        }
-        Ok(())
+    /// The names of the elections, in byte order.
+    pub fn elections(&self) -> &BTreeSet<String>
+        ensures { result.now ≡ (self.now).elections }
+    {
+        &self.elections
     }
 
-    /// Takes what is listed, where it is an election or a certificate, or has nearly such a name.
-    fn take(&mut self, alloc: Global, entry: &DirEntry) -> Result<(), ListFault> {
-        let file_name = entry.file_name();
-        let Some((role, name)) = role_of(file_name) else {
-            return Ok(());
-        };
-        let pushed = if is_file(entry)? {
-            let name = String::from_str(alloc, name)?;
-            self.names_of(role).push(name)
-        } else {
-            self.irregular.push(String::from_str(alloc, file_name)?)
-        };
-        pushed.map_err(AllocError::from)?;
-        Ok(())
+    /// Whether a price certificate lies beside the election of this name.
+    pub fn has_prices(&self, name: &str) -> bool
+        ensures { result ≡ contains_text (self.now).prices name.now }
+    {
+        has_name(&self.prices, name)
     }
 
-    /// The list of the files that are this.
-    fn names_of(&mut self, role: Role) -> &mut Vec<String> {
-        match role {
-            Role::Election => &mut self.elections,
-            Role::Prices => &mut self.prices,
-            Role::Violation => &mut self.violations,
-            Role::Refutation => &mut self.refutations,
-            Role::Misnamed => &mut self.misnamed,
-            Role::Unclean => &mut self.unclean,
-        }
+    /// Whether a violation certificate lies beside the election of this name.
+    pub fn has_violation(&self, name: &str) -> bool
+        ensures { result ≡ contains_text (self.now).violations name.now }
+    {
+        has_name(&self.violations, name)
     }
 
     /// Whether there are refutations, which aren't audited.
     pub fn has_refutations(&self) -> bool {
-        !self.refutations.is_empty()
+        !self.aside.refutations.is_empty()
     }
 
     /// The names, in byte order, of files whose endings are right, with a control character in each.
     pub fn unclean(&self) -> &[String] {
-        &self.unclean
+        &self.aside.unclean
     }
 
     /// The names, in byte order, of links, folders, pipes and the like by which a file would be audited or overlooked.
     pub fn irregular(&self) -> &[String] {
-        &self.irregular
+        &self.aside.irregular
     }
 
     /// The names, with their endings and in byte order, of the elections in whose names are characters that can't be
@@ -159,22 +116,28 @@ impl Listing {
     /// taken for another one that was put there on purpose.
     pub fn overlooked(&self, alloc: Global) -> Result<Vec<String>, AllocError> {
         let mut names = Vec::new(alloc);
-        self.push_overlooked(alloc, &mut names)?;
-        names.sort_unstable();
-        Ok(names)
-    }
-
-    fn push_overlooked(&self, alloc: Global, names: &mut Vec<String>) -> Result<(), AllocError> {
-        for others in [&self.misnamed, &self.refutations] {
+        for others in [&self.aside.misnamed, &self.aside.refutations] {
             for name in others {
                 names.push(name.clone()?)?;
             }
         }
-        for (certificates, ending) in [(&self.prices, PRICES), (&self.violations, VIOLATION)] {
-            for name in certificates {
-                if !self.has_election_of(name) {
-                    names.push(format!(in alloc; "{name}{ending}")?)?;
-                }
+        self.push_lonely(alloc, &mut names, &self.prices, PRICES)?;
+        self.push_lonely(alloc, &mut names, &self.violations, VIOLATION)?;
+        names.sort_unstable();
+        Ok(names)
+    }
+
+    /// Adds the names of the certificates beside which there is no election.
+    fn push_lonely(
+        &self,
+        alloc: Global,
+        names: &mut Vec<String>,
+        certificates: &BTreeSet<String>,
+        ending: &str,
+    ) -> Result<(), AllocError> {
+        for name in certificates {
+            if !self.has_election_of(name) {
+                names.push(format!(in alloc; "{name}{ending}")?)?;
             }
         }
         Ok(())
@@ -184,10 +147,7 @@ impl Listing {
     fn has_election_of(&self, name: &str) -> bool {
         let mut front = name;
         for _ in 0..=name.len() {
-            let found = self
-                .elections
-                .binary_search_by(|other| other.as_str().cmp(front));
-            if found.is_ok() {
+            if has_name(&self.elections, front) {
                 return true;
             }
             match front.rsplit_once('.') {
@@ -197,58 +157,60 @@ impl Listing {
         }
         false
     }
+}
 
-    /// The names of the elections, in byte order.
-    pub fn elections(&self) -> &[String] {
-        &self.elections
+/// What a folder lists that isn't audited, in byte order.
+fn aside_of(alloc: Global, listed: &[Listed]) -> Result<Aside, AllocError> {
+    let mut aside = Aside {
+        refutations: Vec::new(alloc),
+        misnamed: Vec::new(alloc),
+        unclean: Vec::new(alloc),
+        irregular: Vec::new(alloc),
+    };
+    for entry in listed {
+        aside.take(alloc, entry)?;
     }
+    aside.unclean.sort_unstable();
+    aside.irregular.sort_unstable();
+    Ok(aside)
+}
 
-    /// Whether a price certificate lies beside the election of this name.
-    pub fn has_prices(&self, name: &String) -> bool {
-        self.prices.binary_search(name).is_ok()
-    }
-
-    /// Whether a violation certificate lies beside the election of this name.
-    pub fn has_violation(&self, name: &String) -> bool {
-        self.violations.binary_search(name).is_ok()
+impl Aside {
+    /// Takes a name, where it isn't that of what is audited.
+    fn take(&mut self, alloc: Global, entry: &Listed) -> Result<(), AllocError> {
+        let Some(why) = why_aside(&entry.name) else {
+            return Ok(());
+        };
+        let names = match why {
+            _ if !entry.is_file => &mut self.irregular,
+            Why::Regular => return Ok(()),
+            Why::Refutation => &mut self.refutations,
+            Why::Misnamed => &mut self.misnamed,
+            Why::Unclean => &mut self.unclean,
+        };
+        names.push(String::from_str(alloc, &entry.name)?)?;
+        Ok(())
     }
 }
 
-/// Of the names that a folder lists and that aren't UTF-8, the first in byte order.
-pub fn first_not_text(rt: &HostRuntime, folder: &str) -> io::Result<Option<Vec<u8>>> {
-    let path = format!(in rt.alloc(); "{folder}/")?;
-    let mut names = Vec::new(rt.alloc());
-    rt.open_dir(&path)?.read_to_end(&mut names)?;
-    let first = names
-        .split(|byte| *byte == 0)
-        .filter(|name| str::from_utf8(name).is_err())
-        .min();
-    match first {
-        Some(name) => Ok(Some(Vec::from_slice(rt.alloc(), name)?)),
-        None => Ok(None),
-    }
-}
-
-/// What a file is by its name, where it is audited or told; and the name, without its ending where it is audited.
-fn role_of(file_name: &str) -> Option<(Role, &str)> {
-    match split(file_name) {
-        Some((_, "")) => None,
-        Some((_, name)) if !is_clean(name) => Some((Role::Unclean, file_name)),
-        Some(of_entry) => Some(of_entry),
-        None if is_like(file_name, REFUTATION) => Some((Role::Refutation, file_name)),
-        None if is_misnamed(file_name) => Some((Role::Misnamed, file_name)),
-        None => None,
-    }
-}
-
-/// What a file is whose name has one of the endings, and the name without it.
-fn split(file_name: &str) -> Option<(Role, &str)> {
-    for (ending, role) in ROLES {
+/// Why a name would be set aside; nothing where it isn't like those that are audited.
+fn why_aside(file_name: &str) -> Option<Why> {
+    for ending in ENDINGS {
         if let Some(name) = file_name.strip_suffix(ending) {
-            return Some((role, name));
+            return match name {
+                "" => None,
+                _ if !is_clean(name) => Some(Why::Unclean),
+                _ => Some(Why::Regular),
+            };
         }
     }
-    None
+    if is_like(file_name, REFUTATION) {
+        Some(Why::Refutation)
+    } else if is_misnamed(file_name) {
+        Some(Why::Misnamed)
+    } else {
+        None
+    }
 }
 
 /// Whether a file's name has one of the endings but for small and capital letters, or is that of a certificate without
@@ -274,19 +236,4 @@ fn is_bare(file_name: &str, ending: &str) -> bool {
     ending
         .strip_prefix('.')
         .is_some_and(|bare| bare == file_name)
-}
-
-/// Whether a name has no control byte.
-fn is_clean(name: &str) -> bool {
-    name.bytes().all(|byte| byte >= 32 && byte != 127)
-}
-
-/// Whether this is a regular file. What can't be looked at counts as one, so that it isn't skipped: reading it will
-/// fail.
-fn is_file(entry: &DirEntry) -> Result<bool, ListFault> {
-    match entry.file_type() {
-        Ok(file_type) => Ok(file_type.is_file()),
-        Err(error) if error.kind() == ErrorKind::OutOfMemory => Err(ListFault::Memory),
-        Err(_) => Ok(true),
-    }
 }

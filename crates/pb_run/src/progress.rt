@@ -10,23 +10,31 @@ const MOST_SHOWN: usize = 50;
 pub struct Progress<'a, E: Write + IsTerminal> {
     err: &'a mut E,
     is_terminal: bool,
+    told: usize,
+    total: usize,
 }
 
 impl<'a, E: Write + IsTerminal> Progress<'a, E> {
-    pub fn new(err: &'a mut E) -> Progress<'a, E> {
+    /// Nothing is told yet of so many elections.
+    pub fn new(err: &'a mut E, total: usize) -> Progress<'a, E> {
         let is_terminal = err.is_terminal();
-        Progress { err, is_terminal }
+        Progress {
+            err,
+            is_terminal,
+            told: 0,
+            total,
+        }
     }
 
-    /// Tells that the election of this name is next, after `done` of `total`. What the terminal doesn't take is lost.
-    pub fn tell(&mut self, done: usize, total: usize, name: &str) {
+    /// Tells that the election of this name is next. What the terminal doesn't take is lost.
+    pub fn tell(&mut self, name: &str) {
+        self.told = self.told.saturating_add(1);
         if self.is_terminal {
             let shown = match name.char_indices().nth(MOST_SHOWN) {
                 Some((end, _)) => &name[..end],
                 None => name,
             };
-            let number = done.saturating_add(1);
-            let _ = write!(self.err, "\r\x1b[K{number} of {total}: ");
+            let _ = write!(self.err, "\r\x1b[K{} of {}: ", self.told, self.total);
             tell_seen(self.err, shown);
             let _ = self.err.write_all(b".pb");
         }

@@ -1,6 +1,7 @@
 //! Exit statuses, and what is said on standard output and standard error at the end, where no words are at fault.
 use super::fakes::FakeWriter;
 use pb_audit::{Fault, FolderStatus, InputFault, InputName, InputRefusal, Status, Unmet};
+use pb_election::Output;
 use pb_price::Failure;
 use pb_run::End;
 use std::test::Fail;
@@ -22,7 +23,7 @@ fn answers_leave_nothing_to_say(rt: HostRuntime) -> Result<(), Fail> {
     ] {
         let mut out = FakeWriter::new(rt.alloc());
         let mut err = FakeWriter::new(rt.alloc());
-        let got = end.tell(&mut out, &mut err);
+        let got = end.tell(&mut Output::new(&mut out), &mut err);
         assert_eq!(rt; got, want);
         assert!(rt; out.written.is_empty() && err.written.is_empty());
     }
@@ -38,7 +39,10 @@ fn faults_are_on_standard_error(rt: HostRuntime) -> Result<(), Fail> {
     ] {
         let mut out = FakeWriter::new(alloc);
         let mut err = FakeWriter::new(alloc);
-        assert_eq!(rt; End::Faulted(fault).tell(&mut out, &mut err), 4);
+        assert_eq!(rt;
+            End::Faulted(fault).tell(&mut Output::new(&mut out), &mut err),
+            4
+        );
         assert!(rt; out.written.is_empty());
         assert!(rt; err.written.as_slice() == want.as_bytes());
     }

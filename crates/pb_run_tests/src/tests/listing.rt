@@ -3,27 +3,24 @@ use super::fakes::FakeWriter;
 use super::room::Room;
 use pb_audit::FolderStatus;
 use pb_price::Mode;
-use pb_run::{ListFault, Listing, Progress, report};
+use pb_run::{Files, ListFault, Listing, Machine, Progress, report};
 use pb_samples::files::{ELECTION, PRICES};
+use std::alloc::Global;
+use std::cell::Cell;
 use std::io::ErrorKind;
 use std::test::Fail;
 use std::{fs, io};
 
 /// What is reported of a listing, and how it ends.
 fn reported(
-    rt: &HostRuntime,
-    room: &Room<'_>,
+    alloc: Global,
+    files: &mut Machine<'_>,
+    folder: &str,
     listing: &Listing,
 ) -> Result<(String, FolderStatus), Fail> {
-    let mut err = FakeWriter::new(rt.alloc());
-    let folder = room.path()?;
-    let report = report(
-        rt,
-        &folder,
-        listing,
-        Mode::PLAIN,
-        &mut Progress::new(&mut err),
-    )?;
+    let mut err = FakeWriter::new(alloc);
+    let mut progress = Progress::new(&mut err, 2);
+    let report = report(alloc, files, folder, listing, Mode::PLAIN, &mut progress)?;
     Ok((String::from_utf8(report.text)?, report.status))
 }
 
@@ -34,13 +31,16 @@ fn files_that_vanish_after_the_listing_are_refused(rt: HostRuntime) -> Result<()
     room.write("here.pb", ELECTION.as_bytes())?;
     let prices = room.write("here.prices.csv", PRICES.as_bytes())?;
     let folder = room.path()?;
-    let Ok(listing) = Listing::read(&rt, &folder) else {
+    let failure = Cell::new(None);
+    let mut files = Machine::new(&rt, &failure);
+    let Ok(listed) = files.list(rt.alloc(), &folder) else {
         return Err(Fail::new("not listed"));
     };
+    let listing = Listing::of(rt.alloc(), &listed)?;
     fs::remove_file(&rt, gone.as_str())?;
     fs::remove_file(&rt, prices.as_str())?;
     room.write("late.pb", ELECTION.as_bytes())?;
-    let (text, status) = reported(&rt, &room, &listing)?;
+    let (text, status) = reported(rt.alloc(), &mut files, &folder, &listing)?;
     let wanted = "gone.pb: refused election 18 Read record 0\n\
         here.pb: read 3 voters 3 projects 2 funded\n\
         here.prices.csv: refused certificate 18 Read record 0\n\

@@ -1,6 +1,7 @@
 //! The words of the command line.
 use super::fakes::{FakeWords, FakeWriter};
-use pb_run::{run, without_words, words_of};
+use pb_election::Output;
+use pb_run::{without_words, words_of};
 use std::io;
 use std::io::ErrorKind;
 use std::test::Fail;
@@ -25,10 +26,9 @@ fn words_are_taken_in_order(rt: HostRuntime) -> Result<(), Fail> {
 #[test]
 fn words_that_find_no_memory_are_a_memory_fault(rt: HostRuntime) -> Result<(), Fail> {
     let alloc = rt.alloc();
-    let words = Err(without_words(&io::Error::from(ErrorKind::OutOfMemory)));
+    let end = without_words(&io::Error::from(ErrorKind::OutOfMemory));
     let (mut out, mut err) = (FakeWriter::new(alloc), FakeWriter::new(alloc));
-    let mut input = b"".as_slice();
-    assert_eq!(rt; run(&rt, words, &mut input, &mut out, &mut err), 4);
+    assert_eq!(rt; end.tell(&mut Output::new(&mut out), &mut err), 4);
     assert!(rt; out.written.is_empty());
     assert!(rt; err.written.as_slice() == b"fault memory\n".as_slice());
     Ok(())

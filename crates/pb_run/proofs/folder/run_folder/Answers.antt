@@ -1,0 +1,49 @@
+use Rattle.std.proofs.Common.{◌≡◌, Err, Ok, rules, subst}
+use Rattle.pb_reply.specs.Replies.{answer_of, refused}
+use Rattle.pb_run.specs.Folders.{ReportsFolder, ReportsOn, unlisted}
+use Rattle.pb_run.specs.Runs.{Ends, Once, end_of}
+use Rattle.pb_run.proofs.Endings.{end_of_report, ends_by_report}
+use Rattle.pb_run.proofs.folder.run_folder.Goals as goal
+
+pub returns-in_err-status : goal.returns-in_err-status
+returns-in_err-status g c =
+    let was : c.write_report.result ≡ Err c.in_err-status.field-0.0 = search rules in
+    let is : c.from_residual-in_err-status.result ≡ Err c.in_err-status.field-0.0 = search rules in
+    let ends =
+    ends_by_report g.W.Sink (λ a. a ≡ answer_of (refused unlisted))
+    (ReportsOn g.F.Files.hands g.F.Input.Given.delivers c.args.mode c.args.folder.now c.in-Ok.listing
+    c.listing_of.new.files c.write_report.new.files)
+    (Once
+    (λ then.
+        ReportsFolder g.F.Files.lists g.F.Files.hands g.F.Input.Given.delivers c.args.mode c.args.folder.now
+        c.args.files.now then))
+    c.write_report.result c.args.out.now c.write_report.new.out
+    (λ a r. (c.write_report.new.files, record {
+      listing = c.in-Ok.listing;
+      after_listing = c.listing_of.new.files;
+      listed = c.in-Ok.ensures;
+      reported = r;
+    }))
+    c.write_report.ensures in
+    rw is (rw was at ends)
+
+pub returns : goal.returns
+returns g c =
+    let was : c.write_report.result ≡ Ok c.in_ok-status.status = search rules in
+    let ends =
+    ends_by_report g.W.Sink (λ a. a ≡ answer_of (refused unlisted))
+    (ReportsOn g.F.Files.hands g.F.Input.Given.delivers c.args.mode c.args.folder.now c.in-Ok.listing
+    c.listing_of.new.files c.write_report.new.files)
+    (Once
+    (λ then.
+        ReportsFolder g.F.Files.lists g.F.Files.hands g.F.Input.Given.delivers c.args.mode c.args.folder.now
+        c.args.files.now then))
+    c.write_report.result c.args.out.now c.write_report.new.out
+    (λ a r. (c.write_report.new.files, record {
+      listing = c.in-Ok.listing;
+      after_listing = c.listing_of.new.files;
+      listed = c.in-Ok.ensures;
+      reported = r;
+    }))
+    c.write_report.ensures in
+    rw was at ends
