@@ -15,15 +15,18 @@ returns-in_err-status g c =
     c.listing_of.new.files c.write_report.new.files)
     (Once
     (λ then.
-        ReportsFolder g.F.Files.lists g.F.Files.hands g.F.Input.Given.delivers c.args.mode c.args.folder.now
-        c.args.files.now then))
+    ReportsFolder g.F.Files.lists g.F.Files.hands g.F.Input.Given.delivers c.args.mode c.args.folder.now
+    c.args.files.now then))
     c.write_report.result c.args.out.now c.write_report.new.out
-    (λ a r. (c.write_report.new.files, record {
-      listing = c.in-Ok.listing;
-      after_listing = c.listing_of.new.files;
-      listed = c.in-Ok.ensures;
-      reported = r;
-    }))
+    (λ a r. (
+      c.write_report.new.files,
+      record {
+        listing = c.in-Ok.listing;
+        after_listing = c.listing_of.new.files;
+        listed = c.in-Ok.ensures;
+        reported = r;
+      },
+    ))
     c.write_report.ensures in
     rw is (rw was at ends)
 
@@ -36,14 +39,17 @@ returns g c =
     c.listing_of.new.files c.write_report.new.files)
     (Once
     (λ then.
-        ReportsFolder g.F.Files.lists g.F.Files.hands g.F.Input.Given.delivers c.args.mode c.args.folder.now
-        c.args.files.now then))
+    ReportsFolder g.F.Files.lists g.F.Files.hands g.F.Input.Given.delivers c.args.mode c.args.folder.now
+    c.args.files.now then))
     c.write_report.result c.args.out.now c.write_report.new.out
-    (λ a r. (c.write_report.new.files, record {
-      listing = c.in-Ok.listing;
-      after_listing = c.listing_of.new.files;
-      listed = c.in-Ok.ensures;
-      reported = r;
-    }))
+    (λ a r. (
+      c.write_report.new.files,
+      record {
+        listing = c.in-Ok.listing;
+        after_listing = c.listing_of.new.files;
+        listed = c.in-Ok.ensures;
+        reported = r;
+      },
+    ))
     c.write_report.ensures in
     rw was at ends
