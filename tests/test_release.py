@@ -149,6 +149,15 @@ def test_version_of_the_changelog():
     assert re.search(r"^## \[(\d+\.\d+\.\d+)\] - \d{4}-\d\d-\d\d$", changelog, re.MULTILINE)[1] == told.rstrip("\n")
 
 
+def test_citation_is_of_the_newest_version():
+    """CITATION.cff has the version and the day that the changelog has, and what its schema, 1.2.0, asks for."""
+    changelog = (TOP / "CHANGELOG.md").read_text(encoding="utf-8")
+    told = dict(re.findall(r'^([\w-]+): *"?(.*?)"?$', (TOP / "CITATION.cff").read_text(encoding="utf-8"), re.MULTILINE))
+    newest = re.search(r"^## \[(\d+\.\d+\.\d+)\] - (\d{4}-\d\d-\d\d)$", changelog, re.MULTILINE)
+    assert (told["version"], told["date-released"]) == newest.groups()
+    assert told["cff-version"] == "1.2.0" and {"message", "title", "authors"} <= {*told}
+
+
 @pytest.mark.parametrize("name", GLIBC)
 def test_glibc(again, name):
     if not (again / name).exists():
