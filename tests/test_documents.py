@@ -1,8 +1,8 @@
 """The pages lead somewhere: each link of a page to a file or a heading, and each path in backticks; they keep to their lengths, which
-docs/TRUST.md tells; what docs/COUNCILS.md quotes and docs/CONDITIONS.md names is said by the page about a certificate; the sums of
-docs/CAMPAIGNS.md are right, and so is its refutation; each word of docs/GLOSSARY.md has its definition; the build that docs/LIBRARY.md
-shows fails where it has to; each file that docs/files.py prints begins with a comment on what it is for; and each command that the
-pages show writes what stands under it."""
+docs/TRUST.md tells; what docs/ANSWERS.md and docs/COUNCILS.md quote and docs/CONDITIONS.md names is said by the page about a
+certificate; the sums of docs/CAMPAIGNS.md are right, and so is its refutation; each word of docs/GLOSSARY.md has its definition; the
+build that docs/LIBRARY.md shows fails where it has to; each file that docs/files.py prints begins with a comment on what it is for;
+and each command that the pages show writes what stands under it."""
 import csv
 import math
 import re
@@ -17,7 +17,8 @@ import tables
 from common import TOP
 
 LENGTHS = {"README.md": 140, "docs/STATEMENT.md": 500}
-SAID = {"docs/COUNCILS.md": ["crates/pb_words/src/wording/en.rt", "crates/pb_words/src/headlines.rt"]}
+WORDS = ["crates/pb_words/src/wording/en.rt", "crates/pb_words/src/headlines.rt"]
+SAID = {"docs/ANSWERS.md": WORDS, "docs/COUNCILS.md": WORDS}
 LETTERS = ("Feasible", "Exhaustive", "Cover", *"C1 C2 C3 C4 C5 S5 V1 V2 V3 V4 U1 U2 U3".split())
 PAGES = [*("README.md", "CONTRIBUTING.md", "CHANGELOG.md", "SECURITY.md", "examples/README.md", "tests/README.md", "tests/reference/README.md"),
          *sorted(f"docs/{path.name}" for path in (TOP / "docs").glob("*.md"))]  # fmt: skip
