@@ -16,7 +16,7 @@ import pytest
 import tables
 from common import TOP
 
-LENGTHS = {"README.md": 140, "docs/STATEMENT.md": 500}
+LENGTHS = {"README.md": 120, "docs/STATEMENT.md": 500}
 WORDS = ["crates/pb_words/src/wording/en.rt", "crates/pb_words/src/headlines.rt"]
 SAID = {"docs/ANSWERS.md": WORDS, "docs/COUNCILS.md": WORDS}
 LETTERS = ("Feasible", "Exhaustive", "Cover", *"C1 C2 C3 C4 C5 S5 V1 V2 V3 V4 U1 U2 U3".split())
