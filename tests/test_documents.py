@@ -2,7 +2,7 @@
 docs/TRUST.md tells; what docs/ANSWERS.md and docs/COUNCILS.md quote and docs/CONDITIONS.md names is said by the page about a
 certificate; the sums of docs/CAMPAIGNS.md are right, and so is its refutation; each word of docs/GLOSSARY.md has its definition; the
 build that docs/LIBRARY.md shows fails where it has to; each file that docs/files.py prints begins with a comment on what it is for;
-and each command that the pages show writes what stands under it."""
+each command that the pages show writes what stands under it; and each changed line that docs/FORMATS.md shows has its refusal."""
 import csv
 import math
 import re
@@ -257,6 +257,39 @@ def test_shown_command(program, command, wanted):
     told = subprocess.run(["bash", "-c", called], cwd=TOP, stdin=subprocess.DEVNULL, stdout=subprocess.PIPE, text=True,
                           stderr=subprocess.STDOUT, timeout=120, check=False)  # fmt: skip
     assert told.stdout.rstrip("\n") == wanted
+
+
+REFUTATION = ["pb-refutation,1", "cover,0", "role,project,weight", "least,a,2", "most,b,1", "left,c,1"]
+
+
+def shown_changes():
+    """Each change of a line that docs/FORMATS.md shows: of which kind of file, the line, its text, and the refusal's number and record."""
+    election, prices, refutation = re.split(r"\nExamples are changes to|\nAnd to the refutation", (TOP / "docs/FORMATS.md").read_text("utf-8"))
+    for number, row in re.findall(r"^\| (\d+) (\|.*)", election, re.MULTILINE):
+        for line, text, record in re.findall(r"line (\d+) is `([^`]*)`: record (\d+)", row):
+            yield "read", int(line), text, number, record
+    for kind, table in ("prices", prices), ("refutation", refutation.partition("\n## ")[0]):
+        for line, texts, number, record in re.findall(r"^\| .*line (\d+) is (`.*`).* \| (\d+), record (\d+) \|$", table, re.MULTILINE):
+            for text in re.findall("`([^`]*)`", texts):
+                yield kind, int(line), text, number, record
+
+
+@pytest.mark.parametrize("kind, line, text, number, record", shown_changes())
+def test_shown_change_is_refused(run, room, kind, line, text, number, record):
+    """By its number and record, as docs/FORMATS.md has it."""
+    sample = {"read": "sample.pb", "prices": "sample.prices.csv"}.get(kind)
+    lines = (TOP / "examples" / sample).read_text(encoding="utf-8").splitlines() if sample else [*REFUTATION]
+    lines[line - 1] = text
+    (room / "changed").write_text("\n".join(lines) + "\n", encoding="utf-8")
+    files = [room / "changed"] if kind == "read" else [TOP / "examples/sample.pb", room / "changed"]
+    told = run(kind, *files)
+    file = "election" if kind == "read" else "certificate"
+    assert told.returncode == 2 and re.fullmatch(rf"refused {file} {number} \w+ record {record}\n", told.stdout.decode())
+
+
+def test_changes_are_shown():
+    kinds = [kind for kind, *_ in shown_changes()]
+    assert all(kinds.count(kind) > 4 for kind in ("read", "prices", "refutation"))
 
 
 @pytest.mark.parametrize("more, status", [
