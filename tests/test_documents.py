@@ -109,6 +109,16 @@ def test_glossary_has_definitions():
             assert re.search(rf"^(?:abbrev pub|pub record) {name}\b", code, re.MULTILINE), f"{path} doesn't define {name}"
 
 
+def test_names_of_the_proof():
+    """Each name that docs/PROVED.md has in backticks is one of the sources or definitions, or ends one, as `_on_outcomes`."""
+    files = [file for kind in ("crates/*/src/**/*.rt", "crates/*/specs/**/*.antt", "python/pbaudit/*.py") for file in TOP.glob(kind)]
+    known = {word for file in files for word in re.findall(r"\w+", file.read_text(encoding="utf-8"))}
+    named = re.findall(r"`(\w+(?:::\w+)*)`", (TOP / "docs/PROVED.md").read_text(encoding="utf-8"))
+    names = {name for path in named for name in path.split("::")}
+    ends = {name for name in names if name.startswith("_") and any(word.endswith(name) for word in known)}
+    assert len(names) > 200 and names - known - ends == set()
+
+
 @pytest.mark.parametrize("name", ["README.md", "CONTRIBUTING.md"])
 def test_security_is_linked(name):
     assert "](SECURITY.md)" in (TOP / name).read_text(encoding="utf-8")
@@ -129,7 +139,7 @@ def test_length(name):
 def test_all_pages_together():
     """Those for readers; CONTRIBUTING is for who changes the sources."""
     pages = [TOP / "README.md", *(TOP / "docs").glob("*.md")]
-    assert sum(len(page.read_text(encoding="utf-8").splitlines()) for page in pages) <= 2900
+    assert sum(len(page.read_text(encoding="utf-8").splitlines()) for page in pages) <= 3200
 
 
 def test_sums_of_the_district():
