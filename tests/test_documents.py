@@ -274,7 +274,8 @@ REFUTATION = ["pb-refutation,1", "cover,0", "role,project,weight", "least,a,2", 
 
 def shown_changes():
     """Each change of a line that docs/FORMATS.md shows: of which kind of file, the line, its text, and the refusal's number and record."""
-    election, prices, refutation = re.split(r"\nExamples are changes to|\nAnd to the refutation", (TOP / "docs/FORMATS.md").read_text("utf-8"))
+    page = (TOP / "docs/FORMATS.md").read_text(encoding="utf-8")
+    election, prices, refutation = re.split(r"\nExamples are changes to|\nAnd to the refutation", page)
     for number, row in re.findall(r"^\| (\d+) (\|.*)", election, re.MULTILINE):
         for line, text, record in re.findall(r"line (\d+) is `([^`]*)`: record (\d+)", row):
             yield "read", int(line), text, number, record
