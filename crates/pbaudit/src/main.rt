@@ -13,7 +13,14 @@ fn main(rt: HostRuntime) -> ExitCode {
     let mut input = Input::new(WatchedReader::new(&mut stdin, &failure));
     let mut out = Output::new(&mut stdout);
     let status = match words_of(&rt) {
-        Ok(words) => run(rt.alloc(), &mut files, words, &mut input, &mut out, &mut err),
+        Ok(words) => run(
+            rt.alloc(),
+            &mut files,
+            words,
+            &mut input,
+            &mut out,
+            &mut err,
+        ),
         Err(end) => end.tell(&mut out, &mut err),
     };
     ExitCode::from(status)
