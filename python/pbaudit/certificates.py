@@ -3,7 +3,7 @@ from array import array
 from dataclasses import dataclass, field
 from fractions import Fraction
 from functools import cached_property
-from typing import Any, Dict, Iterable, Iterator, List, Optional, Sequence, Set, Tuple
+from typing import TYPE_CHECKING, Any, Dict, Iterable, Iterator, List, Optional, Sequence, Set, Tuple
 
 from ._auditor import Mode
 from .amounts import (
@@ -13,15 +13,19 @@ from .amounts import (
 from .auditing import audit_prices
 from .files import Path, checked_path, write_to
 from .matrices import AT_ONCE, check_rows
-from .noise import NOISE, SURE, Conditions, check_moves, left_out_told, spent_by
+from .noise import NOISE, SURE, Conditions, left_out_told, spent_by
 from .records import records
 from .rounding import CannotKeep, Given, LeftOut, Rounding
+from .settling import SECONDS, Settling, clock_of
 from .town import Town
 from .values import (
     AnyInstance, AnyProject, NearPaymentFunction, Payments, Profile, Projects, ballots_of, check_count, funded_of,
     projects_of,
 )
 from .writing import Payers, election_file, price_file
+
+if TYPE_CHECKING:
+    from .finding.clock import Clock, Tell
 
 DENOMINATORS = (100, 10**4, 10**6, MOST_DENOMINATOR)
 # How many times as much as noise is, at least, rounding should be finer.
@@ -64,7 +68,8 @@ class PriceCertificate:
 def price_certificate(instance: AnyInstance, profile: Profile, budget_allocation: Iterable[AnyProject],
                       voter_budget: Optional[NearAmount], payment_functions: Iterable[NearPaymentFunction],
                       stable: bool = False, exhaustive: bool = True, *,
-                      denominator: Optional[int] = None) -> PriceCertificate:
+                      denominator: Optional[int] = None, seconds: float = SECONDS,
+                      on_progress: "Optional[Tell]" = None) -> PriceCertificate:
     """A certificate near the given payments that the auditor supports, or CannotKeep.
 
     The arguments are those of `validate_price_system`, but payments and the voter budget may be floats too, which count
@@ -87,27 +92,29 @@ def price_certificate(instance: AnyInstance, profile: Profile, budget_allocation
     >>> made.rows
     [(1, 'a', 1), (2, 'a', 1), (3, 'a', 1)]
     """
-    mode = Mode(stable, exhaustive)
+    mode, clock = Mode(stable, exhaustive), clock_of(seconds, on_progress)
     check_rows(profile, payment_functions)
     projects, costs, limit = projects_of(instance)
     funded = funded_of(budget_allocation, projects)
     ballots, payments = ballots_of(profile, projects), Payments(payment_functions, projects)
     town = Town(projects.ids, costs, limit, set(funded), ballots)
     wanted = None if denominator is None else _whole(denominator)
-    return certified(town, projects, voter_budget, payments, mode.stable, mode.exhaustive, wanted)
+    return certified(town, projects, voter_budget, payments, mode.stable, mode.exhaustive, wanted, clock=clock)
 
 
 def certified(town: Town, projects: Projects, voter_budget: Optional[NearAmount], payments: Payments, stable: bool,
-              exhaustive: bool, wanted: Optional[int] = None, is_near: bool = False) -> PriceCertificate:
+              exhaustive: bool, wanted: Optional[int] = None, is_near: bool = False,
+              clock: "Optional[Clock]" = None) -> PriceCertificate:
     """The certificate that `price_certificate` answers; or, where `is_near`, one of the election by `scale_of` whose
-    payments and voter budget are off by no more than noise."""
+    payments and voter budget are off by no more than noise. Without a clock it may take as long as by default."""
     scale = scale_of(town, payable(voter_budget, "the voter budget")) if is_near else 1
     # This also refuses what no election has.
     election = scaled_election(town, projects, scale)
     _check_outcome(town, exhaustive)
     given = _given(town, projects, voter_budget, payments, is_near)
     _check_given(town, given, stable, is_near)
-    certificate = _certificate(_rounded(town, given, stable, wanted, is_near, scale), given, projects, scale)
+    rounding = _rounded(town, given, stable, wanted, is_near, scale, clock or clock_of())
+    certificate = _certificate(rounding, given, projects, scale)
     verdict = audit_prices(election, certificate.file, stable=stable, exhaustive=exhaustive)
     if not verdict:
         told = f"the rounded payments are answered '{verdict}'"
@@ -240,7 +247,8 @@ def _most(town: Town, amounts: Sequence[Any], floats: "array[float]") -> Fractio
     return max(sums, default=Fraction(0))
 
 
-def _rounded(town: Town, given: Given, stable: bool, denominator: Optional[int], is_near: bool, scale: int) -> Rounding:
+def _rounded(town: Town, given: Given, stable: bool, denominator: Optional[int], is_near: bool, scale: int,
+             clock: "Clock") -> Rounding:
     """The first denominator by which all conditions can be kept, with numerators over it; the finest first where they
     are to be as near as can be. Numerators are in a unit that is so many times smaller."""
     # Funded projects are paid for exactly, so their costs are whole numbers over each denominator.
@@ -248,42 +256,22 @@ def _rounded(town: Town, given: Given, stable: bool, denominator: Optional[int],
     if denominator is not None:
         _check_denominator(denominator, unit)
     exact = _exact_denominator(given)
-    failed: Optional[CannotKeep] = None
     denominators = [denominator] if denominator else list(_denominators(unit, exact, given.budget.denominator))
     if is_near:
         denominators.sort(key=lambda tried: (exact is None or tried % exact != 0, -tried))
-    # A finer denominator is found sooner than a repair.
-    for repairs in (False, True):
-        for tried in denominators:
-            try:
-                return _settled(Rounding(town, given, tried * scale, stable, is_near), repairs, given, scale)
-            except CannotKeep as why:
-                failed = failed or why
-    if denominator is None and exact is None:
-        # A corner of a linear program, where conditions are tight: take the simplest fraction near each amount.
-        simple = _simplified(given)
+
+    def of_simple(simple: Given) -> Optional[int]:
         part = _exact_denominator(simple)
         tried = MOST_DENOMINATOR + 1 if part is None else least_multiple((unit, part, simple.budget.denominator))
-        if tried <= MOST_DENOMINATOR:
-            try:
-                return _settled(Rounding(town, simple, tried * scale, stable, is_near), True, given, scale)
-            except CannotKeep:
-                pass
-    assert failed is not None
-    raise failed
+        return tried if tried <= MOST_DENOMINATOR else None
+    settling = Settling(town, given, stable, is_near, scale, clock)
+    return settling.settled(denominators, of_simple if denominator is None and exact is None else lambda _: None)
 
 
 def _check_denominator(denominator: int, unit: int) -> None:
     if denominator % unit or not 0 < denominator <= MOST_DENOMINATOR:
         multiple = f" and a multiple of {unit}, so that what is funded can be paid for exactly" if unit > 1 else ""
         raise ValueError(f"the denominator has to be from 1 to 10^9{multiple}")
-
-
-def _settled(rounding: Rounding, repairs: bool, given: Given, scale: int) -> Rounding:
-    rounding.settle(repairs)
-    if rounding.keeps_budget:
-        check_moves(rounding, given, Fraction(1, MOST_DENOMINATOR * scale))
-    return rounding
 
 
 def _exact_denominator(given: Given) -> Optional[int]:
@@ -316,20 +304,6 @@ def _finer(denominator: int) -> int:
     while denominator * 10 <= MOST_DENOMINATOR:
         denominator *= 10
     return denominator
-
-
-def _simplified(given: Given) -> Given:
-    amounts: List[Any] = [_simple(near(amount, "a payment"), given.noise) if amount else 0 for amount in given.amounts]
-    return Given(amounts, array("d", map(float, amounts)), _simple(given.budget, given.noise), given.noise)
-
-
-def _simple(amount: Fraction, noise: Fraction) -> Fraction:
-    """The simplest fraction that is so near that it is likely meant."""
-    for most in (1, 10, 100, 1000, 10**4):
-        simple = amount.limit_denominator(most)
-        if abs(amount - simple) <= min(noise, max(Fraction(1, 1000 * most**2), Fraction(1, 10**9))):
-            return simple
-    return amount
 
 
 def _certificate(rounding: Rounding, given: Given, projects: Projects, scale: int) -> PriceCertificate:

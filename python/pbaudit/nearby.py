@@ -5,7 +5,7 @@ is its answer to prices that are only rounded, and counts where the given ones f
 """
 from dataclasses import dataclass, field
 from fractions import Fraction
-from typing import Dict, List, Optional, Set, Tuple
+from typing import TYPE_CHECKING, Dict, List, Optional, Set, Tuple
 
 from ._auditor import Mode, Question
 from .amounts import MOST_DENOMINATOR, common_denominator
@@ -17,18 +17,22 @@ from .town import Town
 from .values import Payments, Projects, check_count
 from .writing import Payers, price_file
 
+if TYPE_CHECKING:
+    from .finding.clock import Clock
+
 # A condition, and the voter (from 1) and the place of the project where it fails, as far as it names them.
 Place = Tuple[str, Optional[int], Optional[int]]
 
 
-def verdict_near(town: Town, projects: Projects, voter_budget: object, payments: Payments, mode: Mode) -> Verdict:
+def verdict_near(town: Town, projects: Projects, voter_budget: object, payments: Payments, mode: Mode,
+                 clock: "Clock") -> Verdict:
     """The verdict on prices near these. Raises CannotKeep where neither a yes nor a no is found."""
     check_count(len(town.ballots), len(payments.functions))
     budget = payable(voter_budget, "the voter budget")
     scale = scale_of(town, budget)
     election = scaled_election(town, projects, scale)
     try:
-        made = certified(town, projects, budget, payments, mode.stable, mode.exhaustive, is_near=True)
+        made = certified(town, projects, budget, payments, mode.stable, mode.exhaustive, is_near=True, clock=clock)
     except CannotKeep:
         # One below 0 is so by no more than noise.
         rounded = _rounded(town, projects, max(budget, Fraction(0)), payments, scale)

@@ -2,7 +2,7 @@
 from fractions import Fraction
 from itertools import chain
 from math import gcd
-from typing import Iterable, List, Tuple
+from typing import TYPE_CHECKING, Iterable, List, Optional, Tuple
 
 from ._auditor import Mode, Question, switch
 from .amounts import (
@@ -13,12 +13,16 @@ from .coarse import told_by_signs
 from .matrices import check_rows
 from .nearby import verdict_near
 from .rounding import CannotKeep
+from .settling import SECONDS, clock_of
 from .town import Town
 from .values import (
     AnyInstance, AnyProject, NearPaymentFunction, Payments, Profile, Projects, ballots_of, check_count, funded_of,
     projects_of,
 )
 from .writing import election_file, payers_of, price_file
+
+if TYPE_CHECKING:
+    from .finding.clock import Clock, Tell
 
 TOO_MANY = ("the amounts have too large a common denominator for a certificate (at most 10^9, in the unit in which the "
             "largest cost is 10^12): near=True audits exact prices near these, which price_certificate makes")
@@ -27,7 +31,8 @@ TOO_MANY = ("the amounts have too large a common denominator for a certificate (
 def validate_price_system(instance: AnyInstance, profile: Profile, budget_allocation: Iterable[AnyProject],
                           voter_budget: NearAmount, payment_functions: Iterable[NearPaymentFunction],
                           stable: bool = False, exhaustive: bool = True, relaxation: None = None, *,
-                          verbose: bool = False, near: bool = False) -> Verdict:
+                          verbose: bool = False, near: bool = False, seconds: float = SECONDS,
+                          on_progress: "Optional[Tell]" = None) -> Verdict:
     """Whether the payments support the budget allocation: a Verdict, which is true or false, and names what fails
     first.
 
@@ -51,7 +56,9 @@ def validate_price_system(instance: AnyInstance, profile: Profile, budget_alloca
     a millionth of it (C2); what is paid for a project is off by more than a millionth of its cost (C3), or the
     supporters of an unfunded project have left, or can offer, more than its cost and a millionth of it (C5 and S5); or
     more than noise is paid where nothing should be (C1 and C4). What lies between is a CannotKeep, which is no answer.
-    `moved` of the verdict is how far a payment moved, and `raised` how far the voter budget.
+    `moved` of the verdict is how far a payment moved, and `raised` how far the voter budget. `seconds` is how long to look
+    for such prices; where it runs out before any are found, that is a CannotKeep too. `on_progress` is called with what is
+    tried and how many seconds are left.
 
     `relaxation` is there for callers of pabutools, and has to be None: relaxed forms aren't audited, so another is a
     ValueError. `verbose` prints what each condition comes to, as `explain` of the verdict has it.
@@ -66,7 +73,9 @@ def validate_price_system(instance: AnyInstance, profile: Profile, budget_alloca
     mode, is_near, is_told = Mode(stable, exhaustive), switch("near", near), switch("verbose", verbose)
     if relaxation is not None:
         raise ValueError(f"the relaxation is {relaxation!r}, and only None is audited")
-    found = _validated(instance, profile, budget_allocation, voter_budget, payment_functions, mode, is_near)
+    clock = clock_of(seconds, on_progress)
+    found = _validated(instance, profile, budget_allocation, voter_budget, payment_functions, mode,
+                       clock if is_near else None)
     if is_told:
         print(found.explain(), end="")
     return found
@@ -74,7 +83,8 @@ def validate_price_system(instance: AnyInstance, profile: Profile, budget_alloca
 
 def _validated(instance: AnyInstance, profile: Profile, budget_allocation: Iterable[AnyProject],
                voter_budget: NearAmount, payment_functions: Iterable[NearPaymentFunction], mode: Mode,
-               is_near: bool) -> Verdict:
+               clock: "Optional[Clock]") -> Verdict:
+    """The verdict; with a clock by near prices too."""
     check_rows(profile, payment_functions)
     projects, costs, limit = projects_of(instance)
     ballots, funded = ballots_of(profile, projects), funded_of(budget_allocation, projects)
@@ -83,14 +93,14 @@ def _validated(instance: AnyInstance, profile: Profile, budget_allocation: Itera
 
     def town() -> Town:
         return Town(projects.ids, costs, limit, set(funded), ballots)
-    if is_near and (is_float(voter_budget) or payments.has_floats):
-        return verdict_near(town(), projects, voter_budget, payments, mode)
+    if clock and (is_float(voter_budget) or payments.has_floats):
+        return verdict_near(town(), projects, voter_budget, payments, mode, clock)
     budget = exact_price(voter_budget, "the voter budget")
     payments.check_exact()
     try:
         factor, denominator = _scale([limit, *costs], chain([budget.denominator], payments.denominators()))
     except TooManyDenominators:
-        return _beyond_certificates(town(), projects, budget, payments, mode, is_near)
+        return _beyond_certificates(town(), projects, budget, payments, mode, clock)
     election = election_file(projects, [cost * factor for cost in costs], limit * factor, ballots, funded)
     scaled = denominator * factor
     numerator = budget.numerator * (scaled // budget.denominator)
@@ -99,13 +109,13 @@ def _validated(instance: AnyInstance, profile: Profile, budget_allocation: Itera
 
 
 def _beyond_certificates(town: Town, projects: Projects, budget: Fraction, payments: Payments, mode: Mode,
-                         is_near: bool) -> Verdict:
+                         clock: "Optional[Clock]") -> Verdict:
     """The verdict where no certificate states the amounts. A no that is seen without their size stands before a yes to
     prices near these."""
     sure = told_by_signs(town, projects, payments, mode)
-    if is_near:
+    if clock:
         try:
-            found = verdict_near(town, projects, budget, payments, mode)
+            found = verdict_near(town, projects, budget, payments, mode, clock)
         except CannotKeep:
             if sure is None:
                 raise

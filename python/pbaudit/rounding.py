@@ -9,11 +9,14 @@ from array import array
 from dataclasses import dataclass
 from fractions import Fraction
 from functools import lru_cache, partial
-from typing import Any, Callable, Dict, Iterable, List, Optional, Sequence, Tuple, Union
+from typing import TYPE_CHECKING, Any, Callable, Dict, Iterable, List, Optional, Sequence, Tuple, Union
 
 from .amounts import ratio, ratio_of_float
 from .shown import visible
 from .town import Town
+
+if TYPE_CHECKING:
+    from .finding.clock import Clock
 
 
 class CannotKeep(ValueError):
@@ -99,13 +102,15 @@ class Rounding:
         self._is_small = most * denominator < SMALL
         self._floors = self._floor_all()
 
-    def settle(self, repairs: bool) -> None:
+    def settle(self, clock: "Clock", repairs: bool) -> None:
         """Finds numerators that keep all conditions, by voter budgets near the given one, or raises CannotKeep. With
-        repairs, payments are moved among supporters where C5 or S5 fails."""
+        repairs, payments are moved among supporters where C5 or S5 fails. Where the clock has run out, what is begun isn't
+        gone on with."""
+        self._clock = clock
         low, noise = self._floor(self.given.budget), self._floor(self.given.noise)
         failed: Optional[CannotKeep] = None
         for budget in dict.fromkeys((low, low + 1, low + 2, low - 1, low - 2, low + noise, low - noise)):
-            if budget < 0:
+            if budget < 0 or failed and not clock.left():
                 continue
             try:
                 self._settle_by(budget, repairs)
@@ -198,6 +203,9 @@ class Rounding:
             missing[project] = self._take_more(project, payers, missing[project])
         for project in sorted(town.funded):
             while missing[project] > 0:
+                if not self._clock.left():
+                    raise CannotKeep("C3", f"there was too little time to pay exactly for {town.names[project]}",
+                                     project=town.names[project])
                 missing[project] -= self._pass_on(project, missing[project])
 
     def _cut_noise(self, voter: int, missing: Dict[int, int]) -> None:
@@ -298,7 +306,7 @@ class Rounding:
         looks = len(self.town.ballots.places)
         for _ in range(min(self.MOST_SHIFTS, self.MOST_LOOKS // max(1, looks))):
             over = [project for project in self.town.unfunded if self.slack[project] < 0]
-            if not over or not self._shift_one(min(over, key=self.slack.__getitem__)):
+            if not over or not self._clock.left() or not self._shift_one(min(over, key=self.slack.__getitem__)):
                 return
 
     def _shift_one(self, unfunded: int) -> bool:
@@ -360,7 +368,8 @@ class Rounding:
             moves = 0
             for project in sorted(excess, key=excess.__getitem__, reverse=True):
                 for voter in self.town.supporters[project]:
-                    while excess[project] > 0 and moves < self.MOST_MOVES and self._lessen(excess, project, voter):
+                    while (excess[project] > 0 and moves < self.MOST_MOVES and self._clock.left()
+                           and self._lessen(excess, project, voter)):
                         moves += 1
             if not moves or max(excess.values(), default=0) <= 0:
                 return

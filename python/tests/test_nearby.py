@@ -1,13 +1,11 @@
 """The check of prices near the given ones, beside that of the exact ones that they are near."""
 import contextlib
-import importlib.util
 import io
 import random
 import unittest
 from fractions import Fraction
 
 import pbaudit
-from finding_cases import cases
 from pbaudit import CannotKeep, Instance, Project, validate_price_system
 
 A, B, C = Project("a", 6), Project("b", 4), Project("c", 9)
@@ -236,65 +234,3 @@ class Near(unittest.TestCase):
             self.assertEqual((str(verdict), verdict.moved), (line, 0))
             with self.assertRaisesRegex(TypeError, "price_certificate"):
                 validate_price_system(SAMPLE, PROFILE, [A, B], budget, [{A: 2, B: 2}, {A: 4}, {B: 2}])
-
-
-@unittest.skipUnless(importlib.util.find_spec("scipy"), "scipy isn't installed")
-class OfASolver(unittest.TestCase):
-    """Corners of linear programmes, where as many conditions as can be are just kept."""
-
-    def solved(self, case, stable, goal, method):
-        """A voter budget and payments by HiGHS, or None where there are none."""
-        import numpy
-        from scipy.optimize import linprog
-        slots = [(voter, at) for voter, ballot in enumerate(case.ballots) for at in ballot if at in case.funded]
-        count, voters = len(slots), len(case.ballots)
-        rows, most = [], []
-
-        def row(entries, limit):
-            rows.append(numpy.zeros(count + 1 + voters))
-            for at, value in entries:
-                rows[-1][at] += value
-            most.append(float(limit))
-        for voter in range(voters):
-            mine = [at for at, slot in enumerate(slots) if slot[0] == voter]
-            row([*((at, 1) for at in mine), (count, -1)], 0)
-            row([(count, 1), *((at, -1) for at in mine), (count + 1 + voter, -1)], 0)
-            for at in mine if stable else ():
-                row([(at, 1), (count + 1 + voter, -1)], 0)
-        for project in case.unfunded:
-            row([(count + 1 + voter, 1) for voter, ballot in enumerate(case.ballots) if project in ballot],
-                case.costs[project])
-        funded = sorted(case.funded)
-        equal = numpy.array([[float(slot[1] == project) for slot in slots] + [0] * (1 + voters) for project in funded])
-        costs = [float(case.costs[project]) for project in funded]
-        weights = numpy.zeros(count + 1 + voters)
-        weights[:count + 1] = {"least": [0] * count + [1], "most": [0] * count + [-1]}.get(
-            goal, numpy.random.RandomState(count).rand(count + 1))
-        found = linprog(weights, A_ub=rows, b_ub=most, A_eq=equal if funded else None, b_eq=costs if funded else None,
-                        method=method)
-        if found.status:
-            return None
-        payments = [{} for _ in case.ballots]
-        for (voter, project), amount in zip(slots, found.x):
-            payments[voter][f"p{project}"] = amount
-        return found.x[count], payments
-
-    def test_corners_are_accepted(self):
-        """Each of some hundred, and it moves by no more than noise."""
-        told = 0
-        for seed in range(12):
-            for case in cases(seed, ((5, 4), (10, 6), (20, 8))):
-                instance = Instance([Project(f"p{at}", cost) for at, cost in enumerate(case.costs)], case.limit)
-                profile = [[f"p{at}" for at in ballot] for ballot in case.ballots]
-                for stable, goal, method in ((False, "least", "highs-ds"), (False, "most", "highs-ipm"),
-                                             (True, "least", "highs-ipm"), (True, "any", "highs-ds")):
-                    solved = self.solved(case, stable, goal, method)
-                    if solved is None:
-                        continue
-                    with self.subTest(case=case.name, stable=stable, goal=goal, method=method):
-                        found = validate_price_system(instance, profile, [f"p{at}" for at in case.funded], *solved,
-                                                      stable, exhaustive=False, near=True)
-                        self.assertTrue(found, str(found))
-                        self.assertLessEqual(max(found.moved, abs(found.raised)), solved[0] * 1e-6 + 1e-9)
-                        told += 1
-        self.assertGreater(told, 100)
