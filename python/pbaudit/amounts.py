@@ -17,7 +17,8 @@ _TENS = tuple(10**decimals for decimals in range(40))
 
 class TooManyDenominators(ValueError):
     """Exact amounts whose common denominator is larger than one that a certificate has, as with shares of many costs.
-    The check of prices near these may answer: `validate_price_system` with `near=True`, or `price_certificate`.
+    The check of prices near these may answer: `validate_price_system` with `near=True`, or `price_certificate`; and
+    `equal_shares` with `near=True` has prices of its own that a certificate can have.
 
     >>> try:
     ...     write_prices(1, [{"a": Fraction(1, 10**9 + 7)}])

@@ -25,7 +25,8 @@ if TYPE_CHECKING:
     from .finding.clock import Clock, Tell
 
 TOO_MANY = ("the amounts have too large a common denominator for a certificate (at most 10^9, in the unit in which the "
-            "largest cost is 10^12): near=True audits exact prices near these, which price_certificate makes")
+            "largest cost is 10^12): near=True audits exact prices near these, which price_certificate makes, and of the "
+            "package's own prices equal_shares with near=True")
 
 
 def validate_price_system(instance: AnyInstance, profile: Profile, budget_allocation: Iterable[AnyProject],

@@ -6,15 +6,18 @@ supporters pay least for a unit of its worth, each the same or all that is left.
 the election is bought.
 """
 from array import array
-from dataclasses import dataclass, field
+from dataclasses import dataclass, field, replace
 from fractions import Fraction
 from heapq import heapify, heappop, heappush
 from math import gcd
 from typing import Callable, Dict, Iterator, List, Literal, Optional, Sequence, Set, Tuple
 
+from ._auditor import switch
 from .amounts import Amount, exact_cost, least_multiple
+from .certificates import certified
 from .leaps import Between, Leap, Unsure, level
-from .values import AnyInstance, Ballots, Profile, Projects, ballots_of, projects_of
+from .town import Town
+from .values import AnyInstance, Ballots, Payments, Profile, Projects, ballots_of, projects_of
 
 Measure = Literal["cost", "count"]
 Completion = Literal["none", "add1"]
@@ -40,6 +43,8 @@ class EqualShares:
     """What the Method of Equal Shares comes to: the ids of the funded projects in the order of their purchase, the
     budget of each voter, and for each voter what it pays, by the ids of projects. Amounts are exact, in the currency
     of the costs. `runs` is how many budgets of a voter the rule was gone through for, which is one without a completion.
+    `moved` and `raised` are 0, but of near prices how far a payment moved from the rule's at most, and how far the voter
+    budget rose, or fell where it is below 0.
 
     >>> shares = equal_shares(Instance([Project("a", 6)], 10), [["a"], ["a"]])
     >>> shares.payments
@@ -50,6 +55,8 @@ class EqualShares:
     voter_budget: Fraction
     payments: List[Dict[str, Fraction]] = field(repr=False)
     runs: int = 1
+    moved: Fraction = Fraction(0)
+    raised: Fraction = Fraction(0)
 
 
 @dataclass(frozen=True)
@@ -63,25 +70,43 @@ class Purchase:
 
 
 def equal_shares(instance: AnyInstance, profile: Profile, *, by: Measure = "cost", completion: Completion = "none",
-                 increment: Amount = 1) -> EqualShares:
+                 increment: Amount = 1, near: bool = False) -> EqualShares:
     """The outcome and the payments of the Method of Equal Shares, exactly.
 
     A project is worth to each supporter what it costs (`by="cost"`), or 1 (`by="count"`). The budget of a voter is the
     limit over the number of voters. With `completion="add1"` it is raised by 1, in the currency of the costs, until no
     other project fits within the limit or the next outcome would cost more than the limit. `increment` is another step
     than 1, by which it may end at another outcome. Steps that change nothing are mostly taken together. Ties go to the
-    project that stands first. A project that costs nothing is bought where it has a supporter. Raises ValueError and
-    TypeError.
+    project that stands first. A project that costs nothing is bought where it has a supporter.
+
+    Amounts whose common denominator is over 10^9 stand in no certificate. With `near` they are replaced by those of a
+    certificate near them, which was audited, in the plain form and without Exhaustive. Raises ValueError and TypeError,
+    and with `near` CannotKeep and MemoryError.
 
     >>> town = Instance([Project("a", 6), Project("b", 4)], 10)
     >>> shares = equal_shares(town, [["a", "b"], ["a"]])
     >>> shares.funded, shares.voter_budget
     (['a'], Fraction(5, 1))
     """
-    step = checked_increment(increment)
+    step, is_near = checked_increment(increment), switch("near", near)
     projects, costs, limit = projects_of(instance)
-    rule = Rule(costs, limit, ballots_of(profile, projects), by)
-    return result(projects, rule, *rule.completed(completion, step))
+    ballots = ballots_of(profile, projects)
+    rule = Rule(costs, limit, ballots, by)
+    made = result(projects, rule, *rule.completed(completion, step))
+    if not is_near:
+        return made
+    funded = {projects.place[name] for name in made.funded}
+    return _near(made, Town(projects.ids, costs, limit, funded, ballots), projects)
+
+
+def _near(made: EqualShares, town: Town, projects: Projects) -> EqualShares:
+    """The same outcome with the prices of a certificate."""
+    certificate = certified(town, projects, made.voter_budget, Payments(made.payments), stable=False, exhaustive=False)
+    payments: List[Dict[str, Fraction]] = [{} for _ in made.payments]
+    for voter, name, numerator in certificate.rows:
+        payments[voter - 1][name] = Fraction(numerator, certificate.denominator)
+    budget = Fraction(certificate.voter_budget, certificate.denominator)
+    return replace(made, voter_budget=budget, payments=payments, moved=certificate.moved, raised=certificate.raised)
 
 
 def checked_increment(increment: Amount) -> Fraction:

@@ -176,7 +176,8 @@ def price_file(denominator: int, voter_budget: int, projects: Projects, payers: 
     """A price certificate of numerators over a denominator. What is 0 isn't written."""
     if denominator > MOST_DENOMINATOR:
         raise TooManyDenominators(f"the amounts' common denominator is {denominator}, and a certificate's is at most "
-                                  "10^9: price_certificate rounds to a smaller one where the conditions still hold")
+                                  "10^9: price_certificate rounds to a smaller one where the conditions still hold, and of the "
+                                  "package's own prices equal_shares with near=True does")
     if voter_budget > MOST_NUMERATOR:
         raise ValueError("the numerator of the voter budget is over 10^21, the most that a certificate has")
     if voter_budget < 0:

@@ -2,6 +2,7 @@
 import io
 import os
 import pathlib
+import random
 import re
 import shlex
 import subprocess
@@ -232,6 +233,42 @@ class Told(unittest.TestCase):
         told = [line.rstrip(" \033[K") for line in terminal.getvalue().split("\r")[1:]]
         self.assertEqual(told, ["7 voters, run 1, voter budget 4.50, 25% of the limit spent, about 30 s left",
                                 "7 voters, run 2, voter budget 4.50, 50% of the limit spent"])
+
+
+class Near(unittest.TestCase):
+    def test_prices_that_a_certificate_has(self):
+        """Of an election whose exact shares no certificate has: the error says what helps, and what that gives is accepted,
+        pays for the same outcome, and is near the rule's prices as they say."""
+        chance, found = random.Random("near shares"), 0
+        for _ in range(40):
+            projects = [Project(f"p{at}", chance.randint(50, 900)) for at in range(30)]
+            instance = Instance(projects, sum(each.cost for each in projects) // 2)
+            profile = [chance.sample(projects, chance.randint(3, 15)) for _ in range(83)]
+            made = equal_shares(instance, profile, by="count")
+            try:
+                pbaudit.write_prices(made.voter_budget, made.payments)
+                continue
+            except pbaudit.TooManyDenominators as why:
+                self.assertIn("equal_shares with near=True", str(why))
+            found += 1
+            near = equal_shares(instance, profile, by="count", near=True)
+            self.assertEqual(near.funded, made.funded)
+            file = pbaudit.write_prices(near.voter_budget, near.payments)
+            self.assertTrue(pbaudit.audit_prices(pbaudit.write_election(instance, profile, made.funded), file,
+                                                 exhaustive=False))
+            moves = [abs(near.payments[voter].get(name, 0) - amount)
+                     for voter, mine in enumerate(made.payments) for name, amount in mine.items()]
+            self.assertEqual((near.moved, near.raised), (max(moves), near.voter_budget - made.voter_budget))
+            self.assertTrue(0 < near.moved < 1)
+            if found == 3:
+                break
+        self.assertEqual(found, 3)
+
+    def test_prices_that_fit_stay(self):
+        words = Instance([Project("a", 6), Project("b", 4)], 10), [["a", "b"], ["a"]]
+        self.assertEqual(equal_shares(*words, near=True), equal_shares(*words))
+        with self.assertRaisesRegex(TypeError, "^near is 1, not True or False"):
+            equal_shares(*words, near=1)
 
 
 class Commands(unittest.TestCase):
