@@ -37,16 +37,17 @@ if TYPE_CHECKING:
     from .price_systems import validate_price_system
     from .rounding import CannotKeep
     from .shares import EqualShares, equal_shares
+    from .tables import PriceSystem
     from .writing import write_election, write_outcome, write_prices, write_refutation, write_violation
 
 __version__ = VERSION
 __all__ = [
     "CannotKeep", "EqualShares", "Explanation", "FileResult", "Finding", "FolderReport", "Found", "FoundFolder",
     "FoundPrices", "FoundRefutation", "FoundRow", "FoundViolation", "Instance", "NotReplaced", "PriceCertificate",
-    "Project", "ProjectMargins", "Refusal", "Summary", "TooManyDenominators", "Verdict", "audit_both", "audit_folder",
-    "audit_prices", "audit_refutation", "audit_violation", "equal_shares", "explain", "find", "find_folder", "margins",
-    "page", "price_certificate", "read", "tidy", "validate_price_system", "write_election", "write_folder_pages",
-    "write_outcome", "write_page", "write_prices", "write_refutation", "write_violation",
+    "PriceSystem", "Project", "ProjectMargins", "Refusal", "Summary", "TooManyDenominators", "Verdict", "audit_both",
+    "audit_folder", "audit_prices", "audit_refutation", "audit_violation", "equal_shares", "explain", "find",
+    "find_folder", "margins", "page", "price_certificate", "read", "tidy", "validate_price_system", "write_election",
+    "write_folder_pages", "write_outcome", "write_page", "write_prices", "write_refutation", "write_violation",
 ]
 # The parts are loaded when they are first used, since an import of all takes long beside an audit.
 _PARTS = {
@@ -63,6 +64,7 @@ _PARTS = {
     "price_systems": ("validate_price_system",),
     "rounding": ("CannotKeep",),
     "shares": ("EqualShares", "equal_shares"),
+    "tables": ("PriceSystem",),
     "writing": ("write_election", "write_outcome", "write_prices", "write_refutation", "write_violation"),
 }
 _PART_OF = {name: part for part, names in _PARTS.items() for name in names}

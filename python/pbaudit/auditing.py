@@ -19,6 +19,7 @@ from .files import MOST_BYTES, File, bytes_of, path_of
 from .kept import Kept, keep, source_of, stamp_of
 from .records import records
 from .shown import visible
+from .tables import Result
 
 __all__ = [
     "MOST_BYTES", "Explanation", "File", "Finding", "ProjectMargins", "Refusal", "Summary", "Verdict", "answered",
@@ -75,7 +76,7 @@ class Refusal(ValueError):
 
 
 @dataclass(frozen=True)
-class Verdict:
+class Verdict(Result):
     """The answer to an audit: true where all that was asked holds. `str` is the line that the program prints.
 
     Where something fails, `condition` names the first that does, as "C3", "V4" or "U2", and `voter` (numbered from 1, by
@@ -143,7 +144,7 @@ class Verdict:
 
 
 @dataclass(frozen=True)
-class Summary:
+class Summary(Result):
     """What an election has. `funded` is None where it states no outcome; `notes` are without their `note: `.
 
     >>> summary = read("town.pb")
@@ -162,7 +163,7 @@ class Summary:
 
 
 @dataclass(frozen=True)
-class Finding:
+class Finding(Result):
     """What a condition or test comes to: its name, as "C3"; "holds", "fails" or "not asked"; and a sentence with the
     amounts that it compares.
 
@@ -177,7 +178,7 @@ class Finding:
 
 
 @dataclass(frozen=True)
-class Explanation:
+class Explanation(Result):
     r"""What each condition comes to, in their order, with the answer to the audit itself, and true where that is.
     `groups` has, of a yes to prices, a sentence on what it says of every group, and one on the unfunded project whose
     supporters come nearest to what that compares. `str` is the text that the program prints.
@@ -191,6 +192,10 @@ class Explanation:
     text: str
     groups: Tuple[str, ...] = ()
 
+    def rows_of_table(self) -> List[Dict[str, Any]]:
+        """A row for each condition."""
+        return [finding.to_dict() for finding in self.findings]
+
     def _repr_html_(self) -> Optional[str]:
         """The page about the certificate, as a notebook shows it."""
         return self.verdict._repr_html_()
@@ -203,7 +208,7 @@ class Explanation:
 
 
 @dataclass(frozen=True)
-class ProjectMargins:
+class ProjectMargins(Result):
     """The figures of a project by a price certificate: its id, whether it is funded, how many voters approve it, and
     exact amounts in the currency of the election. `left` is what its supporters have left together, which may be less
     than 0, and `offer` the same where for each supporter the largest single payment counts if it is more.

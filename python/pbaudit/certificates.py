@@ -1,6 +1,6 @@
 """Price certificates from a solver's floats, or from the fractions of a rule."""
 from array import array
-from dataclasses import dataclass, field
+from dataclasses import dataclass, field, replace
 from fractions import Fraction
 from functools import cached_property
 from typing import TYPE_CHECKING, Any, Dict, Iterable, Iterator, List, Optional, Sequence, Set, Tuple
@@ -17,10 +17,11 @@ from .noise import NOISE, SURE, Conditions, left_out_told, spent_by
 from .records import records
 from .rounding import CannotKeep, Given, LeftOut, Rounding
 from .settling import SECONDS, Settling, clock_of
+from .tables import PriceSystem, Result
 from .town import Town
 from .values import (
     AnyInstance, AnyProject, NearPaymentFunction, Payments, Profile, Projects, ballots_of, check_count, funded_of,
-    projects_of,
+    projects_of, with_each_voter,
 )
 from .writing import Payers, election_file, price_file
 
@@ -35,13 +36,14 @@ HEADROOM = 1000
 
 
 @dataclass(frozen=True)
-class PriceCertificate:
+class PriceCertificate(Result):
     """A price certificate that supports the outcome that it was made for.
 
     `denominator` is D; `voter_budget` is a numerator over it, so it is divided by D to be an amount; a row is a voter
     (from 1), a project's id and a numerator. `moved` is the farthest that a payment moved from what was given, and
-    `raised` by how much the voter budget rose (or fell, where it is below 0), in the currency of the costs. `file` is
-    the certificate as a file.
+    `raised` by how much the voter budget rose (or fell, where it is below 0), in the currency of the costs. `status` is
+    what the auditor says of it, and `file` the certificate as a file. `price_system` has the same as amounts, with the
+    names that pabutools has for them.
 
     >>> made = price_certificate(Instance([Project("a", 1)], 1), [["a"]], ["a"], None, [{"a": 1}])
     >>> made.moved, made.raised
@@ -53,6 +55,25 @@ class PriceCertificate:
     moved: Fraction
     raised: Fraction
     file: bytes = field(repr=False)
+    voters: int = field(default=0, repr=False)
+    status: str = ""
+
+    @property
+    def price_system(self) -> PriceSystem:
+        """The status, the voter budget and what each voter pays, as amounts."""
+        payments: List[Dict[str, Fraction]] = [{} for _ in range(self.voters)]
+        for voter, project, numerator in self.rows:
+            payments[voter - 1][project] = Fraction(numerator, self.denominator)
+        return PriceSystem(self.status, Fraction(self.voter_budget, self.denominator), payments)
+
+    def to_dict(self) -> Dict[str, Any]:
+        """Its fields by their names, with the rows in the place of the file."""
+        return {**super().to_dict(), "rows": [list(row) for row in self.rows]}
+
+    def rows_of_table(self) -> List[Dict[str, Any]]:
+        """A row for each payment: the voter, from 1, the project and the amount."""
+        return [{"voter": voter, "project": project, "payment": Fraction(numerator, self.denominator)}
+                for voter, project, numerator in self.rows]
 
     @cached_property
     def rows(self) -> List[Tuple[int, str, int]]:
@@ -75,7 +96,8 @@ def price_certificate(instance: AnyInstance, profile: Profile, budget_allocation
     The arguments are those of `validate_price_system`, but payments and the voter budget may be floats too, which count
     as the decimals that they print as, and costs and the limit are those of an election file, with at most six decimals
     (`validate_price_system` takes others too); a voter budget of None is the most that a voter spends, which is the
-    best for C5 and S5.
+    best for C5 and S5. A profile may also be a mapping from ballots to how many voters have each, as a MultiProfile of
+    pabutools is: then there is a payment function for each ballot, which each of its voters pays, or one for each voter.
 
     Exact numbers have to keep all conditions as they are: nothing is repaired, and they stay as they are where their
     common denominator is at most 10^9. Floats may be off by a solver's noise: a millionth of the voter budget for each
@@ -95,6 +117,7 @@ def price_certificate(instance: AnyInstance, profile: Profile, budget_allocation
     [(1, 'a', 1), (2, 'a', 1), (3, 'a', 1)]
     """
     mode, clock = Mode(stable, exhaustive), clock_of(seconds, on_progress)
+    profile, payment_functions = with_each_voter(profile, payment_functions)
     check_rows(profile, payment_functions)
     projects, costs, limit = projects_of(instance)
     funded = funded_of(budget_allocation, projects)
@@ -121,7 +144,7 @@ def certified(town: Town, projects: Projects, voter_budget: Optional[NearAmount]
     if not verdict:
         told = f"the rounded payments are answered '{verdict}'"
         raise CannotKeep(str(verdict.condition), told, verdict.voter, verdict.project)
-    return certificate
+    return replace(certificate, status=str(verdict))
 
 
 def scaled_election(town: Town, projects: Projects, scale: int) -> bytes:
@@ -312,7 +335,7 @@ def _certificate(rounding: Rounding, given: Given, projects: Projects, scale: in
     moved, raised = _farthest(rounding, given), Fraction(rounding.budget, rounding.denominator) - given.budget + given.below
     denominator = rounding.denominator // scale
     file = price_file(denominator, rounding.budget, projects, _payers(rounding))
-    return PriceCertificate(denominator, rounding.budget, moved, raised, file)
+    return PriceCertificate(denominator, rounding.budget, moved, raised, file, len(rounding.town.ballots))
 
 
 def _farthest(rounding: Rounding, given: Given) -> Fraction:

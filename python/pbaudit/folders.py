@@ -10,12 +10,13 @@ import uuid
 from concurrent.futures import BrokenExecutor, Executor, Future
 from dataclasses import dataclass, field
 from functools import partial
-from typing import Callable, Dict, Iterator, List, NamedTuple, Optional, Sequence, Tuple
+from typing import Any, Callable, Dict, Iterator, List, NamedTuple, Optional, Sequence, Tuple
 
 from ._auditor import Answer, Mode, Question, ask
 from .files import MOST_BYTES, Path, checked_call
 from .helpers import Helper
 from .shown import visible
+from .tables import Result, frame_of, html_of
 
 # Gives the bytes of the file with an ending, or none where it can't be read.
 Read = Callable[[str], Optional[bytes]]
@@ -61,9 +62,25 @@ class FileResult(NamedTuple):
     project: Optional[str]
     line: str
 
+    def to_dict(self) -> Dict[str, Any]:
+        """Its fields by their names."""
+        return self._asdict()
+
+    def rows_of_table(self) -> List[Dict[str, Any]]:
+        """The one row of its table."""
+        return [self.to_dict()]
+
+    def to_frame(self) -> Any:
+        """Its table as a DataFrame of pandas. Raises ImportError where that isn't installed."""
+        return frame_of(self.rows_of_table())
+
+    def _repr_html_(self) -> str:
+        """Its table, as a notebook shows it."""
+        return html_of(self.rows_of_table())
+
 
 @dataclass(frozen=True)
-class FolderReport:
+class FolderReport(Result):
     """The report on a folder: its text, and a status as that of `pbaudit folder`: 2 where a file is refused, else 1
     where a certificate is answered no, else 0. It is true where the status is 0. Where an election by itself had its
     worker lost twice, the line on it ends in `fault worker`, its name (without `.pb`) is in `lost`, and the status is
@@ -77,6 +94,10 @@ class FolderReport:
     status: int
     lost: Tuple[str, ...] = ()
     results: Tuple[FileResult, ...] = field(default=(), compare=False, repr=False)
+
+    def rows_of_table(self) -> List[Dict[str, Any]]:
+        """A row for each file."""
+        return [result.to_dict() for result in self.results]
 
     def _repr_html_(self) -> str:
         """The report as a table, as a notebook shows it."""

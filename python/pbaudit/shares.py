@@ -10,12 +10,13 @@ from dataclasses import dataclass, field, replace
 from fractions import Fraction
 from heapq import heapify, heappop, heappush
 from math import gcd
-from typing import Callable, Dict, Iterator, List, Literal, Optional, Sequence, Set, Tuple
+from typing import Any, Callable, Dict, Iterator, List, Literal, Optional, Sequence, Set, Tuple
 
 from ._auditor import switch
 from .amounts import Amount, exact_cost, least_multiple
 from .certificates import certified
 from .leaps import Between, Leap, Unsure, level
+from .tables import Result, payment_rows
 from .town import Town
 from .values import AnyInstance, Ballots, Payments, Profile, Projects, ballots_of, projects_of
 
@@ -39,7 +40,7 @@ Tell = Callable[[Progress], None]
 
 
 @dataclass(frozen=True)
-class EqualShares:
+class EqualShares(Result):
     """What the Method of Equal Shares comes to: the ids of the funded projects in the order of their purchase, the
     budget of each voter, and for each voter what it pays, by the ids of projects. Amounts are exact, in the currency
     of the costs. `runs` is how many budgets of a voter the rule was gone through for, which is one without a completion.
@@ -57,6 +58,12 @@ class EqualShares:
     runs: int = 1
     moved: Fraction = Fraction(0)
     raised: Fraction = Fraction(0)
+    # It has lists and dictionaries.
+    __hash__ = None  # type: ignore[assignment]
+
+    def rows_of_table(self) -> List[Dict[str, Any]]:
+        """A row for each payment: the voter, from 1, the project and the amount."""
+        return payment_rows(self.payments)
 
 
 @dataclass(frozen=True)

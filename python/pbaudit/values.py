@@ -22,7 +22,7 @@ from typing import (
     Union, cast,
 )
 
-from .amounts import Amount, NearAmount, exact_cost, exact_price, near, ratio
+from .amounts import Amount, NearAmount, exact_cost, exact_price, near, own, ratio
 from .elections import Instance
 from .matrices import (
     AT_ONCE, PaymentRows, PlacedRow, PlacedRows, array_of, ballots_in, is_matrix, is_series, mapping_of,
@@ -417,6 +417,38 @@ def _ballots(profile: Profile) -> Iterator[Collection[AnyProject]]:
         if isinstance(approved, AnyCollection):
             known.add(type(approved))
         yield approved if isinstance(approved, AnyCollection) else list(approved)
+
+
+def voters_of_each(profile: Any) -> List[int]:
+    """How many voters have each ballot of a mapping from ballots to that. Raises ValueError for another mapping."""
+    counts = []
+    for ballot, count in profile.items():
+        if isinstance(count, bool) or not hasattr(count, "__index__") or own(count) < 1:
+            raise ValueError(f"the profile has {reprlib.repr(count)} voters with the ballot {reprlib.repr(ballot)}, which "
+                             "isn't a whole number from 1")
+        counts.append(own(count))
+    return counts
+
+
+def with_each_voter(profile: Any, payment_functions: Any) -> Tuple[Any, Any]:
+    """A profile with a ballot for each voter, where it was a mapping from ballots to how many voters have each, and the
+    payment functions of these. Raises ValueError where there is neither one for each ballot nor one for each voter."""
+    if not isinstance(profile, AnyMapping) or is_matrix(profile):
+        return profile, payment_functions
+    counts = voters_of_each(profile)
+    functions = functions_of(payment_functions)
+    if len(functions) == len(counts):
+        functions = [function for function, count in zip(functions, counts) for _ in range(count)]
+    elif len(functions) != sum(counts):
+        raise ValueError(f"there are {len(counts)} ballots of {sum(counts)} voters and {len(functions)} payment functions")
+    return each_ballot(profile), functions
+
+
+def each_ballot(profile: Any) -> Any:
+    """A profile with a ballot for each voter, in the order of the ballots."""
+    if not isinstance(profile, AnyMapping) or is_matrix(profile):
+        return profile
+    return [ballot for ballot, count in zip(profile, voters_of_each(profile)) for _ in range(count)]
 
 
 def functions_of(payment_functions: Iterable[NearPaymentFunction]) -> List[NearPaymentFunction]:

@@ -8,19 +8,35 @@ import errno
 import os
 from concurrent.futures import Executor
 from numbers import Real
-from typing import Callable, Optional
+from typing import Any, Callable, Iterable, Mapping, Optional, Union, overload
 
 from .._auditor import switch
 from ..files import File, Path, checked_call
+from ..values import AnyInstance, AnyProject, Profile, each_ballot
+from ..writing import write_election
 from .results import SECONDS, Found, FoundFolder, Wanted
 
 
+@overload
 def find(election: File, outcome: Optional[File] = None, *, stable: bool = False, cover: bool = False,
          prices: bool = True, refutation: bool = True, violation: bool = True, seconds: float = SECONDS,
-         on_progress: Optional[Callable[[str, float], None]] = None) -> Found:
+         on_progress: Optional[Callable[[str, float], None]] = None) -> Found: ...
+
+
+@overload
+def find(election: AnyInstance, outcome: Union[Profile, Mapping[Any, int]], budget_allocation: Iterable[AnyProject], *,
+         stable: bool = False, cover: bool = False, prices: bool = True, refutation: bool = True, violation: bool = True,
+         seconds: float = SECONDS, on_progress: Optional[Callable[[str, float], None]] = None) -> Found: ...
+
+
+def find(election: Any, outcome: Any = None, budget_allocation: Optional[Iterable[AnyProject]] = None, *,
+         stable: bool = False, cover: bool = False, prices: bool = True, refutation: bool = True, violation: bool = True,
+         seconds: float = SECONDS, on_progress: Optional[Callable[[str, float], None]] = None) -> Found:
     """Looks for certificates of an outcome: for prices that support it, with Cover first and then without; where none
     are found, for a refutation of all prices; and for a violation by counting and one by cost. The files are given as
-    for `audit_prices`.
+    for `audit_prices`. In their place an instance, a profile and the funded projects are taken, as for
+    `validate_price_system`, with costs of at most six decimals; a profile may also be a mapping from ballots to how many
+    voters have each, as a MultiProfile of pabutools is, whose voters are numbered in the order of the ballots.
 
     `stable` asks for the stable form of prices, and `cover` for prices with Cover alone, and else for a refutation of
     those; without `prices`, `refutation` or `violation` these aren't looked for. `seconds` is how long all may take, of
@@ -28,13 +44,20 @@ def find(election: File, outcome: Optional[File] = None, *, stable: bool = False
     is tried and how many seconds are left for it.
 
     What is found was audited. That nothing is found proves nothing. Raises Refusal, OSError, MemoryError, ValueError
-    where nothing is asked for, and ImportError where scipy isn't installed.
+    where nothing is asked for, and of values where no file can state them, TypeError, and ImportError where scipy isn't
+    installed.
 
     >>> print(find("town.pb").sentences[0])
     There are prices that support this outcome. The voter budgets together are more than the limit.
     """
     wanted = _wanted(stable, cover, prices, refutation, violation, seconds)
     checked_call("on_progress", on_progress)
+    if hasattr(election, "budget_limit"):
+        if budget_allocation is None:
+            raise TypeError("an instance is given, and no budget allocation")
+        election, outcome = write_election(election, each_ballot(outcome), budget_allocation), None
+    elif budget_allocation is not None:
+        raise TypeError("a budget allocation is given, and no instance: an outcome of files is an outcome file")
     from .search import Seeker
     found = Found()
     Seeker(found, election, outcome, wanted, on_progress).run()
