@@ -37,13 +37,14 @@ class Result:
 
 @dataclass(frozen=True)
 class PriceSystem(Result):
-    """Prices, with the names that `priceable` of pabutools has for them: the `status`, "priceable", "unpriceable",
-    "unpriceable with Cover", where only prices with Cover are refuted, or "unknown"; and where there are prices the voter
-    budget, and for each voter what it pays, by the ids of projects. Amounts are exact, in the currency of the costs.
+    """Prices, with the names that `priceable` of pabutools has for them: the `status`, which is what the auditor says of
+    the prices, as "supported priceable", or of a refutation, as "unpriceable", or else "unknown"; and where there are
+    prices the voter budget, and for each voter what it pays, by the ids of projects. Amounts are exact, in the currency
+    of the costs.
 
     >>> system = find("town.pb").price_system
     >>> system.status, len(system.payment_functions)
-    ('priceable', 3)
+    ('supported priceable', 3)
     """
 
     status: str

@@ -72,6 +72,15 @@ class Library(unittest.TestCase):
         town = pbaudit.write_election(values["instance"], values["profile"], [values["a"], values["b"]])
         self.assertTrue(pbaudit.audit_prices(town, f"{self.room}/town.prices.csv"))
 
+    def test_the_names_of_pabutools(self):
+        values = {}
+        with contextlib.redirect_stdout(io.StringIO()):
+            exec(block("from pbaudit import Instance"), values)
+        with contextlib.redirect_stdout(io.StringIO()) as out:
+            exec(block("import pbaudit\n\nsystem = "), values)
+        self.assertIn(f"\nprints `{out.getvalue().rstrip()}`. `voter_budget` is",
+                      (REPOSITORY / "docs" / "LIBRARY.md").read_text(encoding="utf-8"))
+
     def test_a_refutation(self):
         values, out = {"Instance": pbaudit.Instance, "Project": pbaudit.Project}, io.StringIO()
         with contextlib.redirect_stdout(out):
