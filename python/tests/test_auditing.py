@@ -415,7 +415,8 @@ class Audits(unittest.TestCase):
                 pbaudit.audit_prices: files, pbaudit.explain: files, pbaudit.page: files, pbaudit.write_page: files,
                 pbaudit.audit_both: (*files, files[1]), pbaudit.audit_folder: (room,),
                 pbaudit.write_folder_pages: (room, room), pbaudit.validate_price_system: values,
-                pbaudit.price_certificate: values, pbaudit.find: files[:1], pbaudit.find_folder: (room,),
+                pbaudit.price_certificate: values, pbaudit.equal_shares: values[:2], pbaudit.find: files[:1],
+                pbaudit.find_folder: (room,),
             }
             told = set()
             for function, words in given.items():

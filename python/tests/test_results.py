@@ -205,6 +205,14 @@ class Tables(unittest.TestCase):
 
 
 class Names(unittest.TestCase):
+    def test_each_result_has_them(self):
+        """Each class that is exported, but errors and what elections are made of."""
+        for name in pbaudit.__all__:
+            kind = getattr(pbaudit, name)
+            if isinstance(kind, type) and not issubclass(kind, Exception) and name not in ("Instance", "Project"):
+                for method in ("to_dict", "rows_of_table", "to_frame", "_repr_html_"):
+                    self.assertTrue(callable(getattr(kind, method, None)), f"{name}.{method}")
+
     def test_all_that_is_documented_is_exported(self):
         """Each function and class of the table in the document, after an import of all."""
         names = {}

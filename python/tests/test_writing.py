@@ -440,13 +440,19 @@ class Files(unittest.TestCase):
         self.assertEqual(pbaudit.write_outcome({"a": 1}.keys()), pbaudit.write_outcome(["a"]))
 
     def test_ballots_of_other_kinds(self):
-        """Cardinal ballots are no approvals, and merged ones have no order."""
-        checks = (validate_price_system, pbaudit.price_certificate)
-        makes = [lambda profile, check=check: check(SAMPLE, profile, [A, B], 4, PAYMENTS) for check in checks]
-        makes.append(lambda profile: pbaudit.write_election(SAMPLE, profile))
-        for make in makes:
+        """Cardinal ballots are no approvals, and merged ones have no order that is asked for where each voter has a row."""
+        def certified(profile):
+            return pbaudit.price_certificate(SAMPLE, profile, [A, B], 4, PAYMENTS)
+
+        def validated(profile):
+            return validate_price_system(SAMPLE, profile, [A, B], 4, PAYMENTS)
+
+        def written(profile):
+            return pbaudit.write_election(SAMPLE, profile)
+        for make in (certified, validated, written):
             with self.assertRaisesRegex(TypeError, "^the ballot of voter 2 is {.*}, a mapping as cardinal ballots are"):
                 make([{A}, {B: 3}, {C}])
+        for make in (validated, written):
             with self.assertRaisesRegex(ValueError, "^the profile is a mapping, as merged ballots with counts are, .* one ballot for each"):
                 make(Counter({frozenset([A]): 3}))
 
