@@ -78,7 +78,7 @@ class Library(unittest.TestCase):
             exec(block("from pbaudit import Instance"), values)
         with contextlib.redirect_stdout(io.StringIO()) as out:
             exec(block("import pbaudit\n\nsystem = "), values)
-        self.assertIn(f"\nprints `{out.getvalue().rstrip()}`. `voter_budget` is",
+        self.assertIn(f"\nprints `{out.getvalue().rstrip()}`. The `status` is",
                       (REPOSITORY / "docs" / "LIBRARY.md").read_text(encoding="utf-8"))
 
     def test_a_refutation(self):
