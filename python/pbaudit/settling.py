@@ -87,12 +87,13 @@ class Settling:
     def _corrected(self, denominators: Sequence[int]) -> Optional[Rounding]:
         """What the programme finds within ever farther reaches, or within noise alone."""
         try:
-            from .corrections import Reach, corrected
+            from .corrections import MOST_SLOTS, Reach, corrected
         except ImportError:
             return None
-        self._has_programme = True
+        self._has_programme = len(self.town.project_of) <= MOST_SLOTS
         finest = max(denominators)
-        for part in FARTHER[:1] if self.is_near else FARTHER:
+        # What was given exactly isn't repaired, but for what rounding needs.
+        for part in FARTHER[:1] if self.is_near or self.given.is_exact else FARTHER:
             amount = self.given.budget * part
             if amount * finest * self.scale < GRAINS:
                 continue
