@@ -290,7 +290,7 @@ def _rounded(town: Town, given: Given, stable: bool, denominator: Optional[int],
         tried = MOST_DENOMINATOR + 1 if part is None else least_multiple((unit, part, simple.budget.denominator))
         return tried if tried <= MOST_DENOMINATOR else None
     settling = Settling(town, given, stable, is_near, scale, clock)
-    return settling.settled(denominators, of_simple if denominator is None and exact is None else lambda _: None)
+    return settling.settled(denominators, of_simple if denominator is None and exact is None else None)
 
 
 def _check_denominator(denominator: int, unit: int) -> None:

@@ -9,7 +9,7 @@ from fractions import Fraction
 from numbers import Real
 from typing import TYPE_CHECKING, Any, Callable, List, Optional, Sequence
 
-from .amounts import MOST_DENOMINATOR, near
+from .amounts import MOST_DENOMINATOR, least_multiple, near
 from .files import checked_call
 from .noise import NOISE, check_moves
 from .rounding import CannotKeep, Given, Rounding
@@ -53,9 +53,9 @@ class Settling:
     _failed: Optional[CannotKeep] = field(init=False, default=None)
     _has_programme: bool = field(init=False, default=False)
 
-    def settled(self, denominators: Sequence[int], of_simple: Callable[[Given], Optional[int]]) -> Rounding:
-        """Numerators over one of these denominators, or over the one of simple fractions that is asked for. Raises
-        CannotKeep."""
+    def settled(self, denominators: Sequence[int], of_simple: Optional[Callable[[Given], Optional[int]]]) -> Rounding:
+        """Numerators over one of these denominators, or, where that is given, over the one that simple fractions have.
+        Raises CannotKeep."""
         ways = (self._rounded, lambda tried: self._simple(of_simple), self._corrected, self._moved)
         for way in ways:
             found = way(denominators)
@@ -77,12 +77,14 @@ class Settling:
                 return found
         return None
 
-    def _simple(self, of_simple: Callable[[Given], Optional[int]]) -> Optional[Rounding]:
+    def _simple(self, of_simple: Optional[Callable[[Given], Optional[int]]]) -> Optional[Rounding]:
         """A corner of a linear programme, where conditions are tight: the simplest fraction near each amount."""
+        if of_simple is None:
+            return None
         self.clock.tell("rounding to simple fractions")
         simple = _simplified(self.given)
-        tried = of_simple(simple)
-        return None if tried is None else self._tried(simple, tried)
+        tried = None if simple is None else of_simple(simple)
+        return None if simple is None or tried is None else self._tried(simple, tried)
 
     def _corrected(self, denominators: Sequence[int]) -> Optional[Rounding]:
         """What the programme finds within ever farther reaches, or within noise alone."""
@@ -128,8 +130,15 @@ class Settling:
         return rounding
 
 
-def _simplified(given: Given) -> Given:
-    amounts: List[Any] = [_simple(near(amount, "a payment"), given.noise) if amount else 0 for amount in given.amounts]
+def _simplified(given: Given) -> Optional[Given]:
+    """The simplest fractions, or None where these have no common denominator that a certificate has."""
+    amounts: List[Any] = []
+    common = 1
+    for amount in given.amounts:
+        amounts.append(_simple(near(amount, "a payment"), given.noise) if amount else 0)
+        common = least_multiple((common, amounts[-1].denominator))
+        if common > MOST_DENOMINATOR:
+            return None
     return Given(amounts, array("d", map(float, amounts)), _simple(given.budget, given.noise), given.noise)
 
 
