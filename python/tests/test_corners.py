@@ -218,13 +218,13 @@ class Limits(unittest.TestCase):
     def test_the_time_is_kept_without_the_programme(self):
         """A repair by moves that would take minutes ends in time, and says why."""
         case, stable, _, given = self.a_corner(300, 40)
-        began = time.monotonic()
+        began = time.process_time()
         for patch in without_scipy():
             patch.start()
             self.addCleanup(patch.stop)
         with self.assertRaisesRegex(CannotKeep, "^S5: .*; there was too little time to look for other payments near these$"):
             validate_price_system(*words(case), *given, stable, False, near=True, seconds=0.5)
-        self.assertLess(time.monotonic() - began, 5)
+        self.assertLess(time.process_time() - began, 3)
 
     def test_small_ones_need_no_programme(self):
         found = []
@@ -252,12 +252,12 @@ class Limits(unittest.TestCase):
     def test_progress(self):
         case, stable, _, given = self.a_corner(100, 20)
         told = []
-        validate_price_system(*words(case), *given, stable, False, near=True, seconds=30,
+        validate_price_system(*words(case), *given, stable, False, near=True, seconds=600,
                               on_progress=lambda what, left: told.append((what, left)))
         self.assertRegex("\n".join(what for what, _ in told), "(?s)^rounding over .*linear programme over [0-9]+ payments")
         lefts = [left for _, left in told]
         self.assertEqual(lefts, sorted(lefts, reverse=True))
-        self.assertTrue(0 < lefts[-1] <= lefts[0] <= 30)
+        self.assertTrue(0 < lefts[-1] < lefts[0] <= 600)
 
     def test_what_is_no_time(self):
         case = Instance([Project("a", 6)], 6), [["a"]], ["a"], 6.0, [{"a": 6.0}]
@@ -269,10 +269,11 @@ class Limits(unittest.TestCase):
                 ask(*case, on_progress=7)
 
     def test_the_clock_runs(self):
-        clock = clock_of(0.05)
-        self.assertTrue(0 < clock.left() <= 0.05)
-        time.sleep(0.06)
-        self.assertEqual(clock.left(), 0)
+        clock = clock_of(600)
+        first = clock.left()
+        time.sleep(0.01)
+        self.assertTrue(0 < clock.left() <= first - 0.01 < 600)
+        self.assertEqual(clock_of(0).left(), 0)
 
 
 if __name__ == "__main__":
