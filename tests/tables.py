@@ -144,3 +144,44 @@ def asked(name):
     for row, words in (case.values for case in cases(table)):
         files = {**table.files, row.name or "unnamed": row.changed}
         yield row, words, {word: files[word] for word in words if word in files}
+
+
+@dataclasses.dataclass
+class SheetCase:
+    """Two sheets of tables/sheets.txt, and what is made of them or told."""
+
+    name: str
+    limit: str = ""
+    sheets: dict = dataclasses.field(default_factory=lambda: {"p": b"", "b": b""})
+    election: bytes = b""
+    told: list = dataclasses.field(default_factory=list)
+
+    def write(self, room):
+        for mark, name in (("p", "projects.csv"), ("b", "ballots.csv")):
+            (room / name).write_bytes(self.sheets[mark])
+
+
+def unescaped(text):
+    r"""The bytes of a text in which \t, \r and \x with two digits stand for others."""
+    marks = {b"\\t": b"\t", b"\\r": b"\r"}
+    return re.sub(rb"\\(?:t|r|x[0-9a-f]{2})", lambda found: marks.get(found[0]) or bytes([int(found[0][2:], 16)]), text.encode())
+
+
+def sheet_cases():
+    """The cases of tables/sheets.txt, whose first lines say how they are written."""
+    cases = []
+    for line in (HERE / "tables/sheets.txt").read_text("utf-8").split("\n"):
+        mark, rest = line[:1], line[2:]
+        if line.startswith("== "):
+            cases.append(SheetCase(line[3:]))
+        elif line.startswith("limit "):
+            cases[-1].limit = line[6:]
+        elif mark and mark in "pPbB":
+            cases[-1].sheets[mark.lower()] += unescaped(rest) + (b"\n" if mark.islower() else b"")
+        elif mark == ">":
+            cases[-1].election += unescaped(rest) + b"\n"
+        elif mark == "!":
+            cases[-1].told.append(rest)
+        else:
+            assert not line or mark == "#", line
+    return cases
