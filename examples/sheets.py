@@ -20,6 +20,7 @@ SEPARATORS = ";\t,"
 LONGEST_SHOWN, MOST_TOLD = 120, 20
 YES, NO = ("x", "X", "1"), ("", "0")
 WEIGHTS = ("weight", "points", "sign")
+MARKS = "Write x or 1 for yes, and nothing or 0 for no."
 EMPTY_ROW = "it is empty. Delete it, or if this voter approved nothing, write something in another column."
 csv.field_size_limit(2**28)
 
@@ -77,7 +78,7 @@ class Sheet:
     def cell_fault(self, cells):
         """What is wrong with a row, whatever it is about."""
         if cells is None:
-            return "a quotation mark isn't closed, or something follows a closed one."
+            return "a quotation mark isn't closed, or text follows the closing one."
         if not self.is_utf8 and any("\ufffd" in cell for cell in cells):
             return "it isn't in UTF-8. Save the sheet as “CSV UTF-8”."
         return "it has more cells than the first row." if any(cells[len(self.head):]) else None
@@ -109,7 +110,7 @@ class Sheet:
                 self.tell(row, why or other)
             count += any(cells)
         if not count:
-            self.tell(1, "nothing stands below it.")
+            self.tell(1, "there is nothing below it.")
         self.is_whole = True
 
 
@@ -136,7 +137,7 @@ class Projects:
         if re.search("[\x00-\x1f\x7f,]", project):
             return f"the id “{shown(project)}” has a comma or a control character."
         if first != row:
-            return f"the id “{shown(project)}” stands in row {first} already."
+            return f"row {first} has the id “{shown(project)}” already."
         why = amount_fault(cost)
         if not why and selected and selected[0] not in ("0", "1"):
             why = f"“{shown(selected[0])}” in the column “selected” is neither 1 nor 0."
@@ -177,9 +178,9 @@ class Ballots:
             return EMPTY_ROW
         for column, mark in zip(self.head, cells):
             if column in self.ids and mark not in YES + NO:
-                return f"“{shown(mark)}” in the column “{shown(column)}” is neither x or 1 nor empty or 0."
+                return f"“{shown(mark)}” in the column “{shown(column)}” is no mark. {MARKS}"
             if column not in self.ids and mark in ("x", "X"):
-                return f"there is an x in the column “{shown(column)}”, which is no project's."
+                return f"there is an x in the column “{shown(column)}”, and no project has that id."
         marked = (column for column, mark in zip(self.head, cells) if column in self.ids and mark in YES)
         self.votes.append(",".join(marked))
         return None

@@ -1,5 +1,5 @@
-"""examples/sheets.py on two sheets: the election file that it makes of them, or what it tells of each faulty row, as tables/sheets.txt
-has them, which the page keeps to as well."""
+"""examples/sheets.py on two sheets: the election file that it makes of them, or what it tells of each faulty row, as the table
+tables/sheets.txt has them, which the page keeps to as well."""
 import os
 import subprocess
 import sys
@@ -30,7 +30,7 @@ def test_as_the_table_says(case, room):
 def test_the_auditor_takes_what_is_made(case, program, room):
     """With as many voters, projects and funded ones as the table's file has rows."""
     (room / "made.pb").write_bytes(case.election)
-    lines = case.election.decode().replace("\r\n", " ").splitlines()
+    lines = case.election.decode().replace("\r\n", " ").replace("\r", " ").splitlines()
     projects, votes = lines.index("PROJECTS"), lines.index("VOTES")
     counts = f"read {len(lines) - votes - 2} voters {votes - projects - 2} projects"
     done = ran(program, "read", "made.pb", cwd=room)

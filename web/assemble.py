@@ -28,7 +28,8 @@ EXAMPLE = {"example.pb": "district.pb", "example.prices.csv": "district.prices.c
 FRAME_STYLE = HERE.parent / "crates" / "pb_page" / "src" / "style.rt"
 LANGUAGES = ["en", "pl", "de", "fr"]
 # The module that each script begins with, and the oldest browsers that it is for.
-SCRIPTS = {"page": "src/page/start.ts", "worker": "src/worker/worker.ts", "finder": "src/worker/finder.ts"}
+SCRIPTS = {"page": "src/page/start.ts", "worker": "src/worker/worker.ts", "finder": "src/worker/finder.ts",
+           "sheets": "src/worker/sheets.ts"}
 BUNDLE = ["--bundle", "--format=iife", "--charset=utf8", "--log-level=warning", "--target=chrome97,firefox102,safari16"]
 MODULE_IN_PAGE = re.compile(rb'<script type="text/plain" id="module">([^<]*)</script>')
 
@@ -115,6 +116,7 @@ def page_of(module):
         "style": style,
         "worker": script_of("worker"),
         "finder": script_of("finder"),
+        "sheets": script_of("sheets"),
         "data": "\n".join([
             module_element(module),
             *[file_element("example", name, (EXAMPLES / file).read_bytes()).decode() for name, file in EXAMPLE.items()],
@@ -122,7 +124,7 @@ def page_of(module):
         "unstarted": unstarted(),
         "script": script,
     }
-    for name in ("worker", "finder", "script"):
+    for name in ("worker", "finder", "sheets", "script"):
         if re.search("<!--|</?script", fields[name], re.IGNORECASE):
             sys.exit(f"assemble.py: {name} would end its element early")
     page = with_words(text_of("page.html"), words_of("en"))

@@ -55,3 +55,8 @@ declare module "node:crypto" {
   }
   export function createHash(name: "sha256"): Hash;
 }
+
+declare module "*.txt" {
+  const text: string;
+  export default text;
+}

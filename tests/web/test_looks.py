@@ -61,6 +61,28 @@ def many(opened, room):
     opened.give(*sorted(room.iterdir()))
 
 
+def sheets(opened, room):
+    """Two sheets that don't say what is funded, with long names."""
+    (room / "projects.csv").write_text(f"project_id;name;cost\na;{'Park ' * 20};6\n{'b' * 100};{'L' * 100};1234567,50\n")
+    (room / "ballots.csv").write_text("projects\na\n")
+    opened.give(room / "projects.csv", room / "ballots.csv")
+    opened.browser.wait("return !document.querySelector('#sheets-form').hidden", "the sheets")
+    opened.browser.ask("document.querySelector('#sheets-ticked').click(); document.querySelector('#make-election').click()")
+
+
+def faulty_sheets(opened, room):
+    (room / "projects.csv").write_text("project_id;name;cost\na;Park;6 EUR\n")
+    (room / "ballots.csv").write_text("projects\n" + "".join(f"{str(at) * 90}\n" for at in range(30)))
+    opened.give(room / "projects.csv", room / "ballots.csv")
+    opened.browser.wait("return !document.querySelector('#sheets-faulty').hidden", "the faults")
+
+
+def made_of_sheets(opened, room):
+    sheets(opened, room)
+    opened.browser.ask("document.querySelector('#sheets-limit').value = '10'; document.querySelector('#make-election').click()")
+    opened.browser.wait("return !document.querySelector('#sheets-made').hidden", "the election")
+
+
 # What is shown: how somebody comes there, and the first verdict in English.
 STATES = {
     "start": (lambda opened, room: None, None),
@@ -73,6 +95,9 @@ STATES = {
     "a violation": (violation, "Yes"),
     "a refutation": (lambda opened, room: opened.give(SCHOOL, EXAMPLES / "school.refutation.csv"), "Yes"),
     "many": (many, "No"),
+    "sheets": (sheets, None),
+    "faulty sheets": (faulty_sheets, None),
+    "made of sheets": (made_of_sheets, "Read"),
 }  # fmt: skip
 
 

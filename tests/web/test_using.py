@@ -358,18 +358,19 @@ def test_no_kind(opened):
     assert not opened.browser.ask(IN_SIGHT, "#files")
 
 
-def test_sheets(opened):
-    """A sheet of projects or of ballots: where it is told how an election file is made of them, and not beside one."""
-    told = "A spreadsheet isn't an election file."
-    sheets = [EXAMPLES / "sheet.projects.csv", EXAMPLES / "sheet.ballots.csv"]
-    for files in (sheets[:1], sheets):
+def test_spreadsheets(opened):
+    """A single sheet, or a spreadsheet that isn't saved as a text: what can be made of such is told, but not beside an election."""
+    told = "A spreadsheet isn't an election file, but this page makes one of two sheets."
+    book = opened.new_room() / "book.xlsx"
+    book.write_bytes(b"PK\3\4")
+    for path in (EXAMPLES / "sheet.projects.csv", book):
         opened.open()
-        opened.give(*files)
+        opened.give(path)
         opened.browser.wait("return document.querySelector('#notes').textContent", "a sheet")
         assert told in opened.text("#notes") and "docs/SPREADSHEET.md" in opened.text("#notes")
         assert told in opened.text("#spoken")
     opened.open()
-    opened.give(EXAMPLES / "sample.pb", *sheets)
+    opened.give(EXAMPLES / "sample.pb", book, EXAMPLES / "sheet.ballots.csv")
     opened.answers(1)
     assert "Ignored" in opened.text("#notes") and told not in opened.text("#notes")
 

@@ -55,8 +55,10 @@ export function pieceOf({ file, folder }: Found, told: Kind = "unknown"): Piece 
   return { file, folder, kind: isTold ? told : kindByName(file.name), isTold };
 }
 
-/** The names of sheets, as spreadsheets save them. */
-const SHEET = /\.(csv|tsv|xlsx?|ods)$/i;
+/** The names of spreadsheets, and of sheets that are saved as text, which the page can read. */
+const SPREADSHEET = /\.(csv|tsv|xlsx?|ods)$/i, SHEET = /\.(csv|tsv)$/i;
+
+export const isSheet = ({ file, kind }: Piece): boolean => kind === "unknown" && SHEET.test(file.name);
 
 /**
  * The sheets that are no file for an audit: those that are asked about, and while there is no election those that were
@@ -65,7 +67,7 @@ const SHEET = /\.(csv|tsv|xlsx?|ods)$/i;
 export function sheetsAmong(pieces: readonly Piece[], passedOver: readonly Piece[]): Piece[] {
   const asked = pieces.filter(({ kind }) => kind === "unknown");
   const others = pieces.some(({ kind }) => kind === "election") ? [] : passedOver;
-  return [...asked, ...others].filter(({ file }) => SHEET.test(file.name));
+  return [...asked, ...others].filter(({ file }) => SPREADSHEET.test(file.name));
 }
 
 export const isCertificateKind = (kind: Kind | undefined): kind is "prices" | "violation" | "refutation" =>

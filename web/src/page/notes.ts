@@ -30,9 +30,10 @@ function unusedNote({ words, pieces }: Page, unused: readonly Piece[]): HTMLElem
 }
 
 export function notesOf(page: Page): HTMLElement[] {
-  const { words, pieces, audits, passedOver, twice, checksums } = page;
+  const { words, pieces, audits, twice, checksums, sheets } = page;
+  const passedOver = page.passedOver.filter(piece => !sheets.uses(piece));
   const ofKind = (kind: Kind): Piece[] => pieces.filter(piece => piece.kind === kind);
-  const notes = ofKind("unknown")
+  const notes = ofKind("unknown").filter(piece => !sheets.uses(piece))
     .map(piece => make("p", { class: "problem" }, fill(words.isNoFile, { names: toldName(pathOf(piece)) })));
   notes.push(...sumNotes(words, checksums, [...pieces, ...passedOver]));
   const replaced = twice.filter(name => pieces.some(piece => pathOf(piece) === name)), unused = unusedOf(page);
@@ -44,6 +45,6 @@ export function notesOf(page: Page): HTMLElement[] {
   if (passedOver.length > 0) {
     notes.push(make("p", { class: "soft" }, fill(words.passedOver, { names: someOf(words, passedOver.map(pathOf)) })));
   }
-  if (sheetsAmong(pieces, passedOver).length > 0) notes.push(make("p", {}, words.isSheet));
+  if (sheetsAmong(pieces, passedOver).some(piece => !sheets.uses(piece))) notes.push(make("p", {}, words.isSheet));
   return notes;
 }

@@ -16,6 +16,7 @@ import { element, elementOf, input, Items, refill, saveAs } from "./elements.js"
 import { makeEngine, Runners } from "./engine.js";
 import { auditItem, isAlone, pieceItem } from "./lists.js";
 import { notesOf } from "./notes.js";
+import { SheetsView } from "./sheets.js";
 import { sumListOf } from "./sums.js";
 import { problemSentence, saidOf } from "./told.js";
 import { drawTools, listed, tableOf } from "./tools.js";
@@ -66,6 +67,7 @@ export class Page {
   /** The checksums that somebody gave. */
   checksums: Checksums | null = null;
   readonly election = new ElectionView(this);
+  readonly sheets = new SheetsView(this);
   private choices: ReadonlyMap<Piece, Choice> = new Map();
   private taking = Promise.resolve();
   /** What does the audits, while there are any. */
@@ -150,6 +152,14 @@ export class Page {
       const piece: Piece = { ...pieceOf(found, kind), ...own };
       this.choices = new Map([...this.choices, [piece, { election, outcome }]]);
       this.set(withPieces(this.pieces, [piece]));
+    });
+  }
+
+  /** Takes an election that was made of sheets, in their place. */
+  takeFromSheets(file: File, sheets: readonly Piece[]): void {
+    this.taking = this.taking.then(async () => {
+      this.pieces = this.pieces.filter(piece => !sheets.includes(piece));
+      await this.takeFiles([{ file, folder: sheets[0].folder }], false);
     });
   }
 
@@ -392,7 +402,8 @@ export class Page {
   private tell(): void {
     const [only, ...others] = this.audits, notes = [...element("notes").children].map(note => note.textContent);
     const answers = others.length > 0 ? element("totals") : element("files-head");
-    speak([only && others.length === 0 ? saidOf(this, only) : answers.textContent, ...notes].join(" "));
+    const said = only && others.length === 0 ? saidOf(this, only) : answers.textContent;
+    speak([said, ...notes, this.sheets.spoken].filter(Boolean).join(" "));
   }
 
   /** Notes what became of an audit. */
@@ -488,6 +499,7 @@ export class Page {
 
   /** Draws the lists and shows what has something in it. */
   draw(): void {
+    this.sheets.draw();
     const { words, pieces, audits } = this, notes = notesOf(this), shown = listed(audits);
     const isAsking = audits.some(({ task }) => task.asks === "election");
     refill(element("file-list"), this.pieceItems.of(pieces, [words, this.checksums]));
