@@ -1,5 +1,6 @@
 """Searches for certificates of invented elections, and of such at the edges. PBAUDIT_ELECTIONS says how many are
 invented, in the place of 300; some tests take a fifth of them."""
+import contextlib
 import importlib.util
 import os
 import pathlib
@@ -53,6 +54,13 @@ YES = ("supported priceable", "unpriceable", "violation")
 NO_WATER = mock.patch("pbaudit.finding.prices.by_water", lambda *_: (None, []))
 
 
+@contextlib.contextmanager
+def all_by_cuts():
+    """Has all be found by cuts, whatever they suit, and yields the mock of the programme for prices."""
+    with mock.patch("pbaudit.finding.cuts.MANY", 0), mock.patch("pbaudit.finding.prices.by_programme") as programme:
+        yield programme
+
+
 @HAS_SCIPY
 class Invented(unittest.TestCase):
     def test_what_is_found(self):
@@ -77,10 +85,10 @@ class Invented(unittest.TestCase):
                     tally[violation.by] += 1
         self.assertGreater(min(tally.values()), ELECTIONS // 20, tally)
 
-    def check_prices(self, case, found):
+    def check_prices(self, case, found, cover=False):
         if len(case.ballots) > 30:
             return
-        for covered in (True, False):
+        for covered in (True,) if cover else (True, False):
             margin = best_margin(case, covered=covered)
             is_found = found.prices is not None and (found.prices.cover or not covered)
             if margin is not None and abs(margin) > SPARE:
@@ -152,6 +160,23 @@ class Invented(unittest.TestCase):
                 tally[bool(found.prices)] += 1
         self.assertGreater(min(tally.values()), FEWER // 30, tally)
 
+    def test_by_cuts_alone(self):
+        """Also of few ballots; and beside what a dense programme has, prices are found or a refutation."""
+        tally = {True: 0, False: 0}
+        for case in (case for seed in range(FEWER // 4) for case in cases(seed, ((10, 5), (20, 10), (30, 12)))):
+            for cover in (False, True):
+                with self.subTest(case=case.name, cover=cover), NO_WATER, all_by_cuts() as programme:
+                    file = case.file()
+                    found = pbaudit.find(file, violation=False, cover=cover)
+                    for line in audits(file, found):
+                        self.assertIn(line, (*YES, "unpriceable cover") if cover else YES)
+                    self.check_prices(case, found, cover)
+                    self.assertNotEqual(found.prices is None, found.refutation is None)
+                    self.assertTrue(found.refutation is None or is_refutation(case, found.refutation))
+                    programme.assert_not_called()
+                    tally[bool(found.prices)] += 1
+        self.assertGreater(min(tally.values()), FEWER // 30, tally)
+
     def test_stable(self):
         tally = {True: 0, False: 0}
         for case in (case for seed in range(FEWER // 3) for case in cases(seed, ((10, 5), (20, 10), (30, 12)))):
@@ -188,17 +213,17 @@ class Invented(unittest.TestCase):
         self.assertLessEqual({(by, size) for by in ("count", "cost") for size in (1, 2)}, sizes)
 
     def test_progress(self):
-        """What is tried is told, with its round, and how long is left for it: never more than for all."""
+        """What is tried is told, with its round, and how long is left for the whole search: one clock counts down."""
         case, told = next(case for case in cases(1) if case.name.endswith("greedy by votes")), []
         pbaudit.find(case.file(), seconds=900, on_progress=lambda *words: told.append(words))
         texts = [text for text, _ in told]
         for form in ("prices with Cover", "prices"):
             self.assertIn(f"{form}: water-filling, round 2 of at most 60", texts)
-            left = [seconds for text, seconds in told if text.startswith(f"{form}: ")]
-            self.assertEqual(left, sorted(left, reverse=True))
         last = f"(?m)^refutation: linear programme over [0-9]+ of {len(case.unfunded)} unfunded projects$"
         self.assertRegex("\n".join(texts), last)
-        self.assertTrue(all(800 > seconds > 0 for _, seconds in told))
+        left = [seconds for _, seconds in told]
+        self.assertEqual(left, sorted(left, reverse=True))
+        self.assertTrue(900 >= left[0] > left[-1] > 800)
 
     def test_same_bytes(self):
         for case in cases(2):

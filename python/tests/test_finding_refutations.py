@@ -57,21 +57,6 @@ class Refutations(unittest.TestCase):
         self.assertEqual(told, ["No prices can support this outcome, whatever the payments and the voter budget: that is "
                                 "what the refutation proves. p0 is funded, it costs something, and nobody approves it."])
 
-    def test_a_sample(self):
-        """Of many voters some are asked first, whose weights hold for all; then no prices are looked for."""
-        from pbaudit.finding import refutations
-        for seed in range(30):
-            small = next(case for case in cases(seed, ((300, 20),)) if case.name.endswith("by votes"))
-            case = Case(small.name, [cost * 10 for cost in small.costs], small.limit * 10, small.ballots * 10,
-                        small.funded)
-            self.assertGreater(len(case.ballots), 4 * refutations.SAMPLE)
-            with mock.patch("pbaudit.finding.search.find_prices", return_value=(None, "none")) as prices:
-                found = pbaudit.find(case.file(), violation=False).refutation
-            self.assertTrue(found is None or is_refutation(case, found))
-            if not prices.called:
-                self.assertIsNotNone(found)
-                return
-        self.fail("no outcome is refuted by a sample")
 
     def test_too_much_is_funded(self):
         """There are none to refute that way; what is funded may be payable, though not within the limit."""

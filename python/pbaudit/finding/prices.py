@@ -1,11 +1,13 @@
-"""The search for prices: by water-filling, then by the linear programme; and how what is found is made exact.
+"""The search for prices: by water-filling, then by the linear programme, or by cuts where there are many different
+ballots; and how what is found is made exact.
 
 Of many prices those are looked for that keep C5 or S5 with room, since only these stay prices when they are rounded.
 They are made exact by `price_certificate`'s own rounding, and audited.
 """
 from dataclasses import dataclass, replace
 from fractions import Fraction
-from typing import Iterator, Optional, Tuple
+from functools import cached_property
+from typing import Iterator, List, Optional, Tuple
 
 from ..amounts import common_denominator
 from ..auditing import audit_prices
@@ -14,7 +16,8 @@ from ..helpers import Helper
 from ..rounding import CannotKeep
 from ..values import Payments, Projects
 from .clock import Clock
-from .programme import NoPrices, OutOfTime, Unsolved, by_programme
+from .cuts import Cuts, suit
+from .programme import TOLERANCE, NoPrices, OutOfTime, Unsolved, by_programme
 from .results import FoundPrices
 from .shares import Need, Problem, Shares, budgets, payments_of, unpaid
 from .water import by_water
@@ -32,6 +35,11 @@ class Given:
     projects: Projects
     problem: Problem
     exhaustive: bool
+
+    @cached_property
+    def cuts(self) -> Optional[Cuts]:
+        """The cuts over the weights, which serve prices and refutations; None where the linear programme is sooner."""
+        return Cuts(self.problem) if suit(self.problem) else None
 
 
 def find_prices(given: Given, stable: bool, covered: bool, solver: Helper,
@@ -57,7 +65,7 @@ def _found(given: Given, stable: bool, covered: bool, solver: Helper,
     shares, failed = by_water(problem, with_cover, clock)
     found = shares and _exact(given, shares, with_cover, clock)
     if found or covered:
-        found = found or _exact(given, by_programme(problem, with_cover, failed, solver, clock), with_cover, clock)
+        found = found or _exact(given, _solved(given, with_cover, failed, solver, clock), with_cover, clock)
         return found, "" if found else ROUNDING
     # Where there are none without Cover there are none with it.
     shares, failed = by_water(problem, without, clock)
@@ -65,14 +73,21 @@ def _found(given: Given, stable: bool, covered: bool, solver: Helper,
     if spare and _with_cover(given, spare).cover:
         return spare, ""
     if not spare:
-        shares = by_programme(problem, without, failed, solver, clock)
+        shares = _solved(given, without, failed, solver, clock)
         found = _exact(given, shares, with_cover, clock)
         spare = None if found else _exact(given, shares, without, clock)
     try:
-        found = found or _exact(given, by_programme(problem, with_cover, failed, solver, clock), with_cover, clock)
+        found = found or _exact(given, _solved(given, with_cover, failed, solver, clock), with_cover, clock)
     except (NoPrices, OutOfTime, Unsolved):
         pass
     return found or spare, "" if found or spare else ROUNDING
+
+
+def _solved(given: Given, need: Need, failed: List[int], solver: Helper, clock: Clock) -> Shares:
+    """Prices by cuts, where these suit, or by the programme. Raises NoPrices, OutOfTime and Unsolved."""
+    if given.cuts is not None and not need.stable:
+        return given.cuts.shares(need.cover, clock)
+    return by_programme(given.problem, need, failed, solver, clock)
 
 
 def _exact(given: Given, shares: Shares, need: Need, clock: Clock) -> Optional[FoundPrices]:
@@ -112,6 +127,8 @@ def _voter_budgets(problem: Problem, shares: Shares, need: Need) -> Iterator[Opt
     """Budgets of a voter to try, in the currency: a short one that leaves room on both sides, then the ends."""
     low, high = budgets(problem, shares, need.stable)
     low = max(low, problem.share) if need.cover else low
+    if low > high * (1 + TOLERANCE) + TOLERANCE:
+        return
     if low < high:
         yield _short(low * problem.unit, min(high, 1.25 * low + 1e-3) * problem.unit)
     yield None

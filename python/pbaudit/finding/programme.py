@@ -5,7 +5,7 @@ Unfunded projects are looked at once they are violated. That the programme finds
 nothing: it computes in floats.
 """
 from dataclasses import dataclass
-from typing import Any, List, Tuple
+from typing import Any, List, Optional, Tuple
 
 from ..helpers import Helper, Late, Lost
 from .clock import Clock
@@ -53,6 +53,18 @@ class Programme:
     most: Any
     equal: Any
     sums: Any
+    low: Any
+    high: Any
+
+
+@dataclass(frozen=True)
+class Answer:
+    """What a programme comes to: the values of the variables, and the marginals of the equal rows, of the others, and of
+    the least and the greatest values."""
+
+    values: Any
+    sums: Any
+    rows: Any
     low: Any
     high: Any
 
@@ -167,8 +179,9 @@ def _solved(problem: Problem, need: Need, seen: List[int], solver: Helper, clock
     """What the programme over some unfunded projects comes to: payments, the voter budget, and the margin."""
     groups = problem.groups.merged([*problem.funded, *seen])
     programme, paying, column = programme_of(problem, groups, seen, need)
-    answer = _answer(programme, solver, clock)
-    return shares_of(problem, groups, answer, paying, column), float(answer[0]), float(answer[1])
+    values = answer_to(programme, solver, clock).values
+    budget, margin = float(values[Variables.BUDGET]), float(values[Variables.MARGIN])
+    return shares_of(problem, groups, values, paying, column), budget, margin
 
 
 def shares_of(problem: Problem, groups: Groups, values: Any, paying: Any, column: Any) -> Shares:
@@ -177,29 +190,32 @@ def shares_of(problem: Problem, groups: Groups, values: Any, paying: Any, column
     return Shares(groups, paying, np.array(problem.funded, np.int64)[column], amounts)
 
 
-def _answer(programme: Programme, solver: Helper, clock: Clock) -> Any:
-    """The values of the variables."""
+def answer_to(programme: Programme, solver: Optional[Helper], clock: Clock) -> Answer:
+    """What a programme comes to. Raises NoPrices where it can't be satisfied, OutOfTime and Unsolved."""
     seconds = clock.left()
     if not seconds:
         raise OutOfTime
     try:
-        if len(programme.objective) <= SMALL:
-            status, values = solve(programme, seconds)
+        if solver is None or len(programme.objective) <= SMALL:
+            status, answer = solve(programme, seconds)
         else:
-            status, values = solver.call(solve, programme, seconds, seconds=seconds + GRACE, tick=clock.tick)
+            status, answer = solver.call(solve, programme, seconds, seconds=seconds + GRACE, tick=clock.tick)
     except Late:
         raise OutOfTime from None
     except (Lost, MemoryError):
         raise Unsolved from None
-    if status != SOLVED:
+    if answer is None:
         raise {LIMIT: OutOfTime, INFEASIBLE: NoPrices}.get(status, Unsolved)
-    return values
+    return answer
 
 
-def solve(programme: Programme, seconds: float) -> Tuple[int, Any]:
-    """Solves a programme: its status, and the values of the variables."""
+def solve(programme: Programme, seconds: float) -> Tuple[int, Optional[Answer]]:
+    """Solves a programme: its status, and the answer where it is solved."""
     found = by_highs(programme, seconds)
-    return found.status, found.x
+    if found.status != SOLVED:
+        return found.status, None
+    return SOLVED, Answer(found.x, found.eqlin.marginals, found.ineqlin.marginals, found.lower.marginals,
+                          found.upper.marginals)
 
 
 def by_highs(programme: Programme, seconds: float) -> Any:

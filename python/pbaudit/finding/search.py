@@ -13,7 +13,7 @@ from ..writing import Satisfaction, write_violation
 from .clock import Clock, Tell
 from .groups import groups_of
 from .prices import NONE, ROUNDING, TIME, UNSOLVED, Given, find_prices
-from .refutations import by_sample, find_refutation
+from .refutations import find_refutation
 from .results import Found, FoundPrices, FoundRefutation, FoundViolation, Wanted
 from .shares import problem_of, unpaid
 from .there import NAMES
@@ -36,8 +36,8 @@ NOT_REFUTED = {
     **{why: REASONS[why].replace("there may be some", "there may be one") for why in (TIME, UNSOLVED)},
 }
 NO_AUDITOR = "No refutation was looked for, since the auditor is older than this package and can't check one."
-# How the time is shared among what is looked for.
-PRICES, SAMPLE, REFUTATION, VIOLATION = 4, 1, 2, 1
+# How the time is shared among what is still to be looked for.
+PRICES, REFUTATION, VIOLATION = 4, 2, 1
 NOT_FEASIBLE = ("No prices can support this outcome: the funded projects cost more than the limit, so that every "
                 "certificate is answered 'failed Feasible'.")
 NO_CONTRADICTION = (
@@ -54,7 +54,8 @@ class Seeker:
     """A search. What it finds is in `found` as soon as it is found."""
 
     def __init__(self, found: Found, election: File, outcome: Optional[File], wanted: Wanted, tell: Optional[Tell]):
-        self.found, self.wanted, self._tell = found, wanted, tell
+        self.found, self.wanted = found, wanted
+        self._clock = Clock(wanted.seconds, tell)
         data, chosen = bytes_of(election), None if outcome is None else bytes_of(outcome)
         question = Question("prices", data, _NO_PAYMENTS, None, chosen)
         files: Dict[str, File] = {"election": election}
@@ -75,18 +76,16 @@ class Seeker:
         if wanted.prices or wanted.refutation:
             with Helper() as solver:
                 self._look_for_prices_or_a_refutation(solver)
-        for by in MEASURES if wanted.violation else ():
+        for number, by in enumerate(MEASURES if wanted.violation else (), 1):
             found.unfinished = f"a violation by {NAMES[by]}"
-            self._look_for_violation(by)
+            self._look_for_violation(by, self._part(VIOLATION, VIOLATION * (len(MEASURES) - number)))
         found.unfinished = None
         if found.prices and found.violations:
             found.sentences.append(NO_CONTRADICTION)
 
-    def _clock(self, part: int) -> Clock:
-        """The time of a part of the search."""
-        wanted = self.wanted
-        parts = [PRICES] * wanted.prices + [SAMPLE, REFUTATION] * wanted.refutation + [VIOLATION] * 2 * wanted.violation
-        return Clock(wanted.seconds * part / sum(parts), self._tell)
+    def _part(self, share: int, *later: int) -> Clock:
+        """The time of a part of the search, which has this share of what is left, where others have theirs later."""
+        return self._clock.part(share / (share + sum(later)))
 
     def _look_for_prices_or_a_refutation(self, solver: Helper) -> None:
         """Looks for prices; and where none were found, or none are wanted, for a refutation."""
@@ -95,26 +94,21 @@ class Seeker:
             found.sentences.append(NOT_FEASIBLE)
             return
         told: List[str] = []
-        if wanted.prices and not self._is_refuted_by_sample(solver):
-            told += self._look_for_prices(solver)
-        if wanted.refutation and not (found.prices or found.refutation):
-            told += self._look_for_a_refutation(solver)
+        violations = VIOLATION * len(MEASURES) * wanted.violation
+        if wanted.prices:
+            clock = self._part(PRICES, REFUTATION * wanted.refutation, violations)
+            told += self._look_for_prices(solver, clock)
+        if wanted.refutation and not found.prices:
+            told += self._look_for_a_refutation(solver, self._part(REFUTATION, violations))
         if found.refutation:
             told = [" ".join(filter(None, [_refuted(found.refutation), self._unpaid()]))]
         found.sentences += told
 
-    def _is_refuted_by_sample(self, solver: Helper) -> bool:
-        """Whether a sample of many voters refutes all prices, which is found sooner than that there are none."""
-        self.found.unfinished = "a refutation"
-        if self.wanted.refutation and auditor().has("refutation"):
-            self.found.refutation = by_sample(self.given, False, solver, self._clock(SAMPLE))
-        return self.found.refutation is not None
-
-    def _look_for_prices(self, solver: Helper) -> List[str]:
+    def _look_for_prices(self, solver: Helper, clock: Clock) -> List[str]:
         """Looks for prices, and answers what there is to say of them."""
         found, wanted = self.found, self.wanted
         found.unfinished = "prices"
-        found.prices, why = find_prices(self.given, wanted.stable, wanted.cover, solver, self._clock(PRICES))
+        found.prices, why = find_prices(self.given, wanted.stable, wanted.cover, solver, clock)
         told = _told(found.prices) if found.prices else self._no_prices(why)
         if self.given.exhaustive:
             return [told]
@@ -133,10 +127,10 @@ class Seeker:
             return ""
         return f"{visible(self.given.projects.ids[project])} is funded, it costs something, and nobody approves it."
 
-    def _look_for_a_refutation(self, solver: Helper) -> List[str]:
+    def _look_for_a_refutation(self, solver: Helper, clock: Clock) -> List[str]:
         """Looks for a refutation of all prices, and where those with Cover alone are asked for, of these. What there is
         to say where none was found."""
-        found, clock = self.found, self._clock(REFUTATION)
+        found = self.found
         if not auditor().has("refutation"):
             return [NO_AUDITOR]
         found.unfinished = "a refutation"
@@ -146,9 +140,7 @@ class Seeker:
                 return []
         return [f"No refutation was found: {NOT_REFUTED[why]}"]
 
-    def _look_for_violation(self, by: Satisfaction) -> None:
-        clock = self._clock(VIOLATION)
-
+    def _look_for_violation(self, by: Satisfaction, clock: Clock) -> None:
         def go_on(size: int) -> bool:
             clock.tell(f"violation by {NAMES[by]}: demands of {_projects(size)}")
             return clock.left() > 0
