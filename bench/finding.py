@@ -3,6 +3,8 @@
 search and of its solver.
 
     python3 bench/finding.py [FILE..]     these elections in the place of the invented ones
+    python3 bench/finding.py --different  invented ones of 100 projects and up to 100,000 voters whose ballots all differ:
+                                          prices or else a refutation, without Cover and with it, on two processors
 
 The library or the program has to be built, and scipy installed. The invented elections are Euclidean (voters and
 projects are points, and a voter approves what is near), clustered and random, with outcomes of greedy by votes, of
@@ -18,6 +20,7 @@ import random
 import resource
 import subprocess
 import sys
+import time
 
 TOP = os.path.dirname(os.path.dirname(os.path.abspath(__file__)))
 sys.path.insert(0, os.path.join(TOP, "python"))
@@ -33,6 +36,8 @@ SEARCHES = [("prices", {"refutation": False, "violation": False}),
             ("stable", {"refutation": False, "violation": False, "stable": True}),
             ("refutation", {"prices": False, "violation": False}),
             ("violation", {"prices": False, "refutation": False})]
+DIFFERENT = (1_000, 10_000, 100_000)
+EITHER = [("without Cover", {"violation": False}), ("with Cover", {"violation": False, "cover": True})]
 
 
 def euclidean(chance, voters, projects):
@@ -53,6 +58,16 @@ def at_random(chance, voters, projects):
     return [[at for at in range(projects) if chance.random() < popular[at]] for _ in range(voters)]
 
 
+def camps(chance, voters, projects):
+    """Three camps of unequal size, each with projects of its own that many of it approve, and others seldom."""
+    sizes = {"voters": [60, 25, 15], "projects": [50, 30, 20]}
+    mine = chance.choices(range(3), sizes["projects"], k=projects)
+    liked = [chance.uniform(0.5, 1.5) for _ in range(projects)]
+    homes = chance.choices(range(3), sizes["voters"], k=voters)
+    return [[at for at in range(projects) if chance.random() < (0.1 if mine[at] == home else 0.06) * liked[at]]
+            for home in homes]
+
+
 KINDS = {"Euclidean": euclidean, "clustered": clustered, "random": at_random}
 
 
@@ -71,12 +86,16 @@ def greedy(costs, limit, ballots, worth, begin=()):
     return funded
 
 
-def shared(costs, limit, ballots):
-    """Equal Shares, and then greedy by votes."""
+def bought(costs, limit, ballots):
+    """The projects of Equal Shares."""
     projects = [Project(f"p{at}", cost) for at, cost in enumerate(costs)]
     names = [[projects[at].name for at in ballot] for ballot in ballots]
-    bought = pbaudit.equal_shares(Instance(projects, limit), names).funded
-    return greedy(costs, limit, ballots, lambda votes, cost: votes, {int(name[1:]) for name in bought})
+    return {int(name[1:]) for name in pbaudit.equal_shares(Instance(projects, limit), names).funded}
+
+
+def shared(costs, limit, ballots):
+    """Equal Shares, and then greedy by votes."""
+    return greedy(costs, limit, ballots, lambda votes, cost: votes, bought(costs, limit, ballots))
 
 
 RULES = {"greedy by votes": lambda *town: greedy(*town, lambda votes, cost: votes),
@@ -101,16 +120,43 @@ def elections(voters, count, different):
             yield f"{kind}, {voters} x {count}, {merged} different ballots, {rule}", data
 
 
-def search(path, switches):
-    """A search in a process of its own, on one processor: what it found, its time, and its memory in MB."""
-    words = [sys.executable, __file__, "--one", path, json.dumps(switches)]
+def of_different_ballots(voters, count):
+    """Elections of voters whose ballots all differ, with outcomes of greedy and of Equal Shares."""
+    for number, (kind, made) in enumerate({**KINDS, "in camps": camps}.items()):
+        chance = random.Random(number)
+        ballots = list(all_different(chance, made(chance, voters, count), count))
+        costs = [max(1, int(chance.lognormvariate(0, 0.8) * voters)) for _ in range(count)]
+        limit = sum(costs) // 3
+        projects = [Project(f"p{at}", cost) for at, cost in enumerate(costs)]
+        names = [[projects[at].name for at in ballot] for ballot in ballots]
+        for rule, funded in (("greedy by votes", greedy(costs, limit, ballots, lambda votes, cost: votes)),
+                             ("Equal Shares", bought(costs, limit, ballots))):
+            data = pbaudit.write_election(Instance(projects, limit), names, [projects[at].name for at in funded])
+            yield f"{kind}, {voters} x {count}, all ballots different, {rule}", data
+
+
+def all_different(chance, ballots, count):
+    """The ballots, of which those that were there before have some projects more or less."""
+    known = set()
+    for ballot in map(set, ballots):
+        while frozenset(ballot) in known:
+            ballot ^= {chance.randrange(count)}
+        known.add(frozenset(ballot))
+        yield sorted(ballot)
+
+
+def search(path, switches, processors=1):
+    """A search in a process of its own: what it found, its time, and its memory in MB."""
+    words = [sys.executable, __file__, "--one", path, json.dumps(switches), str(processors)]
     done = subprocess.run(words, stdout=subprocess.PIPE, text=True, check=False)
     return done.stdout.strip() or f"ended with {done.returncode}"
 
 
-def one(path, switches):
-    os.sched_setaffinity(0, {max(os.sched_getaffinity(0))})
+def one(path, switches, processors):
+    os.sched_setaffinity(0, sorted(os.sched_getaffinity(0))[-processors:])
+    began = time.monotonic()
     found = pbaudit.find(path, seconds=SECONDS, **switches)
+    clock = time.monotonic() - began
     told = [] if found.prices is None else ["with Cover" if found.prices.cover else "without Cover"]
     if found.refutation:
         weights = len(found.refutation.file.splitlines()) - 3
@@ -120,46 +166,55 @@ def one(path, switches):
     seconds = sum(used.ru_utime + used.ru_stime for used in (mine, solver))
     memory = f"{mine.ru_maxrss / 1000:.0f} MB" + (f", the solver {solver.ru_maxrss / 1000:.0f} MB" if solver.ru_maxrss
                                                   else "")
-    print(f"{seconds:7.1f} s  {memory:30}{'; '.join(told) or found.sentences[-1][:75]}")
+    print(f"{seconds:7.1f} s ({clock:.1f} by the clock)  {memory:30}{'; '.join(told) or found.sentences[-1][:75]}")
 
 
-def measure(name, path, voters=0):
+def measure(name, path, searches, processors=1):
     print(name, flush=True)
-    for what, switches in SEARCHES:
-        if what == "stable" and voters > MOST_STABLE:
-            continue
-        print(f"  {what:11}{search(path, switches)}", flush=True)
+    for what, switches in searches:
+        print(f"  {what:14}{search(path, switches, processors)}", flush=True)
 
 
-def paths_given():
-    """The elections that the words name. Ends with a line on what is missing where nothing can be measured."""
+def measure_all(made, searches, processors=1):
+    """Measures searches of elections that are made up."""
+    for name, data in made:
+        path = f"/tmp/pbaudit-finding-{os.getpid()}.pb"
+        with open(path, "wb") as file:
+            file.write(data)
+        try:
+            measure(name, path, searches, processors)
+        finally:
+            os.unlink(path)
+
+
+def given():
+    """What the words ask for. Ends with a line on what is missing where nothing can be measured."""
     words = argparse.ArgumentParser(description=__doc__, formatter_class=argparse.RawDescriptionHelpFormatter)
     words.add_argument("elections", metavar="FILE", nargs="*")
-    paths = words.parse_args().elections
-    for path in paths:
+    words.add_argument("--different", action="store_true")
+    asked = words.parse_args()
+    for path in asked.elections:
         if not os.path.isfile(path):
             words.error(f"there is no file {path}")
     if importlib.util.find_spec("scipy") is None:
         words.error("scipy is not installed")
-    return paths
+    if asked.different and asked.elections:
+        words.error("--different is for elections that are made up")
+    return asked
 
 
-def main(paths):
-    for path in paths:
-        measure(path, path)
-    for size in [] if paths else SIZES:
-        for name, data in elections(*size):
-            path = f"/tmp/pbaudit-finding-{os.getpid()}.pb"
-            with open(path, "wb") as file:
-                file.write(data)
-            try:
-                measure(name, path, size[0])
-            finally:
-                os.unlink(path)
+def main(asked):
+    for path in asked.elections:
+        measure(path, path, SEARCHES)
+    for voters in DIFFERENT if asked.different else ():
+        measure_all(of_different_ballots(voters, 100), EITHER, 2)
+    for size in [] if asked.elections or asked.different else SIZES:
+        searches = [each for each in SEARCHES if each[0] != "stable" or size[0] <= MOST_STABLE]
+        measure_all(elections(*size), searches)
 
 
 if __name__ == "__main__":
     if sys.argv[1:2] == ["--one"]:
-        one(sys.argv[2], json.loads(sys.argv[3]))
+        one(sys.argv[2], json.loads(sys.argv[3]), int(sys.argv[4]))
     else:
-        main(paths_given())
+        main(given())

@@ -17,7 +17,7 @@ WRONG = {
                  [sys.executable, "10", "10", "--plain=missing"]],
     "certificates.py": [["word"], ["--voters", "0"], ["--elections", "many"]],
     "files.py": [["pb_none"]],
-    "finding.py": [["missing"], ["/"], ["--unknown"]],
+    "finding.py": [["missing"], ["/"], ["--unknown"], ["--different", sys.executable]],
     "hostile.py": [[], ["--small"], ["--program", "missing"], ["--program", "/"], ["--library", "missing"], ["--page", "missing"],
                    ["--package", "missing"], [sys.executable], ["--program", sys.executable, "--only", "none"]],
     "prices.py": [[], ["one"], ["--unknown"]],

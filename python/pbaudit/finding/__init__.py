@@ -39,9 +39,9 @@ def find(election: Any, outcome: Any = None, budget_allocation: Optional[Iterabl
     voters have each, as a MultiProfile of pabutools is, whose voters are numbered in the order of the ballots.
 
     `stable` asks for the stable form of prices, and `cover` for prices with Cover alone, and else for a refutation of
-    those; without `prices`, `refutation` or `violation` these aren't looked for. `seconds` is how long all may take, of
-    which each part has its share; what is found depends on it only where time runs out. `on_progress` is called with what
-    is tried and how many seconds are left for it.
+    those; without `prices`, `refutation` or `violation` these aren't looked for. `seconds` is how long all may take: each
+    part has its share of what is left, and what it leaves over is handed on; what is found depends on it only where time
+    runs out. `on_progress` is called with what is tried and how many seconds are left for the whole search.
 
     What is found was audited. That nothing is found proves nothing. Raises Refusal, OSError, MemoryError, ValueError
     where nothing is asked for, and of values where no file can state them, TypeError, and ImportError where scipy isn't
