@@ -365,7 +365,7 @@ class Stopped(Commands):
         self.assertEqual(notes, {"a.pb": "", "endless.pb": "not looked at"})
 
     def test_progress_is_for_terminals(self):
-        done = self.run_find(self.put("town.pb", ENDLESS), "--time", "8")
+        done = self.run_find(self.put("town.pb", ENDLESS), "--time", "2")
         self.assertEqual(done.stderr, "")
         self.assertRegex(done.stdout, "No violation by counting was found: .*all demands of .* were tried. That "
                          "is no proof")

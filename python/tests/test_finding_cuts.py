@@ -1,4 +1,4 @@
-"""What the search by cuts stands on: weights weighed by the voters, plans and their cuts, and the clock that parts share."""
+"""What the search by cuts stands on: weights weighed by the voters, plans and their cuts, and the clock."""
 import importlib.util
 import random
 import unittest
@@ -116,6 +116,16 @@ class Cutting(unittest.TestCase):
             # The plan is for the least budget that is enough, or for 2 shares.
             self.assertTrue(numpy.allclose(paid[problem.funded] / paid.sum(), costs / costs.sum()))
             self.assertLessEqual(shares.spent().max(initial=0.0), budget * (1 + 1e-9))
+
+    def test_for_what_they_are(self):
+        """For many different ballots, and not where C5 can hardly have room."""
+        from pbaudit.finding.cuts import MANY, suit
+        ballots = [[at for at in range(12) if number >> at & 1] for number in range(1, MANY + 2)]
+        for cost, many, suits in ((5, MANY + 1, True), (5, MANY, False), (0, MANY + 1, False),
+                                  (Fraction(1, 10**6), MANY + 1, False)):
+            case = Case("many", [*[10] * 11, cost], 60, ballots[:many], [0, 1, 2])
+            case.ballots[0].append(11)
+            self.assertEqual(suit(problem_of_case(case)), suits, (cost, many))
 
     def test_with_cover_alone(self):
         """There are prices, but none with Cover: by much, and by nothing."""

@@ -17,8 +17,8 @@ from .voters import Voters, Weights
 
 np, sparse = needed("numpy"), needed("scipy.sparse")
 
-# Cuts are for more groups than these.
-MANY = 500
+# Cuts are for more groups than these, and not where what isn't funded costs less than this part of what costs most.
+MANY, FAR = 500, 1e-6
 # Weights of funded projects are at first at most so many times as great as those of unfunded ones mostly are; then more.
 BOX, MORE = 2.0, 4.0
 # A margin that is good enough; and which part of the one that can still be hoped for is.
@@ -41,8 +41,9 @@ class Decision:
 
 def suit(problem: Problem) -> bool:
     """Whether cuts are sooner than the programme for prices: where there are many different ballots, and everything
-    that isn't funded costs something, so that C5 can be kept with a margin."""
-    return len(problem.groups) > MANY and bool((problem.costs[problem.unfunded] > 0).all())
+    that isn't funded costs enough for C5 to be kept with a margin."""
+    least = FAR * float(problem.costs.max(initial=0.0))
+    return len(problem.groups) > MANY and bool((problem.costs[problem.unfunded] > least).all())
 
 
 class Cuts:

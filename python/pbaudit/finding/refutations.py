@@ -17,7 +17,8 @@ from .cuts import Cuts
 from .needs import needed
 from .prices import NONE, ROUNDING, TIME, UNSOLVED, Given
 from .programme import (
-    FIRST, TOLERANCE, Answer, NoPrices, OutOfTime, Programme, Unsolved, Variables, answer_to, programme_of, shares_of, unseen,
+    FIRST, TOLERANCE, Answer, NoPrices, OutOfTime, Programme, Unsolved, Variables, answer_to, programme_of, shares_of,
+    unseen,
 )
 from .results import FoundRefutation
 from .shares import Need, Problem, unpaid
@@ -96,6 +97,7 @@ def _marginals(problem: Problem, cover: bool, solver: Helper, clock: Clock) -> M
 
 
 def _of_programme(problem: Problem, answer: Answer, groups: int, seen: Any) -> Marginals:
+    """The weights that the marginals of a programme over so many groups are."""
     weights = np.zeros(len(problem.costs))
     weights[problem.funded] = answer.sums[groups:]
     weights[seen] = -answer.rows[:len(seen)]
@@ -103,7 +105,7 @@ def _of_programme(problem: Problem, answer: Answer, groups: int, seen: Any) -> M
 
 
 def _scaled(weights: Any, cover: float) -> Marginals:
-    """The marginals, of which the greatest is made 1."""
+    """The weights, of which the greatest is made 1."""
     most = max(np.abs(weights).max(), cover)
     return Marginals(weights / most, cover / most)
 
