@@ -2,9 +2,11 @@
 
 By default the program is crates/pbaudit/out/pbaudit, the library is in lib, and the page in web/out, where they are built;
 else those of release/, if it was made of these sources. What isn't there is a reason to skip, and so is a tool that isn't
-installed. With --gate a test fails that is skipped for any other reason, or for want of what is there.
+installed. With --gate a test fails that is skipped for any other reason, or for want of what is there, or of what packages.txt
+should have brought.
 """
 import collections
+import functools
 import lzma
 import pathlib
 import re
@@ -16,13 +18,16 @@ import tempfile
 
 import pytest
 
-from common import HERE, TOP, needs
+from common import HERE, TOP, needs, ran
 from helps import Helps
 
-# For what a test may be skipped in the gate as well: want of a command; a release that other tools made, want of leave to make a
-# namespace or to mount a disk, and an rt that can't be hidden.
+# For what a test may be skipped in the gate as well: want of a command, where the machine lacks a package of packages.txt; a release
+# that other tools made, want of leave to make a namespace or to mount a disk, an rt that can't be hidden, a Python for ARM, and
+# npx, which some packages of Node have, and whose own package can't stand beside these.
 NOT_INSTALLED = re.compile(r"(\S+) is not installed")
-ALLOWED = re.compile(r"it is older, of another state of |nothing runs in the root folder|no disk can be mounted here|rt is in /usr/bin")
+ALLOWED = re.compile(r"it is older, of another state of |nothing runs in the root folder|no disk can be mounted here|rt is in /usr/bin"
+                     r"|python3:arm64 is not installed")
+OWN_PACKAGE = {"npx"}
 sys.path.append(str(TOP / "python"))
 sys.path.append(str(TOP / "python/backend"))
 sys.path.append(str(TOP / "web"))
@@ -72,14 +77,26 @@ def pytest_generate_tests(metafunc):
         metafunc.parametrize("by_chance", range(count))
 
 
+@functools.lru_cache(maxsize=None)
+def has_all_packages():
+    """Whether each package of packages.txt is installed, by dpkg."""
+    names = [line for line in (HERE / "packages.txt").read_text("utf-8").splitlines() if line and not line.startswith("#")]
+    told = ran("dpkg-query", "-W", "-f", "${Package} ${Status}\n", *names)
+    return {*names} <= {*re.findall(r"(?m)^(\S+) \S+ ok installed$", told.stdout)}
+
+
+def is_lacking(wants):
+    """Whether a skip is for want of a command that isn't there, and that no package of packages.txt was to bring."""
+    return wants and not shutil.which(wants[1]) and (wants[1] in OWN_PACKAGE or not has_all_packages())
+
+
 @pytest.hookimpl(hookwrapper=True)
 def pytest_runtest_makereport(item, call):
     """In the gate a skip is a failure, unless it is for one of these reasons, and that command isn't there."""
     report = (yield).get_result()
     if report.skipped and item.config.getoption("gate") and not hasattr(report, "wasxfail"):
         reason = report.longrepr[2] if isinstance(report.longrepr, tuple) else str(report.longrepr)
-        wants = NOT_INSTALLED.search(reason)
-        if not ALLOWED.search(reason) and (not wants or shutil.which(wants[1])):
+        if not ALLOWED.search(reason) and not is_lacking(NOT_INSTALLED.search(reason)):
             report.outcome, report.longrepr = "failed", f"{reason}, and in the gate it has to be tried"
 
 

@@ -266,15 +266,25 @@ def test_there(): pytest.skip("sh is not installed")
 def test_without_a_reason(): pytest.skip("another day")
 def test_of_a_release(): pytest.skip("it is older, of another state of kit")
 """
+# What dpkg-query says of each package: that it is installed, but for one, or that all are.
+ALL = "#!/bin/sh\nshift 3\nfor name; do echo \"$name install ok installed\"; done\n"
+BUT_ONE = "#!/bin/sh\nshift 4\nfor name; do echo \"$name install ok installed\"; done\nexit 1\n"
 
 
-@pytest.mark.parametrize("words, told", [(["--gate"], "2 failed, 2 skipped"), ([], "4 skipped")])
-def test_skips(room, words, told):
-    """In the gate a test fails that is skipped though its machine has what it needs."""
+@pytest.mark.parametrize("words, packages, failed, skipped", [
+    (["--gate"], ALL, {"missing", "there", "without_a_reason"}, 1),
+    (["--gate"], BUT_ONE, {"there", "without_a_reason"}, 2),
+    ([], ALL, set(), 4),
+], ids=["gate", "a package is missing", "no gate"])  # fmt: skip
+def test_skips(room, words, packages, failed, skipped):
+    """In the gate a test fails that is skipped though its machine has what it needs, or what packages.txt should have brought."""
     (room / "test_skips.py").write_text(SKIPS)
-    ran = subprocess.run([sys.executable, "-m", "pytest", "-q", "-p", "conftest", *words, room], capture_output=True, text=True,
-                         env={**os.environ, "PYTHONPATH": str(TOP / "tests")}, check=False)  # fmt: skip
-    assert told in ran.stdout
+    (room / "tools").mkdir()
+    script(room / "tools/dpkg-query", packages)
+    environment = {**os.environ, "PYTHONPATH": str(TOP / "tests"), "PATH": f"{room}/tools:{os.environ['PATH']}"}
+    ran = subprocess.run([sys.executable, "-m", "pytest", "-q", "-rf", "-p", "conftest", *words, room], capture_output=True, text=True,
+                         env=environment, check=False)  # fmt: skip
+    assert ({*re.findall(r"FAILED .*::test_(\w+)", ran.stdout)}, f"{skipped} skipped" in ran.stdout) == (failed, True), ran.stdout
 
 
 @pytest.mark.parametrize("words, chosen", [
