@@ -32,6 +32,11 @@
 #include <stddef.h>
 #include <stdint.h>
 
+/* The version of this interface: the number behind libpbaudit.so, and in the version of its symbols, PBAUDIT_1. It grows where a
+ * program that was made with an older header may get another answer or none: where a function goes or takes other
+ * arguments, a type is laid out anew, or a number stands for something else. What is added to it leaves it as it is. */
+#define PBAUDIT_INTERFACE 1
+
 #ifdef __cplusplus
 extern "C" {
 #endif

@@ -143,8 +143,9 @@ def library(option, tmp_path_factory):
     if (folder / "libpbaudit.a").exists():
         return folder
     unpacked = tmp_path_factory.mktemp("library")
-    for name in ("libpbaudit.so", "pbaudit.h", "pbaudit.pc"):
+    for name in ("libpbaudit.so.1", "pbaudit.h", "pbaudit.pc"):
         shutil.copy(folder / name, unpacked)
+    (unpacked / "libpbaudit.so").symlink_to("libpbaudit.so.1")
     (unpacked / "libpbaudit.a").write_bytes(lzma.decompress((folder / "libpbaudit.a.xz").read_bytes()))
     return unpacked
 
@@ -212,7 +213,7 @@ def commands(program):
 def auditor(library):
     """The library, called as the Python package calls it."""
     from pbaudit import _auditor
-    return _auditor._Library(str(library / "libpbaudit.so"))
+    return _auditor._Library(str(library / "libpbaudit.so.1"))
 
 
 @pytest.fixture(scope="session")

@@ -158,7 +158,7 @@ def test_build_without_the_kit(machine):
 
 
 def test_libraries(machine):
-    done = machine.run("ldd release/pbaudit release/libpbaudit.so")
+    done = machine.run("ldd release/pbaudit release/libpbaudit.so.1")
     found = set(re.findall(r"^\t(\S+)", done.stdout, re.MULTILINE))
     assert found <= {"linux-vdso.so.1", "libc.so.6", "/lib64/ld-linux-x86-64.so.2"}
     assert done.returncode == 0 and "not found" not in done.stdout

@@ -109,7 +109,7 @@ def test_pages_of_a_thousand_elections(library, room):
     (room / "elections").mkdir()
     fill(room / "elections", files)
     shutil.copytree(TOP / "python/pbaudit", room / "site/pbaudit", ignore=shutil.ignore_patterns("__pycache__"))
-    shutil.copy(library / "libpbaudit.so", room / "site/pbaudit")
+    shutil.copy(library / "libpbaudit.so.1", room / "site/pbaudit")
     words = [sys.executable, "-B", "-m", "pbaudit", "page", "--folder", "elections", "-o", "pages"]
     ran = subprocess.run(words, cwd=room, env=os.environ | {"PYTHONPATH": str(room / "site")}, capture_output=True, check=False)
     assert (ran.stdout.decode().splitlines(), ran.returncode) == (report, 2)

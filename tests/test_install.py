@@ -17,6 +17,7 @@ from tables import EXAMPLES
 pytestmark = pytest.mark.usefixtures("built_here")
 FILES = {
     "bin/pbaudit": 0o755,
+    "lib/libpbaudit.so.1": 0o755,
     "lib/libpbaudit.so": 0o755,
     "lib/libpbaudit.a": 0o644,
     "include/pbaudit.h": 0o644,
@@ -27,7 +28,7 @@ FILES = {
     "share/fish/vendor_completions.d/pbaudit.fish": 0o644,
     "share/pbaudit/installed": 0o644,
 }
-MAN, BASH, ZSH, FISH = list(FILES)[5:9]
+MAN, BASH, ZSH, FISH = list(FILES)[6:10]
 LANGUAGES = ["en", "pl", "de", "fr"]
 
 
@@ -227,7 +228,7 @@ def test_man_page_is_clean(prefix, words):
 def expect_files(root, written):
     """Everything is there and nothing else, is told, and is what is built."""
     found = {str(file.relative_to(root)): file.stat().st_mode & 0o777 for file in root.rglob("*") if file.is_file()}
-    assert found == FILES
+    assert found == FILES and os.readlink(root / "lib/libpbaudit.so") == "libpbaudit.so.1"
     assert {file.stat().st_mode & 0o777 for file in [root, *root.rglob("*")] if file.is_dir()} == {0o755}
     assert sorted(written.splitlines()) == sorted(str(root / file) for file in FILES)
     words = ["read", EXAMPLES / "district.pb"]
@@ -254,7 +255,7 @@ def expect_library(root, prefix, room, **environment):
         given = [EXAMPLES / "district.pb", EXAMPLES / certificate]
         mine, other = ran(program, *given), ran(root / "bin/pbaudit", "prices", *given)
         assert (mine.returncode, mine.stdout) == (other.returncode, other.stdout)
-    assert str(root / "lib/libpbaudit.so") in ran("ldd", program).stdout
+    assert f"libpbaudit.so.1 => {root}/lib/libpbaudit.so.1 " in ran("ldd", program).stdout
 
 
 @pytest.mark.parametrize("umask", [0o077, 0o022], ids=oct)
@@ -365,7 +366,7 @@ def test_what_is_not_built_is_built(room, copy):
     done = install()
     assert (done.returncode, done.stdout) == (70, "") and "install: the library could not be built" in done.stderr
     # With both there, rt isn't wanted; and it is once a source is another than the library's.
-    shutil.copytree(TOP / "lib", copy / "lib")
+    shutil.copytree(TOP / "lib", copy / "lib", symlinks=True)
     done = install()
     assert (done.returncode, len(done.stdout.splitlines())) == (0, len(FILES)), done.stderr
     for source in (copy / "include/pbaudit.h", copy / "HANDLES"):
@@ -390,7 +391,7 @@ def make_release(copy):
     release = copy / "release"
     release.mkdir()
     shutil.copy(TOP / "crates/pbaudit/out/pbaudit", release)
-    for name in ("libpbaudit.so", "pbaudit.h", "pbaudit.pc"):
+    for name in ("libpbaudit.so.1", "pbaudit.h", "pbaudit.pc"):
         shutil.copy(TOP / "lib" / name, release)
     with lzma.open(release / "libpbaudit.a.xz", "wb", preset=0) as packed:
         packed.write((TOP / "lib/libpbaudit.a").read_bytes())
@@ -403,7 +404,7 @@ def make_release(copy):
 
 
 # What ./install calls where all is released.
-TOOLS = ("bash", "cat", "cp", "dirname", "find", "grep", "install", "mkdir", "mktemp", "mv", "readlink", "rm", "rmdir", "sed",
+TOOLS = ("bash", "cat", "cp", "dirname", "find", "grep", "install", "ln", "mkdir", "mktemp", "mv", "readlink", "rm", "rmdir", "sed",
          "sha256sum", "sort", "xargs", "xz")  # fmt: skip
 
 
@@ -417,7 +418,7 @@ def test_release(room, copy):
     done = ran(copy / "install", prefix, env=environment)
     assert (done.returncode, done.stderr) == (0, "")
     expect_files(prefix, done.stdout)
-    for name, file in (("libpbaudit.a", "lib/libpbaudit.a"), ("libpbaudit.so", "lib/libpbaudit.so"), ("pbaudit.h", "include/pbaudit.h")):
+    for name, file in (("libpbaudit.a", "lib/libpbaudit.a"), ("libpbaudit.so.1", "lib/libpbaudit.so.1"), ("pbaudit.h", "include/pbaudit.h")):
         assert (prefix / file).read_bytes() == (TOP / "lib" / name).read_bytes()
     for file in sorted(release.iterdir()):
         if file.name not in ("MADE-OF", "SHA256SUMS"):

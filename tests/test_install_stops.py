@@ -11,12 +11,12 @@ import pytest
 from common import TOP, ran, script
 
 PLACES = {
-    "pbaudit": "bin/pbaudit", "libpbaudit.so": "lib/libpbaudit.so", "pbaudit.h": "include/pbaudit.h", "pbaudit.1": "share/man/man1/pbaudit.1",
+    "pbaudit": "bin/pbaudit", "libpbaudit.so.1": "lib/libpbaudit.so.1", "pbaudit.h": "include/pbaudit.h", "pbaudit.1": "share/man/man1/pbaudit.1",
     "pbaudit.bash": "share/bash-completion/completions/pbaudit", "_pbaudit": "share/zsh/site-functions/_pbaudit",
     "pbaudit.fish": "share/fish/vendor_completions.d/pbaudit.fish",
 }  # fmt: skip
 # These are made of files of a release.
-MADE = ["lib/libpbaudit.a", "lib/pkgconfig/pbaudit.pc", "share/pbaudit/installed"]
+MADE = ["lib/libpbaudit.a", "lib/libpbaudit.so", "lib/pkgconfig/pbaudit.pc", "share/pbaudit/installed"]
 # What ./install changes a file or a folder by. In the place of each stands a script that counts the calls, and before one of them
 # ends all, in the midst of a file where it would copy one.
 CHANGING = ("install", "mkdir", "mv", "rm", "rmdir")
@@ -96,19 +96,19 @@ def test_stopped_at_any_moment(copy, room):
     """Each file is the old one or the new one, and no header is newer than its library. What was put there is taken away again."""
     old = copy.release("old")
     assert copy.call().returncode == 0
-    shutil.copytree(copy.prefix, room / "before")
+    shutil.copytree(copy.prefix, room / "before", symlinks=True)
     new = copy.release("new")
     number = 1
     while True:
         shutil.rmtree(copy.prefix, ignore_errors=True)
-        shutil.copytree(room / "before", copy.prefix)
+        shutil.copytree(room / "before", copy.prefix, symlinks=True)
         if not copy.stopped(number):
             break
         files = copy.found()[0]
         assert {*files} == {*PLACES.values()}
         assert [path for path, text in files.items() if text not in (old[path], new[path])] == []
         assert ran(copy.prefix / "bin/pbaudit").stdout in ("old\n", "new\n")
-        assert files["include/pbaudit.h"] == old["include/pbaudit.h"] or files["lib/libpbaudit.so"] == new["lib/libpbaudit.so"]
+        assert files["include/pbaudit.h"] == old["include/pbaudit.h"] or files["lib/libpbaudit.so.1"] == new["lib/libpbaudit.so.1"]
         assert copy.call("--uninstall", copy.prefix).returncode == 0
         assert not copy.prefix.exists()
         number += 1
@@ -214,6 +214,34 @@ def test_uninstall_leaves_what_was_put_there_since(copy):
     assert done.returncode == 0 and f"install: {mine} stays" in done.stderr and str(mine) not in done.stdout.splitlines()
     assert {*snapshot(copy.prefix)} == {copy.prefix / "bin", mine, copy.prefix / "lib", copy.prefix / "lib/mine"}
     assert (copy.room / "elsewhere").exists()
+
+
+def test_upgrade_from_a_library_without_a_number(copy):
+    """Where the library itself had the name that is a link now."""
+    copy.release("old")
+    assert copy.call().returncode == 0
+    link, known = copy.prefix / "lib/libpbaudit.so", copy.prefix / "share/pbaudit/installed"
+    (copy.prefix / "lib/libpbaudit.so.1").rename(link)
+    lines = known.read_text().replace("link to libpbaudit.so.1  lib/libpbaudit.so\n", "").replace("  lib/libpbaudit.so.1\n", "  lib/libpbaudit.so\n")
+    known.write_text(lines)
+    new = copy.release("new")
+    assert copy.call().returncode == 0 and copy.found() == (new, MADE)
+    assert os.readlink(link) == "libpbaudit.so.1"
+    assert copy.call("--uninstall", copy.prefix).returncode == 0 and not copy.prefix.exists()
+
+
+@pytest.mark.parametrize("is_mine", [True, False])
+def test_uninstall_of_a_link(copy, is_mine):
+    """One that leads elsewhere since is left, and that which was put there isn't, though what it leads to is gone."""
+    copy.release("new")
+    assert copy.call().returncode == 0
+    link = copy.prefix / "lib/libpbaudit.so"
+    (copy.prefix / "lib/libpbaudit.so.1").unlink()
+    if not is_mine:
+        link.unlink()
+        link.symlink_to("../lib/libpbaudit.so.1")
+    done = copy.call("--uninstall", copy.prefix)
+    assert (done.returncode, link.is_symlink(), f"install: {link} stays" in done.stderr) == (0, not is_mine, not is_mine)
 
 
 def test_uninstall_below_destdir(copy):

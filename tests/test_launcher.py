@@ -18,7 +18,7 @@ PARTS = (".gitattributes", "pbaudit", "pbaudit-library", "pbaudit-web", "include
 # Of the many sources, which no script reads but for their sums, these are copied.
 KEPT = ("lib.rt", "main.rt", "version.rt", "First.antt", "Lib.antt")
 # The commands that the scripts call.
-TOOLS = ("bash", "basename", "cat", "chmod", "cp", "dirname", "env", "find", "flock", "mkdir", "mktemp", "mv", "readlink", "rm",
+TOOLS = ("bash", "basename", "cat", "chmod", "cp", "dirname", "env", "find", "flock", "ln", "mkdir", "mktemp", "mv", "readlink", "rm",
          "rmdir", "sed", "sha256sum", "sleep", "sort", "tail", "tee", "touch", "xargs")  # fmt: skip
 BELOW = {"pb_audit", "pb_case", "pb_certificate", "pb_cohesion", "pb_command", "pb_election", "pb_explain", "pb_figures",
          "pb_group_parts", "pb_hints", "pb_input", "pb_markup", "pb_money", "pb_page", "pb_parts", "pb_price", "pb_price_parts",
@@ -377,7 +377,7 @@ def test_help_of_the_builders(place, what, word):
 
 def is_built(place):
     """Whether the library of a place is one of its sources."""
-    words = [place.copy / "packaging/built", place.copy / "lib/libpbaudit.so", "crates", "library", "packaging"]
+    words = [place.copy / "packaging/built", place.copy / "lib/libpbaudit.so.1", "crates", "library", "packaging"]
     return subprocess.run(words, check=False).returncode == 0
 
 
@@ -386,7 +386,7 @@ def test_library(place):
     ended, printed, told, _ = place.call("./-a lib", what="pbaudit-library")
     assert (ended, printed) == (0, f"{place.elsewhere}/-a lib\n") and "rt: chose" in told
     names = sorted(path.name for path in (place.elsewhere / "-a lib").iterdir() if path.name[0] != ".")
-    assert names == ["libpbaudit.a", "libpbaudit.so", "pbaudit.h", "pbaudit.pc"]
+    assert names == ["libpbaudit.a", "libpbaudit.so", "libpbaudit.so.1", "pbaudit.h", "pbaudit.pc"]
     pathlib.Path(f"{place.log}.linked").unlink()
     assert place.call(what="pbaudit-library", CC="cc -m64")[:2] == (0, f"{place.copy}/lib\n")
     assert "cc -m64" in pathlib.Path(f"{place.log}.linked").read_text().splitlines()

@@ -3,6 +3,7 @@ with just enough room and with a byte less, and with hints. On the examples each
 stack, and under valgrind and sanitizers."""
 import ctypes
 import dataclasses
+import os
 import re
 import subprocess
 
@@ -12,7 +13,7 @@ import calls
 import cases
 import tables
 from common import HERE, needs
-from pbaudit import _auditor
+from pbaudit import _auditor, _places
 from test_answers import ON_EXAMPLES
 
 BY_CHANCE = 2000
@@ -73,11 +74,31 @@ def files_of(words):
     return {word: (EXAMPLES / word).read_bytes() for word in words if "." in word}
 
 
-@pytest.mark.parametrize("words", [["nm", "-D", "--defined-only", "libpbaudit.so"], ["nm", "-g", "--defined-only", "libpbaudit.a"]])
-def test_symbols_are_the_functions_of_the_header(library, words):
-    symbols = re.findall(r"^[0-9a-f]+ \w (\S+)$", told_by(words, library).stdout.decode(), re.MULTILINE)
-    functions = re.findall(r"^uint8_t (pbaudit_\w+)\(", (library / "pbaudit.h").read_text(), re.MULTILINE)
-    assert {*symbols} == {*functions} and len(symbols) == len(functions) == 5
+def interface_of(header):
+    """What a header says that a library of it has: the version of its interface, and functions."""
+    text = header.read_text()
+    (interface,) = re.findall(r"^#define PBAUDIT_INTERFACE (\d+)$", text, re.MULTILINE)
+    return interface, re.findall(r"^uint8_t (pbaudit_\w+)\(", text, re.MULTILINE)
+
+
+@pytest.mark.parametrize("name", ["libpbaudit.so", "libpbaudit.a"])
+def test_symbols_are_the_functions_of_the_header(library, name):
+    """Those that are shared have the version of the interface, which is a symbol itself."""
+    is_shared = name.endswith("so")
+    told = told_by(["nm", "-D" if is_shared else "-g", "--defined-only", name], library).stdout.decode()
+    symbols = re.findall(r"^[0-9a-f]+ \w (\S+)$", told, re.MULTILINE)
+    interface, functions = interface_of(library / "pbaudit.h")
+    version = f"PBAUDIT_{interface}"
+    assert sorted(symbols) == sorted([version, *(f"{each}@@{version}" for each in functions)] if is_shared else functions)
+    assert len(functions) == 5
+
+
+def test_shared_library_has_the_name_of_its_interface(library):
+    """A program asks for that name, and the package of Python as well."""
+    name = f"libpbaudit.so.{interface_of(library / 'pbaudit.h')[0]}"
+    told = told_by(["readelf", "-d", name], library).stdout.decode()
+    assert re.findall(r"\(SONAME\) .*\[(.*)\]", told) == [name] == [_places._LIBRARY]
+    assert os.readlink(library / "libpbaudit.so") == name and not (library / name).is_symlink()
 
 
 def test_numbers_of_the_header(library):
@@ -89,6 +110,30 @@ def test_numbers_of_the_header(library):
     wanted |= {name.upper(): at for at, name in [*enumerate(_auditor._QUESTIONS), *_auditor._CULPRITS.items()]}
     wanted |= {name.upper(): at for at, name in enumerate(_auditor._ON_GROUPS) if name}
     assert numbers == wanted
+
+
+def asked_of_libraries(program):
+    """The libraries that a program asks for, and the versions that it asks of that of pbaudit."""
+    told = told_by(["readelf", "-dVW", program]).stdout.decode()
+    versions = re.search(r"File: libpbaudit\S*  Cnt: .*\n((?:.*Name: .*\n)*)", told)
+    return re.findall(r"\(NEEDED\) .*\[(.*)\]", told), re.findall(r"Name: (\S+)", versions[1] if versions else "")
+
+
+def test_program_asks_for_the_interface(built, library):
+    interface = interface_of(library / "pbaudit.h")[0]
+    program = built("asks", EXAMPLES / "audit.c", "-L", library, "-lpbaudit")
+    needed, versions = asked_of_libraries(program)
+    assert f"libpbaudit.so.{interface}" in needed and versions == [f"PBAUDIT_{interface}"]
+
+
+def test_program_that_was_linked_before_the_library_had_a_number(built, library, room):
+    """It asks for libpbaudit.so and for no version, and finds the link."""
+    whole = ["-Wl,--whole-archive", library / "libpbaudit.a", "-Wl,--no-whole-archive"]
+    subprocess.run(["cc", "-shared", "-o", room / "libpbaudit.so", "-Wl,-soname,libpbaudit.so", *whole], check=True)
+    program = built("before", EXAMPLES / "audit.c", "-L", room, "-lpbaudit", f"-Wl,-rpath,{library}")
+    assert "libpbaudit.so" in asked_of_libraries(program)[0]
+    told = told_by([program, "district.pb", "district.short.prices.csv"])
+    assert (told.returncode, told.stdout) == (1, b"failed C3 project 101\n")
 
 
 @pytest.mark.parametrize("language, standard, compiler", [("c", "c99", "cc"), ("c++", "c++11", "c++")])

@@ -23,12 +23,12 @@ LIBRARY = EVERY | {"library", "cc", "ld"}
 ARM_LIBRARY = EVERY | {"library", "arm-cc", "arm-ld"}
 PAGE = EVERY | {"page", "wasm-opt", "builtins", "esbuild"}
 RESTS_ON = {
-    "libpbaudit.so": LIBRARY, "libpbaudit.a.xz": LIBRARY | {"xz"}, "pbaudit.h": LIBRARY, "pbaudit.pc": LIBRARY,
+    "libpbaudit.so": LIBRARY, "libpbaudit.so.1": LIBRARY, "libpbaudit.a.xz": LIBRARY | {"xz"}, "pbaudit.h": LIBRARY, "pbaudit.pc": LIBRARY,
     "-aarch64.tar.xz": ARM_LIBRARY | {"xz"}, "pbaudit.html": PAGE, ".tgz": PAGE | {"tsc", "zlib"},
     "aarch64.whl": ARM_LIBRARY | {"python", "zlib"}, ".whl": LIBRARY | {"python", "zlib"},
 }  # fmt: skip
 # The glibc for which each is.
-GLIBC = {"pbaudit": (2, 28), "libpbaudit.so": (2, 17)}
+GLIBC = {"pbaudit": (2, 28), "libpbaudit.so.1": (2, 17)}
 
 
 def rests_on(name):
@@ -188,7 +188,7 @@ def test_hardening(again, name):
 
 def test_hardening_of_the_library_for_arm(again, room):
     with lzma.open(the(again, "libpbaudit-aarch64.tar.xz")) as packed, tarfile.open(fileobj=packed) as files:
-        (room / "library").write_bytes(files.extractfile("aarch64/libpbaudit.so").read())
+        (room / "library").write_bytes(files.extractfile("aarch64/libpbaudit.so.1").read())
     assert wants_of(room / "library") == []
 
 
@@ -219,7 +219,7 @@ def inside(wheel, end):
 
 def test_wheel_has_library_and_program(again):
     wheel = the(again, "*x86_64.whl")
-    assert inside(wheel, "/libpbaudit.so") == (again / "libpbaudit.so").read_bytes()
+    assert inside(wheel, "/libpbaudit.so.1") == (again / "libpbaudit.so.1").read_bytes()
     assert inside(wheel, ".data/scripts/pbaudit") == (again / "pbaudit").read_bytes()
     assert "manylinux_2_28_x86_64" in wheel.name
 
@@ -227,10 +227,11 @@ def test_wheel_has_library_and_program(again):
 def test_wheel_for_arm_has_its_library(again):
     wheel = the(again, "*aarch64.whl")
     with lzma.open(the(again, "libpbaudit-aarch64.tar.xz")) as packed, tarfile.open(fileobj=packed) as files:
-        assert files.getnames() == [f"aarch64/{name}" for name in ("libpbaudit.so", "libpbaudit.a", "pbaudit.h", "pbaudit.pc")]
-        library = files.extractfile("aarch64/libpbaudit.so").read()
+        assert files.getnames() == [f"aarch64/{name}" for name in ("libpbaudit.so.1", "libpbaudit.so", "libpbaudit.a", "pbaudit.h", "pbaudit.pc")]
+        assert files.getmember("aarch64/libpbaudit.so").linkname == "libpbaudit.so.1"
+        library = files.extractfile("aarch64/libpbaudit.so.1").read()
         assert files.extractfile("aarch64/pbaudit.h").read() == (TOP / "include/pbaudit.h").read_bytes()
-    assert inside(wheel, "/libpbaudit.so") == library
+    assert inside(wheel, "/libpbaudit.so.1") == library
     # Of ELF's machines ARM's of 64 bits is number 183.
     assert library[:4] == b"\x7fELF" and int.from_bytes(library[18:20], "little") == 183
     assert "manylinux_2_17_aarch64" in wheel.name

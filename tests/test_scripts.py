@@ -54,7 +54,7 @@ def test_wrong_words(script, words):
 def test_nothing_is_built(room, name, words):
     """Where neither the library nor the program is there, the scripts that need one say so."""
     for folder in ("bench", "python"):
-        shutil.copytree(TOP / folder, room / folder, ignore=shutil.ignore_patterns("*.so", "__pycache__"))
+        shutil.copytree(TOP / folder, room / folder, ignore=shutil.ignore_patterns("*.so*", "__pycache__"))
     told = run(room / "bench" / name, *words, env={**os.environ, "PATH": "/nowhere"})
     assert told.returncode and len(told.stderr.splitlines()) == 1
     assert "the library or the program has to be built" in told.stderr

@@ -36,7 +36,7 @@ class Part(NamedTuple):
     sources: Tuple[str, ...]
 
 
-LIBRARY = Part("libpbaudit.so", "lib/libpbaudit.so", ["pbaudit-library"], ("include", "pbaudit-library"))
+LIBRARY = Part("libpbaudit.so.1", "lib/libpbaudit.so.1", ["pbaudit-library"], ("include", "pbaudit-library"))
 PROGRAM = Part("pbaudit", "crates/pbaudit/out/pbaudit", ["pbaudit", "--build"], ())
 
 
@@ -147,7 +147,7 @@ def files_of(library, program, tags):
     files = {str(path.relative_to(PYTHON)): path.read_bytes() for path in sorted((PYTHON / "pbaudit").rglob("*.py"))}
     files["pbaudit/_version.py"] = f'"""The version of this package."""\nVERSION = "{version()}"\n'.encode()
     files["pbaudit/py.typed"] = b""
-    files["pbaudit/libpbaudit.so"] = library
+    files[f"pbaudit/{LIBRARY.name}"] = library
     if program is None:
         files[f"{folder}/entry_points.txt"] = b"[console_scripts]\npbaudit = pbaudit.__main__:main\n"
     else:

@@ -15,7 +15,7 @@ from . import _places
 from .election_files import ids_of
 
 _HOW_TO_BUILD = (
-    "neither libpbaudit.so nor the program pbaudit was found; from the repository of pbaudit, install this package again "
+    "neither libpbaudit.so.1 nor the program pbaudit was found; from the repository of pbaudit, install this package again "
     "with pip install ./python, or the program with ./install into a folder on the PATH"
 )
 

@@ -16,12 +16,14 @@ from typing import Iterator, List, Optional
 
 _PACKAGE = pathlib.Path(__file__).resolve().parent
 _CHECKOUT = _PACKAGE.parent.parent
-_OWN = _PACKAGE / "libpbaudit.so"
+# The number is that of the interface which this package calls (`PBAUDIT_INTERFACE` of the header).
+_LIBRARY = "libpbaudit.so.1"
+_OWN = _PACKAGE / _LIBRARY
 
 
 def library() -> Optional[pathlib.Path]:
     """The library, or None."""
-    return _OWN if _OWN.is_file() else _of_checkout("lib/libpbaudit.so")
+    return _OWN if _OWN.is_file() else _of_checkout(f"lib/{_LIBRARY}")
 
 
 def program() -> Optional[pathlib.Path]:

@@ -45,7 +45,7 @@ class Commands(unittest.TestCase):
         """The text, the status, and what stands beside it for people."""
         with tempfile.TemporaryDirectory() as room:
             shutil.copytree(pathlib.Path(pbaudit.__file__).parent, f"{room}/pbaudit")
-            shutil.copy(_places.library(), f"{room}/pbaudit/libpbaudit.so")
+            shutil.copy(_places.library(), f"{room}/pbaudit/libpbaudit.so.1")
             given = {"PATH": "/usr/bin:/bin", "PYTHONPATH": room, "PYTHONDONTWRITEBYTECODE": "1"}
             for words in lines():
                 with self.subTest(words=words):
@@ -64,7 +64,7 @@ class Commands(unittest.TestCase):
         shown_name = "a\\u{1b}[31m\\u{202e}\\nb\\u{3164}"
         with tempfile.TemporaryDirectory() as room:
             shutil.copytree(pathlib.Path(pbaudit.__file__).parent, f"{room}/pbaudit")
-            shutil.copy(_places.library(), f"{room}/pbaudit/libpbaudit.so")
+            shutil.copy(_places.library(), f"{room}/pbaudit/libpbaudit.so.1")
             given = {"PATH": "/usr/bin:/bin", "PYTHONPATH": room, "PYTHONDONTWRITEBYTECODE": "1"}
             shutil.copy(EXAMPLES / "sample.prices.csv", f"{room}/{name}")
             shutil.copy(EXAMPLES / "sample.pb", f"{room}/good{name}")
@@ -105,7 +105,7 @@ class Places(unittest.TestCase):
     def setUp(self):
         self.room = pathlib.Path(tempfile.mkdtemp())
         self.addCleanup(shutil.rmtree, self.room)
-        self.own = self.room / "pbaudit" / "libpbaudit.so"
+        self.own = self.room / "pbaudit" / "libpbaudit.so.1"
         for folder in ("pbaudit", "bin", "scripts", "path"):
             (self.room / folder).mkdir()
         places = {"_PACKAGE": self.room / "pbaudit", "_OWN": self.own, "_CHECKOUT": self.room / "none"}
@@ -137,7 +137,7 @@ class Places(unittest.TestCase):
         self.assertIsNone(_places.program())
 
     def test_a_checkout(self):
-        built = {"lib/libpbaudit.so": _places.library, "crates/pbaudit/out/pbaudit": _places.program}
+        built = {"lib/libpbaudit.so.1": _places.library, "crates/pbaudit/out/pbaudit": _places.program}
         for name, find in built.items():
             path = self.room / "none" / name
             path.parent.mkdir(parents=True)

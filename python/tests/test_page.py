@@ -290,10 +290,10 @@ class Commands(unittest.TestCase):
     def test_an_auditor_that_cannot_be_used_is_a_fault(self):
         """None, a library that can't be loaded, and a program that doesn't know the command."""
         for name, data, told in (("bin/none", b"", b"install this package again"), ("bin/pbaudit", b"#!/bin/sh\nexit 3\n", b"3"),
-                                 ("pbaudit/libpbaudit.so", b"junk", b"can't be used")):
+                                 ("pbaudit/libpbaudit.so.1", b"junk", b"can't be used")):
             with self.subTest(name=name), tempfile.TemporaryDirectory() as room:
                 out, package = pathlib.Path(room, "page.html"), pathlib.Path(pbaudit.__file__).parent
-                shutil.copytree(package, f"{room}/pbaudit", ignore=shutil.ignore_patterns("*.so", "__pycache__"))
+                shutil.copytree(package, f"{room}/pbaudit", ignore=shutil.ignore_patterns("*.so*", "__pycache__"))
                 os.mkdir(f"{room}/bin")
                 pathlib.Path(room, name).write_bytes(data)
                 os.chmod(f"{room}/{name}", 0o755)

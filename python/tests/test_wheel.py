@@ -36,7 +36,7 @@ class Wheels(unittest.TestCase):
     def setUp(self):
         self.top = pathlib.Path(tempfile.mkdtemp())
         self.addCleanup(shutil.rmtree, self.top)
-        self.library, self.program = self.top / "lib/libpbaudit.so", self.top / "crates/pbaudit/out/pbaudit"
+        self.library, self.program = self.top / "lib/libpbaudit.so.1", self.top / "crates/pbaudit/out/pbaudit"
         self.built = []
         for name in ("crates/pb_money/src/lib.rt", "crates/pb_money/specs/Lib.antt", "crates/pb_money/proofs/Lib.antt",
                      "crates.txt", "HANDLES", "include/pbaudit.h", "pbaudit-library", "pbaudit"):
@@ -67,7 +67,7 @@ class Wheels(unittest.TestCase):
         """Makes a release of the sources as they are."""
         release = self.top / "release"
         release.mkdir(exist_ok=True)
-        files = {"libpbaudit.so": given.get("library", NEW), "pbaudit": given.get("program", NEW_PROGRAM)}
+        files = {"libpbaudit.so.1": given.get("library", NEW), "pbaudit": given.get("program", NEW_PROGRAM)}
         for name, data in files.items():
             (release / name).write_bytes(data)
         sums = [f"{part} {RUN([self.top / 'packaging' / 'sources', part], capture_output=True, text=True, check=True).stdout}"
@@ -95,7 +95,7 @@ class Wheels(unittest.TestCase):
             self.assertIn("pbaudit/py.typed", wheel.namelist())
             command = f"pbaudit-{version()}.data/scripts/pbaudit"
             self.assertEqual(wheel.getinfo(command).external_attr >> 16, 0o100755)
-            return wheel.read("pbaudit/libpbaudit.so"), wheel.read(command)
+            return wheel.read("pbaudit/libpbaudit.so.1"), wheel.read(command)
 
     def test_what_is_current_is_taken(self):
         self.release()
@@ -158,7 +158,7 @@ class Wheels(unittest.TestCase):
             with self.subTest(missing=name):
                 self.setUp()
                 getattr(self, name).unlink()
-                with self.assertRaisesRegex(SystemExit, "^pbaudit: (libpbaudit.so|pbaudit) is not built, "):
+                with self.assertRaisesRegex(SystemExit, "^pbaudit: (libpbaudit.so.1|pbaudit) is not built, "):
                     self.in_the_wheel(rt=None)
 
     def test_on_another_machine_nothing_is_installed(self):
