@@ -13,6 +13,7 @@ from pathlib import Path
 import pytest
 
 from common import TOP, needs, ran
+from test_versions import sets_in, sums_in
 
 pytestmark = pytest.mark.xdist_group("bare")
 # With those on which they stand, and what each Debian has in any case.
@@ -198,7 +199,7 @@ def test_package(machine, what):
     done = machine.run('cd / && PYTHONPATH=$1 python3 -c "$2"', site, program)
     assert (done.returncode, done.stdout, done.stderr) == (0, printed, "")
     told = machine.run('cd / && PYTHONPATH=$1 python3 -c "import pbaudit; print(pbaudit.__version__)"', site).stdout
-    assert told == machine.run("packaging/version").stdout
+    assert told == machine.run("packaging/version --state").stdout
     done = machine.run(f'PYTHONPATH=$1 python3 -m pbaudit {AUDIT}', site)
     assert (done.returncode, done.stdout, done.stderr) == (0, ANSWER, "")
     if what.startswith("pip"):
@@ -216,6 +217,19 @@ def packages(machine, tmp_path_factory):
         assert Path(one).read_bytes() == Path(two).read_bytes()
     shutil.copytree(folder / "one", machine.root / "root/packages")
     return folder / "one"
+
+
+def test_packages_are_those_of_their_version(packages, again):
+    """By versions/, where it was dated, and is made by the same tools; what isn't released has another name."""
+    made = sums_in((packages / "SHA256SUMS").read_text(encoding="utf-8"))
+    names = [name for name in made if name.endswith((".deb", ".tar.gz"))]
+    version = (again / "MADE-OF").read_text(encoding="utf-8").split()[1]
+    assert names and all(version in name for name in names)
+    if "+" not in version:
+        (listed,) = sets_in(TOP / "versions" / version)
+        if listed["MADE-OF"] != made["MADE-OF"]:
+            pytest.skip("it is older, of another state of what MADE-OF lists")
+        assert made == listed
 
 
 def test_tar(machine, packages):

@@ -49,13 +49,24 @@ def field(name):
     return re.search(rf'^"?{name}"? = "(.*)"$', PROJECT, re.MULTILINE)[1]
 
 
-def version():
-    """The version, which stands in the sources of the program alone."""
-    source = REPOSITORY / "crates" / "pb_words" / "src" / "version.rt"
+def text_of(name):
+    """The text of a file that the repository has beside the folder python."""
+    source = REPOSITORY / name
     if not source.exists():
         raise NoWheel(f"pbaudit: {source} is missing: install from a whole copy of the repository, by pip 21.3 or later, "
                       "or install the wheel of its folder release")
-    return re.search(r'^pub const VERSION: &str = "(\d+\.\d+\.\d+)";$', source.read_text(encoding="utf-8"), re.MULTILINE)[1]
+    return source.read_text(encoding="utf-8")
+
+
+def version():
+    """The version, which stands in the sources of the program alone. Behind it is '+unreleased' where CHANGELOG.md begins with
+    what isn't released, as packaging/version --state says."""
+    source = text_of("crates/pb_words/src/version.rt")
+    stated = re.search(r'^pub const VERSION: &str = "(\d+\.\d+\.\d+)";$', source, re.MULTILINE)[1]
+    first = re.search(r"^## (.*)$", text_of("CHANGELOG.md"), re.MULTILINE)[1]
+    if first != "Unreleased" and not first.startswith(f"[{stated}] - "):
+        raise NoWheel(f"pbaudit: the first heading of CHANGELOG.md is neither 'Unreleased' nor that of {stated}")
+    return f"{stated}+unreleased" if first == "Unreleased" else stated
 
 
 def is_current(part):

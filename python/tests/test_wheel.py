@@ -27,6 +27,12 @@ STATES_VERSION = "crates/pb_words/src/version.rt"
 
 
 def version():
+    """That of the program, with what a wheel says behind it of sources that aren't released."""
+    is_released = not (TOP / "CHANGELOG.md").read_text(encoding="utf-8").split("\n## ")[1].startswith("Unreleased\n")
+    return that_of_the_program() + ("" if is_released else "+unreleased")
+
+
+def that_of_the_program():
     return re.search(r'VERSION: &str = "(.*)"', (TOP / STATES_VERSION).read_text(encoding="utf-8"))[1]
 
 
@@ -43,7 +49,7 @@ class Wheels(unittest.TestCase):
             path = self.top / name
             path.parent.mkdir(parents=True, exist_ok=True)
             path.write_bytes(b"old")
-        for name in ("LICENSE", "packaging", STATES_VERSION):
+        for name in ("LICENSE", "CHANGELOG.md", "packaging", STATES_VERSION):
             (self.top / name).parent.mkdir(parents=True, exist_ok=True)
             (shutil.copytree if (TOP / name).is_dir() else shutil.copy)(TOP / name, self.top / name)
         for path, data in ((self.library, OLD), (self.program, OLD_PROGRAM)):
@@ -170,8 +176,26 @@ class Wheels(unittest.TestCase):
             self.in_the_wheel()
 
     def test_a_copy_of_the_folder_alone_is_not_installed(self):
-        (self.top / STATES_VERSION).unlink()
-        with self.assertRaisesRegex(SystemExit, "version.rt is missing"):
+        for name in (STATES_VERSION, "CHANGELOG.md"):
+            with self.subTest(name=name):
+                self.setUp()
+                (self.top / name).unlink()
+                with self.assertRaisesRegex(SystemExit, f"{pathlib.Path(name).name} is missing"):
+                    self.in_the_wheel()
+
+    def test_what_is_not_released_is_named_so(self):
+        """By the first heading of the changelog: so a wheel of later sources isn't taken for that of the version."""
+        stated = that_of_the_program()
+        for heading, named in (("Unreleased", f"{stated}+unreleased"), (f"[{stated}] - 2026-11-27", stated)):
+            with self.subTest(heading=heading):
+                (self.top / "CHANGELOG.md").write_text(f"# Changelog\n\n## {heading}\n\n## [{stated}] - 2026-11-27\n")
+                with self.wheel() as (wheel, name):
+                    self.assertTrue(name.startswith(f"pbaudit-{named}-py3-none-"), name)
+                    said = email.message_from_bytes(wheel.read(f"pbaudit-{named}.dist-info/METADATA"))
+                    self.assertEqual(said["Version"], named)
+                    self.assertIn(f'VERSION = "{named}"', wheel.read("pbaudit/_version.py").decode())
+        (self.top / "CHANGELOG.md").write_text("# Changelog\n\n## [9.9.9] - 2026-11-27\n")
+        with self.assertRaisesRegex(SystemExit, f"neither 'Unreleased' nor that of {stated}"):
             self.in_the_wheel()
 
     def test_a_build_that_fails_leaves_no_wheel(self):

@@ -328,6 +328,13 @@ def test_package_has_the_same_bytes_elsewhere(packed, page, program, tmp_path):
     assert (tmp_path / "made" / packed.name).read_bytes() == packed.read_bytes()
 
 
+def test_package_is_named_as_what_is_released_or_isnt(packed):
+    state = subprocess.run([TOP / "packaging/version", "--state"], stdout=subprocess.PIPE, text=True, check=True).stdout.strip()
+    with tarfile.open(packed) as package:
+        about = json.load(package.extractfile("package/package.json"))
+    assert (packed.name, about["version"]) == (f"pbaudit-{state}.tgz", state)
+
+
 def test_package_needs_nothing(packed):
     with tarfile.open(packed) as package:
         about = json.load(package.extractfile("package/package.json"))
