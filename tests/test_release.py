@@ -27,8 +27,9 @@ RESTS_ON = {
     "-aarch64.tar.xz": ARM_LIBRARY | {"xz"}, "pbaudit.html": PAGE, ".tgz": PAGE | {"tsc", "zlib"},
     "aarch64.whl": ARM_LIBRARY | {"python", "zlib"}, ".whl": LIBRARY | {"python", "zlib"},
 }  # fmt: skip
-# What packs all of it.
+# What packs all of it, and what has the sums of all files.
 OF_PACKAGES = {"gzip", "dpkg-deb"}
+RESTS_ON["pbaudit.spdx.json"] = set().union(OF_PACKAGES, *RESTS_ON.values())
 # The glibc for which each is.
 GLIBC = {"pbaudit": (2, 28), "libpbaudit.so.1": (2, 17)}
 
@@ -92,7 +93,7 @@ def test_it_is_what_is_built(again, name):
 
 
 def test_each_source_and_tool_is_that_of_a_file():
-    assert set().union(*map(rests_on, FILES)) == {*made_of(RELEASE)} - OF_PACKAGES
+    assert set().union(*map(rests_on, FILES)) - OF_PACKAGES == {*made_of(RELEASE)} - OF_PACKAGES
 
 
 def test_its_sums():
