@@ -139,7 +139,7 @@ def test_length(name):
 def test_all_pages_together():
     """Those for readers; CONTRIBUTING is for who changes the sources."""
     pages = [TOP / "README.md", *(TOP / "docs").glob("*.md")]
-    assert sum(len(page.read_text(encoding="utf-8").splitlines()) for page in pages) <= 3300
+    assert sum(len(page.read_text(encoding="utf-8").splitlines()) for page in pages) <= 3500
 
 
 def test_sums_of_the_district():

@@ -4,6 +4,7 @@ of a part that is of other sources or tools it is said, with `-rP`. Then a byte 
 version is one wherever it stands, no newer glibc is asked for than is said, and what is packed is what lies beside it."""
 import hashlib
 import lzma
+import os
 import re
 import shutil
 import subprocess
@@ -105,6 +106,20 @@ def test_its_sums_where_git_turns_ends_of_lines(room):
     shutil.copytree(RELEASE, room / "all/release")
     shutil.copy(TOP / ".gitattributes", room / "all")
     assert wrong_sums(cloned(room / "all", room / "clone", "-c", "core.autocrlf=true") / "release") == []
+
+
+def test_what_is_made_without_the_kit(again, room):
+    """By the commands of docs/BYTES.md, of the program and the page."""
+    needs("esbuild", "tsc")
+    made = [the(again, name).name for name in ("pbaudit.1", "pbaudit.bash", "_pbaudit", "pbaudit.fish", "pbaudit.html", "*.tgz")]
+    if shutil.which("rt", path="/usr/bin:/bin"):
+        pytest.skip("rt is in /usr/bin")
+    shown = (TOP / "docs/BYTES.md").read_text(encoding="utf-8").split("**Without the kit**")[1]
+    commands = re.search(r"\n\n((?: {4}.*\n)+)", shown)[1].replace("release/", f"{again}/").replace("FOLDER", '"$1"')
+    subprocess.run(["bash", "-euc", commands, "bash", room], cwd=TOP, env=os.environ | {"PATH": "/usr/bin:/bin"}, check=True,
+                   stdout=subprocess.DEVNULL)  # fmt: skip
+    assert {file.name for file in room.iterdir()} == {*made}
+    assert [name for name in made if sum_of(room / name) != sum_of(again / name)] == []
 
 
 def test_nothing_more_is_built(again):
