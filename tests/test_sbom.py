@@ -1,5 +1,5 @@
-"""Compares pbaudit.spdx.json with what it is made of: MADE-OF, crates.txt and the files beside it. First as `packaging/sbom` writes it
-into a folder of made-up files, then those of release/ and of what is built here."""
+"""Compares pbaudit.spdx.json with what it is made of: MADE-OF, crates.txt and the files beside it. First as `packaging/sbom` writes
+it into a folder of made-up files, then those of release/ and of what is built here."""
 import hashlib
 import json
 import re
@@ -11,9 +11,10 @@ from common import TOP, ran
 from test_release import RELEASE, made_of, rests_on, sum_of
 
 SPDX = "pbaudit.spdx.json"
+RUNTIME = "builtins"
 SOURCES = {"version", "crates", "library", "page", "python", "packaging"}
-# What is linked of the proved code, by how its name ends.
-LINKED = ("pbaudit", ".so.1", ".a.xz", ".tar.xz", ".whl", ".html", ".tgz")
+# What is linked of the proved code beside the program, by how its name ends.
+LINKED = (".so.1", ".a.xz", ".tar.xz", ".whl", ".html", ".tgz")
 
 
 def read(folder):
@@ -30,9 +31,13 @@ def kits_crates(root):
     return below[root]
 
 
+def is_linked(name):
+    return name == "pbaudit" or name.endswith(LINKED)
+
+
 def wanted_crates(name):
     """Of a file: the program stands on all of them, and a wheel for x86-64 has the program."""
-    if not name.endswith(LINKED):
+    if not is_linked(name):
         return set()
     return kits_crates("pbaudit") if name == "pbaudit" or name.endswith("x86_64.whl") else kits_crates("pb_c")
 
@@ -44,24 +49,39 @@ def related(spdx, how, file, ahead):
     return {names[each[one]] for each in spdx["relationships"] if each["relationshipType"] == how and each[other] == file}
 
 
-def what_differs(folder):
-    """What of the SPDX in a folder isn't as MADE-OF, crates.txt and the files have it."""
-    spdx, made = read(folder), made_of(folder)
-    told = {name: text for name, text in made.items() if text and name not in SOURCES | {"kit"}}
+def wrong_packages(spdx, made, told):
+    """Names whose version is another, or of which only one side knows; and sums of sources that aren't there."""
     packages = {each["name"]: each["versionInfo"] for each in spdx["packages"]}
     crates = kits_crates("pbaudit") | kits_crates("pb_c")
     wanted = {"pbaudit": made["version"], "Rattle kit": made["kit"], **dict.fromkeys(crates, made["kit"]), **told}
     yield from (name for name in packages.keys() | wanted.keys() if packages.get(name) != wanted.get(name))
     yield from (part for part in SOURCES - {"version"} if f"{part} {made[part]}" not in spdx["packages"][0]["sourceInfo"])
-    files = {each["fileName"].removeprefix("./"): each for each in spdx["files"]}
+
+
+def wrong_files(spdx, folder):
+    """Names of files of which only one side knows, or that have another sum."""
+    files = {each["fileName"].removeprefix("./"): each["checksums"] for each in spdx["files"]}
     yield from files.keys() ^ {file.name for file in folder.iterdir() if file.name not in ("SHA256SUMS", SPDX)}
-    for name, each in files.items():
-        sums = {it["algorithm"]: it["checksumValue"] for it in each["checksums"]}
-        if sums != {"SHA256": sum_of(folder / name), "SHA1": hashlib.sha1((folder / name).read_bytes()).hexdigest()}:
+    for name, sums in files.items():
+        wanted = {"SHA256": sum_of(folder / name), "SHA1": hashlib.sha1((folder / name).read_bytes()).hexdigest()}
+        if {it["algorithm"]: it["checksumValue"] for it in sums} != wanted:
             yield name
-        linked, tools = related(spdx, "STATIC_LINK", each["SPDXID"], False), related(spdx, "BUILD_TOOL_OF", each["SPDXID"], True)
-        if name.endswith(LINKED) and linked | tools != wanted_crates(name) | (rests_on(name) & told.keys()) or linked - wanted_crates(name) - {"builtins"}:
+
+
+def wrong_relations(spdx, told):
+    for each in spdx["files"]:
+        name = each["fileName"].removeprefix("./")
+        tools = rests_on(name) & told.keys() if is_linked(name) else set()
+        wanted = wanted_crates(name) | (tools & {RUNTIME}), tools - {RUNTIME}
+        if (related(spdx, "STATIC_LINK", each["SPDXID"], False), related(spdx, "BUILD_TOOL_OF", each["SPDXID"], True)) != wanted:
             yield f"what {name} is made of"
+
+
+def what_differs(folder):
+    """What of the SPDX in a folder isn't as MADE-OF, crates.txt and the files have it."""
+    spdx, made = read(folder), made_of(folder)
+    told = {name: text for name, text in made.items() if text and name not in SOURCES | {"kit"}}
+    return [*wrong_packages(spdx, made, told), *wrong_files(spdx, folder), *wrong_relations(spdx, told)]
 
 
 MADE_UP = """pbaudit 0.2.0+unreleased for Linux, of sources with these sums
@@ -84,8 +104,8 @@ xz a packer
 zlib 1
 gzip a zipper
 dpkg-deb """ + "\n"
-NAMES = ("pbaudit", "pbaudit.1", "pbaudit.h", "libpbaudit.so.1", "libpbaudit.a.xz", "libpbaudit-aarch64.tar.xz", "pbaudit.html", "pbaudit-0.2.0.tgz",
-         "pbaudit-0.2.0-py3-none-manylinux_2_28_x86_64.whl", "pbaudit-0.2.0-py3-none-manylinux2014_aarch64.whl")  # fmt: skip
+NAMES = ("pbaudit", "_pbaudit", "pbaudit.1", "pbaudit.h", "libpbaudit.so.1", "libpbaudit.a.xz", "libpbaudit-aarch64.tar.xz",
+         "pbaudit.html", "pbaudit-0.2.0.tgz", "pbaudit-0.2.0-py3-none-manylinux_2_28_x86_64.whl", "pbaudit-0.2.0-py3-none-manylinux2014_aarch64.whl")  # fmt: skip
 
 
 @pytest.fixture
@@ -102,7 +122,7 @@ def folder(room):
 
 def test_it_says_what_made_of_says(folder):
     """A tool that wasn't there is left out."""
-    assert [*what_differs(folder)] == []
+    assert what_differs(folder) == []
     spdx = read(folder)
     assert (spdx["spdxVersion"], spdx["dataLicense"], spdx["SPDXID"]) == ("SPDX-2.3", "CC0-1.0", "SPDXRef-DOCUMENT")
     identifiers = [each["SPDXID"] for each in spdx["packages"] + spdx["files"]]
@@ -119,15 +139,16 @@ def test_same_files_give_the_same_bytes(folder, room):
 
 
 @pytest.mark.parametrize("name, old, new, differs", [
-    ("MADE-OF", "esbuild 1.2.3", "esbuild 1.2.4", "esbuild"), ("MADE-OF", "kit a", "kit b", "csv"), ("MADE-OF", "crates aa", "crates ab", "crates"),
-    ("MADE-OF", "dpkg-deb ", "dpkg-deb 1", "dpkg-deb"), ("MADE-OF", "builtins ff", "builtins ", "builtins"), ("MADE-OF", "0.2.0+unreleased", "0.3.0", "pbaudit"),
+    ("MADE-OF", "esbuild 1.2.3", "esbuild 1.2.4", "esbuild"), ("MADE-OF", "kit a", "kit b", "csv"),
+    ("MADE-OF", "crates aa", "crates ab", "crates"), ("MADE-OF", "dpkg-deb ", "dpkg-deb 1", "dpkg-deb"),
+    ("MADE-OF", "builtins ff", "builtins ", "builtins"), ("MADE-OF", "0.2.0+unreleased", "0.3.0", "pbaudit"),
     ("pbaudit.1", "p", "q", "pbaudit.1"), (SPDX, '"SPDXRef-Crate-clap"', '"SPDXRef-Crate-csv"', "what pbaudit is made of"),
     (SPDX, '"SPDXRef-Tool-tsc"', '"SPDXRef-Tool-xz"', "what pbaudit-0.2.0.tgz is made of"),
 ])  # fmt: skip
 def test_difference_is_seen(folder, name, old, new, differs):
     text = (folder / name).read_text()
     (folder / name).write_text(text.replace(old, new))
-    assert differs in [*what_differs(folder)]
+    assert differs in what_differs(folder)
 
 
 @pytest.mark.parametrize("of_release", [True, False], ids=["release", "built here"])
@@ -135,4 +156,4 @@ def test_released(again, of_release):
     folder = RELEASE if of_release else again
     if not (folder / SPDX).exists():
         pytest.skip("it is older, of another state of packaging" if of_release else "it isn't built here")
-    assert [*what_differs(folder)] == []
+    assert what_differs(folder) == []
