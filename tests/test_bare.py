@@ -233,13 +233,17 @@ def test_packages_are_those_of_their_version(packages, again):
 
 
 def test_tar(machine, packages):
-    """It answers by the first command of its own README, and has the page and the package for JavaScript."""
+    """It answers by the first command of its own README, and has the page, the package for JavaScript, what says of what they are
+    made, and the library with its link."""
     line = re.search("^    (.*)", (TOP / "packaging/archive.md").read_text(encoding="utf-8"), re.MULTILINE)[1]
     done = machine.run(f"cd /root && tar -xzf packages/*.tar.gz && cd pbaudit-* && cat README.md && {line}")
     assert (done.returncode, done.stdout[-len(ANSWER):]) == (0, ANSWER), done.stderr
     assert line in done.stdout
-    done = machine.run("cd release && for file in pbaudit.html pbaudit-*.tgz; do cmp /root/pbaudit-*-linux-x86_64/$file $file || exit; done")
+    done = machine.run("cd release && for file in pbaudit.html pbaudit-*.tgz MADE-OF pbaudit.spdx.json; do "
+                       "cmp /root/pbaudit-*-linux-x86_64/$file $file || exit; done")
     assert (done.returncode, done.stdout) == (0, ""), done.stderr
+    done = machine.run("cd /root/pbaudit-*-linux-x86_64/lib && readlink libpbaudit.so && cmp libpbaudit.so \"$OLDPWD/release/libpbaudit.so.1\"")
+    assert (done.returncode, done.stdout) == (0, "libpbaudit.so.1\n"), done.stderr
 
 
 def test_deb(machine, packages):
@@ -249,6 +253,8 @@ def test_deb(machine, packages):
     done = machine.run(f"command -v pbaudit && pbaudit {AUDIT}")
     assert (done.returncode, done.stdout) == (0, f"/usr/bin/pbaudit\n{ANSWER}"), done.stderr
     done = machine.run("cd release && for file in pbaudit.html pbaudit-*.tgz; do cmp /usr/share/pbaudit/$file $file || exit; done")
+    assert (done.returncode, done.stdout) == (0, ""), done.stderr
+    done = machine.run("cd release && for file in MADE-OF pbaudit.spdx.json; do cmp /usr/share/doc/pbaudit/$file $file || exit; done")
     assert (done.returncode, done.stdout) == (0, ""), done.stderr
     done = machine.run("man pbaudit")
     text = re.sub(r".\x08", "", done.stdout)
