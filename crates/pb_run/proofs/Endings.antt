@@ -1,5 +1,5 @@
 -- How a run on a folder ends, by how its writing ended.
-use Rattle.std.proofs.Common.{◌≡◌, refl, Result, Ok, Err, inl, inr}
+use Rattle.std.proofs.Common.{refl, Result, Ok, Err, inr}
 use Rattle.pb_audit.specs.declared.total.FolderStatus.{FolderStatus}
 use Rattle.pb_records.specs.declared.loading.Sink.{Ghosts as Sink}
 use Rattle.pb_reply.specs.Replies.{Answer}
@@ -9,15 +9,11 @@ use Rattle.pb_reply.specs.declared.status.Fault.TheVariants as fault
 use Rattle.pb_reply.specs.declared.status.Status.{Status}
 use Rattle.pb_run.specs.Runs.{Ends}
 use Rattle.pb_run.specs.declared.end.End.{End}
-use Rattle.pb_run.specs.declared.end.End.TheVariants.{Answered, Reported, Faulted}
+use Rattle.pb_run.specs.declared.end.End.TheVariants.{Reported, Faulted}
 
 abbrev pub end_of_report : Result FolderStatus Fault → End
 end_of_report (Ok s) = Reported s
 end_of_report (Err f) = Faulted f
-
-abbrev pub end_of_answer : Result Status Fault → End
-end_of_answer (Ok s) = Answered s
-end_of_answer (Err f) = Faulted f
 
 written_as : {S : Type 0} {is_one is_other : Answer S → Type 0} {status : S} {old new : Writer}
     → ((a : Answer S) → is_one a → is_other a) → IsWritten is_one status old new → IsWritten is_other status old new

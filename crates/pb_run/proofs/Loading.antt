@@ -1,5 +1,5 @@
 -- The files of one name more.
-use Rattle.std.proofs.Common.{◌≡◌, ◌∙◌, ◌++◌, ◌∷◌, [], ℕ, List, ap, append_assoc, refl, sym, subst, map}
+use Rattle.std.proofs.Common.{◌≡◌, ◌∙◌, ◌++◌, ◌∷◌, [], List, ap, append_assoc, refl, sym, subst, map}
 use Rattle.std.proofs.lemmas.List.{map-append}
 use Rattle.pb_audit.specs.Reports.{Files}
 use Rattle.pb_records.specs.Loading.{Delivery}

@@ -1,5 +1,5 @@
 -- Names and their endings.
-use Rattle.std.proofs.Common.{◌≡◌, ◌∙◌, ◌++◌, ◌-◌, ℕ, List, Bool, true, false, ap, sym, refl, ◌≢◌, inl, inr}
+use Rattle.std.proofs.Common.{◌≡◌, ◌∙◌, ◌++◌, ℕ, List, Bool, true, false, ap, sym, refl, inl, inr}
 use Rattle.std.proofs.lemmas.Bool.{cases_Bool}
 use Rattle.std.proofs.lemmas.List.{append_cancel_right}
 use Rattle.std.proofs.lemmas.Slice.Eq.{bytes_eq-Decides}
@@ -11,10 +11,6 @@ use Rattle.std.specs.String.{string_cmp}
 use Rattle.std.specs.declared.string.String.{String}
 use Rattle.std.proofs.lemmas.Map.Text.{btree_set_updates_text}
 use Rattle.pb_run.specs.Listings.{Entry, is_clean, is_file_of}
-
-and-false : (b : Bool) → (b && false) ≡ false
-and-false true = refl
-and-false false = refl
 
 no-file : (a b : Bool) → (a && b && false) ≡ false
 no-file true true = refl
@@ -58,15 +54,6 @@ not_clean ending name stem entry named unclean =
     elim (cases_Bool (bytes_eq stem name)) [
       | inl e ↦ rw (ap is_clean (sym ((bytes_eq-Decides stem name).0 e)) ∙ unclean) refl
       | inr e ↦ rw (named, same_stem stem name ending, e) (no-file (is_clean name) entry.is_file)
-    ]
-
--- a file whose name has no such ending
-pub no_ending : (ending name : List ℕ) (entry : Entry) → ((front : List ℕ) → entry.name ≢ front ++ ending)
-    → is_file_of ending name entry ≡ false
-no_ending ending name entry never =
-    elim (cases_Bool (bytes_eq entry.name (name ++ ending))) [
-      | inl e ↦ absurd (never name ((bytes_eq-Decides entry.name (name ++ ending)).0 e))
-      | inr e ↦ rw e (no-file (is_clean name) entry.is_file)
     ]
 
 cond-or : (a b : Bool) → cond a true b ≡ (a || b)

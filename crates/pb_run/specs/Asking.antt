@@ -1,5 +1,5 @@
 -- What a task asks of the files at its paths, and the answer on what these files deliver.
-use Rattle.std.specs.Prelude.{◌≡◌, ℕ, List, [], Option, Some, None, option_map}
+use Rattle.std.specs.Prelude.{◌≡◌, [], Option, Some, None, option_map}
 use Rattle.pb_audit.specs.Questions.{Answers}
 use Rattle.pb_audit.specs.declared.question.Question.{Question}
 use Rattle.pb_audit.specs.declared.question.Question.TheVariants as question

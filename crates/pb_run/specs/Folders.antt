@@ -1,5 +1,5 @@
 -- The report on a folder: the files of each election that it lists, once and in order.
-use Rattle.std.specs.Prelude.{◌≡◌, ◌++◌, ◌∷◌, [], ℕ, List, Bool, true, false, Option, Some, None, codes, map, string_bytes}
+use Rattle.std.specs.Prelude.{◌≡◌, ◌++◌, ◌∷◌, [], List, Bool, true, false, Option, Some, None, codes, map, string_bytes}
 use Rattle.std.specs.BTreeSet.{IsOrdered, contains_text}
 use Rattle.std.specs.String.{string_cmp}
 use Rattle.pb_audit.specs.Reports.{Files, HasTaken, Progress, ReportOf}

@@ -22,7 +22,7 @@ use Rattle.pb_run.specs.Folders.{ReportsFolder, unlisted}
 use Rattle.pb_run.specs.Listings.{Entry}
 use Rattle.pb_run.specs.declared.asking.Ask.{Ask}
 use Rattle.pb_run.specs.declared.end.End.{End}
-use Rattle.pb_run.specs.declared.end.End.TheVariants.{Answered, Reported, Help, Usage, NotText, Faulted}
+use Rattle.pb_run.specs.declared.end.End.TheVariants.{Answered, Reported, Faulted}
 
 -- The answer of a task on an election: to what is asked of the files at its paths, and standard input is left alone; or
 -- on the election on standard input, and no file is handed out.

@@ -1,5 +1,5 @@
 //! Files as a run has them: at paths, and in folders.
-ghost use Rattle.std.specs.Prelude.{List, ℕ, IfOk, map};
+ghost use Rattle.std.specs.Prelude.{List, ℕ, IfOk};
 ghost use Rattle.pb_run.specs.Listings.{Entry};
 
 use crate::listed::{ListFault, Listed};

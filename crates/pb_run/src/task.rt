@@ -1,5 +1,5 @@
 //! Tasks, done on the files that they name.
-ghost use Rattle.std.specs.Prelude.{◌≡◌, IfOk};
+ghost use Rattle.std.specs.Prelude.{IfOk};
 ghost use Rattle.pb_command.specs.Tasks.{asked};
 ghost use Rattle.pb_audit.specs.InTurn.{ReadsElection};
 ghost use Rattle.pb_reply.specs.Replies.{TellsReply};

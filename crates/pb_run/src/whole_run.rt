@@ -1,5 +1,5 @@
 //! A run from its words to its exit status.
-ghost use Rattle.std.specs.Prelude.{◌≡◌, ◌⊎◌, map, string_bytes};
+ghost use Rattle.std.specs.Prelude.{◌⊎◌, map, string_bytes};
 ghost use Rattle.pb_run.specs.Runs.{IsDone, IsIdle, Runs};
 
 use crate::end::End;

@@ -1,4 +1,3 @@
-use Rattle.std.proofs.Common.{rules}
 use Rattle.pb_run.proofs.folder.load_entry.Goals as goal
 
 pub returns : goal.returns

@@ -1,8 +1,8 @@
-use Rattle.std.proofs.Common.{◌≡◌, Err, Ok, rules, subst}
+use Rattle.std.proofs.Common.{◌≡◌, Err, Ok, rules}
 use Rattle.pb_reply.specs.Replies.{answer_of, refused}
 use Rattle.pb_run.specs.Folders.{ReportsFolder, ReportsOn, unlisted}
-use Rattle.pb_run.specs.Runs.{Ends, Once, end_of}
-use Rattle.pb_run.proofs.Endings.{end_of_report, ends_by_report}
+use Rattle.pb_run.specs.Runs.{Once}
+use Rattle.pb_run.proofs.Endings.{ends_by_report}
 use Rattle.pb_run.proofs.folder.run_folder.Goals as goal
 
 pub returns-in_err-status : goal.returns-in_err-status

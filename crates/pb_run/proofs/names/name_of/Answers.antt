@@ -1,6 +1,6 @@
-use Rattle.std.proofs.Common.{◌≡◌, refl, sym, ◌∙◌, ◌++◌, rules, true, false}
+use Rattle.std.proofs.Common.{◌≡◌, ◌++◌, rules, true, false}
 use Rattle.pb_run.specs.Listings.{is_clean}
-use Rattle.pb_run.proofs.Stems.{is_stem, no_ending, not_clean}
+use Rattle.pb_run.proofs.Stems.{is_stem, not_clean}
 use Rattle.pb_run.proofs.names.name_of.Goals as goal
 
 pub returns-in-true : goal.returns-in-true
