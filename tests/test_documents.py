@@ -1,8 +1,9 @@
 """The pages lead somewhere: each link of a page to a file or a heading, and each path in backticks; they keep to their lengths, which
-docs/TRUST.md tells; what docs/ANSWERS.md and docs/COUNCILS.md quote and docs/CONDITIONS.md names is said by the page about a
-certificate; the sums of docs/CAMPAIGNS.md are right, and so is its refutation; each word of docs/GLOSSARY.md has its definition; the
-build that docs/LIBRARY.md shows fails where it has to; each file that docs/files.py prints begins with a comment on what it is for;
-each command that the pages show writes what stands under it; and each changed line that docs/FORMATS.md shows has its refusal."""
+docs/TRUST.md tells; docs/DESIGN.md has each crate, and the README the kit; what docs/ANSWERS.md, docs/COUNCILS.md and docs/STORY.md quote
+and docs/CONDITIONS.md names is said by the page about a certificate, and the buttons that pages name are on the page in a browser; the
+sums of docs/CAMPAIGNS.md are right, and so is its refutation; each word of docs/GLOSSARY.md has its definition; the build that
+docs/LIBRARY.md shows fails where it has to; each file that docs/files.py prints begins with a comment on what it is for; each command
+that the pages show writes what stands under it; and each changed line that docs/FORMATS.md shows has its refusal."""
 import csv
 import math
 import re
@@ -18,7 +19,9 @@ from common import TOP
 
 LENGTHS = {"README.md": 120, "docs/STATEMENT.md": 500}
 WORDS = ["crates/pb_words/src/wording/en.rt", "crates/pb_words/src/headlines.rt"]
-SAID = {"docs/ANSWERS.md": WORDS, "docs/COUNCILS.md": WORDS}
+SAID = {"docs/ANSWERS.md": WORDS, "docs/COUNCILS.md": WORDS, "docs/STORY.md": WORDS}
+# What stands in quotes and isn't on the page in a browser: how other programs save a file.
+SAVED_AS = {"CSV UTF-8", "CSV", "Unicode text", "Save link as", "Save page as"}
 LETTERS = ("Feasible", "Exhaustive", "Cover", *"C1 C2 C3 C4 C5 S5 V1 V2 V3 V4 U1 U2 U3".split())
 PAGES = [*("README.md", "CONTRIBUTING.md", "CHANGELOG.md", "SECURITY.md", "examples/README.md", "tests/README.md", "tests/reference/README.md"),
          *sorted(f"docs/{path.name}" for path in (TOP / "docs").glob("*.md"))]  # fmt: skip
@@ -82,6 +85,16 @@ def test_quotes(name):
     assert [quote for quote in quotes(prose((TOP / name).read_text(encoding="utf-8"))) if quote not in said] == []
 
 
+@pytest.mark.parametrize("name", ["docs/SPREADSHEET.md", "docs/STORY.md", "docs/WEB.md"])
+def test_buttons_are_those_of_the_page(name):
+    """What stands between " and " is a text of the page in a browser, or begins one, with whatever it has in its slots."""
+    text = re.sub(r"`[^`]*`", "", " ".join(prose((TOP / name).read_text(encoding="utf-8")).split()))
+    words = re.findall(r': "((?:[^"\\]|\\.)*)"', (TOP / "web/src/words/en.ts").read_text(encoding="utf-8"))
+    texts = [re.compile(re.sub(r"\\\{\w+\\\}", ".+", re.escape(each)) + "|" + re.escape(each.partition(":")[0])) for each in words]
+    named = set(re.findall(r'"([A-Z][^"]*)"', re.sub(r"<[^>]*>", "", text))) - SAVED_AS
+    assert named and [each for each in sorted(named) if not any(text.fullmatch(each) for text in texts)] == []
+
+
 def test_names_are_those_of_the_page():
     """The table of names in docs/CONDITIONS.md has each condition and test, by the page's words for it."""
     table = (TOP / "docs/CONDITIONS.md").read_text(encoding="utf-8").split("\n## Names\n")[1]
@@ -122,6 +135,34 @@ def test_names_of_the_proof():
 @pytest.mark.parametrize("name", ["README.md", "CONTRIBUTING.md"])
 def test_security_is_linked(name):
     assert "](SECURITY.md)" in (TOP / name).read_text(encoding="utf-8")
+
+
+@pytest.mark.parametrize("name, told, headings", [("FAQ", "ten questions", r"## .*\?"), ("TOUR", "four steps", r"## \d\. .*"),
+                                                  ("STORY", "five steps", r"## \d\. .*")])  # fmt: skip
+def test_page_has_what_it_begins_with(name, told, headings):
+    text = (TOP / f"docs/{name}.md").read_text(encoding="utf-8")
+    assert told in " ".join(text.split()[:20])
+    assert len(re.findall(f"^{headings}$", text, re.MULTILINE)) == {"four": 4, "five": 5, "ten": 10}[told.split()[0]]
+
+
+def test_kit_is_named():
+    """README, and no other page, names the kit that proved all of it: the line of `rt version`."""
+    named = {name: re.findall(r"\b(?:rattle-)?kit[- ]\d+\w*", (TOP / name).read_text(encoding="utf-8")) for name in PAGES}
+    told = re.search(r"`(rattle-kit-\w+)`, `(logic \w+)` \(the line of `rt version`\)", (TOP / "README.md").read_text(encoding="utf-8"))
+    assert {name: kits for name, kits in named.items() if kits} == {"README.md": [told[1]]}
+
+
+def test_crates_of_the_design():
+    """The table of docs/DESIGN.md has each crate of crates.txt, the picture each but those of tests: once, after those that it rests on."""
+    lines = re.findall(r"^(\w+)(?: staticlib)?:(.*)$", (TOP / "crates.txt").read_text(encoding="utf-8"), re.MULTILINE)
+    rests_on = {crate: below.split() for crate, below in lines}
+    _, picture, table = re.split("\n## (?:One picture of the house|The crates)\n", (TOP / "docs/DESIGN.md").read_text(encoding="utf-8"))
+    drawn = [name for line in picture.splitlines() if line.startswith("    ") for name in re.findall(r"\bpb(?:_\w+|audit)\b", line)]
+    listed = [name for row in re.findall(r"^\| (`.*?) \|", table.split("\n## ")[0], re.MULTILINE) for name in re.findall(r"`(\w+)`", row)]
+    assert sorted(listed) == sorted(crate for crate in rests_on if crate != "pb_samples")
+    assert sorted(drawn) == sorted(crate for crate in listed if not crate.endswith("_tests"))
+    for names in drawn, listed:
+        assert [(crate, each) for crate in names for each in rests_on[crate] if each in names and names.index(each) > names.index(crate)] == []
 
 
 def test_limits_that_a_service_is_told():
